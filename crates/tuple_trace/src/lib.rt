@@ -1,0 +1,24 @@
+//! The plain data of a flow: values, tuples with their traces, source rows and lane items, and the small types that they are made of.
+//!
+//! Nothing here knows of jobs, workers or requests. Contracts see each collection as a list and each text as a list of bytes.
+#![tactic(auto)]
+
+mod digits;
+mod gate;
+mod items;
+mod place;
+mod row;
+#[cfg(test)]
+mod tests;
+mod text;
+mod tuple;
+mod value;
+
+pub use digits::digits_up_to;
+pub use gate::{Gate, OpenGate};
+pub use items::{Items, NoMemory};
+pub use place::spread;
+pub use row::{Row, Rows};
+pub use text::{Bytes, Txt, Word};
+pub use tuple::{Births, Fields, Item, Tuple, Visit, Visits};
+pub use value::Value;
