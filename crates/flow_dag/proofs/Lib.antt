@@ -1,0 +1,10 @@
+pub mod MaskLemmas
+pub mod FirstLemmas
+pub mod PathLemmas
+pub mod ViaLemmas
+pub mod EdgeLemmas
+pub mod RowLemmas
+pub mod OrderLemmas
+pub mod PlaceLemmas
+pub mod DagLemmas
+pub mod ViewLemmas

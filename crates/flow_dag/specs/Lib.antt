@@ -1,0 +1,9 @@
+pub mod Masks
+pub mod Rows
+pub mod Paths
+pub mod Edges
+pub mod Order
+pub mod Reach
+pub mod Dag
+pub mod Graph
+pub mod Fault
