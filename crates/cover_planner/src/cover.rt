@@ -1,0 +1,20 @@
+/// The part of a node that isn't covered.
+pub const NO_PART: u8 = 255;
+
+/// What a change covers. In a mask, bit `i` stands for node `i`, or for the edge at place `i`.
+#[derive(Clone, Copy, Debug, PartialEq, Eq)]
+pub struct Plan {
+    /// The nodes that the plan was made for.
+    pub asked: u64,
+    /// The asked nodes and those above them that may make several tuples of one.
+    pub members: u64,
+    /// The members and the ends of the covered edges.
+    pub nodes: u64,
+    /// The edges that lie on a path from a member to a member.
+    pub edges: u128,
+    /// The covered nodes with no covered edge into them.
+    pub heads: u64,
+    /// The number of each node's part, from 0 in the order of the least nodes of the parts, and
+    /// [`NO_PART`] where the node isn't covered.
+    pub part: [u8; 64],
+}
