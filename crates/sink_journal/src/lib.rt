@@ -1,0 +1,14 @@
+//! What the workers and the feeder of a run did, and the texts that are written of it.
+//!
+//! A journal is the list of steps of one worker. The texts are CSV, as the default writer of `csv` writes it.
+#![tactic(auto)]
+
+mod alerts;
+mod cells;
+mod journal;
+mod sheet;
+#[cfg(test)]
+mod tests;
+
+pub use alerts::alerts_text;
+pub use journal::{Entry, Feed, Feeds, Journal, Journals};
