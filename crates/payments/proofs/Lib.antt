@@ -1,0 +1,6 @@
+pub mod FileLemmas
+pub mod CellLemmas
+pub mod RecordLemmas
+pub mod Rest
+pub mod RowLemmas
+pub mod SpellingLemmas

@@ -1,0 +1,56 @@
+-- What a call on the outside leaves of the counts of faults.
+use Rattle.std.specs.Prelude.{◌≡◌, ◌≤◌, ◌+◌, ◌-◌, ◌^◌, ◌++◌, option_map, min, ℕ, List, Option, Some, Result, Ok, Err}
+use Rattle.payments.specs.declared.outside.ShelfFault.{ShelfFault}
+use Rattle.payments.specs.declared.outside.ShelfFault.TheVariants as shelf
+use Rattle.payments.specs.declared.outside.SinkFault.{SinkFault}
+use Rattle.payments.specs.declared.outside.SinkFault.TheVariants as sink
+
+-- a count has risen, or stands at its end; it never falls
+pub record Rose (before now : ℕ) : Type 0 where
+  pub kept : before ≤ now
+  pub more : min (before + 1) (2 ^ 64 - 1) ≤ now
+
+-- how many reads and writes have failed, and the file of the latest failure
+pub record Faults : Type 0 where
+  pub reads : ℕ
+  pub writes : ℕ
+  pub failed : Option (List ℕ)
+
+-- a read of the file failed
+pub record ReadFailed (name : List ℕ) (before now : Faults) : Type 0 where
+  pub rose : Rose before.reads now.reads
+  pub writes : now.writes ≡ before.writes
+  pub failed : now.failed ≡ Some name
+
+-- a write to the file failed
+pub record WriteFailed (name : Option (List ℕ)) (before now : Faults) : Type 0 where
+  pub rose : Rose before.writes now.writes
+  pub reads : now.reads ≡ before.reads
+  pub failed : now.failed ≡ name
+
+-- what a read of the file leaves of the faults
+abbrev pub ReadCause : {T : Type 0} → Result T ShelfFault → List ℕ → Faults → Faults → Type 0
+ReadCause (Ok value) name before now = now ≡ before
+ReadCause (Err shelf.Failed) name before now = ReadFailed name before now
+ReadCause (Err shelf.Long) name before now = now ≡ before
+ReadCause (Err shelf.NoMemory) name before now = now ≡ before
+
+-- what a write to the file leaves of the faults; `Long` isn't its answer
+abbrev pub WriteCause : {T : Type 0} → Result T ShelfFault → Option (List ℕ) → Faults → Faults → Type 0
+WriteCause (Ok value) name before now = now ≡ before
+WriteCause (Err shelf.Failed) name before now = WriteFailed name before now
+WriteCause (Err shelf.Long) name before now = ⊥
+WriteCause (Err shelf.NoMemory) name before now = now ≡ before
+
+-- what a write to a stream leaves of its count
+abbrev pub SinkCause : {T : Type 0} → Result T SinkFault → ℕ → ℕ → Type 0
+SinkCause (Ok value) before now = now ≡ before
+SinkCause (Err sink.Failed) before now = Rose before now
+SinkCause (Err sink.NoMemory) before now = now ≡ before
+
+-- a stream has the first bytes of a text at its end
+pub record GainsPrefix (old new : Option (List ℕ)) (text : List ℕ) : Type 0 where
+  pub done : List ℕ
+  pub left : List ℕ
+  pub text_is : text ≡ done ++ left
+  pub holds : new ≡ option_map (λ w. w ++ done) old

@@ -1,0 +1,23 @@
+//! Payments: the rows of a file, and the files and streams that a run reads and writes.
+//!
+//! A payments file is CSV. [`read_rows`] answers its rows, or its first fault with the place where it stands. What lies outside the
+//! program is met by the traits [`Shelf`] and [`Sink`] alone, so that a run is the same over the host and over a fake in memory.
+#![tactic(auto)]
+
+mod cells;
+mod host;
+mod memory;
+mod outside;
+mod read;
+mod records;
+mod row;
+mod spelling;
+#[cfg(test)]
+mod tests;
+mod whole;
+
+pub use host::{HostShelf, StdOut};
+pub use memory::{Calls, MemoryShelf, MemorySink};
+pub use outside::{Shelf, ShelfFault, Sink, SinkFault};
+pub use read::{PFault, read_rows};
+pub use whole::{store, write_all};

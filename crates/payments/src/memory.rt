@@ -1,0 +1,316 @@
+ghost use Rattle.std.specs.Prelude.{◌≡◌, ◌≢◌, ◌+◌, ◌-◌, ◌^◌, ◌<◌, ◌≤◌, ◌++◌, [], ℕ, List, Option, None, Some, Err, false, length, max, min, option_copied, option_map, take, IfErr, IfOk, IfSome, IsSome, OnErr, OnOk};
+ghost use Rattle.std.specs.FinMap as map;
+ghost use Rattle.payments.specs.Memory.{Plan, after_call, is_due, stored_files};
+
+use crate::{Shelf, ShelfFault, Sink, SinkFault};
+use std::alloc::Global;
+use tuple_trace::{Bytes, Items, Word};
+
+/// Numbers of calls, counted from 0.
+pub type Calls = Items<u64>;
+
+/// Files in memory. It tells what they hold, and fails at the calls that it was told to.
+///
+/// Calls are numbered from 0 over reads, creations and appends alike. A read of a name without a file fails as well.
+#[derive(Debug, Drop)]
+pub struct MemoryShelf {
+    alloc: Global,
+    step: u64,
+    failing: Calls,
+    calls: u64,
+    /// The newest file, which alone takes what is appended.
+    last: Option<File>,
+    is_open: bool,
+    /// The older files, the newest first. Of those with one name the newest counts.
+    stored: Vec<File>,
+    read_faults: u64,
+    write_faults: u64,
+    failed: Option<Word>,
+}
+
+#[derive(Debug, Drop)]
+struct File {
+    name: Word,
+    bytes: Bytes,
+}
+
+impl MemoryShelf {
+    ghost use Rattle.payments.specs.Causes.{Faults};
+    ghost use Rattle.payments.specs.Memory.{faults_of, files_of, plan_of, step_of, target_of};
+
+    /// An empty shelf. An append takes at most `step` bytes, but at least one, and the calls with these numbers fail. Takes no memory.
+    pub fn new(alloc: Global, step: u64, failing: Calls) -> Self
+        ensures files { files_of result ≡ stored_files [] }
+        ensures target { target_of result ≡ None }
+        ensures faults { faults_of result ≡ record { reads = 0; writes = 0; failed = None } }
+        ensures plan { plan_of result ≡ record { failing = failing; calls = 0 } }
+        ensures step { step_of result ≡ step }
+    {
+        MemoryShelf {
+            alloc,
+            step,
+            failing,
+            calls: 0,
+            last: None,
+            is_open: false,
+            stored: Vec::new(alloc),
+            read_faults: 0,
+            write_faults: 0,
+            failed: None,
+        }
+    }
+
+    /// The bytes of a file. None where there is no file of this name.
+    pub fn get(&self, name: &Word) -> Option<&Bytes>
+        ensures { option_copied result ≡ map.get (files_of self.now) name.now }
+    {
+        match &self.last {
+            Some(file) if name.as_str() == file.name.as_str() => Some(&file.bytes),
+            _ => newest(&self.stored, name),
+        }
+    }
+
+    /// How many reads have failed.
+    pub fn read_faults(&self) -> u64
+        ensures { result ≡ (faults_of self.now).reads }
+    {
+        self.read_faults
+    }
+
+    /// How many creations and appends have failed.
+    pub fn write_faults(&self) -> u64
+        ensures { result ≡ (faults_of self.now).writes }
+    {
+        self.write_faults
+    }
+
+    /// The name of the file at which a call failed last. None where none did.
+    pub fn failed(&self) -> Option<&Word>
+        ensures { option_copied result ≡ (faults_of self.now).failed }
+    {
+        self.failed.as_ref()
+    }
+
+    /// Puts a file on the shelf, in place of one with the same name. What is appended goes nowhere until the next `create`.
+    ///
+    /// This is none of the calls that are counted. After [`ShelfFault::NoMemory`] the files are as before.
+    pub fn put(&mut self, name: Word, bytes: Bytes) -> Result<(), ShelfFault>
+        ensures ok { OnOk result (files_of self.new ≡ map.insert (files_of self.old) name bytes) }
+        ensures err { IfErr result (λ fault. (fault ≡ ShelfFault.NoMemory) × (files_of self.new ≡ files_of self.old)) }
+        ensures closed { target_of self.new ≡ None }
+        ensures faults { faults_of self.new ≡ faults_of self.old }
+        ensures plan { plan_of self.new ≡ plan_of self.old }
+        ensures step { step_of self.new ≡ step_of self.old }
+    {
+        self.place(File { name, bytes })
+    }
+
+    fn place(&mut self, file: File) -> Result<(), ShelfFault>
+        ensures ok { OnOk result (files_of self.new ≡ map.insert (files_of self.old) file.name file.bytes) }
+        ensures newest { OnOk result (self.new.last ≡ Some file) }
+        ensures err { IfErr result (λ fault. (fault ≡ ShelfFault.NoMemory) × (files_of self.new ≡ files_of self.old)) }
+        ensures closed { self.new.is_open ≡ false }
+        ensures faults { faults_of self.new ≡ faults_of self.old }
+        ensures plan { plan_of self.new ≡ plan_of self.old }
+        ensures step { step_of self.new ≡ step_of self.old }
+    {
+        self.is_open = false;
+        if let Some(older) = self.last.take() {
+            if let Err(full) = self.stored.insert(0, older) {
+                self.last = Some(full.value);
+                return Err(ShelfFault::NoMemory);
+            }
+        }
+        self.last = Some(file);
+        Ok(())
+    }
+}
+
+impl Shelf for MemoryShelf {
+    ghost use Rattle.payments.specs.Files.{Files, told_bytes, with_bytes, with_more};
+    ghost use Rattle.payments.specs.Causes.{Faults, ReadCause, WriteCause};
+    ghost use Rattle.payments.specs.Memory.{append_of, create_of, faults_of, files_of, plan_of, read_of, step_of, target_of};
+
+    ghost files = { λ s. Some (files_of s) };
+
+    ghost faults = { faults_of };
+
+    ghost target = { target_of };
+
+    fn read_all(&mut self, alloc: Global, name: &Word, limit: u64) -> Result<Bytes, ShelfFault>
+        ensures answer { result ≢ Err ShelfFault.NoMemory → result ≡ read_of self.old name.now limit }
+        ensures plan { plan_of self.new ≡ after_call (plan_of self.old) }
+        ensures step { step_of self.new ≡ step_of self.old }
+        ensures files { files_of self.new ≡ files_of self.old }
+        ensures target { target_of self.new ≡ target_of self.old }
+        ensures cause { ReadCause result name.now (faults_of self.old) (faults_of self.new) }
+    {
+        let fails = is_to_fail(&mut self.calls, &self.failing);
+        let kept = name.clone().map_err(|_| ShelfFault::NoMemory)?;
+        if !fails {
+            if let Some(bytes) = self.get(name) {
+                if bytes.len() as u64 > limit {
+                    return Err(ShelfFault::Long);
+                }
+                return bytes.clone().map_err(|_| ShelfFault::NoMemory);
+            }
+        }
+        self.read_faults = self.read_faults.saturating_add(1);
+        self.failed = Some(kept);
+        Err(ShelfFault::Failed)
+    }
+
+    fn create(&mut self, name: &Word) -> Result<(), ShelfFault>
+        ensures answer { result ≢ Err ShelfFault.NoMemory → result ≡ create_of self.old }
+        ensures plan { plan_of self.new ≡ after_call (plan_of self.old) }
+        ensures step { step_of self.new ≡ step_of self.old }
+        ensures made { OnOk result (files_of self.new ≡ map.insert (files_of self.old) name.now []) }
+        ensures target { OnOk result (target_of self.new ≡ Some name.now) }
+        ensures unmade { OnErr result (files_of self.new ≡ files_of self.old) }
+        ensures closed { OnErr result (target_of self.new ≡ None) }
+        ensures cause { WriteCause result (Some name.now) (faults_of self.old) (faults_of self.new) }
+    {
+        self.is_open = false;
+        let fails = is_to_fail(&mut self.calls, &self.failing);
+        let kept = name.clone().map_err(|_| ShelfFault::NoMemory)?;
+        if fails {
+            self.write_faults = self.write_faults.saturating_add(1);
+            self.failed = Some(kept);
+            return Err(ShelfFault::Failed);
+        }
+        let bytes = Bytes::new(self.alloc);
+        self.place(File { name: kept, bytes })?;
+        self.is_open = true;
+        Ok(())
+    }
+
+    fn append(&mut self, piece: &[u8]) -> Result<u64, ShelfFault>
+        requires made { IsSome (target_of self.old) }
+        requires some { 0 < length piece.now }
+        ensures answer { result ≢ Err ShelfFault.NoMemory → result ≡ append_of self.old (length piece.now) }
+        ensures plan { plan_of self.new ≡ after_call (plan_of self.old) }
+        ensures step { step_of self.new ≡ step_of self.old }
+        ensures more { IfOk result (λ n. IfSome (target_of self.old) (λ name. Some (files_of self.new) ≡ with_more (Some (files_of self.old)) name (take n piece.now))) }
+        ensures err { OnErr result (files_of self.new ≡ files_of self.old) }
+        ensures target { target_of self.new ≡ target_of self.old }
+        ensures cause { WriteCause result (target_of self.old) (faults_of self.old) (faults_of self.new) }
+    {
+        if is_to_fail(&mut self.calls, &self.failing) {
+            let name = match &self.last {
+                Some(file) => file.name.clone().map_err(|_| ShelfFault::NoMemory)?,
+                None => unreachable!(),
+            };
+            self.write_faults = self.write_faults.saturating_add(1);
+            self.failed = Some(name);
+            return Err(ShelfFault::Failed);
+        }
+        match &mut self.last {
+            Some(file) => file.grow(self.step, piece),
+            None => unreachable!(),
+        }
+    }
+}
+
+impl File {
+    fn grow(&mut self, step: u64, piece: &[u8]) -> Result<u64, ShelfFault>
+        requires { 0 < length piece.now }
+        ensures count { IfOk result (λ n. n ≡ min (max step 1) (length piece.now)) }
+        ensures more { IfOk result (λ n. self.new ≡ record self.old { bytes = self.old.bytes ++ take n piece.now }) }
+        ensures err { IfErr result (λ fault. (self.new ≡ self.old) × (fault ≡ ShelfFault.NoMemory)) }
+    {
+        let count = step.max(1).min(piece.len() as u64);
+        self.bytes
+            .extend_from_slice(&piece[..count as usize])
+            .map_err(|_| ShelfFault::NoMemory)?;
+        Ok(count)
+    }
+}
+
+fn newest<'a>(files: &'a [File], name: &Word) -> Option<&'a Bytes>
+    ensures { option_copied result ≡ map.get (stored_files files.now) name.now }
+{
+    for file in files {
+        if name.as_str() == file.name.as_str() {
+            return Some(&file.bytes);
+        }
+    }
+    None
+}
+
+/// Counts a call, and says whether it is to fail.
+fn is_to_fail(calls: &mut u64, failing: &Calls) -> bool
+    ensures due { result ≡ is_due (record { failing = failing.now; calls = calls.old }) }
+    ensures counted { calls.new ≡ min (calls.old + 1) (2 ^ 64 - 1) }
+{
+    let number = *calls;
+    *calls = number.saturating_add(1);
+    failing.as_slice().contains(&number)
+}
+
+/// A stream in memory. It tells what was written, takes each piece whole, and fails at the writes that it was told to.
+#[derive(Debug, Drop)]
+pub struct MemorySink {
+    failing: Calls,
+    calls: u64,
+    written: Bytes,
+    faults: u64,
+}
+
+impl MemorySink {
+    ghost use Rattle.payments.specs.Memory.{sink_faults_of, sink_plan_of, written_of};
+
+    /// A stream to which nothing is written yet. The writes with these numbers fail. Takes no memory.
+    pub fn new(alloc: Global, failing: Calls) -> Self
+        ensures written { written_of result ≡ [] }
+        ensures faults { sink_faults_of result ≡ 0 }
+        ensures plan { sink_plan_of result ≡ record { failing = failing; calls = 0 } }
+    {
+        MemorySink {
+            failing,
+            calls: 0,
+            written: Bytes::new(alloc),
+            faults: 0,
+        }
+    }
+
+    /// All that was written.
+    pub fn written(&self) -> &[u8]
+        ensures { result.now ≡ written_of self.now }
+    {
+        self.written.as_slice()
+    }
+
+    /// How many writes have failed.
+    pub fn faults(&self) -> u64
+        ensures { result ≡ sink_faults_of self.now }
+    {
+        self.faults
+    }
+}
+
+impl Sink for MemorySink {
+    ghost use Rattle.payments.specs.Causes.{SinkCause};
+    ghost use Rattle.payments.specs.Memory.{sink_faults_of, sink_plan_of, write_of, written_of};
+
+    ghost written = { λ s. Some (written_of s) };
+
+    ghost faults = { sink_faults_of };
+
+    fn write(&mut self, piece: &[u8]) -> Result<u64, SinkFault>
+        requires some { 0 < length piece.now }
+        ensures answer { result ≢ Err SinkFault.NoMemory → result ≡ write_of self.old (length piece.now) }
+        ensures plan { sink_plan_of self.new ≡ after_call (sink_plan_of self.old) }
+        ensures more { IfOk result (λ n. written_of self.new ≡ written_of self.old ++ take n piece.now) }
+        ensures err { OnErr result (written_of self.new ≡ written_of self.old) }
+        ensures cause { SinkCause result (sink_faults_of self.old) (sink_faults_of self.new) }
+    {
+        if is_to_fail(&mut self.calls, &self.failing) {
+            self.faults = self.faults.saturating_add(1);
+            return Err(SinkFault::Failed);
+        }
+        self.written
+            .extend_from_slice(piece)
+            .map_err(|_| SinkFault::NoMemory)?;
+        Ok(piece.len() as u64)
+    }
+}

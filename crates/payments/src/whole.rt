@@ -1,0 +1,40 @@
+ghost use Rattle.std.specs.Prelude.{◌≡◌, ◌⊎◌, ◌++◌, None, Some, option_map, OnErr, OnOk};
+ghost use Rattle.payments.specs.Causes.{WriteCause, SinkCause, GainsPrefix};
+ghost use Rattle.payments.specs.Files.{with_bytes, HoldsPrefix};
+
+use crate::{Shelf, ShelfFault, Sink, SinkFault};
+use tuple_trace::Word;
+
+/// Makes a file that holds this text and nothing else. Each append hands in all that is left of the text.
+///
+/// After an error the file holds a prefix of the text, or is as before, as it always is where the file couldn't be made. No other
+/// file changes.
+pub fn store<S: Shelf>(shelf: &mut S, name: &Word, text: &[u8]) -> Result<(), ShelfFault>
+    ensures whole { OnOk result (S.files shelf.new ≡ with_bytes (S.files shelf.old) name.now text.now) }
+    ensures target { OnOk result (S.target shelf.new ≡ Some name.now) }
+    ensures part { OnErr result ((S.files shelf.new ≡ S.files shelf.old) ⊎ HoldsPrefix (S.files shelf.old) (S.files shelf.new) name.now text.now) }
+    ensures unmade { OnErr result (S.target shelf.new ≡ None → S.files shelf.new ≡ S.files shelf.old) }
+    ensures cause { WriteCause result (Some name.now) (S.faults shelf.old) (S.faults shelf.new) }
+{
+    shelf.create(name)?;
+    let mut rest = text;
+    while !rest.is_empty() {
+        let taken = shelf.append(rest)?;
+        rest = &rest[taken as usize..];
+    }
+    Ok(())
+}
+
+/// Writes a text to a stream. Each write hands in all that is left of it. After an error the stream has gained a prefix of the text.
+pub fn write_all<O: Sink>(out: &mut O, text: &[u8]) -> Result<(), SinkFault>
+    ensures whole { OnOk result (O.written out.new ≡ option_map (λ w. w ++ text.now) (O.written out.old)) }
+    ensures part { GainsPrefix (O.written out.old) (O.written out.new) text.now }
+    ensures cause { SinkCause result (O.faults out.old) (O.faults out.new) }
+{
+    let mut left = text;
+    while !left.is_empty() {
+        let taken = out.write(left)?;
+        left = &left[taken as usize..];
+    }
+    Ok(())
+}
