@@ -1,0 +1,2 @@
+pub mod SteadyLemmas
+pub mod Steps

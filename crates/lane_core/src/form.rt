@@ -1,0 +1,53 @@
+ghost use Rattle.std.specs.Prelude.{◌≡◌, ◌≤◌, [], ◌++◌, IfOk};
+
+use crate::{Rx, Tx};
+use flow_dag::Graph;
+use std::alloc::Global;
+use tuple_trace::{Item, Items, NoMemory};
+
+/// Where a lane begins: the graph of the job, and the number of the sending node.
+#[derive(Clone, Copy, Debug, PartialEq, Eq)]
+pub struct Origin {
+    pub graph: Graph,
+    pub from: u32,
+}
+
+/// The items that lie on a lane when it is settled, in order.
+pub type Left = Items<Item>;
+
+/// A form of lane.
+pub trait Lanes: Send {
+    /// What the calls of the ends take from the toolchain.
+    type Need: Send + Drop;
+
+    type Tx: Tx<Self::Need> + Send + Drop;
+
+    type Rx: Rx<Self::Need> + Send + Drop;
+
+    fn need(&self) -> Self::Need;
+
+    /// The two ends of a new, empty lane with this number and origin, which holds at most `cap` items, 1 to 64.
+    fn make(
+        &self,
+        alloc: Global,
+        number: u32,
+        cap: u32,
+        origin: Origin,
+    ) -> Result<(Self::Tx, Self::Rx), NoMemory>
+        requires some { 1 ≤ cap }
+        requires few { cap ≤ 64 }
+        ensures tx { IfOk result (λ (tx, rx). (Self.Tx.sent tx ≡ []) × (Self.Tx.capacity tx ≡ cap) × (Self.Tx.number tx ≡ number) × (Self.Tx.origin tx ≡ origin)) }
+        ensures rx { IfOk result (λ (tx, rx). (Self.Rx.taken rx ≡ []) × (Self.Rx.number rx ≡ number) × (Self.Rx.origin rx ≡ origin)) }
+        ensures lane { IfOk result (λ (tx, rx). Self.Tx.lane tx ≡ Self.Rx.lane rx) };
+
+    /// Ends a lane, and answers what was put on it and not taken. A refusal gives both ends up.
+    fn settle(
+        &self,
+        alloc: Global,
+        need: &mut Self::Need,
+        tx: Self::Tx,
+        rx: Self::Rx,
+    ) -> Result<Left, NoMemory>
+        requires { Self.Tx.lane tx ≡ Self.Rx.lane rx }
+        ensures { IfOk result (λ left. Self.Tx.sent tx ≡ Self.Rx.taken rx ++ left) };
+}

@@ -1,0 +1,15 @@
+//! Lanes: the bounded ways along which tuples, markers and ends go from one worker to another, in order.
+//!
+//! A lane has a sending end and a receiving end, each of which one worker holds. What was sent is what was taken, followed by what lies on
+//! the lane. What is put has to be steady: a lane's tuples and markers agree about which request came first.
+#![tactic(auto)]
+
+mod ends;
+mod form;
+mod queue;
+#[cfg(test)]
+mod tests;
+
+pub use ends::{Rx, Tx};
+pub use form::{Lanes, Left, Origin};
+pub use queue::{QueueLanes, QueueRx, QueueTx};
