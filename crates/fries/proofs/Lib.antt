@@ -1,0 +1,4 @@
+pub mod FeedFacts
+pub mod MeetFacts
+pub mod RunFacts
+pub mod ReadFacts

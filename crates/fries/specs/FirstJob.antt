@@ -1,0 +1,35 @@
+-- The job of `first`.
+use Rattle.std.specs.Prelude.{ℕ, ℤ, List, [], ◌∷◌, false, codes}
+use Rattle.operators.specs.declared.job.Column.{Column}
+use Rattle.operators.specs.declared.job.ColumnKind.{ColumnKind}
+use Rattle.operators.specs.declared.job.ColumnKind.TheVariants as kind
+use Rattle.operators.specs.declared.job.Func.{Func}
+use Rattle.operators.specs.declared.job.Func.TheVariants as func
+use Rattle.operators.specs.declared.job.Job.{Job}
+use Rattle.operators.specs.declared.job.NodeDef.{NodeDef}
+use Rattle.operators.specs.declared.job.Test.TheVariants as test
+use Rattle.tuple_trace.specs.declared.value.Value.TheVariants as value
+
+-- a column of the payments file
+abbrev pub column_of : List ℕ → ColumnKind → Column
+column_of name kind = record { name = name; kind = kind; own = false }
+
+-- a node with one worker
+abbrev pub node_of : List ℕ → Func → NodeDef
+node_of name func = record { name = name; func = func; workers = 1 }
+
+-- amounts from this one on pass
+abbrev pub at_least : ℤ → Func
+at_least least = func.Filter (record { column = 2; test = test.Ge; literal = value.Num least } ∷ [])
+
+abbrev pub first_columns : List Column
+first_columns =
+    column_of (codes "account") kind.Text ∷ column_of (codes "merchant") kind.Text
+    ∷ column_of (codes "amount") kind.Cents ∷ column_of (codes "tags") kind.Text ∷ []
+
+-- a source, a filter of large amounts, and a sink that shows every column
+abbrev pub first_job : ℤ → Job
+first_job least = record {
+  columns = first_columns;
+  nodes = node_of (codes "card") func.Source ∷ node_of (codes "big") (at_least least) ∷ node_of (codes "alerts") (func.Sink (0 ∷ 1 ∷ 2 ∷ 3 ∷ [])) ∷ [];
+}

@@ -1,0 +1,11 @@
+pub mod Feeding
+pub mod Replay
+pub mod Law
+pub mod Whole
+pub mod Run
+pub mod Plain
+pub mod FirstJob
+pub mod Asked
+pub mod Faults
+pub mod Lines
+pub mod Answers

@@ -1,0 +1,58 @@
+ghost use Rattle.std.specs.Prelude.{◌≡◌, option_map};
+ghost use Rattle.fries.specs.Asked.{asked_by, asked_of, is_name as is_name_of, least_of as least_of_word};
+
+use tuple_trace::{Word, digits_up_to};
+
+/// What the command `first` is asked to do.
+#[derive(Clone, Copy, Debug)]
+pub struct First<'a> {
+    /// The file that the payments are read from.
+    pub payments: &'a Word,
+    /// The file that the alerts are written to.
+    pub alerts: &'a Word,
+    /// From how many cents on a payment passes at first.
+    pub least: i64,
+    /// After how many rows the request is issued.
+    pub after: u64,
+    /// From how many cents on a payment passes from the request on.
+    pub least_after: i64,
+}
+
+/// The greatest number of rows that a request may wait for.
+const AFTER_MAX: u64 = 1_048_576;
+
+/// Reads the words `first PAYMENTS ALERTS MIN AFTER MIN2`. None where they have another form, or a number is outside its range.
+pub fn first_of(words: &[Word]) -> Option<First<'_>>
+    ensures { option_map asked_by result ≡ asked_of words.now }
+{
+    let [command, payments, alerts, least, after, least_after] = words else {
+        return None;
+    };
+    if command.as_str() != "first" || !is_name(payments) || !is_name(alerts) {
+        return None;
+    }
+    Some(First {
+        payments,
+        alerts,
+        least: least_of(least)?,
+        after: digits_up_to(after.as_str().as_bytes(), AFTER_MAX)?,
+        least_after: least_of(least_after)?,
+    })
+}
+
+// Whether a word may name a file.
+fn is_name(word: &Word) -> bool
+    ensures { result ≡ is_name_of word.now }
+{
+    match word.as_str().as_bytes() {
+        [] | [b'-', ..] => false,
+        _ => true,
+    }
+}
+
+fn least_of(word: &Word) -> Option<i64>
+    ensures { result ≡ least_of_word word.now }
+{
+    let value = digits_up_to(word.as_str().as_bytes(), i64::MAX as u64)?;
+    i64::try_from(value).ok()
+}

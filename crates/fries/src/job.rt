@@ -1,0 +1,69 @@
+ghost use Rattle.std.specs.Prelude.{◌≡◌, IfOk};
+ghost use Rattle.fries.specs.FirstJob.{at_least as at_least_of, column_of, first_columns, first_job as first_job_of, node_of};
+
+use operators::{
+    Column, ColumnDefs, ColumnKind, Columns, Cond, Conds, Func, Job, NodeDef, NodeDefs, Test,
+};
+use std::alloc::Global;
+use tuple_trace::{NoMemory, Txt, Value};
+
+/// The place of the column `amount`.
+const AMOUNT: u32 = 2;
+
+/// The job of the command `first`: payments enter by `card`, those of at least so many cents pass `big`, and `alerts` shows them.
+pub fn first_job(alloc: Global, least: i64) -> Result<Job, NoMemory>
+    ensures { IfOk result (λ job. job ≡ first_job_of least) }
+{
+    let listed = Columns::from_slice(alloc, &[0, 1, 2, 3])?;
+    let card = node(alloc, b"card", Func::Source)?;
+    let big = node(alloc, b"big", at_least(alloc, least)?)?;
+    let alerts = node(alloc, b"alerts", Func::Sink(listed))?;
+    let nodes = Vec::from_array(alloc, [card, big, alerts])?;
+    Ok(Job {
+        columns: columns(alloc)?,
+        nodes: NodeDefs::from_vec(nodes),
+    })
+}
+
+/// The function of `big` that lets amounts from so many cents on pass.
+pub fn at_least(alloc: Global, least: i64) -> Result<Func, NoMemory>
+    ensures { IfOk result (λ func. func ≡ at_least_of least) }
+{
+    let cond = Cond {
+        column: AMOUNT,
+        test: Test::Ge,
+        literal: Value::Num(least),
+    };
+    Ok(Func::Filter(Conds::from_vec(Vec::from_array(alloc, [cond])?)))
+}
+
+fn columns(alloc: Global) -> Result<ColumnDefs, NoMemory>
+    ensures { IfOk result (λ columns. columns ≡ first_columns) }
+{
+    let account = column(alloc, b"account", ColumnKind::Text)?;
+    let merchant = column(alloc, b"merchant", ColumnKind::Text)?;
+    let amount = column(alloc, b"amount", ColumnKind::Cents)?;
+    let tags = column(alloc, b"tags", ColumnKind::Text)?;
+    let columns = Vec::from_array(alloc, [account, merchant, amount, tags])?;
+    Ok(ColumnDefs::from_vec(columns))
+}
+
+fn column(alloc: Global, name: &[u8], kind: ColumnKind) -> Result<Column, NoMemory>
+    ensures { IfOk result (λ column. column ≡ column_of name.now kind) }
+{
+    Ok(Column {
+        name: Txt::from_slice(alloc, name)?,
+        kind,
+        own: false,
+    })
+}
+
+fn node(alloc: Global, name: &[u8], func: Func) -> Result<NodeDef, NoMemory>
+    ensures { IfOk result (λ node. node ≡ node_of name.now func) }
+{
+    Ok(NodeDef {
+        name: Txt::from_slice(alloc, name)?,
+        func,
+        workers: 1,
+    })
+}
