@@ -11,10 +11,10 @@ LaneId = TableId
 abbrev pub Rose : ℕ → ℕ → Type 0
 Rose before now = (before ≤ now) × (min (before + 1) (2 ^ 64 - 1) ≤ now)
 
--- of what was sent, all but these was taken
+-- what was sent ends in these items
 abbrev pub LayLast : List Item → List Item → Type 0
 LayLast sent lying = (taken : List Item) × (sent ≡ taken ++ lying)
 
--- at one moment the lane was full: the last items sent, as many as it holds, lay on it
+-- what was sent ends in as many items as the lane holds, as it must where the lane was full
 abbrev pub WasFull : ℕ → List Item → Type 0
 WasFull capacity sent = (lying : List Item) × (length lying ≡ capacity) × LayLast sent lying

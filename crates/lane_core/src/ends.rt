@@ -21,7 +21,7 @@ pub trait Tx<N> {
     // How many puts found the lane full; at 2^64 - 1 the number stays.
     ghost full: { Self → ℕ };
 
-    /// Puts an item behind those that were sent. A full lane hands it back, and nothing else is refused.
+    /// Puts an item behind those that were sent. A full lane hands it back; the contract says that as many were sent as it holds.
     fn put(&mut self, need: &mut N, item: Item) -> Result<(), Item>
         requires { MayFollow (origin self.old) (sent self.old) item }
         ensures end { (capacity self.new ≡ capacity self.old) × (number self.new ≡ number self.old)
@@ -44,7 +44,7 @@ pub trait Rx<N> {
     // How many takes found the lane empty; at 2^64 - 1 the number stays.
     ghost dry: { Self → ℕ };
 
-    /// Takes the next item. None comes only from an empty lane.
+    /// Takes the next item. An empty lane gives none, which `dry` counts.
     fn take(&mut self, need: &mut N) -> Option<Item>
         ensures end { (number self.new ≡ number self.old) × (origin self.new ≡ origin self.old) × (lane self.new ≡ lane self.old) }
         ensures taken { IfSome result (λ item. (taken self.new ≡ taken self.old ++ item ∷ []) × (dry self.new ≡ dry self.old)) }
