@@ -1,0 +1,46 @@
+/// What has a name of its own.
+#[derive(Clone, Copy, Debug, PartialEq, Eq)]
+pub enum Named {
+    Node,
+    Column,
+}
+
+/// What has a limit.
+#[derive(Clone, Copy, Debug, PartialEq, Eq)]
+pub enum Which {
+    Nodes,
+    Edges,
+    Workers,
+    AllWorkers,
+    Columns,
+    Text,
+    Entries,
+    Conditions,
+    Steps,
+    Most,
+    Requests,
+    Changes,
+    After,
+}
+
+/// Why the parts of a job make no lawful job.
+#[derive(Clone, Copy, Debug, PartialEq, Eq)]
+pub enum LawFault {
+    /// A count or a size is outside its limit; the number is the one that is.
+    Limit(Which, i64),
+    /// The column or node at this place has the name of an earlier one.
+    NameTwice(Named, u32),
+    /// The edge at this place has an end that is no node.
+    NoSuchEnd(u32),
+    /// The edges of this node aren't those of its kind, or two of them lead to one node.
+    Ports(u32),
+    /// The node lies on a cycle.
+    Cycle(u32),
+    /// A column that the function of this node names isn't there or doesn't fit.
+    Column(u32),
+    /// The table of this node isn't there.
+    NoTable(u32),
+    /// The weight of the job is too great.
+    Weight(u64),
+    NoMemory,
+}
