@@ -1,0 +1,14 @@
+-- Finite maps from texts.
+use Rattle.std.specs.Prelude.{ℕ, List, map, Vec}
+use Rattle.std.specs.Global.{Global}
+use Rattle.std.specs.Ordering.{nat_cmp}
+use Rattle.std.specs.Cmp.Lexicographic.{slice_cmp}
+use Rattle.std.specs.FinMap.{FinMap, from_entries}
+
+-- a finite map from texts, which are ordered by their bytes
+abbrev pub TextMapOf : Type 0 → Type 0
+TextMapOf V = FinMap (slice_cmp nat_cmp) V
+
+-- the map of a list of entries
+abbrev pub map_of : {V : Type 0} → List (Vec ℕ Global × V) → TextMapOf V
+map_of entries = from_entries (map (λ e. (e.0.items, e.1)) entries)
