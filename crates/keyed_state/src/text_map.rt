@@ -6,7 +6,7 @@ use std::collections::BTreeMap;
 use std::marker::Model;
 
 /// A finite map from texts, in the order of their bytes. A look-up is logarithmic.
-#[derive(Drop)]
+#[derive(Debug, Drop)]
 pub struct TextMap<V> {
     alloc: Global,
     entries: BTreeMap<Vec<u8>, V>,
