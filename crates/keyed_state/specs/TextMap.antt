@@ -9,6 +9,10 @@ use Rattle.std.specs.FinMap.{FinMap, from_entries}
 abbrev pub TextMapOf : Type 0 → Type 0
 TextMapOf V = FinMap (slice_cmp nat_cmp) V
 
+-- an entry, its text as the list of its bytes
+abbrev pub shown : {V : Type 0} → Vec ℕ Global × V → List ℕ × V
+shown e = (e.0.items, e.1)
+
 -- the map of a list of entries
 abbrev pub map_of : {V : Type 0} → List (Vec ℕ Global × V) → TextMapOf V
-map_of entries = from_entries (map (λ e. (e.0.items, e.1)) entries)
+map_of entries = from_entries (map shown entries)
