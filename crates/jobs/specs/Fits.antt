@@ -2,6 +2,7 @@
 use Rattle.std.specs.Prelude.{ℕ, Bool, true, false, ◌&&◌, List, length, nat_lt, Option, Some, None, slice_get}
 use Rattle.std.specs.List.{list_all}
 use Rattle.std.specs.FinMap as finite
+use Rattle.keyed_state.specs.TextMap.{TextMapOf}
 use Rattle.tuple_trace.specs.declared.value.Value.{Value}
 use Rattle.tuple_trace.specs.declared.value.Value.TheVariants as value
 use Rattle.jobs.specs.declared.column.Column.{Column}
@@ -41,10 +42,14 @@ cond_fits columns cond = holds (kind_at columns cond.column) cond.literal && is_
 abbrev pub step_fits : List Column → Step → Bool
 step_fits columns step = is_amount (kind_at columns step.column) && operand_fits columns step.a && operand_fits columns step.b
 
+-- a column of this kind may hold every value of these entries
+abbrev pub values_fit : Option ColumnKind → TextMapOf Value → Bool
+values_fit kind entries = list_all (λ (e : List ℕ × Value). holds kind e.1) (finite.entries entries)
+
 -- a column of this kind may hold every value of the table, if there is a table
 abbrev pub table_fits : Option ColumnKind → Option Table → Bool
 table_fits kind None = true
-table_fits kind (Some table) = list_all (λ (e : List ℕ × Value). holds kind e.1) (finite.entries table.entries)
+table_fits kind (Some table) = values_fit kind table.entries
 
 -- the columns that the function names are there and of the right kinds, and so are its literals and the values of its table
 abbrev pub fits_columns : List Column → List Table → Func → Bool

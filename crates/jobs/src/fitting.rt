@@ -135,7 +135,7 @@ fn is_amount(kind: Option<ColumnKind>) -> bool
     }
 }
 
-fn holds(kind: Option<ColumnKind>, value: &Value) -> bool
+pub fn holds(kind: Option<ColumnKind>, value: &Value) -> bool
     ensures { result ≡ holds kind value.now }
 {
     match value {
