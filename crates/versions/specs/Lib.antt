@@ -1,0 +1,4 @@
+pub mod Book
+pub mod Judge
+pub mod Judged
+pub mod Young
