@@ -22,7 +22,7 @@ R = slice_cmp nat_cmp
 abbrev pub is_text : List ℕ → Vec ℕ Global → Bool
 is_text q = is_at (λ (k : Vec ℕ Global). R q k.items)
 
-is_eq_true : (o : Ordering) → is_eq o ≡ true → o ≡ Equal
+pub is_eq_true : (o : Ordering) → is_eq o ≡ true → o ≡ Equal
 is_eq_true Less e = cc
 is_eq_true Equal e = refl
 is_eq_true Greater e = cc
