@@ -1,5 +1,5 @@
 -- The entries of a `BTreeMap` with byte strings as keys, as a finite map.
-use Rattle.std.proofs.Common.{◌≡◌, ◌∙◌, ℕ, ◌+◌, sym, ap, refl, List, [], ◌∷◌, map, length, cond, Bool, true, false, Option, Some, None, IsSome, Vec, Global, Ordering}
+use Rattle.std.proofs.Common.{◌≡◌, ◌∙◌, ℕ, sym, ap, refl, List, [], ◌∷◌, map, length, cond, Bool, true, false, Some, IsSome, Vec, Global, Ordering}
 use Rattle.std.proofs.lemmas.List.{length-map}
 use Rattle.std.specs.declared.cmp.Ordering.TheVariants.{Less, Equal, Greater}
 use Rattle.std.specs.Ordering.{nat_cmp, eq_by_cmp, is_eq, match_ordering}
@@ -12,21 +12,17 @@ use Rattle.std.proofs.lemmas.List.{nil_from_length}
 use Rattle.std.proofs.lemmas.List.Elements.{same_from_all_zip}
 use Rattle.std.specs.BTreeMap.{is_at, insert_entry}
 use Rattle.std.specs.FinMap.{get, insert, get-from_entries, get-insert, same_map, slice_cmp-IsAntisymmetric, nat_cmp-IsAntisymmetric, find, entries, empty, entries-insert, put, len-entries, len-empty, len}
-use Rattle.keyed_state.specs.TextMap.{map_of, shown}
+use Rattle.keyed_state.specs.TextMap.{map_of, shown, text_cmp}
 
 -- the order of texts
 abbrev R : List ℕ → List ℕ → Ordering
 R = slice_cmp nat_cmp
 
--- the order of stored texts
-abbrev pub text_cmp : Vec ℕ Global → Vec ℕ Global → Ordering
-text_cmp a b = R a.items b.items
-
 -- whether a stored text is this one
 abbrev pub is_text : List ℕ → Vec ℕ Global → Bool
 is_text q = is_at (λ (k : Vec ℕ Global). R q k.items)
 
-is_eq_true : (o : Ordering) → is_eq o ≡ true → o ≡ Equal
+pub is_eq_true : (o : Ordering) → is_eq o ≡ true → o ≡ Equal
 is_eq_true Less e = cc
 is_eq_true Equal e = refl
 is_eq_true Greater e = cc
@@ -122,3 +118,16 @@ module _ {V : Type 0} where
 
   pub len-map_of : (es : List (Entry V)) → IsStrictlySortedBy text_cmp (keys_of es) → len (map_of es) ≡ length es
   len-map_of es s = len-entries (map_of es) ∙ ap length (entries-map_of es s) ∙ length-map es shown
+
+  -- entries whose texts and values are clones show the same
+  pub shown-clones :
+      (C : ℕ → ℕ → Type 0) (D : V → V → Type 0) → ((x y : ℕ) → C x y → y ≡ x) → ((x y : V) → D x y → y ≡ x) →
+      (es fs : List (Entry V)) → AllZip (λ p q. (AllZip C p.0.items q.0.items × (vec_len q.0 ≡ vec_len p.0)) × D p.1 q.1) es fs →
+      map shown fs ≡ map shown es
+  shown-clones C D c d [] [] h = refl
+  shown-clones C D c d [] (f ∷ fs) h = absurd h
+  shown-clones C D c d (e ∷ es) [] h = absurd h
+  shown-clones C D c d (e ∷ es) (f ∷ fs) h =
+      let keys : f.0.items ≡ e.0.items = same_from_all_zip C e.0.items f.0.items h.0.0.0 c in
+      let values : f.1 ≡ e.1 = d e.1 f.1 h.0.1 in
+      rw (keys, values, shown-clones C D c d es fs h.1) refl

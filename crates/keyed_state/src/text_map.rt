@@ -8,10 +8,10 @@ use std::marker::Model;
 use tuple_trace::NoMemory;
 
 /// A finite map from texts, in the order of their bytes. A look-up is logarithmic.
-#[derive(Debug, Drop)]
+#[derive(Clone, Debug, Drop)]
 pub struct TextMap<V> {
-    alloc: Global,
-    entries: BTreeMap<Vec<u8>, V>,
+    pub(crate) alloc: Global,
+    pub(crate) entries: BTreeMap<Vec<u8>, V>,
 }
 
 impl<V> Model for TextMap<V> {
@@ -60,6 +60,13 @@ impl<V> TextMap<V> {
 }
 
 impl<V: Drop> TextMap<V> {
+    /// Takes all entries out.
+    pub fn clear(&mut self)
+        ensures { self.new ≡ finite.empty }
+    {
+        self.entries.clear();
+    }
+
     /// Gives a text this value, in place of the one that it may have. After [`NoMemory`] the map is as before, and the value is given up.
     ///
     /// Takes memory only where the text is new.
@@ -74,5 +81,14 @@ impl<V: Drop> TextMap<V> {
         let owned = Vec::from_slice(self.alloc, key)?;
         self.entries.insert(owned, value)?;
         Ok(())
+    }
+}
+
+impl<V: Clone + Drop> TextMap<V> {
+    /// A map with copies of all entries.
+    pub fn copy(&self) -> Result<TextMap<V>, NoMemory>
+        ensures { IfOk result (λ copy. ((x y : V) → V.is_clone x y → y ≡ x) → copy ≡ self.now) }
+    {
+        Ok(self.clone()?)
     }
 }
