@@ -3,9 +3,9 @@ use Rattle.std.proofs.Common.{◌≡◌, ◌<◌, ◌≤◌, ◌+◌, ℕ, List,
 use Rattle.std.proofs.lemmas.List.{drop_all, drop_more, length-take, take_more}
 use Rattle.jobs.specs.Written.{Written}
 use Rattle.versions.specs.declared.book.Current.{Current}
-use Rattle.versions.specs.declared.judge.Code.{Code}
+use Rattle.versions.specs.declared.judging.Code.{Code}
 use Rattle.versions.specs.declared.request.Change.{Change}
-use Rattle.versions.specs.Judge.{first_with, has_fault}
+use Rattle.versions.specs.Judging.{first_with, has_fault}
 
 pub one_more : (k : Code) (book : List Current) (job : Written) (before : List Change) (c : Change) (rest : List Change) → has_fault k book job before c ≡ false
     → first_with k book job before (c ∷ rest) ≡ first_with k book job (before ++ c ∷ []) rest

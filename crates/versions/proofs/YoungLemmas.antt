@@ -10,14 +10,14 @@ use Rattle.std.specs.Prelude.{nat_le}
 use Rattle.jobs.specs.Written.{Written}
 use Rattle.jobs.specs.declared.func.NodeDef.{NodeDef}
 use Rattle.versions.specs.declared.book.Current.{Current}
-use Rattle.versions.specs.declared.judge.Code.{Code}
-use Rattle.versions.specs.declared.judge.Code.TheVariants as code
+use Rattle.versions.specs.declared.judging.Code.{Code}
+use Rattle.versions.specs.declared.judging.Code.TheVariants as code
 use Rattle.versions.specs.declared.request.Change.{Change}
 use Rattle.versions.specs.declared.fault.QFault.{QFault}
 use Rattle.versions.specs.declared.fault.QFault.TheVariants as fault
 use Rattle.versions.specs.declared.request.Request.{Request}
 use Rattle.versions.specs.Book.{CanAccept, accepted, current_version, first_book, with_change}
-use Rattle.versions.specs.Judge.{fault_of, first_with, has_fault, named, or_else, stale, whole_fault}
+use Rattle.versions.specs.Judging.{fault_of, first_with, has_fault, named, or_else, stale, whole_fault}
 use Rattle.versions.specs.Young.{IsBelow, IsYoung}
 use Rattle.versions.proofs.BookLemmas.{long_still, other_place}
 use Rattle.versions.proofs.FirstLemmas.{one_found, one_more}
@@ -45,14 +45,15 @@ below_change book v node bound small below n current is =
           omega (arith, old)
     ]
 
-pub young_after : (job : Written) (book : List Current) (cs : List Change) (bound : ℕ) → IsYoung job book bound → IsYoung job (accepted book cs) (bound + length cs)
+-- each change raises a version by at most one
+pub IsYoung-accepted : (job : Written) (book : List Current) (cs : List Change) (bound : ℕ) → IsYoung job book bound → IsYoung job (accepted book cs) (bound + length cs)
 unfolding accepted
-young_after job book [] bound young = record { long = young.long; below = λ n current is. omega (arith, young.below n current is) }
-young_after job book (c ∷ cs) bound young =
+IsYoung-accepted job book [] bound young = record { long = young.long; below = λ n current is. omega (arith, young.below n current is) }
+IsYoung-accepted job book (c ∷ cs) bound young =
     let v : Current = record { version = current_version (slice_get book c.node) + 1; func = c.func } in
     let small : v.version ≤ bound + 1 = omega (arith, current_small book c.node bound young.below) in
     let here : IsYoung job (with_change book c.node c.func) (bound + 1) = record { long = long_still book c.node v ∙ young.long; below = below_change book v c.node bound small young.below } in
-    let rest = young_after job (with_change book c.node c.func) cs (bound + 1) here in
+    let rest = IsYoung-accepted job (with_change book c.node c.func) cs (bound + 1) here in
     record { long = rest.long; below = λ n current is. omega (arith, rest.below n current is) }
 
 none_each : (k : Code) (book : List Current) (job : Written) (before cs : List Change) → first_with k book job before cs ≡ None
@@ -84,9 +85,9 @@ named_none f (Some i) e = absurd cc
 not_above : (a b : ℕ) → nat_le a b ≡ false → b < a
 not_above a b e = grind (arith, nat_tests)
 
--- the faults that a request without any hasn't either
-pub can_accept : (job : Written) (book : List Current) (r : Request) (last bound : ℕ) → IsYoung job book bound → bound < 2 ^ 64 - 1 → fault_of book job r last ≡ None → CanAccept book r.changes
-can_accept job book r last bound young room free =
+-- a request without a fault can be accepted
+pub CanAccept-fault_of : (job : Written) (book : List Current) (r : Request) (last bound : ℕ) → IsYoung job book bound → bound < 2 ^ 64 - 1 → fault_of book job r last ≡ None → CanAccept book r.changes
+CanAccept-fault_of job book r last bound young room free =
     let one = or_none (named fault.NoNode (first_with code.NoNode book job [] r.changes)) _ free in
     let two = or_none (named fault.Fixed (first_with code.Fixed book job [] r.changes)) _ one.1 in
     let three = or_none (named fault.NodeTwice (first_with code.NodeTwice book job [] r.changes)) _ two.1 in
@@ -110,5 +111,5 @@ first_long : (nodes : List NodeDef) → length (first_book nodes) ≡ length nod
 first_long [] = refl
 first_long (x ∷ nodes) = omega (arith, first_long nodes)
 
-pub young_first : (job : Written) → IsYoung job (first_book job.nodes) 0
-young_first job = record { long = first_long job.nodes; below = first_below job.nodes }
+pub IsYoung-first_book : (job : Written) (bound : ℕ) → IsYoung job (first_book job.nodes) bound
+IsYoung-first_book job bound = record { long = first_long job.nodes; below = λ n current is. omega (arith, first_below job.nodes n current is) }

@@ -2,11 +2,11 @@
 use Rattle.std.specs.Prelude.{ℕ, ◌+◌, List, [], ◌∷◌, Option, Some, None}
 use Rattle.jobs.specs.Written.{Written}
 use Rattle.versions.specs.declared.book.Current.{Current}
-use Rattle.versions.specs.declared.judge_all.Judged.{Judged}
+use Rattle.versions.specs.declared.in_order.Judged.{Judged}
 use Rattle.versions.specs.declared.request.Request.{Request}
 use Rattle.versions.specs.declared.fault.QFault.{QFault}
 use Rattle.versions.specs.Book.{accepted, first_book}
-use Rattle.versions.specs.Judge.{fault_of}
+use Rattle.versions.specs.Judging.{fault_of}
 
 abbrev pub accepting : Request → Judged → Judged
 accepting request later = record { accepted = request ∷ later.accepted; refused = later.refused }

@@ -1,4 +1,4 @@
 pub mod Book
-pub mod Judge
+pub mod Judging
 pub mod Judged
 pub mod Young

@@ -2,9 +2,9 @@
 use Rattle.std.specs.Prelude.{◌≡◌, ℕ, ◌≤◌, List, ◌++◌, length, Some, slice_get}
 use Rattle.jobs.specs.Written.{Written}
 use Rattle.versions.specs.declared.book.Current.{Current}
-use Rattle.versions.specs.declared.judge_all.Bench.{Bench}
-use Rattle.versions.specs.declared.judge_all.Judged.{Judged}
-use Rattle.versions.specs.declared.judge_all.Refused.{Refused}
+use Rattle.versions.specs.declared.in_order.Bench.{Bench}
+use Rattle.versions.specs.declared.in_order.Judged.{Judged}
+use Rattle.versions.specs.declared.in_order.Refused.{Refused}
 use Rattle.versions.specs.declared.request.Request.{Request}
 use Rattle.versions.specs.Judged.{judged_from}
 

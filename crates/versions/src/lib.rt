@@ -7,14 +7,13 @@
 
 mod book;
 mod fault;
-mod judge;
-mod judge_all;
+mod judging;
+mod in_order;
 mod request;
-#[cfg(test)]
-mod tests;
+
 
 pub use book::{Book, Current, accept};
 pub use fault::QFault;
-pub use judge::judge;
-pub use judge_all::{Judged, Refusals, Refused, judge_all};
+pub use judging::judge;
+pub use in_order::{Judged, Refusals, Refused, judge_all};
 pub use request::{Change, Changes, Request, Requests};

@@ -1,7 +1,7 @@
 ghost use Rattle.std.specs.Prelude.{◌≡◌, ◌≤◌, ◌<◌, [], None, Some, IfErr, IfSome, OnOk, length, slice_get};
 ghost use Rattle.jobs.specs.Job.{written};
 ghost use Rattle.versions.specs.Book.{is_named as is_named_in};
-ghost use Rattle.versions.specs.Judge.{fault_of, first_with as first_with_in, has_fault as has_fault_in, is_bad_carry as is_bad_carry_of, is_count_at as is_count_node, is_fixed as is_fixed_func, is_fixed_at as is_fixed_node, is_stale_at as is_stale_node, may_replace as may_replace_func, may_replace_at as may_replace_current, most_at as most_of_node, version_of as version_of_change, whole_fault as whole_fault_of};
+ghost use Rattle.versions.specs.Judging.{fault_of, first_with as first_with_in, has_fault as has_fault_in, is_bad_carry as is_bad_carry_of, is_count_at as is_count_node, is_fixed as is_fixed_func, is_fixed_at as is_fixed_node, is_stale_at as is_stale_node, may_replace as may_replace_func, may_replace_at as may_replace_current, most_at as most_of_node, version_of as version_of_change, whole_fault as whole_fault_of};
 
 use crate::{Book, Change, Current, QFault, Request};
 use jobs::{Func, Job, NodeDef, fits};

@@ -9,8 +9,8 @@ use Rattle.jobs.specs.declared.func.Func.TheVariants as func
 use Rattle.jobs.specs.declared.func.NodeDef.{NodeDef}
 use Rattle.versions.specs.Book.{current_version, is_named}
 use Rattle.versions.specs.declared.book.Current.{Current}
-use Rattle.versions.specs.declared.judge.Code.{Code}
-use Rattle.versions.specs.declared.judge.Code.TheVariants as code
+use Rattle.versions.specs.declared.judging.Code.{Code}
+use Rattle.versions.specs.declared.judging.Code.TheVariants as code
 use Rattle.versions.specs.declared.request.Change.{Change}
 use Rattle.versions.specs.declared.request.Request.{Request}
 use Rattle.versions.specs.declared.fault.QFault.{QFault}
