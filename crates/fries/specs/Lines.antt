@@ -14,35 +14,6 @@ use Rattle.fries.specs.declared.fault.FileIs.{FileIs}
 use Rattle.fries.specs.declared.lines.Summary.{Summary}
 use Rattle.fries.specs.declared.fault.FileIs.TheVariants as file
 
--- ---- faults
-
-abbrev pub file_words : FileIs → List ℕ
-file_words file.Payments = codes "payments"
-file_words file.Alerts = codes "alerts"
-file_words file.Out = codes "out"
-
-abbrev pub payments_words : PFault → List ℕ
-payments_words rows.NoHeader = codes "P1"
-payments_words rows.Header = codes "P2"
-payments_words (rows.Length row) = codes "P3 row " ++ decimal row
-payments_words (rows.Source row) = codes "P4 row " ++ decimal row
-payments_words (rows.Value row column) = codes "P5 row " ++ decimal row ++ codes " column " ++ decimal column
-payments_words (rows.TextLong row column) = codes "P6 row " ++ decimal row ++ codes " column " ++ decimal column
-payments_words (rows.TooMuch row) = codes "P7 row " ++ decimal row
-payments_words rows.NoMemory = codes "memory"
-
-abbrev pub fault_words : Fault → List ℕ
-fault_words fault.Usage = codes "usage"
-fault_words (fault.Payments code) = payments_words code
-fault_words (fault.Read file) = file_words file
-fault_words (fault.Write file) = file_words file
-fault_words fault.NoMemory = codes "memory"
-fault_words (fault.Long file) = file_words file
-
--- the line of a fault
-abbrev pub fault_line : Fault → List ℕ
-fault_line fault = codes "fault " ++ decimal (status_of fault) ++ codes " " ++ fault_words fault ++ codes "\n"
-
 -- ---- the summary of a run of `first`
 
 abbrev pub is_fed : Feed → Bool

@@ -1,8 +1,8 @@
 ghost use Rattle.std.specs.Prelude.{◌≡◌, ◌<◌, ◌^◌, ◌-◌, IfOk, IfSome, length, slice_get, option_map, Some};
 ghost use Rattle.versions.specs.Book.{accepted, first_book, with_change, CanAccept, HasRoom};
 
-use crate::request::copy_of;
 use crate::Request;
+use crate::request::copy_of;
 use jobs::{Func, Job};
 use std::alloc::Global;
 use std::marker::Model;
@@ -56,6 +56,13 @@ impl Book {
             })?;
         }
         Ok(Book { entries })
+    }
+
+    /// How many nodes there are.
+    pub fn nodes(&self) -> usize
+        ensures { result ≡ length self.now }
+    {
+        self.entries.len()
     }
 
     /// How many changes of a node were accepted. Takes no memory.

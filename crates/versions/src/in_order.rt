@@ -44,7 +44,9 @@ pub fn judge_all(alloc: Global, job: &Job, requests: &Requests) -> Result<Judged
         next(alloc, job, &mut bench, place as u32 + 1, request)?;
     }
     let Bench {
-        accepted, refused, ..
+        accepted,
+        refused,
+        ..
     } = bench;
     Ok(Judged { accepted, refused })
 }

@@ -7,13 +7,14 @@
 
 mod book;
 mod fault;
-mod judging;
 mod in_order;
+mod judging;
 mod request;
-
+#[cfg(test)]
+mod tests;
 
 pub use book::{Book, Current, accept};
 pub use fault::QFault;
-pub use judging::judge;
 pub use in_order::{Judged, Refusals, Refused, judge_all};
+pub use judging::judge;
 pub use request::{Change, Changes, Request, Requests};
