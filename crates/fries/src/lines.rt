@@ -5,7 +5,7 @@ ghost use Rattle.fries.specs.Lines.{alert_count as alert_count_of, row_count as 
 
 use crate::executor::RunRecord;
 use crate::fault::Fault;
-use jobs::{Job, weight};
+use jobs::{Job, weight, worker_count};
 use sink_journal::{Entry, Feed};
 use std::alloc::Global;
 use std::fmt;
@@ -133,7 +133,7 @@ fn sizes_of(job: &Job) -> Sizes
     Sizes {
         nodes: job.nodes.len(),
         edges: job.dag.edges(),
-        workers: job.workers(),
+        workers: worker_count(job),
         weight: weight(job),
     }
 }

@@ -5,7 +5,7 @@ use crate::{
 };
 use flow_dag::Edge;
 use jobs::{
-    Column, ColumnDefs, ColumnKind, Columns, Func, Job, LawFault, NodeDef, NodeDefs, SplitBy, Steps,
+    Column, ColumnDefs, ColumnKind, Columns, Func, Job, NodeDef, NodeDefs, SplitBy, Steps,
     Tables, weight,
 };
 use std::alloc::Global;
@@ -34,7 +34,7 @@ fn chain(
     columns: &[(&[u8], ColumnKind, bool)],
     sources: &[&[u8]],
     between: &[(&[u8], u32)],
-) -> Result<Job, LawFault> {
+) -> Result<Job, Fail> {
     let mut defs = ColumnDefs::new(alloc);
     for (name, kind, own) in columns {
         defs.push(Column {
@@ -52,7 +52,13 @@ fn chain(
     }
     nodes.push(node(alloc, b"alerts", Func::Sink(Columns::new(alloc)))?)?;
     let edges = edges_of(alloc, sources.len(), nodes.len())?;
-    Job::check(alloc, defs, nodes, edges.as_slice(), Tables::new(alloc))
+    Ok(Job::check(
+        alloc,
+        defs,
+        nodes,
+        edges.as_slice(),
+        Tables::new(alloc),
+    )?)
 }
 
 /// A map, or a split into so many pieces.

@@ -4,7 +4,7 @@ ghost use Rattle.jobs.specs.Nodes.{worker_count, workers_of, workers_with};
 use crate::{Entry, Journal, Journals, alerts_text};
 use flow_dag::Edge;
 use jobs::{
-    Column, ColumnDefs, ColumnKind, Columns, Conds, Func, Job, LawFault, NodeDef, NodeDefs, Tables,
+    Column, ColumnDefs, ColumnKind, Columns, Conds, Func, Job, NodeDef, NodeDefs, Tables,
 };
 use std::alloc::Global;
 use std::test::Fail;
@@ -72,7 +72,7 @@ fn payment(
 }
 
 // A source, a filter and a sink that lists all four columns.
-fn chain(alloc: Global) -> Result<Job, LawFault>
+fn chain(alloc: Global) -> Result<Job, Fail>
     ensures { IfOk result (λ job. worker_count job.nodes ≡ 2) }
 {
     let columns = ColumnDefs::from_vec(vec![in alloc;
@@ -87,7 +87,13 @@ fn chain(alloc: Global) -> Result<Job, LawFault>
         node(alloc, "alerts", sink(alloc, &[0, 1, 2, 3])?, 1)?,
     ]?);
     let edges = [edge(0, 0, 1), edge(1, 0, 2)];
-    Job::check(alloc, columns, nodes, &edges, Tables::new(alloc))
+    Ok(Job::check(
+        alloc,
+        columns,
+        nodes,
+        &edges,
+        Tables::new(alloc),
+    )?)
 }
 
 #[test]
@@ -166,7 +172,7 @@ fn rated(alloc: Global, row: u64, texts: [&str; 2], numbers: [i64; 3]) -> Result
 }
 
 // Two sinks, of which the first lists the columns 0 to 3 and the second 0, 1 and 4, above two sources and filters of one and two workers.
-fn two_sinks(alloc: Global) -> Result<Job, LawFault>
+fn two_sinks(alloc: Global) -> Result<Job, Fail>
     ensures { IfOk result (λ job. worker_count job.nodes ≡ 5) }
 {
     let columns = ColumnDefs::from_vec(vec![in alloc;
@@ -191,7 +197,13 @@ fn two_sinks(alloc: Global) -> Result<Job, LawFault>
         edge(2, 1, 4),
         edge(4, 0, 5),
     ];
-    Job::check(alloc, columns, nodes, &edges, Tables::new(alloc))
+    Ok(Job::check(
+        alloc,
+        columns,
+        nodes,
+        &edges,
+        Tables::new(alloc),
+    )?)
 }
 
 #[test]
