@@ -5,8 +5,8 @@ use crate::{
 };
 use flow_dag::Edge;
 use jobs::{
-    Column, ColumnDefs, ColumnKind, Columns, Func, Job, NodeDef, NodeDefs, SplitBy, Steps,
-    Tables, weight,
+    Column, ColumnDefs, ColumnKind, Columns, Func, Job, NodeDef, NodeDefs, SplitBy, Steps, Tables,
+    weight,
 };
 use std::alloc::Global;
 use std::fs;
@@ -52,13 +52,7 @@ fn chain(
     }
     nodes.push(node(alloc, b"alerts", Func::Sink(Columns::new(alloc)))?)?;
     let edges = edges_of(alloc, sources.len(), nodes.len())?;
-    Ok(Job::check(
-        alloc,
-        defs,
-        nodes,
-        edges.as_slice(),
-        Tables::new(alloc),
-    )?)
+    Ok(Job::check(alloc, defs, nodes, edges.as_slice(), Tables::new(alloc))?)
 }
 
 /// A map, or a split into so many pieces.
@@ -278,7 +272,10 @@ fn columns_of_every_number(rt: HostRuntime) -> Result<(), Fail> {
     let text = b"source,a,b,c,d,e,f,g,h,i,j,k,l\ncard,1,2,3,4,5,6,7,8,9,10,11,12\n";
     assert_eq!(rt; count_of(alloc, &twelve, text), Ok(1));
     let one = chain(alloc, &given[..1], &[b"card"], &[])?;
-    assert_eq!(rt; count_of(alloc, &one, b"source,a\ncard,1\ncard,-1\n"), Ok(2));
+    assert_eq!(rt;
+        count_of(alloc, &one, b"source,a\ncard,1\ncard,-1\n"),
+        Ok(2)
+    );
     let none = chain(alloc, &[(b"a", ColumnKind::Number, true)], &[b"card"], &[])?;
     assert_eq!(rt; count_of(alloc, &none, b"source\ncard\ncard\n"), Ok(2));
     Ok(())
