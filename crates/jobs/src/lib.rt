@@ -17,6 +17,7 @@ mod ports;
 mod table;
 mod tables;
 mod weights;
+mod workers;
 
 pub use check::{fits, weight};
 pub use column::{Column, ColumnDefs, ColumnKind, Columns};
@@ -29,3 +30,4 @@ pub use job::Job;
 pub use limits::size_fault;
 pub use node::{is_source, may_emit_many};
 pub use table::{Table, Tables};
+pub use workers::worker_count;
