@@ -1,0 +1,12 @@
+pub mod Columns
+pub mod Conds
+pub mod Document
+pub mod Edges
+pub mod Funcs
+pub mod Kinds
+pub mod Literals
+pub mod Names
+pub mod Nodes
+pub mod Numbers
+pub mod Steps
+pub mod Tables
