@@ -1,0 +1,5 @@
+pub mod Written
+pub mod Columns
+pub mod Fits
+pub mod Nodes
+pub mod Ports

@@ -6,8 +6,12 @@
 
 mod column;
 mod fault;
+mod fitting;
 mod func;
+mod node;
+mod ports;
 mod table;
+mod tables;
 
 pub use column::{Column, ColumnDefs, ColumnKind, Columns};
 pub use fault::{LawFault, Named, Which};
@@ -15,4 +19,5 @@ pub use func::{
     Cond, Conds, CountBy, Func, Lookup, NOWHERE, NodeDef, NodeDefs, Op, Operand, SplitBy, Step,
     Steps, Test,
 };
+pub use node::{is_source, may_emit_many};
 pub use table::{Table, Tables};

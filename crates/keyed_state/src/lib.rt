@@ -1,6 +1,17 @@
 //! Finite maps from texts, and the counters that a node keeps by key.
 #![tactic(auto)]
 
+mod carry;
+mod counts;
+mod entries;
+mod keyed;
+mod number;
+#[cfg(test)]
+mod tests;
 mod text_map;
 
+pub use carry::Carry;
+pub use entries::TextEntries;
+pub use keyed::Keyed;
+pub use number::clamp;
 pub use text_map::TextMap;

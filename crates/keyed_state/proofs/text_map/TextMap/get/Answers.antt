@@ -1,0 +1,9 @@
+use Rattle.std.proofs.Common.{◌∙◌, sym, ap}
+use Rattle.std.specs.FinMap as finite
+use Rattle.keyed_state.proofs.EntryLemmas.{get-map_of}
+use Rattle.keyed_state.proofs.text_map.TextMap.get.Goals as goal
+
+pub returns : goal.returns
+returns g c =
+    c.get.ensures.value ∙ sym (get-map_of c.self.inside.entries.entries c.args.key.now)
+    ∙ ap (λ m. finite.get m c.args.key.now) c.self.view_is
