@@ -1,2 +1,4 @@
 pub mod DocumentLemmas
+pub mod EntryLemmas
 pub mod ItemLemmas
+pub mod PartLemmas

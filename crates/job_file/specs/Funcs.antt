@@ -24,9 +24,12 @@ use Rattle.job_file.specs.Names.{column_named, table_named}
 use Rattle.job_file.specs.Numbers.{nearest}
 use Rattle.job_file.specs.Steps.{step_of}
 
--- what stands at a key: the number of a column, a literal, an operand, and a byte
+-- what stands at a key: the name of a column or a table, as its number, a literal, an operand, and a byte
 abbrev pub column_at : List Column → List ℕ → Part → Members → Result ℕ FormFault
 column_at columns key place ms = and_then (text_at key place ms) (λ name. Ok (column_named columns name))
+
+abbrev pub table_at : List Table → List ℕ → Part → Members → Result ℕ FormFault
+table_at tables key place ms = and_then (text_at key place ms) (λ name. Ok (table_named tables name))
 
 abbrev pub literal_at : List ℕ → Part → Members → Result Value FormFault
 literal_at key place ms = and_then (value_at key place ms) (literal_of place)
@@ -62,8 +65,8 @@ abbrev pub enrich_in : List Column → List Table → Members → Result Func Fo
 enrich_in columns tables ms =
     and_then (column_at columns (codes "key") part.Key ms) (λ key.
     and_then (column_at columns (codes "into") part.Into ms) (λ into.
-    and_then (text_at (codes "table") part.Table ms) (λ name.
-    and_then (literal_at (codes "other") part.Other ms) (enrich_with key into (table_named tables name)))))
+    and_then (table_at tables (codes "table") part.Table ms) (λ table.
+    and_then (literal_at (codes "other") part.Other ms) (enrich_with key into table))))
 
 abbrev pub count_with : ℕ → Operand → ℕ → Result Func FormFault
 count_with key add into = Ok (func.Count (record { key = key; add = add; into = into }))

@@ -4,6 +4,7 @@ pub mod Document
 pub mod Edges
 pub mod Funcs
 pub mod Kinds
+pub mod Layout
 pub mod Literals
 pub mod Names
 pub mod Nodes

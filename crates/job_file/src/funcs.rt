@@ -1,7 +1,7 @@
 ghost use Rattle.std.specs.Prelude.{◌≡◌, ◌≢◌, Ok, Err, IfOk, IfErr, map, codes};
 ghost use Rattle.toml.specs.View.{items_view, table_view, view};
 ghost use Rattle.job_file.specs.Document.{all_of};
-ghost use Rattle.job_file.specs.Funcs.{byte_at, column_at, count_in, enrich_in, filter_in, func_by, func_in, listed_of, literal_at, map_in, operand_at, sink_in, split_in};
+ghost use Rattle.job_file.specs.Funcs.{byte_at, column_at, count_in, enrich_in, filter_in, func_by, func_in, listed_of, literal_at, map_in, operand_at, sink_in, split_in, table_at};
 
 use crate::conds::read_conds;
 use crate::document::{has_only, items_at, member, text, text_at, whole_at};
@@ -83,12 +83,12 @@ fn read_enrich(
 {
     let key = read_column_at(columns, members, "key", Part::Key)?;
     let into = read_column_at(columns, members, "into", Part::Into)?;
-    let name = text_at(members, "table", Part::Table)?;
+    let table = read_table_at(tables, members, "table", Part::Table)?;
     let other = read_literal_at(alloc, members, "other", Part::Other)?;
     Ok(Func::Enrich(Lookup {
         key,
         into,
-        table: table_named(tables, name.as_bytes()),
+        table,
         other,
     }))
 }
@@ -156,6 +156,20 @@ fn read_column_at(
 {
     let name = text_at(members, key, part)?;
     Ok(column_named(columns, name.as_bytes()))
+}
+
+/// The number of the table that is named at a key.
+fn read_table_at(
+    tables: &[Table],
+    members: &Members,
+    key: &str,
+    part: Part,
+) -> Result<u32, FormFault>
+    ensures ok { IfOk result (λ table. table_at tables.now key.now part (table_view members.now) ≡ Ok table) }
+    ensures fault { IfErr result (λ fault. table_at tables.now key.now part (table_view members.now) ≡ Err fault) }
+{
+    let name = text_at(members, key, part)?;
+    Ok(table_named(tables, name.as_bytes()))
 }
 
 fn read_literal_at(

@@ -10,6 +10,7 @@ mod edges;
 mod fault;
 mod funcs;
 mod kinds;
+mod layout;
 mod literals;
 mod names;
 mod nodes;
