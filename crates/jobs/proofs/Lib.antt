@@ -1,1 +1,5 @@
 pub mod PortLemmas
+pub mod WeightLemmas
+pub mod LimitLemmas
+pub mod EdgeLemmas
+pub mod ShapeLemmas

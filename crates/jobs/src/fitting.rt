@@ -1,13 +1,39 @@
 // Whether functions fit the columns and tables of a job.
-ghost use Rattle.std.specs.Prelude.{◌≡◌, ℕ, List, slice_get};
+ghost use Rattle.std.specs.Prelude.{◌≡◌, ◌≤◌, length};
 ghost use Rattle.std.specs.List.{list_all};
-ghost use Rattle.std.specs.FinMap as finite;
 ghost use Rattle.jobs.specs.Columns.{has_column, holds, is_amount, is_text, kind_at};
+ghost use Rattle.jobs.specs.Places.{FindsFailure};
 ghost use Rattle.jobs.specs.Fits.{cond_fits, fits_columns, fits_table, is_tested, operand_fits, step_fits};
 
 use crate::tables::table_fits;
-use crate::{Column, ColumnKind, Cond, Func, Operand, Step, Table, Test};
+use crate::{Column, ColumnKind, Cond, Func, NodeDef, Operand, Step, Table, Test};
 use tuple_trace::Value;
+
+/// The first node whose function doesn't fit the columns.
+pub fn wrong_columns(columns: &[Column], nodes: &[NodeDef], tables: &[Table]) -> Option<u32>
+    requires { length nodes.now ≤ 64 }
+    ensures { FindsFailure (λ _ node. fits_columns columns.now tables.now node.func) nodes.now result }
+{
+    for i in 0..nodes.len() {
+        if !fits_columns(columns, tables, &nodes[i].func) {
+            return Some(i as u32);
+        }
+    }
+    None
+}
+
+/// The first node whose table isn't there.
+pub fn wrong_table(nodes: &[NodeDef], tables: &[Table]) -> Option<u32>
+    requires { length nodes.now ≤ 64 }
+    ensures { FindsFailure (λ _ node. fits_table tables.now node.func) nodes.now result }
+{
+    for i in 0..nodes.len() {
+        if !fits_table(tables, &nodes[i].func) {
+            return Some(i as u32);
+        }
+    }
+    None
+}
 
 /// Whether the columns that a function names are there and of the right kinds, and so are its literals and the values of its table.
 pub fn fits_columns(columns: &[Column], tables: &[Table], func: &Func) -> bool

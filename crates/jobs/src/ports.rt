@@ -1,12 +1,41 @@
 // The edges of a node.
-ghost use Rattle.std.specs.Prelude.{◌≡◌, ◌≤◌, ◌&&◌, length};
+ghost use Rattle.std.specs.Prelude.{◌≡◌, ◌≤◌, ◌&&◌, All, MatchOption, length, take};
+ghost use Rattle.flow_dag.specs.Edges.{IsInside, IsOutside};
+ghost use Rattle.jobs.specs.Places.{FindsFailure};
 ghost use Rattle.jobs.specs.Ports.{are_ports, has_edge, has_port, has_ports, is_entered, leads_twice, may_enter, may_leave, out_count};
 
-use crate::Func;
+use crate::{Func, NodeDef};
 use flow_dag::Edge;
 
-/// Whether the edges of a node with this function are those of its kind, on the ports from 0 on, each to another node.
-pub fn are_ports(edges: &[Edge], node: u32, func: &Func) -> bool
+/// The first edge that has an end which is none of the first `count` nodes.
+pub fn wrong_end(count: u32, edges: &[Edge]) -> Option<u32>
+    requires { length edges.now ≤ 128 }
+    ensures { MatchOption result (All (IsInside count) edges.now) (λ i. IsOutside count edges.now i × All (IsInside count) (take i edges.now)) }
+{
+    for (i, edge) in edges.iter().enumerate() {
+        if edge.from >= count || edge.to >= count {
+            return Some(i as u32);
+        }
+    }
+    None
+}
+
+/// The first node whose edges aren't those of its kind.
+pub fn wrong_ports(nodes: &[NodeDef], edges: &[Edge]) -> Option<u32>
+    requires nodes { length nodes.now ≤ 64 }
+    requires edges { length edges.now ≤ 128 }
+    ensures { FindsFailure (λ v node. are_ports edges.now v node.func) nodes.now result }
+{
+    for i in 0..nodes.len() {
+        if !are_ports(edges, i as u32, &nodes[i].func) {
+            return Some(i as u32);
+        }
+    }
+    None
+}
+
+// Whether the edges of a node with this function are those of its kind, on the ports from 0 on, each to another node.
+fn are_ports(edges: &[Edge], node: u32, func: &Func) -> bool
     requires { length edges.now ≤ 128 }
     ensures { result ≡ are_ports edges.now node func.now }
 {

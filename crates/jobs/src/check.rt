@@ -1,0 +1,129 @@
+ghost use Rattle.std.specs.Prelude.{◌≡◌, ◌≤◌, IfOk, IfErr, OnOk};
+ghost use Rattle.jobs.specs.Fits.{fits};
+ghost use Rattle.jobs.specs.Job.{written};
+ghost use Rattle.jobs.specs.Law.{HasColumns, HasNoCycle, HasShape, HasTables, IsRefused};
+ghost use Rattle.jobs.specs.Weights.{weight};
+ghost use Rattle.jobs.specs.Written.{written_as};
+
+use crate::{
+    Column, ColumnDefs, Func, Job, LawFault, Named, NodeDef, NodeDefs, Table, Tables, fitting, limits,
+    names, ports, weights,
+};
+use flow_dag::{Dag, DagFault, Edge};
+use std::alloc::Global;
+
+impl Job {
+    /// The job of these parts, if it is lawful.
+    ///
+    /// # Errors
+    ///
+    /// The faults are looked for in the order of [`LawFault`], sizes in the order of their limits, and everything else in the order of its
+    /// places; the first that stands is answered. A cycle is named by its least node. [`LawFault::NoMemory`] may come of any parts.
+    pub fn check(
+        alloc: Global,
+        columns: ColumnDefs,
+        nodes: NodeDefs,
+        edges: &[Edge],
+        tables: Tables,
+    ) -> Result<Job, LawFault>
+        ensures job { IfOk result (λ job. written job ≡ written_as columns nodes edges.now tables) }
+        ensures fault { IfErr result (λ fault. IsRefused fault (written_as columns nodes edges.now tables)) }
+    {
+        check_shape(
+            columns.as_slice(),
+            nodes.as_slice(),
+            edges,
+            tables.as_slice(),
+        )?;
+        let dag = match Dag::check(alloc, nodes.len() as u32, edges) {
+            Ok(dag) => dag,
+            Err(DagFault::Cycle(v)) => return Err(LawFault::Cycle(v)),
+            Err(DagFault::NoMemory) => return Err(LawFault::NoMemory),
+            Err(DagFault::NodeRange(_)) => unreachable!(),
+            Err(DagFault::Repeated(_)) => unreachable!(),
+        };
+        check_meaning(
+            columns.as_slice(),
+            nodes.as_slice(),
+            edges,
+            tables.as_slice(),
+        )?;
+        Ok(Job {
+            columns,
+            nodes,
+            dag,
+            tables,
+        })
+    }
+}
+
+// Refuses sizes, names and edges that aren't as they have to be.
+fn check_shape(
+    columns: &[Column],
+    nodes: &[NodeDef],
+    edges: &[Edge],
+    tables: &[Table],
+) -> Result<(), LawFault>
+    ensures shape { OnOk result (HasShape (written_as columns.now nodes.now edges.now tables.now)) }
+    ensures fault { IfErr result (λ fault. IsRefused fault (written_as columns.now nodes.now edges.now tables.now)) }
+{
+    if let Some((which, number)) = limits::first_size_fault(columns, nodes, edges, tables) {
+        return Err(LawFault::Limit(which, number));
+    }
+    if let Some(i) = names::repeated_column(columns) {
+        return Err(LawFault::NameTwice(Named::Column, i));
+    }
+    if let Some(i) = names::repeated_node(nodes) {
+        return Err(LawFault::NameTwice(Named::Node, i));
+    }
+    if let Some(i) = ports::wrong_end(nodes.len() as u32, edges) {
+        return Err(LawFault::NoSuchEnd(i));
+    }
+    if let Some(v) = ports::wrong_ports(nodes, edges) {
+        return Err(LawFault::Ports(v));
+    }
+    Ok(())
+}
+
+// Refuses functions that don't fit, and a job that is too heavy.
+fn check_meaning(
+    columns: &[Column],
+    nodes: &[NodeDef],
+    edges: &[Edge],
+    tables: &[Table],
+) -> Result<(), LawFault>
+    requires shape { HasShape (written_as columns.now nodes.now edges.now tables.now) }
+    requires acyclic { HasNoCycle (written_as columns.now nodes.now edges.now tables.now) }
+    ensures columns { OnOk result (HasColumns (written_as columns.now nodes.now edges.now tables.now)) }
+    ensures tables { OnOk result (HasTables (written_as columns.now nodes.now edges.now tables.now)) }
+    ensures weight { OnOk result (weight (written_as columns.now nodes.now edges.now tables.now) ≤ 1024) }
+    ensures fault { IfErr result (λ fault. IsRefused fault (written_as columns.now nodes.now edges.now tables.now)) }
+{
+    if let Some(v) = fitting::wrong_columns(columns, nodes, tables) {
+        return Err(LawFault::Column(v));
+    }
+    if let Some(v) = fitting::wrong_table(nodes, tables) {
+        return Err(LawFault::NoTable(v));
+    }
+    let weight = weights::weight_of(nodes, edges);
+    if weight > 1024 {
+        return Err(LawFault::Weight(weight));
+    }
+    Ok(())
+}
+
+/// Whether a node of the job may have the function: the columns and the table that it names are there and fit. Takes no memory.
+pub fn fits(job: &Job, func: &Func) -> bool
+    ensures { result ≡ fits (written job.now) func.now }
+{
+    fitting::fits_columns(job.columns.as_slice(), job.tables.as_slice(), func)
+        && fitting::fits_table(job.tables.as_slice(), func)
+}
+
+/// The weight of the job: how many tuples one row may bring to its nodes that aren't sources. Takes no memory.
+pub fn weight(job: &Job) -> u64
+    ensures value { result ≡ weight (written job.now) }
+    ensures limit { result ≤ 1024 }
+{
+    weights::weight_of(job.nodes.as_slice(), job.dag.all_edges())
+}
