@@ -2,3 +2,4 @@ pub mod DocumentLemmas
 pub mod EntryLemmas
 pub mod ItemLemmas
 pub mod PartLemmas
+pub mod WideLemmas

@@ -2,7 +2,9 @@ pub mod Columns
 pub mod Conds
 pub mod Document
 pub mod Edges
+pub mod Faults
 pub mod Funcs
+pub mod Job
 pub mod Kinds
 pub mod Layout
 pub mod Literals
@@ -11,3 +13,4 @@ pub mod Nodes
 pub mod Numbers
 pub mod Steps
 pub mod Tables
+pub mod Wide

@@ -1,7 +1,8 @@
 ghost use Rattle.std.specs.Prelude.{◌≡◌};
 ghost use Rattle.job_file.specs.declared.fault.FormFault.TheVariants as form_fault;
+ghost use Rattle.job_file.specs.Faults.{of_form, of_law};
 
-use jobs::{Named, Which};
+use jobs::{LawFault, Named, Which};
 use tuple_trace::NoMemory;
 
 /// A part of the layout of a file, by the key at which it stands.
@@ -76,5 +77,35 @@ impl From<NoMemory> for FormFault {
 
     fn from(_: NoMemory) -> Self {
         FormFault::NoMemory
+    }
+}
+
+impl From<FormFault> for JobFault {
+    ghost from_gives = { λ form fault. fault ≡ of_form form };
+
+    fn from(form: FormFault) -> Self {
+        match form {
+            FormFault::NotToml => JobFault::NotToml,
+            FormFault::Shape(part) => JobFault::Shape(part),
+            FormFault::NoMemory => JobFault::NoMemory,
+        }
+    }
+}
+
+impl From<LawFault> for JobFault {
+    ghost from_gives = { λ law fault. fault ≡ of_law law };
+
+    fn from(law: LawFault) -> Self {
+        match law {
+            LawFault::Limit(which, number) => JobFault::Limit(which, number),
+            LawFault::NameTwice(named, place) => JobFault::NameTwice(named, place),
+            LawFault::NoSuchEnd(edge) => JobFault::NoSuchEnd(edge),
+            LawFault::Ports(node) => JobFault::Ports(node),
+            LawFault::Cycle(node) => JobFault::Cycle(node),
+            LawFault::Column(node) => JobFault::Column(node),
+            LawFault::NoTable(node) => JobFault::NoTable(node),
+            LawFault::Weight(weight) => JobFault::Weight(weight),
+            LawFault::NoMemory => JobFault::NoMemory,
+        }
     }
 }

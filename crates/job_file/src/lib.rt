@@ -15,8 +15,11 @@ mod literals;
 mod names;
 mod nodes;
 mod numbers;
+mod read;
 mod steps;
 mod tables;
+mod wide;
 
 pub use fault::{JobFault, Part};
 pub use jobs::{Named, Which};
+pub use read::{faulty_is_no_job, read_job};
