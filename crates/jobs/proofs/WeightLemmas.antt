@@ -44,7 +44,7 @@ pub weight_after-zero : (nodes : List NodeDef) (edges : List Edge) (v : ℕ) →
 unfolding weight_after
 weight_after-zero nodes edges v = refl
 
-weight_after-suc :
+pub weight_after-suc :
     (nodes : List NodeDef) (edges : List Edge) (k v : ℕ) → weight_after nodes edges (suc k) v ≡ weighed nodes edges (weight_after nodes edges k) v
 unfolding weight_after
 weight_after-suc nodes edges k v = refl

@@ -10,6 +10,7 @@ mod fault;
 mod fitting;
 mod func;
 mod job;
+mod laws;
 mod limits;
 mod names;
 mod node;
@@ -26,6 +27,7 @@ pub use func::{
     Steps, Test,
 };
 pub use job::Job;
+pub use laws::{refused_is_unlawful, weights_settle};
 pub use limits::size_fault;
 pub use node::{is_source, may_emit_many};
 pub use table::{Table, Tables};
