@@ -126,12 +126,7 @@ pub(crate) fn whole_at(table: &Table, key: &str, part: Part) -> Result<i64, Form
 }
 
 /// The whole number at a key, or this one where there is none.
-pub(crate) fn whole_or(
-    table: &Table,
-    key: &str,
-    part: Part,
-    default: i64,
-) -> Result<i64, FormFault>
+pub(crate) fn whole_or(table: &Table, key: &str, part: Part, default: i64) -> Result<i64, FormFault>
     ensures ok { IfOk result (λ number. optional_whole_at key.now part default (table_view table.now) ≡ Ok number) }
     ensures fault { IfErr result (λ fault. optional_whole_at key.now part default (table_view table.now) ≡ Err fault) }
 {
@@ -142,11 +137,7 @@ pub(crate) fn whole_or(
 }
 
 /// The items of the array at a key.
-pub(crate) fn items_at<'a>(
-    table: &'a Table,
-    key: &str,
-    part: Part,
-) -> Result<&'a [Toml], FormFault>
+pub(crate) fn items_at<'a>(table: &'a Table, key: &str, part: Part) -> Result<&'a [Toml], FormFault>
     ensures ok { IfOk result (λ items. items_of_key key.now part (table_view table.now) ≡ Ok (items_view items.now)) }
     ensures fault { IfErr result (λ fault. items_of_key key.now part (table_view table.now) ≡ Err fault) }
 {

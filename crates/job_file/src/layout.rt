@@ -75,11 +75,7 @@ fn nodes_at(
     read_nodes(alloc, columns, tables, items)
 }
 
-fn edges_at(
-    alloc: Global,
-    nodes: &[NodeDef],
-    members: &Members,
-) -> Result<Items<Edge>, FormFault>
+fn edges_at(alloc: Global, nodes: &[NodeDef], members: &Members) -> Result<Items<Edge>, FormFault>
     ensures ok { IfOk result (λ edges. edges_in nodes.now (table_view members.now) ≡ Ok edges) }
     ensures fault { IfErr result (λ fault. fault ≢ FormFault.NoMemory → edges_in nodes.now (table_view members.now) ≡ Err fault) }
 {

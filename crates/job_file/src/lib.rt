@@ -18,6 +18,8 @@ mod numbers;
 mod read;
 mod steps;
 mod tables;
+#[cfg(test)]
+mod tests;
 mod wide;
 
 pub use fault::{JobFault, Part};

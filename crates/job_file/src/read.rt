@@ -31,13 +31,7 @@ pub fn read_job(alloc: Global, bytes: &[u8]) -> Result<Job, JobFault>
     if let Some((which, number)) = wide_in(&members) {
         return Err(JobFault::Limit(which, number));
     }
-    Ok(Job::check(
-        alloc,
-        columns,
-        nodes,
-        edges.as_slice(),
-        tables,
-    )?)
+    Ok(Job::check(alloc, columns, nodes, edges.as_slice(), tables)?)
 }
 
 /// No file both has a fault and is that of a job, so each fault is answered exactly where it stands.

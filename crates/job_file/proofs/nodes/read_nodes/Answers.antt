@@ -12,7 +12,7 @@ returns-in_err-read_node-clause-fault c =
 pub loop-item-preserved : goal.loop-item-preserved
 loop-item-preserved c =
     rw c.in_ok-push.ensures.ok (c.loop-item.invariant
-        ∙ all_of-Ok (node_of c.args.columns.now c.args.tables.now) c.loop-item.list c.args.items.now c.loop-item.item-index c.item-item.result _ c.loop-item-test.true c.item-item.is c.in_ok-read_node.ensures.ok)
+    ∙ all_of-Ok (node_of c.args.columns.now c.args.tables.now) c.loop-item.list c.args.items.now c.loop-item.item-index c.item-item.result _ c.loop-item-test.true c.item-item.is c.in_ok-read_node.ensures.ok)
 
 pub returns-clause-ok : goal.returns-clause-ok
 returns-clause-ok c = c.loop-item.invariant ∙ all_of-end (node_of c.args.columns.now c.args.tables.now) c.loop-item.list c.args.items.now c.loop-item.item-index c.loop-item-test.false
