@@ -3,3 +3,5 @@ pub mod WeightLemmas
 pub mod LimitLemmas
 pub mod EdgeLemmas
 pub mod ShapeLemmas
+pub mod UnlawfulLemmas
+pub mod SettleLemmas
