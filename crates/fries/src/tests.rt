@@ -1,3 +1,5 @@
+mod check;
+
 use crate::executor::RunRecord;
 use crate::fault::{Fault, FileIs};
 use crate::lines::fault_line;
@@ -211,8 +213,12 @@ fn texts_of_payments(rt: HostRuntime) -> Result<(), Fail> {
     Ok(())
 }
 
-const FAULTY_WORDS: [&[&str]; 13] = [
+const FAULTY_WORDS: [&[&str]; 17] = [
     &[],
+    &["check"],
+    &["check", "job.toml", "more"],
+    &["check", "-job"],
+    &["check", ""],
     &["first"],
     &["run", "pay.csv", "alerts.csv", "10000", "2", "5000"],
     &["First", "pay.csv", "alerts.csv", "10000", "2", "5000"],
