@@ -6,11 +6,13 @@ use Rattle.std.proofs.lemmas.List.{append-nil, length-take, length-drop}
 use Rattle.std.proofs.lemmas.List.Elements.{All-nil, All-cons}
 use Rattle.std.specs.Prelude.{IfOk, ⊤, All, AllPairs, Contains, IsTrue, if◌then◌else◌}
 use Rattle.std.specs.List.{list_all}
-use Rattle.operators.specs.Meaning.{meets, outputs, visited}
-use Rattle.operators.specs.declared.effect.Output.{Output}
-use Rattle.operators.specs.declared.job.Func.{Func}
-use Rattle.operators.specs.declared.job.Func.TheVariants as func
-use Rattle.operators.specs.declared.job.Job.{Job}
+use Rattle.jobs.specs.Ports.{has_port}
+use Rattle.jobs.specs.Written.{Written}
+use Rattle.jobs.specs.declared.func.Func.{Func}
+use Rattle.jobs.specs.declared.func.Func.TheVariants as func
+use Rattle.operators.specs.Conditions.{meets}
+use Rattle.operators.specs.Meaning.{outputs, visited}
+use Rattle.operators.specs.declared.output.Output.{Output}
 use Rattle.sink_journal.specs.declared.journal.Entry.{Entry}
 use Rattle.sink_journal.specs.declared.journal.Entry.TheVariants as entry
 use Rattle.sink_journal.specs.declared.journal.Feed.{Feed}
@@ -25,8 +27,8 @@ use Rattle.tuple_trace.specs.declared.tuple.Visit.{Visit}
 use Rattle.fries.specs.declared.executor.RunRecord.{RunRecord}
 use Rattle.fries.specs.Feeding.{fed, feed_of, fed_tuple}
 use Rattle.fries.specs.Law.{IsExecution, IsFinished, Progress, initial, progress_after}
-use Rattle.fries.specs.Plain.{alert_entries, big_entries, fed_entries, passed_entries}
-use Rattle.fries.specs.Replay.{Local, puts, sent, shown, visit_at}
+use Rattle.fries.specs.Plain.{IsFilter, alert_entries, big_entries, fed_entries, passed_entries}
+use Rattle.fries.specs.Replay.{Local, no_counts, puts, sent, shown, visit_at}
 use Rattle.fries.specs.Run.{IsRun, IsRunOfWholeRows, alerts_station, big_station, cover}
 use Rattle.fries.specs.Whole.{IsMetAfter, IsMetBefore, TurnsAfterRow, after_turn, before_turn, identities, journal_of, meets_row}
 use Rattle.fries.proofs.FeedFacts.{Numbered, Numbered-drop, Numbered-take, carried_rows, fed-one, feed_of-one, numbered}
@@ -45,11 +47,11 @@ shown-big issued [] rest = refl
 shown-big issued (row ∷ rows) rest = ap (λ l. item.Carry (fed_tuple issued row) ∷ l) (shown-big issued rows rest)
 
 -- `alerts` shows what `big` sends for the rows
-shown-alerts : (job : Job) (next : Func) (local : Local) (rows : List Row) (rest journal : List Entry) → shown cover 1 rest ≡ sent job 1 next local journal
+shown-alerts : (job : Written) (next : Func) (local : Local) (rows : List Row) (rest journal : List Entry) → shown cover 1 rest ≡ sent job 1 next local journal
     → shown cover 1 (alert_entries job local rows ++ rest) ≡ sent job 1 next local (big_entries local.last rows ++ journal)
 shown-alerts job next local [] rest journal same = same
 shown-alerts job next local (row ∷ rows) rest journal same =
-    let outs = outputs job (visit_at 1 local) local.func (fed_tuple local.last row) in
+    let outs = outputs job (visit_at 1 local) local.func no_counts (fed_tuple local.last row) in
     ap (λ l. shown cover 1 l) (append_assoc (map (λ out. entry.Met 1 out.tuple) outs) (alert_entries job local rows) rest)
     ∙ shown-passed outs (alert_entries job local rows ++ rest)
     ∙ ap (λ l. map (λ out. item.Carry out.tuple) outs ++ l) (shown-alerts job next local rows rest journal same)
@@ -82,12 +84,12 @@ unfolding AreMeets
 passed_meets [] = tt
 passed_meets (out ∷ outs) = (refl, tt, passed_meets outs)
 
-alerts_meet : (job : Job) (local : Local) (rows : List Row) → AreMeets 1 Anything (alert_entries job local rows)
+alerts_meet : (job : Written) (local : Local) (rows : List Row) → AreMeets 1 Anything (alert_entries job local rows)
 unfolding AreMeets
 alerts_meet job local [] = tt
 alerts_meet job local (row ∷ rows) =
     AreMeets-append 1 Anything (passed_entries job local (fed_tuple local.last row)) (alert_entries job local rows)
-    (passed_meets (outputs job (visit_at 1 local) local.func (fed_tuple local.last row))) (alerts_meet job local rows)
+    (passed_meets (outputs job (visit_at 1 local) local.func no_counts (fed_tuple local.last row))) (alerts_meet job local rows)
 
 or_true : (b : Bool) → (b || true) ≡ true
 or_true true = refl
@@ -118,35 +120,45 @@ big_rises issued before (row ∷ rows) rest each rises =
     big_rises issued (before + 1) rows rest each.1 (subst (λ n. Rises n (identities rest)) (omega arith) rises) in
     (above, subst (λ n. Rises n (identities (big_entries issued rows ++ rest))) (sym number) later)
 
--- nothing, or one tuple by port 0
+abbrev leaving : ℕ → Tuple → Output
+leaving port tuple = record { port = port; tuple = tuple }
+
+-- nothing, or one tuple
 abbrev IsOneOrNone : List Output → Tuple → Type 0
-IsOneOrNone outs tuple = let one : Output = record { port = 0; tuple = tuple } in (outs ≡ []) ⊎ (outs ≡ one ∷ [])
+IsOneOrNone outs tuple = (outs ≡ []) ⊎ ((port : ℕ) × (outs ≡ leaving port tuple ∷ []))
 
-chosen : (b : Bool) (out : Output) → ((if b then out ∷ [] else []) ≡ []) ⊎ ((if b then out ∷ [] else []) ≡ out ∷ [])
-chosen true out = inr refl
-chosen false out = inl refl
+chosen : (passes has : Bool) (tuple : Tuple) → IsOneOrNone (if passes then leaving 0 tuple ∷ [] else (if has then leaving 1 tuple ∷ [] else [])) tuple
+chosen true has tuple = inr (0, refl)
+chosen false true tuple = inr (1, refl)
+chosen false false tuple = inl refl
 
--- a function puts out the tuple once, or not at all
-one_or_none : (job : Job) (visit : Visit) (f : Func) (tuple : Tuple) → IsOneOrNone (outputs job visit f tuple) (visited visit tuple)
-one_or_none job visit func.Source tuple = inl refl
-one_or_none job visit (func.Filter conds) tuple = chosen (list_all (meets job tuple) conds) (record { port = 0; tuple = visited visit tuple })
-one_or_none job visit (func.Sink columns) tuple = inl refl
+-- a filter puts out the tuple once, or not at all
+one_or_none : (job : Written) (visit : Visit) (f : Func) (tuple : Tuple) → IsFilter f → IsOneOrNone (outputs job visit f no_counts tuple) (visited visit tuple)
+one_or_none job visit func.Source tuple filter = absurd filter
+one_or_none job visit (func.Filter conds) tuple filter =
+    chosen (list_all (meets job.columns tuple.fields) conds) (has_port job.edges visit.node 1) (visited visit tuple)
+one_or_none job visit (func.Map steps) tuple filter = absurd filter
+one_or_none job visit (func.Enrich lookup) tuple filter = absurd filter
+one_or_none job visit (func.Count count) tuple filter = absurd filter
+one_or_none job visit (func.Split split) tuple filter = absurd filter
+one_or_none job visit func.Replicate tuple filter = absurd filter
+one_or_none job visit (func.Sink listed) tuple filter = absurd filter
 
 rises_behind : (low row : ℕ) (outs : List Output) (tuple : Tuple) (xs : List Entry) → low < row → Rises row (identities xs) → tuple.row ≡ row
     → IsOneOrNone outs tuple → Rises low (identities (map (λ out. entry.Met 1 out.tuple) outs ++ xs))
 rises_behind low row outs tuple xs above rises same (inl none) = rw none (Rises-from_lower row low (identities xs) (omega (arith, above)) rises)
-rises_behind low row outs tuple xs above rises same (inr one) = rw one ((rw same above), rw same rises)
+rises_behind low row outs tuple xs above rises same (inr (port, one)) = rw one ((rw same above), rw same rises)
 
-alerts_rise : (job : Job) (local : Local) (before : ℕ) (rows : List Row) (rest : List Entry) → Numbered before rows → Rises (before + length rows) (identities rest)
+alerts_rise : (job : Written) (local : Local) (before : ℕ) (rows : List Row) (rest : List Entry) → IsFilter local.func → Numbered before rows → Rises (before + length rows) (identities rest)
     → Rises before (identities (alert_entries job local rows ++ rest))
-alerts_rise job local before [] rest each rises = subst (λ n. Rises n (identities rest)) (omega arith) rises
-alerts_rise job local before (row ∷ rows) rest each rises =
+alerts_rise job local before [] rest filter each rises = subst (λ n. Rises n (identities rest)) (omega arith) rises
+alerts_rise job local before (row ∷ rows) rest filter each rises =
     let number = each.0.numbered in
     let tuple = fed_tuple local.last row in
     let later : Rises (before + 1) (identities (alert_entries job local rows ++ rest)) =
-    alerts_rise job local (before + 1) rows rest each.1 (subst (λ n. Rises n (identities rest)) (omega arith) rises) in
-    let behind = rises_behind before (before + 1) (outputs job (visit_at 1 local) local.func tuple) (visited (visit_at 1 local) tuple) (alert_entries job local rows ++ rest)
-    (omega arith) later number (one_or_none job (visit_at 1 local) local.func tuple) in
+    alerts_rise job local (before + 1) rows rest filter each.1 (subst (λ n. Rises n (identities rest)) (omega arith) rises) in
+    let behind = rises_behind before (before + 1) (outputs job (visit_at 1 local) local.func no_counts tuple) (visited (visit_at 1 local) tuple) (alert_entries job local rows ++ rest)
+    (omega arith) later number (one_or_none job (visit_at 1 local) local.func tuple filter) in
     subst (λ l. Rises before (identities l)) (sym (append_assoc (passed_entries job local tuple) (alert_entries job local rows) rest)) behind
 
 -- ---- put together
@@ -161,7 +173,7 @@ regroup : {X : Type 0} (a : List X) (t : X) (b c : List X) → ((a ++ (t ∷ [])
 regroup [] t b c = refl
 regroup (x ∷ a) t b c = ap (λ l. x ∷ l) (regroup a t b c)
 
-module _ (job : Job) (func next : Func) (after : ℕ) (rows : List Row) where
+module _ (job : Written) (func next : Func) (after : ℕ) (rows : List Row) where
   abbrev old : Local
   old = record { func = func; last = 0 }
 
@@ -299,16 +311,16 @@ module _ (job : Job) (func next : Func) (after : ℕ) (rows : List Row) where
       big_rises 0 0 (take after rows) (entry.Turned 1 ∷ rest) (Numbered-take 0 after rows each)
       (Rises-from_lower after (0 + length (take after rows)) (identities rest) (omega (arith, long)) (big_rises 1 after (drop after rows) (entry.Ended 0 ∷ []) (later_rows each) tt))
 
-  alerts_identities : Numbered 0 rows → Rises 0 (identities alerts)
-  alerts_identities each =
+  alerts_identities : IsFilter func → IsFilter next → Numbered 0 rows → Rises 0 (identities alerts)
+  alerts_identities filter later each =
       let long = length-take after rows in
       let rest : List Entry = alert_entries job new (drop after rows) ++ (entry.Ended 1 ∷ []) in
-      let rises = alerts_rise job old 0 (take after rows) rest (Numbered-take 0 after rows each)
-      (Rises-from_lower after (0 + length (take after rows)) (identities rest) (omega (arith, long)) (alerts_rise job new after (drop after rows) (entry.Ended 1 ∷ []) (later_rows each) tt)) in
+      let rises = alerts_rise job old 0 (take after rows) rest filter (Numbered-take 0 after rows each)
+      (Rises-from_lower after (0 + length (take after rows)) (identities rest) (omega (arith, long)) (alerts_rise job new after (drop after rows) (entry.Ended 1 ∷ []) later (later_rows each) tt)) in
       subst (λ l. Rises 0 (identities l)) (sym (append_assoc (alert_entries job old (take after rows)) (alert_entries job new (drop after rows)) (entry.Ended 1 ∷ []))) rises
 
-  pub whole_rows : AreRows rows → IsRunOfWholeRows after rows (big ∷ alerts ∷ [])
-  whole_rows are = let each = numbered rows are in record {
+  pub whole_rows : IsFilter func → IsFilter next → AreRows rows → IsRunOfWholeRows after rows (big ∷ alerts ∷ [])
+  whole_rows filter later are = let each = numbered rows are in record {
     whole = λ row. elim (cases_lt after row) [
       | inl later ↦ inr (All-cons (λ worker. meets_row row (before_turn 1 (journal_of (big ∷ alerts ∷ []) worker)) ≡ false) 0 [] (before_big row each later) (All-nil (λ worker. meets_row row (before_turn 1 (journal_of (big ∷ alerts ∷ []) worker)) ≡ false)))
       | inr upto ↦ inl (All-cons (λ worker. meets_row row (after_turn 1 (journal_of (big ∷ alerts ∷ []) worker)) ≡ false) 0 [] (at_big row each upto) (All-nil (λ worker. meets_row row (after_turn 1 (journal_of (big ∷ alerts ∷ []) worker)) ≡ false)))
@@ -318,11 +330,11 @@ module _ (job : Job) (func next : Func) (after : ℕ) (rows : List Row) where
       new = λ row within later. record { before = before_big row each later; after = met_after row each within later };
     };
     once_at_big = subst (λ l. AllPairs (λ a b. a ≡ b → ⊥) l) (sym (append-nil (identities big))) (distinct 0 (identities big) (big_identities each));
-    once_at_alerts = subst (λ l. AllPairs (λ a b. a ≡ b → ⊥) l) (sym (append-nil (identities alerts))) (distinct 0 (identities alerts) (alerts_identities each));
+    once_at_alerts = subst (λ l. AllPairs (λ a b. a ≡ b → ⊥) l) (sym (append-nil (identities alerts))) (distinct 0 (identities alerts) (alerts_identities filter later each));
   }
 
   -- the same, from the steps of the executor
-  pub from_steps : AreRows rows
+  pub from_steps : IsFilter func → IsFilter next → AreRows rows
       → (feeds1 feeds2 feeds3 : List Feed) (big1 big2 big3 alerts1 alerts2 : List Entry)
       → feeds1 ≡ fed_entries (take after rows) → feeds2 ≡ feeds1 ++ (feed.Issued 1 ∷ []) → feeds3 ≡ feeds2 ++ fed_entries (drop after rows)
       → big1 ≡ before → big2 ≡ big1 ++ (entry.Turned 1 ∷ []) → big3 ≡ big2 ++ behind
@@ -330,10 +342,10 @@ module _ (job : Job) (func next : Func) (after : ℕ) (rows : List Row) where
       → (result : Result RunRecord NoMemory)
       → IfOk result (λ done. (done.feeds ≡ feeds3 ++ (feed.Stopped ∷ [])) × (done.journals ≡ (big3 ++ (entry.Ended 0 ∷ [])) ∷ (alerts2 ++ (entry.Ended 1 ∷ [])) ∷ []))
       → IfOk result (λ done. IsRun job func next after rows done.feeds done.journals × IsRunOfWholeRows after rows done.journals)
-  from_steps are feeds1 feeds2 feeds3 big1 big2 big3 alerts1 alerts2 f1 f2 f3 b1 b2 b3 a1 a2 (Err e) done = done
-  from_steps are feeds1 feeds2 feeds3 big1 big2 big3 alerts1 alerts2 f1 f2 f3 b1 b2 b3 a1 a2 (Ok done) is =
+  from_steps filter later are feeds1 feeds2 feeds3 big1 big2 big3 alerts1 alerts2 f1 f2 f3 b1 b2 b3 a1 a2 (Err e) done = done
+  from_steps filter later are feeds1 feeds2 feeds3 big1 big2 big3 alerts1 alerts2 f1 f2 f3 b1 b2 b3 a1 a2 (Ok done) is =
       let feeds_are : done.feeds ≡ feeds = is.0 ∙ rw (f3, f2, f1) (regroup (fed_entries (take after rows)) (feed.Issued 1) (fed_entries (drop after rows)) (feed.Stopped ∷ [])) in
       let big_is : big3 ++ (entry.Ended 0 ∷ []) ≡ big = rw (b3, b2, b1) (regroup before (entry.Turned 1) behind (entry.Ended 0 ∷ [])) in
       let alerts_are : alerts2 ++ (entry.Ended 1 ∷ []) ≡ alerts = rw (a2, a1) refl in
       let journals_are : done.journals ≡ big ∷ alerts ∷ [] = is.1 ∙ ap (λ j. j ∷ (alerts2 ++ (entry.Ended 1 ∷ [])) ∷ []) big_is ∙ ap (λ j. big ∷ j ∷ []) alerts_are in
-      (rw (feeds_are, journals_are) (plain_run are), rw journals_are (whole_rows are))
+      (rw (feeds_are, journals_are) (plain_run are), rw journals_are (whole_rows filter later are))

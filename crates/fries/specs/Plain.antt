@@ -1,6 +1,7 @@
 -- What the executor adds to a run, row by row.
-use Rattle.std.specs.Prelude.{◌≡◌, ◌++◌, ℕ, List, map}
+use Rattle.std.specs.Prelude.{◌≡◌, ◌++◌, ⊤, ℕ, List, map}
 use Rattle.std.specs.List.{flat_map}
+use Rattle.jobs.specs.declared.func.Func.TheVariants as func
 use Rattle.operators.specs.Meaning.{outputs}
 use Rattle.jobs.specs.declared.func.Func.{Func}
 use Rattle.jobs.specs.Written.{Written}
@@ -11,8 +12,13 @@ use Rattle.sink_journal.specs.declared.journal.Feed.TheVariants as feed
 use Rattle.tuple_trace.specs.declared.row.Row.{Row}
 use Rattle.tuple_trace.specs.declared.tuple.Tuple.{Tuple}
 use Rattle.fries.specs.Feeding.{fed_tuple}
-use Rattle.fries.specs.Replay.{Local, visit_at}
+use Rattle.fries.specs.Replay.{Local, no_counts, visit_at}
 use Rattle.fries.specs.declared.executor.Run.{Run}
+
+-- the function is a filter
+abbrev pub IsFilter : Func → Type 0
+IsFilter (func.Filter conds) = ⊤
+IsFilter _ = ⊥
 
 -- the feeds of rows
 abbrev pub fed_entries : List Row → List Feed
@@ -24,7 +30,7 @@ big_entries issued rows = map (λ row. entry.Met 0 (fed_tuple issued row)) rows
 
 -- what `alerts` notes of a tuple that `big` meets
 abbrev pub passed_entries : Written → Local → Tuple → List Entry
-passed_entries job local tuple = map (λ out. entry.Met 1 out.tuple) (outputs job (visit_at 1 local) local.func tuple)
+passed_entries job local tuple = map (λ out. entry.Met 1 out.tuple) (outputs job (visit_at 1 local) local.func no_counts tuple)
 
 -- what `alerts` notes of these rows
 abbrev pub alert_entries : Written → Local → List Row → List Entry

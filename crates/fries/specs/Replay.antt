@@ -1,6 +1,8 @@
 -- What a journal says of the lanes of its worker.
 use Rattle.std.specs.Prelude.{◌==◌, ℕ, List, [], ◌∷◌, ◌++◌, map, if◌then◌else◌}
 use Rattle.std.specs.List.{flat_map}
+use Rattle.std.specs.FinMap.{empty}
+use Rattle.keyed_state.specs.Counts.{Counts}
 use Rattle.operators.specs.Meaning.{outputs}
 use Rattle.jobs.specs.declared.func.Func.{Func}
 use Rattle.jobs.specs.Written.{Written}
@@ -26,9 +28,13 @@ after next local (entry.Ended lane) = local
 abbrev pub visit_at : ℕ → Local → Visit
 visit_at node local = record { node = node; worker = 0; last = local.last }
 
+-- the counts of a filter: it keeps none
+abbrev pub no_counts : Counts
+no_counts = empty
+
 -- what the worker of a node with one lane in and one out puts on its lane at an entry, where no request covers that lane
 abbrev pub puts : Written → ℕ → Local → Entry → List Item
-puts job node local (entry.Met lane tuple) = map (λ out. item.Carry out.tuple) (outputs job (visit_at node local) local.func tuple)
+puts job node local (entry.Met lane tuple) = map (λ out. item.Carry out.tuple) (outputs job (visit_at node local) local.func no_counts tuple)
 puts job node local (entry.Marked lane request) = []
 puts job node local (entry.Turned request) = []
 puts job node local (entry.Ended lane) = item.Last ∷ []

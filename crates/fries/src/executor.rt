@@ -1,7 +1,9 @@
 ghost use Rattle.std.specs.Prelude.{◌≡◌, ◌++◌, ◌∷◌, [], IfOk, OnOk, take, drop};
-ghost use Rattle.fries.specs.Plain.{passed_entries, Gains, Keeps};
+ghost use Rattle.jobs.specs.Job.{written};
+ghost use Rattle.fries.specs.Plain.{passed_entries, Gains, IsFilter, Keeps};
 ghost use Rattle.fries.specs.Run.{IsRun, IsRunOfWholeRows};
 
+use keyed_state::Keyed;
 use operators::{Func, Job, Outs, apply};
 use sink_journal::{Entry, Feed, Feeds, Journal, Journals};
 use std::alloc::Global;
@@ -37,7 +39,8 @@ struct Run {
     issued: u64,
 }
 
-/// Runs the rows on one thread, each to its end before the next, and changes the filter after the row that the change waits for.
+/// Runs the rows on one thread, each to its end before the next, and changes the filter after the row that the change waits for. Both
+/// functions are filters, so no counts are kept.
 pub fn run_rows(
     alloc: Global,
     job: &Job,
@@ -45,7 +48,9 @@ pub fn run_rows(
     change: &Change,
     rows: &Rows,
 ) -> Result<RunRecord, NoMemory>
-    ensures { IfOk result (λ done. IsRun job.now func.now change.now.func change.now.after rows.now done.feeds done.journals
+    requires filter { IsFilter func.now }
+    requires next { IsFilter change.now.func }
+    ensures { IfOk result (λ done. IsRun (written job.now) func.now change.now.func change.now.after rows.now done.feeds done.journals
         × IsRunOfWholeRows change.now.after rows.now done.journals) }
 {
     let mut run = Run {
@@ -82,7 +87,7 @@ fn feed_all(
     rows: &[Row],
     run: &mut Run,
 ) -> Result<(), NoMemory>
-    ensures { OnOk result (Gains job.now (record { func = func.now; last = run.old.issued }) rows.now run.old run.new) }
+    ensures { OnOk result (Gains (written job.now) (record { func = func.now; last = run.old.issued }) rows.now run.old run.new) }
 {
     for row in rows {
         let mut tuple = row.tuple.copy()?;
@@ -102,7 +107,7 @@ fn process(
     run: &mut Run,
 ) -> Result<(), NoMemory>
     ensures big { OnOk result (run.new.big ≡ run.old.big ++ Entry.Met TO_BIG tuple ∷ []) }
-    ensures alerts { OnOk result (run.new.alerts ≡ run.old.alerts ++ passed_entries job.now (record { func = func.now; last = run.old.issued }) tuple) }
+    ensures alerts { OnOk result (run.new.alerts ≡ run.old.alerts ++ passed_entries (written job.now) (record { func = func.now; last = run.old.issued }) tuple) }
     ensures same { OnOk result (Keeps run.old run.new) }
 {
     let visit = Visit {
@@ -111,7 +116,8 @@ fn process(
         last: run.issued,
     };
     let mut outs = Outs::new(alloc);
-    apply(job, visit, func, &tuple, &mut outs)?;
+    let mut counts = Keyed::new(alloc);
+    apply(alloc, job, visit, func, &mut counts, &tuple, &mut outs)?;
     run.big.push(Entry::Met {
         lane: TO_BIG,
         tuple,

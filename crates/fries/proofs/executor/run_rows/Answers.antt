@@ -1,3 +1,4 @@
+use Rattle.jobs.specs.Job.{written}
 use Rattle.fries.proofs.RunFacts.{from_steps}
 use Rattle.fries.proofs.executor.run_rows.Goals as goal
 
@@ -8,8 +9,8 @@ returns c =
     let rows = c.as_slice.ensures.value in
     let front = c.split_at_most.ensures.front in
     let back = c.split_at_most.ensures.back in
-    from_steps c.args.job.now c.args.func.now c.args.change.now.func c.args.change.now.after c.args.rows.now
-    (rw rows at c.as_slice.ensures.rows)
+    from_steps (written c.args.job.now) c.args.func.now c.args.change.now.func c.args.change.now.after c.args.rows.now
+    c.requires.filter c.requires.next (rw rows at c.as_slice.ensures.rows)
     _ _ _ _ _ _ _ _
     (rw (front, rows, c.new.ensures) at first.feeds) c.in_ok-push.ensures.ok (rw (back, rows) at later.feeds)
     (rw (front, rows, c.new-2.ensures) at first.big) c.in_ok-push-2.ensures.ok (rw (back, rows) at later.big)
