@@ -100,6 +100,14 @@ impl Dag {
         self.edges.len() as u32
     }
 
+    /// All edges, as they were given.
+    pub fn all_edges(&self) -> &[Edge]
+        ensures edges { result.now ≡ self.now.edges }
+        ensures count { length result.now ≤ 128 }
+    {
+        self.edges.as_slice()
+    }
+
     /// The edge at place `i` of the list that the graph was made from.
     pub fn edge(&self, i: u32) -> Edge
         requires { i < length self.now.edges }

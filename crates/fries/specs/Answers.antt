@@ -1,12 +1,13 @@
 -- What a call of the program answers, why, and what it leaves.
 use Rattle.std.specs.Prelude.{◌≡◌, ◌≢◌, ◌⊎◌, ◌<◌, ◌≤◌, ◌++◌, ℕ, List, Option, None, Some, Ok, Err, IfSome, MatchOption, length, option_map}
 use Rattle.operators.specs.declared.job.Job.{Job}
-use Rattle.payments.specs.Causes.{Faults, GainsPrefix, ReadFailed, Rose, WriteFailed}
+use Rattle.payments.specs.Causes.{Faults, GainsPrefix, ReadFailed, WriteFailed}
 use Rattle.payments.specs.Files.{Files, HoldsPrefix, told_bytes, with_bytes}
 use Rattle.payments.specs.Reading.{AreFromSources, rows_of}
 use Rattle.payments.specs.declared.read.PFault.{PFault}
 use Rattle.payments.specs.declared.read.PFault.TheVariants as rows
 use Rattle.sink_journal.specs.Alerts.{alerts}
+use Rattle.tuple_trace.specs.Counts.{Rose}
 use Rattle.tuple_trace.specs.Rows.{AreRows}
 use Rattle.tuple_trace.specs.declared.row.Row.{Row}
 use Rattle.fries.specs.Asked.{Asked}

@@ -1,0 +1,11 @@
+pub mod Written
+pub mod Places
+pub mod Columns
+pub mod Fits
+pub mod Nodes
+pub mod Names
+pub mod Ports
+pub mod Limits
+pub mod Weights
+pub mod Law
+pub mod Job

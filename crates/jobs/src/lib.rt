@@ -4,15 +4,27 @@
 //! the crate `operators`; workers, lanes and requests are unknown here.
 #![tactic(auto)]
 
+mod check;
 mod column;
 mod fault;
+mod fitting;
 mod func;
+mod job;
+mod limits;
+mod names;
+mod node;
+mod ports;
 mod table;
+mod tables;
 
+pub use check::fits;
 pub use column::{Column, ColumnDefs, ColumnKind, Columns};
 pub use fault::{LawFault, Named, Which};
 pub use func::{
     Cond, Conds, CountBy, Func, Lookup, NOWHERE, NodeDef, NodeDefs, Op, Operand, SplitBy, Step,
     Steps, Test,
 };
+pub use job::Job;
+pub use limits::size_fault;
+pub use node::{is_source, may_emit_many};
 pub use table::{Table, Tables};

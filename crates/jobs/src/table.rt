@@ -2,7 +2,7 @@ use keyed_state::TextMap;
 use tuple_trace::{Items, Txt, Value};
 
 /// A table of a job, by which an enrich looks values up. Requests name it.
-#[derive(Debug, Drop)]
+#[derive(Drop)]
 pub struct Table {
     pub name: Txt,
     pub entries: TextMap<Value>,

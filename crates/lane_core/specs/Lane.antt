@@ -1,15 +1,11 @@
 -- Words of the lanes' contracts.
-use Rattle.std.specs.Prelude.{◌≡◌, ℕ, ◌+◌, ◌-◌, ◌^◌, ◌≤◌, List, ◌++◌, length, min}
+use Rattle.std.specs.Prelude.{◌≡◌, ℕ, List, ◌++◌, length}
 use Rattle.atomic_table.specs.Seated.{TableId}
 use Rattle.tuple_trace.specs.declared.tuple.Item.{Item}
 
 -- which lane it is: no two lanes share it
 abbrev pub LaneId : Type 0
 LaneId = TableId
-
--- a count has gone up, or stands at the greatest number that it can be, and has not fallen
-abbrev pub Rose : ℕ → ℕ → Type 0
-Rose before now = (before ≤ now) × (min (before + 1) (2 ^ 64 - 1) ≤ now)
 
 -- what was sent ends in these items
 abbrev pub LayLast : List Item → List Item → Type 0

@@ -1,7 +1,8 @@
 ghost use Rattle.std.specs.Prelude.{◌≡◌, ℕ, ◌≤◌, List, [], ◌∷◌, ◌++◌, IfErr, IfSome, OnErr, OnOk, IfNone};
 ghost use Rattle.tuple_trace.specs.declared.tuple.Item.{Item};
 ghost use Rattle.lane_core.specs.declared.form.Origin.{Origin};
-ghost use Rattle.lane_core.specs.Lane.{LaneId, Rose, WasFull};
+ghost use Rattle.tuple_trace.specs.Counts.{Rose};
+ghost use Rattle.lane_core.specs.Lane.{LaneId, WasFull};
 ghost use Rattle.lane_core.specs.Steady.{IsSteady, MayFollow};
 
 use tuple_trace::Item;

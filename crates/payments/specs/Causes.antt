@@ -1,14 +1,10 @@
 -- What a call on the outside leaves of the counts of faults.
-use Rattle.std.specs.Prelude.{◌≡◌, ◌≤◌, ◌+◌, ◌-◌, ◌^◌, ◌++◌, option_map, min, ℕ, List, Option, Some, Result, Ok, Err}
+use Rattle.std.specs.Prelude.{◌≡◌, ◌++◌, option_map, ℕ, List, Option, Some, Result, Ok, Err}
+use Rattle.tuple_trace.specs.Counts.{Rose}
 use Rattle.payments.specs.declared.outside.ShelfFault.{ShelfFault}
 use Rattle.payments.specs.declared.outside.ShelfFault.TheVariants as shelf
 use Rattle.payments.specs.declared.outside.SinkFault.{SinkFault}
 use Rattle.payments.specs.declared.outside.SinkFault.TheVariants as sink
-
--- a count has risen, or stands at its end; it never falls
-pub record Rose (before now : ℕ) : Type 0 where
-  pub kept : before ≤ now
-  pub more : min (before + 1) (2 ^ 64 - 1) ≤ now
 
 -- how many reads and writes have failed, and the file of the latest failure
 pub record Faults : Type 0 where

@@ -1,3 +1,5 @@
+pub mod Counts
 pub mod Digits
 pub mod Rows
 pub mod Spread
+pub mod Values

@@ -21,4 +21,4 @@ pub use place::spread;
 pub use row::{Row, Rows};
 pub use text::{Bytes, Txt, Word};
 pub use tuple::{Births, Fields, Item, Tuple, Visit, Visits};
-pub use value::Value;
+pub use value::{Value, number_in, text_in};

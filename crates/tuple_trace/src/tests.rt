@@ -1,6 +1,6 @@
 use crate::{
     Births, Bytes, Fields, Gate, Items, OpenGate, Row, Rows, Tuple, Txt, Value, Visit, Visits,
-    Word, digits_up_to, spread,
+    Word, digits_up_to, number_in, spread, text_in,
 };
 use std::test::Fail;
 
@@ -95,7 +95,11 @@ fn small_types_hold_what_they_are_given(rt: HostRuntime) -> Result<(), Fail> {
     assert!(rt; bytes.is_empty());
     bytes.extend_from_slice(b"fl")?;
     bytes.push(b'y')?;
-    assert_eq!(rt; bytes.into_vec().as_slice(), b"fly".as_slice());
+    assert_eq!(rt; bytes.len(), 3);
+    bytes.set(2, b'a');
+    bytes.push(b'g')?;
+    bytes.truncate(3);
+    assert_eq!(rt; bytes.into_vec().as_slice(), b"fla".as_slice());
     let items = Items::from_vec(vec![in alloc; 1u8, 2]?);
     assert_eq!(rt; items.as_slice(), [1, 2].as_slice());
     let text = Txt::from_slice(alloc, b"a b")?.copy()?;
@@ -105,5 +109,22 @@ fn small_types_hold_what_they_are_given(rt: HostRuntime) -> Result<(), Fail> {
     assert_eq!(rt; word.as_str(), "run");
     OpenGate.pass(0, 0, 0);
     OpenGate.issued(1);
+    Ok(())
+}
+
+#[test]
+fn fields_are_read_by_what_is_asked(rt: HostRuntime) -> Result<(), Fail> {
+    let number = Value::Num(-5);
+    let text = Value::Text(Txt::from_slice(rt.alloc(), b"ann")?);
+    assert_eq!(rt;
+        (
+            number_in(Some(&number)),
+            number_in(Some(&text)),
+            number_in(None)
+        ),
+        (-5, 0, 0)
+    );
+    assert_eq!(rt; text_in(Some(&text)), b"ann".as_slice());
+    assert!(rt; text_in(Some(&number)).is_empty() && text_in(None).is_empty());
     Ok(())
 }

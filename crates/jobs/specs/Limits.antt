@@ -1,0 +1,96 @@
+-- Sizes and their limits.
+use Rattle.std.specs.Prelude.{◌≡◌, ℕ, ℤ, pos, ◌+◌, ◌≤◌, ◌&&◌, All, List, [], ◌∷◌, length, Option, Some, None, min, nat_le, if◌then◌else◌}
+use Rattle.std.specs.Option.{option_or}
+use Rattle.std.specs.FinMap as finite
+use Rattle.tuple_trace.specs.declared.value.Value.{Value}
+use Rattle.tuple_trace.specs.declared.value.Value.TheVariants as value
+use Rattle.jobs.specs.declared.fault.Which.{Which}
+use Rattle.jobs.specs.declared.fault.Which.TheVariants as which
+use Rattle.jobs.specs.declared.func.Cond.{Cond}
+use Rattle.jobs.specs.declared.func.Func.{Func}
+use Rattle.jobs.specs.declared.func.Func.TheVariants as func
+use Rattle.jobs.specs.declared.func.NodeDef.{NodeDef}
+use Rattle.jobs.specs.declared.table.Table.{Table}
+use Rattle.jobs.specs.Nodes.{most_workers, worker_count}
+use Rattle.jobs.specs.Written.{Written}
+
+-- a size that is outside of its limits: what it is a size of, and its number, cut to 64 bits
+abbrev pub Oversize : Type 0
+Oversize = Which × ℤ
+
+-- the number as a fault keeps it: the greatest of 64 bits stands for every greater one
+abbrev pub kept : ℕ → ℤ
+kept number = pos (min number 9223372036854775807)
+
+-- the number, where it isn't from `least` to `most`
+abbrev pub outside : Which → ℕ → ℕ → ℕ → Option Oversize
+outside which least most number = if nat_le least number && nat_le number most then None else Some (which, kept number)
+
+-- the first size that is outside of its limits, of those that the items have
+abbrev pub first_oversize : {A : Type 0} → (A → Option Oversize) → List A → Option Oversize
+first_oversize size [] = None
+first_oversize size (x ∷ xs) = option_or (size x) (first_oversize size xs)
+
+-- a text of a table or a literal has up to 48 bytes
+abbrev pub text_oversize : List ℕ → Option Oversize
+text_oversize text = outside which.Text 0 48 (length text)
+
+abbrev pub value_oversize : Value → Option Oversize
+value_oversize (value.Num number) = None
+value_oversize (value.Text text) = text_oversize text
+
+abbrev pub literal_oversize : Cond → Option Oversize
+literal_oversize cond = value_oversize cond.literal
+
+-- a filter has up to 8 conditions, a map up to 8 steps, and a split makes 1 to 16 pieces; literals and `other` are short
+abbrev pub oversize : Func → Option Oversize
+oversize func.Source = None
+oversize (func.Filter conds) = option_or (outside which.Conditions 0 8 (length conds)) (first_oversize literal_oversize conds)
+oversize (func.Map steps) = outside which.Steps 0 8 (length steps)
+oversize (func.Enrich lookup) = value_oversize lookup.other
+oversize (func.Count count) = None
+oversize (func.Split split) = outside which.Most 1 16 split.most
+oversize func.Replicate = None
+oversize (func.Sink listed) = None
+
+abbrev pub func_oversize : NodeDef → Option Oversize
+func_oversize node = oversize node.func
+
+-- a source and a sink have 1 worker, and every other node 1 to 8
+abbrev pub workers_oversize : NodeDef → Option Oversize
+workers_oversize node = outside which.Workers 1 (most_workers node.func) node.workers
+
+-- how many entries the tables have together
+abbrev pub entry_count : List Table → ℕ
+entry_count [] = 0
+entry_count (table ∷ tables) = finite.len table.entries + entry_count tables
+
+-- the text of an entry, and its value
+abbrev pub entry_oversize : List ℕ × Value → Option Oversize
+entry_oversize entry = option_or (text_oversize entry.0) (value_oversize entry.1)
+
+abbrev pub table_oversize : Table → Option Oversize
+table_oversize table = first_oversize entry_oversize (finite.entries table.entries)
+
+-- the first size of the job that is outside of its limits, in this order
+abbrev pub first_oversize_of : Written → Option Oversize
+first_oversize_of job =
+    option_or (outside which.Nodes 1 64 (length job.nodes))
+    (option_or (outside which.Edges 0 128 (length job.edges))
+    (option_or (outside which.Columns 1 12 (length job.columns))
+    (option_or (first_oversize workers_oversize job.nodes)
+    (option_or (outside which.AllWorkers 0 64 (worker_count job.nodes))
+    (option_or (outside which.Entries 0 4096 (entry_count job.tables))
+    (option_or (first_oversize table_oversize job.tables)
+    (first_oversize func_oversize job.nodes)))))))
+
+-- every size is within its limits
+pub record HasLimits (job : Written) : Type 0 where
+  pub nodes : (1 ≤ length job.nodes) × (length job.nodes ≤ 64)
+  pub edges : length job.edges ≤ 128
+  pub columns : (1 ≤ length job.columns) × (length job.columns ≤ 12)
+  pub workers : All (λ node. (1 ≤ node.workers) × (node.workers ≤ most_workers node.func)) job.nodes
+  pub all_workers : worker_count job.nodes ≤ 64
+  pub entries : entry_count job.tables ≤ 4096
+  pub texts : All (λ table. table_oversize table ≡ None) job.tables
+  pub functions : All (λ node. oversize node.func ≡ None) job.nodes

@@ -1,0 +1,190 @@
+// Sizes and their limits.
+ghost use Rattle.std.specs.Prelude.{◌≡◌, ◌≤◌, length, min};
+ghost use Rattle.jobs.specs.Limits.{entry_count, entry_oversize, first_oversize, first_oversize_of, func_oversize, kept, literal_oversize, outside, oversize, table_oversize, text_oversize, value_oversize, workers_oversize};
+ghost use Rattle.std.specs.FinMap as finite;
+ghost use Rattle.jobs.specs.declared.func.Func.TheVariants.{Filter};
+ghost use Rattle.jobs.specs.Nodes.{worker_count};
+ghost use Rattle.jobs.specs.Written.{written_as};
+
+use crate::node::most_workers;
+use crate::{Column, Cond, Func, NodeDef, Table, Which};
+use flow_dag::Edge;
+use keyed_state::TextMap;
+use tuple_trace::Value;
+
+/// The first size that is outside of its limits, with its number. The order is: nodes, edges, columns, the workers of each node, all workers,
+/// the entries of all tables, the texts of each table, and the sizes of each node's function.
+pub fn first_size_fault(
+    columns: &[Column],
+    nodes: &[NodeDef],
+    edges: &[Edge],
+    tables: &[Table],
+) -> Option<(Which, i64)>
+    ensures { result ≡ first_oversize_of (written_as columns.now nodes.now edges.now tables.now) }
+{
+    if let Some(fault) = outside(Which::Nodes, 1, 64, nodes.len() as u64) {
+        return Some(fault);
+    }
+    if let Some(fault) = outside(Which::Edges, 0, 128, edges.len() as u64) {
+        return Some(fault);
+    }
+    if let Some(fault) = outside(Which::Columns, 1, 12, columns.len() as u64) {
+        return Some(fault);
+    }
+    if let Some(fault) = workers_fault(nodes) {
+        return Some(fault);
+    }
+    if let Some(fault) = outside(Which::AllWorkers, 0, 64, all_workers(nodes)) {
+        return Some(fault);
+    }
+    if let Some(fault) = outside(Which::Entries, 0, 4096, entry_count(tables)) {
+        return Some(fault);
+    }
+    if let Some(fault) = tables_fault(tables) {
+        return Some(fault);
+    }
+    functions_fault(nodes)
+}
+
+/// The first size of a function that is outside of its limits, with its number: up to 8 conditions or steps, 1 to 16 pieces, and up to 48 bytes
+/// of a text that is a literal or an `other`. Takes no memory.
+pub fn size_fault(func: &Func) -> Option<(Which, i64)>
+    ensures { result ≡ oversize func.now }
+{
+    match func {
+        Func::Filter(conds) => conds_fault(conds.as_slice()),
+        Func::Map(steps) => outside(Which::Steps, 0, 8, steps.len() as u64),
+        Func::Enrich(lookup) => value_fault(&lookup.other),
+        Func::Split(split) => outside(Which::Most, 1, 16, u64::from(split.most)),
+        Func::Source | Func::Count(_) | Func::Replicate | Func::Sink(_) => None,
+    }
+}
+
+fn conds_fault(conds: &[Cond]) -> Option<(Which, i64)>
+    ensures { result ≡ oversize (Filter conds.now) }
+{
+    if let Some(fault) = outside(Which::Conditions, 0, 8, conds.len() as u64) {
+        return Some(fault);
+    }
+    literals_fault(conds)
+}
+
+fn literals_fault(conds: &[Cond]) -> Option<(Which, i64)>
+    ensures { result ≡ first_oversize literal_oversize conds.now }
+{
+    for cond in conds {
+        if let Some(fault) = value_fault(&cond.literal) {
+            return Some(fault);
+        }
+    }
+    None
+}
+
+fn functions_fault(nodes: &[NodeDef]) -> Option<(Which, i64)>
+    ensures { result ≡ first_oversize func_oversize nodes.now }
+{
+    for node in nodes {
+        if let Some(fault) = size_fault(&node.func) {
+            return Some(fault);
+        }
+    }
+    None
+}
+
+fn workers_fault(nodes: &[NodeDef]) -> Option<(Which, i64)>
+    ensures { result ≡ first_oversize workers_oversize nodes.now }
+{
+    for node in nodes {
+        let most = most_workers(&node.func);
+        if let Some(fault) = outside(Which::Workers, 1, u64::from(most), u64::from(node.workers)) {
+            return Some(fault);
+        }
+    }
+    None
+}
+
+// The workers of all nodes that aren't sources.
+fn all_workers(nodes: &[NodeDef]) -> u64
+    requires { length nodes.now ≤ 64 }
+    ensures { result ≡ worker_count nodes.now }
+{
+    let mut sum = 0u64;
+    for node in nodes {
+        sum += u64::from(node.journals());
+    }
+    sum
+}
+
+// How many entries the tables have together, cut to 64 bits.
+fn entry_count(tables: &[Table]) -> u64
+    ensures { result ≡ min (entry_count tables.now) 18446744073709551615 }
+{
+    let mut sum = 0u64;
+    for table in tables {
+        sum = sum.saturating_add(table.entries.len() as u64);
+    }
+    sum
+}
+
+fn tables_fault(tables: &[Table]) -> Option<(Which, i64)>
+    ensures { result ≡ first_oversize table_oversize tables.now }
+{
+    for table in tables {
+        if let Some(fault) = entries_fault(&table.entries) {
+            return Some(fault);
+        }
+    }
+    None
+}
+
+fn entries_fault(entries: &TextMap<Value>) -> Option<(Which, i64)>
+    ensures { result ≡ first_oversize entry_oversize (finite.entries entries.now) }
+{
+    for (text, value) in entries.iter() {
+        if let Some(fault) = entry_fault(text, value) {
+            return Some(fault);
+        }
+    }
+    None
+}
+
+fn entry_fault(text: &[u8], value: &Value) -> Option<(Which, i64)>
+    ensures { result ≡ entry_oversize (text.now, value.now) }
+{
+    if let Some(fault) = text_fault(text) {
+        return Some(fault);
+    }
+    value_fault(value)
+}
+
+fn value_fault(value: &Value) -> Option<(Which, i64)>
+    ensures { result ≡ value_oversize value.now }
+{
+    match value {
+        Value::Num(_) => None,
+        Value::Text(text) => text_fault(text.as_slice()),
+    }
+}
+
+fn text_fault(text: &[u8]) -> Option<(Which, i64)>
+    ensures { result ≡ text_oversize text.now }
+{
+    outside(Which::Text, 0, 48, text.len() as u64)
+}
+
+fn outside(which: Which, least: u64, most: u64, number: u64) -> Option<(Which, i64)>
+    ensures { result ≡ outside which least most number }
+{
+    if least <= number && number <= most {
+        None
+    } else {
+        Some((which, kept(number)))
+    }
+}
+
+// The number, cut to 63 bits.
+fn kept(number: u64) -> i64
+    ensures { result ≡ kept number }
+{
+    i64::try_from(number).unwrap_or(i64::MAX)
+}
