@@ -32,9 +32,13 @@ abbrev pub with_edge : List NodeDef → (ℕ → ℕ) → ℕ → ℕ → Edge �
 with_edge nodes weight v sum edge =
     if edge.to == v then with_more sum (weight edge.from) (fan_out_at (slice_get nodes edge.from)) else sum
 
--- a source weighs 1; any other node the sum over its edges in, of the sender's weight times the sender's fan-out, cut at 2 ^ 20
+-- the sum over the edges that enter node `v`, of the sender's weight times the sender's fan-out, cut
+abbrev pub brought_to : List NodeDef → List Edge → (ℕ → ℕ) → ℕ → ℕ
+brought_to nodes edges weight v = fold (with_edge nodes weight v) 0 edges
+
+-- a source weighs 1, and any other node what its edges bring
 abbrev pub weighed : List NodeDef → List Edge → (ℕ → ℕ) → ℕ → ℕ
-weighed nodes edges weight v = if is_source_node (slice_get nodes v) then 1 else fold (with_edge nodes weight v) 0 edges
+weighed nodes edges weight v = if is_source_node (slice_get nodes v) then 1 else brought_to nodes edges weight v
 
 -- the weights after so many rounds: all are 0 at first, and each round weighs the nodes by the weights of the round before
 unfoldable pub weight_after : List NodeDef → List Edge → ℕ → ℕ → ℕ

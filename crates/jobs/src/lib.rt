@@ -16,8 +16,9 @@ mod node;
 mod ports;
 mod table;
 mod tables;
+mod weights;
 
-pub use check::fits;
+pub use check::{fits, weight};
 pub use column::{Column, ColumnDefs, ColumnKind, Columns};
 pub use fault::{LawFault, Named, Which};
 pub use func::{

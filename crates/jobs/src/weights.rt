@@ -1,0 +1,141 @@
+// How many tuples one row may bring to a node.
+ghost use Rattle.std.specs.Prelude.{◌≡◌, ◌<◌, ◌≤◌, ℕ, All, length, option_copied, slice_index};
+ghost use Rattle.flow_dag.specs.Edges.{IsInside};
+ghost use Rattle.jobs.specs.Nodes.{is_source_node};
+ghost use Rattle.jobs.specs.Weights.{added_by, brought_to, fan_out, fan_out_at, weighed, weight_after, weight_of, weight_from, with_edge, with_more};
+
+use crate::node::is_source;
+use crate::{Func, NodeDef};
+use flow_dag::Edge;
+
+/// The weight of a job with these nodes and edges. Takes no memory.
+pub fn weight_of(nodes: &[NodeDef], edges: &[Edge]) -> u64
+    requires nodes { length nodes.now ≤ 64 }
+    requires inside { All (IsInside (length nodes.now)) edges.now }
+    ensures { result ≡ weight_of nodes.now edges.now }
+{
+    sum(nodes, &node_weights(nodes, edges))
+}
+
+// The weights of the nodes after as many rounds as there are nodes.
+fn node_weights(nodes: &[NodeDef], edges: &[Edge]) -> [u32; 64]
+    requires nodes { length nodes.now ≤ 64 }
+    requires inside { All (IsInside (length nodes.now)) edges.now }
+    ensures { (v : ℕ) → v < length nodes.now → slice_index result v ≡ weight_after nodes.now edges.now (length nodes.now) v }
+{
+    let mut weights = [0u32; 64];
+    for _ in 0..nodes.len() {
+        weights = next_round(nodes, edges, &weights);
+    }
+    weights
+}
+
+// The weights of the nodes, by those of the round before.
+fn next_round(nodes: &[NodeDef], edges: &[Edge], weights: &[u32; 64]) -> [u32; 64]
+    requires nodes { length nodes.now ≤ 64 }
+    ensures { (v : ℕ) → v < length nodes.now → slice_index result v ≡ weighed nodes.now edges.now (slice_index weights.now) v }
+{
+    let mut next = [0u32; 64];
+    for v in 0..nodes.len() {
+        next[v] = weighed(nodes, edges, weights, v as u32);
+    }
+    next
+}
+
+// The weight of a node, by those of its senders.
+fn weighed(nodes: &[NodeDef], edges: &[Edge], weights: &[u32; 64], v: u32) -> u32
+    ensures { result ≡ weighed nodes.now edges.now (slice_index weights.now) v }
+{
+    if is_source_node(nodes.get(v as usize)) {
+        return 1;
+    }
+    brought_to(nodes, edges, weights, v)
+}
+
+// What the edges that enter a node bring, cut.
+fn brought_to(nodes: &[NodeDef], edges: &[Edge], weights: &[u32; 64], v: u32) -> u32
+    ensures { result ≡ brought_to nodes.now edges.now (slice_index weights.now) v }
+{
+    let mut sum = 0u32;
+    for edge in edges {
+        sum = with_edge(nodes, weights, v, sum, *edge);
+    }
+    sum
+}
+
+fn with_edge(nodes: &[NodeDef], weights: &[u32; 64], v: u32, sum: u32, edge: Edge) -> u32
+    ensures { result ≡ with_edge nodes.now (slice_index weights.now) v sum edge }
+{
+    if edge.to != v {
+        return sum;
+    }
+    let weight = weight_at(weights, edge.from);
+    with_more(sum, weight, fan_out_at(nodes.get(edge.from as usize)))
+}
+
+fn weight_at(weights: &[u32; 64], v: u32) -> u32
+    ensures { result ≡ slice_index weights.now v }
+{
+    match weights.get(v as usize) {
+        Some(weight) => *weight,
+        None => 0,
+    }
+}
+
+fn with_more(sum: u32, weight: u32, fan: u32) -> u32
+    ensures { result ≡ with_more sum weight fan }
+{
+    let more = u64::from(weight) * u64::from(fan);
+    u64::from(sum).saturating_add(more).min(1_048_576) as u32
+}
+
+fn is_source_node(node: Option<&NodeDef>) -> bool
+    ensures { result ≡ is_source_node (option_copied node.entry) }
+{
+    match node {
+        Some(node) => is_source(&node.func),
+        None => false,
+    }
+}
+
+fn fan_out_at(node: Option<&NodeDef>) -> u32
+    ensures { result ≡ fan_out_at (option_copied node.entry) }
+{
+    match node {
+        Some(node) => fan_out(&node.func),
+        None => 1,
+    }
+}
+
+fn fan_out(func: &Func) -> u32
+    ensures { result ≡ fan_out func.now }
+{
+    match func {
+        Func::Split(split) => split.most,
+        Func::Source
+        | Func::Filter(_)
+        | Func::Map(_)
+        | Func::Enrich(_)
+        | Func::Count(_)
+        | Func::Replicate
+        | Func::Sink(_) => 1,
+    }
+}
+
+// The sum of the weights of the nodes that aren't sources.
+fn sum(nodes: &[NodeDef], weights: &[u32; 64]) -> u64
+    requires { length nodes.now ≤ 64 }
+    ensures { result ≡ weight_from (slice_index weights.now) 0 nodes.now }
+{
+    let mut sum = 0u64;
+    for v in 0..nodes.len() {
+        sum += u64::from(added_by(&nodes[v].func, weights[v]));
+    }
+    sum
+}
+
+fn added_by(func: &Func, weight: u32) -> u32
+    ensures { result ≡ added_by func.now weight }
+{
+    if is_source(func) { 0 } else { weight }
+}
