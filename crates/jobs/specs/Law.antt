@@ -53,6 +53,10 @@ has_table_of job v node = fits_table job.tables node.func
 abbrev pub HasTables : Written → Type 0
 HasTables job = EachPasses (has_table_of job) job.nodes
 
+-- sizes, names and edges are as they have to be
+abbrev pub HasShape : Written → Type 0
+HasShape job = HasLimits job × HasColumnNames job × HasNodeNames job × HasEnds job × HasPorts job
+
 -- a lawful job
 pub record IsLawful (job : Written) : Type 0 where
   pub limits : HasLimits job
@@ -79,36 +83,20 @@ IsRefused (fault.NoSuchEnd i) job =
 IsRefused (fault.Ports v) job =
     HasLimits job × HasColumnNames job × HasNodeNames job × HasEnds job × IsFirstFailure (has_ports_of job) job.nodes v
 IsRefused (fault.Cycle v) job =
-    HasLimits job
-    × HasColumnNames job
-    × HasNodeNames job
-    × HasEnds job
-    × HasPorts job
+    HasShape job
     × Reaches (HasEdge job.edges) v v
     × ((u : ℕ) → u < v → ¬ Reaches (HasEdge job.edges) u u)
 IsRefused (fault.Column v) job =
-    HasLimits job
-    × HasColumnNames job
-    × HasNodeNames job
-    × HasEnds job
-    × HasPorts job
+    HasShape job
     × HasNoCycle job
     × IsFirstFailure (has_columns_of job) job.nodes v
 IsRefused (fault.NoTable v) job =
-    HasLimits job
-    × HasColumnNames job
-    × HasNodeNames job
-    × HasEnds job
-    × HasPorts job
+    HasShape job
     × HasNoCycle job
     × HasColumns job
     × IsFirstFailure (has_table_of job) job.nodes v
 IsRefused (fault.Weight number) job =
-    HasLimits job
-    × HasColumnNames job
-    × HasNodeNames job
-    × HasEnds job
-    × HasPorts job
+    HasShape job
     × HasNoCycle job
     × HasColumns job
     × HasTables job

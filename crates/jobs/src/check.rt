@@ -1,12 +1,13 @@
-ghost use Rattle.std.specs.Prelude.{◌≡◌, ◌≤◌, IfOk, IfErr};
-ghost use Rattle.jobs.specs.Fits.{fits};
+// The one way to a job: its parts are checked.
+ghost use Rattle.std.specs.Prelude.{◌≡◌, ◌≤◌, IfOk, IfErr, OnOk};
 ghost use Rattle.jobs.specs.Job.{written};
-ghost use Rattle.jobs.specs.Law.{IsRefused};
+ghost use Rattle.jobs.specs.Law.{HasColumns, HasNoCycle, HasShape, HasTables, IsRefused};
 ghost use Rattle.jobs.specs.Weights.{weight};
 ghost use Rattle.jobs.specs.Written.{written_as};
 
 use crate::{
-    ColumnDefs, Func, Job, LawFault, Named, NodeDefs, Tables, fitting, limits, names, ports, weights,
+    Column, ColumnDefs, Job, LawFault, Named, NodeDef, NodeDefs, Table, Tables, fitting, limits,
+    names, ports, weights,
 };
 use flow_dag::{Dag, DagFault, Edge};
 use std::alloc::Global;
@@ -17,7 +18,7 @@ impl Job {
     /// # Errors
     ///
     /// The faults are looked for in the order of [`LawFault`], sizes in the order of their limits, and everything else in the order of its
-    /// places; the first that stands is answered. A cycle is named by its least node.
+    /// places; the first that stands is answered. A cycle is named by its least node. [`LawFault::NoMemory`] may come of any parts.
     pub fn check(
         alloc: Global,
         columns: ColumnDefs,
@@ -28,45 +29,25 @@ impl Job {
         ensures job { IfOk result (λ job. written job ≡ written_as columns nodes edges.now tables) }
         ensures fault { IfErr result (λ fault. IsRefused fault (written_as columns nodes edges.now tables)) }
     {
-        if let Some((which, number)) = limits::first_size_fault(
+        check_shape(
             columns.as_slice(),
             nodes.as_slice(),
             edges,
             tables.as_slice(),
-        ) {
-            return Err(LawFault::Limit(which, number));
-        }
-        if let Some(i) = names::repeated_column(columns.as_slice()) {
-            return Err(LawFault::NameTwice(Named::Column, i));
-        }
-        if let Some(i) = names::repeated_node(nodes.as_slice()) {
-            return Err(LawFault::NameTwice(Named::Node, i));
-        }
-        let count = nodes.len() as u32;
-        if let Some(i) = ports::wrong_end(count, edges) {
-            return Err(LawFault::NoSuchEnd(i));
-        }
-        if let Some(v) = ports::wrong_ports(nodes.as_slice(), edges) {
-            return Err(LawFault::Ports(v));
-        }
-        let dag = match Dag::check(alloc, count, edges) {
+        )?;
+        let dag = match Dag::check(alloc, nodes.len() as u32, edges) {
             Ok(dag) => dag,
             Err(DagFault::Cycle(v)) => return Err(LawFault::Cycle(v)),
             Err(DagFault::NoMemory) => return Err(LawFault::NoMemory),
-            Err(DagFault::NodeRange(_) | DagFault::Repeated(_)) => unreachable!(),
+            Err(DagFault::NodeRange(_)) => unreachable!(),
+            Err(DagFault::Repeated(_)) => unreachable!(),
         };
-        if let Some(v) =
-            fitting::wrong_columns(columns.as_slice(), nodes.as_slice(), tables.as_slice())
-        {
-            return Err(LawFault::Column(v));
-        }
-        if let Some(v) = fitting::wrong_table(nodes.as_slice(), tables.as_slice()) {
-            return Err(LawFault::NoTable(v));
-        }
-        let weight = weights::weight_of(nodes.as_slice(), edges);
-        if weight > 1024 {
-            return Err(LawFault::Weight(weight));
-        }
+        check_meaning(
+            columns.as_slice(),
+            nodes.as_slice(),
+            edges,
+            tables.as_slice(),
+        )?;
         Ok(Job {
             columns,
             nodes,
@@ -76,18 +57,57 @@ impl Job {
     }
 }
 
-/// Whether a node of the job may have the function: the columns and the table that it names are there and fit. Takes no memory.
-pub fn fits(job: &Job, func: &Func) -> bool
-    ensures { result ≡ fits (written job.now) func.now }
+// Refuses sizes, names and edges that aren't as they have to be.
+fn check_shape(
+    columns: &[Column],
+    nodes: &[NodeDef],
+    edges: &[Edge],
+    tables: &[Table],
+) -> Result<(), LawFault>
+    ensures shape { OnOk result (HasShape (written_as columns.now nodes.now edges.now tables.now)) }
+    ensures fault { IfErr result (λ fault. IsRefused fault (written_as columns.now nodes.now edges.now tables.now)) }
 {
-    fitting::fits_columns(job.columns.as_slice(), job.tables.as_slice(), func)
-        && fitting::fits_table(job.tables.as_slice(), func)
+    if let Some((which, number)) = limits::first_size_fault(columns, nodes, edges, tables) {
+        return Err(LawFault::Limit(which, number));
+    }
+    if let Some(i) = names::repeated_column(columns) {
+        return Err(LawFault::NameTwice(Named::Column, i));
+    }
+    if let Some(i) = names::repeated_node(nodes) {
+        return Err(LawFault::NameTwice(Named::Node, i));
+    }
+    if let Some(i) = ports::wrong_end(nodes.len() as u32, edges) {
+        return Err(LawFault::NoSuchEnd(i));
+    }
+    if let Some(v) = ports::wrong_ports(nodes, edges) {
+        return Err(LawFault::Ports(v));
+    }
+    Ok(())
 }
 
-/// The weight of the job: how many tuples one row may bring to its nodes that aren't sources. Takes no memory.
-pub fn weight(job: &Job) -> u64
-    ensures value { result ≡ weight (written job.now) }
-    ensures limit { result ≤ 1024 }
+// Refuses functions that don't fit, and a job that is too heavy.
+fn check_meaning(
+    columns: &[Column],
+    nodes: &[NodeDef],
+    edges: &[Edge],
+    tables: &[Table],
+) -> Result<(), LawFault>
+    requires shape { HasShape (written_as columns.now nodes.now edges.now tables.now) }
+    requires acyclic { HasNoCycle (written_as columns.now nodes.now edges.now tables.now) }
+    ensures columns { OnOk result (HasColumns (written_as columns.now nodes.now edges.now tables.now)) }
+    ensures tables { OnOk result (HasTables (written_as columns.now nodes.now edges.now tables.now)) }
+    ensures weight { OnOk result (weight (written_as columns.now nodes.now edges.now tables.now) ≤ 1024) }
+    ensures fault { IfErr result (λ fault. IsRefused fault (written_as columns.now nodes.now edges.now tables.now)) }
 {
-    weights::weight_of(job.nodes.as_slice(), job.dag.all_edges())
+    if let Some(v) = fitting::wrong_columns(columns, nodes, tables) {
+        return Err(LawFault::Column(v));
+    }
+    if let Some(v) = fitting::wrong_table(nodes, tables) {
+        return Err(LawFault::NoTable(v));
+    }
+    let weight = weights::weight_of(nodes, edges);
+    if weight > 1024 {
+        return Err(LawFault::Weight(weight));
+    }
+    Ok(())
 }

@@ -10,15 +10,18 @@ mod fault;
 mod fitting;
 mod func;
 mod job;
+mod laws;
 mod limits;
 mod names;
 mod node;
 mod ports;
+mod queries;
 mod table;
 mod tables;
+#[cfg(test)]
+mod tests;
 mod weights;
 
-pub use check::{fits, weight};
 pub use column::{Column, ColumnDefs, ColumnKind, Columns};
 pub use fault::{LawFault, Named, Which};
 pub use fitting::{holds, kind_at};
@@ -27,6 +30,8 @@ pub use func::{
     Steps, Test,
 };
 pub use job::Job;
+pub use laws::{functions_fit, refused_is_unlawful, weights_settle};
 pub use limits::size_fault;
 pub use node::{is_source, may_emit_many};
+pub use queries::{fits, weight};
 pub use table::{Table, Tables};

@@ -1,6 +1,6 @@
 // Sizes and their limits.
-ghost use Rattle.std.specs.Prelude.{◌≡◌, ◌≤◌, length, min};
-ghost use Rattle.jobs.specs.Limits.{entry_count, entry_oversize, first_oversize, first_oversize_of, func_oversize, kept, literal_oversize, outside, oversize, table_oversize, text_oversize, value_oversize, workers_oversize};
+ghost use Rattle.std.specs.Prelude.{◌≡◌, ◌≤◌, IfNone, length, min};
+ghost use Rattle.jobs.specs.Limits.{HasLimits, entry_count, entry_oversize, first_oversize, first_oversize_of, func_oversize, kept, literal_oversize, outside, oversize, table_oversize, text_oversize, value_oversize, workers_oversize};
 ghost use Rattle.std.specs.FinMap as finite;
 ghost use Rattle.jobs.specs.declared.func.Func.TheVariants.{Filter};
 ghost use Rattle.jobs.specs.Nodes.{worker_count};
@@ -20,7 +20,8 @@ pub fn first_size_fault(
     edges: &[Edge],
     tables: &[Table],
 ) -> Option<(Which, i64)>
-    ensures { result ≡ first_oversize_of (written_as columns.now nodes.now edges.now tables.now) }
+    ensures fault { result ≡ first_oversize_of (written_as columns.now nodes.now edges.now tables.now) }
+    ensures limits { IfNone result (HasLimits (written_as columns.now nodes.now edges.now tables.now)) }
 {
     if let Some(fault) = outside(Which::Nodes, 1, 64, nodes.len() as u64) {
         return Some(fault);
