@@ -21,6 +21,7 @@ mod tables;
 #[cfg(test)]
 mod tests;
 mod weights;
+mod workers;
 
 pub use column::{Column, ColumnDefs, ColumnKind, Columns};
 pub use fault::{LawFault, Named, Which};
@@ -35,3 +36,4 @@ pub use limits::size_fault;
 pub use node::{is_source, may_emit_many};
 pub use queries::{fits, weight};
 pub use table::{Table, Tables};
+pub use workers::worker_count;
