@@ -26,6 +26,11 @@ abbrev pub worker_at : List Column → Option NodeDef → Tuple → ℕ
 worker_at columns None tuple = 0
 worker_at columns (Some node) tuple = worker_among columns node.func node.workers tuple
 
--- the worker that a tuple reaches along an edge
-abbrev pub worker_for : Written → Edge → Tuple → ℕ
-worker_for job edge tuple = worker_at job.columns (slice_get job.nodes edge.to) tuple
+-- the worker that a tuple reaches along an edge, if there is such an edge
+abbrev pub worker_for : Written → Option Edge → Tuple → ℕ
+worker_for job None tuple = 0
+worker_for job (Some edge) tuple = worker_at job.columns (slice_get job.nodes edge.to) tuple
+
+-- the worker that a tuple reaches along the edge with this number
+abbrev pub worker_along : Written → ℕ → Tuple → ℕ
+worker_along job edge tuple = worker_for job (slice_get job.edges edge) tuple

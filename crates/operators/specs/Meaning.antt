@@ -55,12 +55,14 @@ abbrev pub looked_up : Option Table → List ℕ → Value → Value
 looked_up None key other = other
 looked_up (Some table) key other = unwrap_or (finite.get table.entries key) other
 
--- an enrich: a column becomes what the table holds for the key
+-- the fields after a look-up: a column becomes what the table holds for the key
+abbrev pub enriched_fields : List Column → List Table → Lookup → List Value → List Value
+enriched_fields columns tables lookup fields =
+    written_at columns fields lookup.into (looked_up (slice_get tables lookup.table) (text_at columns fields lookup.key) lookup.other)
+
+-- an enrich: the fields are those after its look-up
 abbrev pub enriched : List Column → List Table → Visit → Lookup → Tuple → List Output
-enriched columns tables visit lookup tuple =
-    let key = text_at columns tuple.fields lookup.key in
-    let found = looked_up (slice_get tables lookup.table) key lookup.other in
-    sent visit 0 (with_fields (written_at columns tuple.fields lookup.into found) tuple) ∷ []
+enriched columns tables visit lookup tuple = sent visit 0 (with_fields (enriched_fields columns tables lookup tuple.fields) tuple) ∷ []
 
 -- the count of a tuple's key once the tuple is counted
 abbrev pub count_after : List Column → CountBy → Counts → Tuple → ℤ

@@ -18,7 +18,12 @@ fn meets(columns: &[Column], cond: &Cond, fields: &[Value]) -> bool
     ensures { result ≡ meets_of columns.now fields.now cond.now }
 {
     let field = fields.get(cond.column as usize);
-    compares(kind_at(columns, cond.column), cond.test, field, &cond.literal)
+    compares(
+        kind_at(columns, cond.column),
+        cond.test,
+        field,
+        &cond.literal,
+    )
 }
 
 fn compares(kind: Option<ColumnKind>, test: Test, field: Option<&Value>, literal: &Value) -> bool

@@ -1,5 +1,5 @@
 // The fields of a tuple, read and written by the kinds that the job gives its columns.
-ghost use Rattle.std.specs.Prelude.{◌≡◌, ◌<◌, IfOk, length, slice_set};
+ghost use Rattle.std.specs.Prelude.{◌≡◌, ◌<◌, ◌++◌, IfOk, OnOk, length, slice_set};
 ghost use Rattle.std.specs.Option.{option_copied};
 ghost use Rattle.tuple_trace.specs.declared.value.Value.TheVariants.{Num};
 ghost use Rattle.operators.specs.Fields.{field_at, number_at, text_at, written_at};
@@ -60,18 +60,27 @@ pub fn written_at(
     }
 }
 
-fn replaced(
-    alloc: Global,
-    fields: &[Value],
-    place: usize,
-    value: Value,
-) -> Result<Fields, NoMemory>
+fn replaced(alloc: Global, fields: &[Value], place: usize, value: Value) -> Result<Fields, NoMemory>
     requires { place < length fields.now }
     ensures { IfOk result (λ made. made ≡ slice_set fields.now place value) }
 {
     let mut made = Vec::with_capacity(alloc, fields.len())?;
-    made.extend_from_slice(&fields[..place])?;
+    append(&mut made, &fields[..place])?;
     made.push(value)?;
-    made.extend_from_slice(&fields[place + 1..])?;
+    append(&mut made, &fields[place + 1..])?;
     Ok(Fields::from_vec(made))
+}
+
+fn append(made: &mut Vec<Value>, more: &[Value]) -> Result<(), NoMemory>
+    ensures { OnOk result (made.new.items ≡ made.old.items ++ more.now) }
+{
+    made.extend_with_clones(more)?;
+    Ok(())
+}
+
+/// An equal value.
+pub fn copied(value: &Value) -> Result<Value, NoMemory>
+    ensures { IfOk result (λ copy. copy ≡ value.now) }
+{
+    Ok(value.clone()?)
 }

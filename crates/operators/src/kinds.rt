@@ -3,17 +3,17 @@ ghost use Rattle.std.specs.Prelude.{◌≡◌, ◌++◌, ◌∷◌, [], IfOk, On
 ghost use Rattle.std.specs.FinMap as finite;
 ghost use Rattle.jobs.specs.Ports.{has_port as has_port_of};
 ghost use Rattle.operators.specs.Fields.{text_at as text_of};
-ghost use Rattle.operators.specs.Meaning.{count_after, counted, enriched, filtered, looked_up as found_in, mapped};
+ghost use Rattle.operators.specs.Meaning.{count_after, counted, enriched, enriched_fields as fields_enriched, filtered, looked_up as found_in, mapped};
 
 use crate::arithmetic::{number_of, run_steps};
 use crate::conditions::passes;
-use crate::fields::{text_at, write_number, written_at};
+use crate::fields::{copied, text_at, write_number, written_at};
 use crate::output::{Outs, remade, send};
 use flow_dag::Edge;
 use jobs::{Column, Cond, CountBy, Lookup, Step, Table};
 use keyed_state::Keyed;
 use std::alloc::Global;
-use tuple_trace::{NoMemory, Tuple, Value, Visit};
+use tuple_trace::{Births, Fields, NoMemory, Tuple, Value, Visit};
 
 pub fn filter(
     columns: &[Column],
@@ -70,16 +70,24 @@ pub fn enrich(
     ensures ok { OnOk result (out.new ≡ out.old ++ enriched columns.now tables.now visit lookup.now tuple.now) }
     ensures err { OnErr result (out.new ≡ out.old) }
 {
-    let key = text_at(columns, tuple.fields.as_slice(), lookup.key);
+    let fields = enriched_fields(alloc, columns, tables, lookup, &tuple.fields)?;
+    let birth = Births::from_slice(alloc, tuple.birth.as_slice())?;
+    send(visit, 0, remade(tuple, birth, fields)?, out)
+}
+
+fn enriched_fields(
+    alloc: Global,
+    columns: &[Column],
+    tables: &[Table],
+    lookup: &Lookup,
+    fields: &Fields,
+) -> Result<Fields, NoMemory>
+    ensures { IfOk result (λ made. made ≡ fields_enriched columns.now tables.now lookup.now fields.now) }
+{
+    let key = text_at(columns, fields.as_slice(), lookup.key);
     let table = tables.get(lookup.table as usize);
-    let value = looked_up(table, key, &lookup.other).clone()?;
-    let fields = written_at(alloc, columns, &tuple.fields, lookup.into, value)?;
-    send(
-        visit,
-        0,
-        remade(tuple, tuple.birth.clone()?, fields)?,
-        out,
-    )
+    let value = copied(looked_up(table, key, &lookup.other))?;
+    written_at(alloc, columns, fields, lookup.into, value)
 }
 
 fn looked_up<'a>(table: Option<&'a Table>, key: &[u8], other: &'a Value) -> &'a Value

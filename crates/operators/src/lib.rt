@@ -18,7 +18,7 @@ pub use effect::apply;
 pub use jobs::{
     Column, ColumnDefs, ColumnKind, Columns, Cond, Conds, CountBy, Func, Job, LawFault, Lookup,
     NOWHERE, Named, NodeDef, NodeDefs, Op, Operand, SplitBy, Step, Steps, Table, Tables, Test,
-    Which, holds, is_source, kind_at, may_emit_many,
+    Which, fits, holds, is_source, kind_at, may_emit_many, size_fault, weight,
 };
 pub use lanes::lane_of;
 pub use output::{Output, Outs};

@@ -1,5 +1,5 @@
 // What functions that make several tuples of one make of it. After want of memory `out` is as before.
-ghost use Rattle.std.specs.Prelude.{◌≡◌, ◌++◌, IfOk, OnOk, OnErr, length, take};
+ghost use Rattle.std.specs.Prelude.{◌≡◌, ◌++◌, ◌∷◌, [], IfOk, OnOk, OnErr, length, take};
 ghost use Rattle.tuple_trace.specs.declared.value.Value.TheVariants.{Text};
 ghost use Rattle.operators.specs.Fields.{written_at as written_of};
 ghost use Rattle.operators.specs.Meaning.{born as born_of, replicated, split_up, with_fields};
@@ -97,12 +97,7 @@ pub fn replicate(
     Ok(())
 }
 
-fn send_copies(
-    edges: &[Edge],
-    visit: Visit,
-    tuple: &Tuple,
-    out: &mut Outs,
-) -> Result<(), NoMemory>
+fn send_copies(edges: &[Edge], visit: Visit, tuple: &Tuple, out: &mut Outs) -> Result<(), NoMemory>
     ensures ok { OnOk result (out.new ≡ out.old ++ replicated edges.now visit tuple.now) }
     ensures err { OnErr result (take (length out.old) out.new ≡ out.old) }
 {
