@@ -24,6 +24,7 @@ mod weights;
 
 pub use column::{Column, ColumnDefs, ColumnKind, Columns};
 pub use fault::{LawFault, Named, Which};
+pub use fitting::{holds, kind_at};
 pub use func::{
     Cond, Conds, CountBy, Func, Lookup, NOWHERE, NodeDef, NodeDefs, Op, Operand, SplitBy, Step,
     Steps, Test,
