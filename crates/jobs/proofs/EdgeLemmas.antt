@@ -58,7 +58,7 @@ leads_twice-apart (e ∷ edges) v zero (suc j) d apart lt within fi fj to =
     let (first, rest) = or-false (leaves v e && has_edge edges v e.to) (leads_twice edges v) apart in
     let none : has_edge edges v e.to ≡ false = and-false_right (leaves v e) (has_edge edges v e.to) (same-eqb e.from v fi) first in
     let joins : ((get_or edges j d).from == v && (get_or edges j d).to == e.to) ≡ true =
-        and-both ((get_or edges j d).from == v) ((get_or edges j d).to == e.to) (same-eqb (get_or edges j d).from v fj) (same-eqb (get_or edges j d).to e.to to) in
+    and-both ((get_or edges j d).from == v) ((get_or edges j d).to == e.to) (same-eqb (get_or edges j d).from v fj) (same-eqb (get_or edges j d).to e.to to) in
     let some : has_edge edges v e.to ≡ true = list_any_at (λ (x : Edge). x.from == v && x.to == e.to) edges j d (omega (arith, within)) joins in
     clash none some
 leads_twice-apart (e ∷ edges) v (suc i) (suc j) d apart lt within fi fj to =

@@ -54,7 +54,7 @@ HasLimits-from_none job e =
       all_workers = (outside-none which.AllWorkers 0 64 (worker_count job.nodes) all).1;
       entries = (outside-none which.Entries 0 4096 (entry_count job.tables) entries).1;
       texts = first_oversize-none table_oversize job.tables texts;
-      functions = first_oversize-none func_oversize job.nodes functions
+      functions = first_oversize-none func_oversize job.nodes functions;
     }
 
 -- a job within its limits has no size that is outside of them

@@ -30,7 +30,7 @@ fold-same nodes w w' v sum [] same = refl
 fold-same nodes w w' v sum (e ∷ edges) same =
     let head : with_edge nodes w v sum e ≡ with_edge nodes w' v sum e = with_edge-same nodes w w' v sum e (All-head (λ (x : Edge). x.to ≡ v → w x.from ≡ w' x.from) e edges same) in
     let tail : fold (with_edge nodes w v) (with_edge nodes w' v sum e) edges ≡ fold (with_edge nodes w' v) (with_edge nodes w' v sum e) edges =
-        fold-same nodes w w' v (with_edge nodes w' v sum e) edges (All-tail (λ (x : Edge). x.to ≡ v → w x.from ≡ w' x.from) e edges same) in
+    fold-same nodes w w' v (with_edge nodes w' v sum e) edges (All-tail (λ (x : Edge). x.to ≡ v → w x.from ≡ w' x.from) e edges same) in
     ap (λ (s : ℕ). fold (with_edge nodes w v) s edges) head ∙ tail
 
 -- a node weighs the same where its senders do

@@ -1,12 +1,12 @@
+// The one way to a job: its parts are checked.
 ghost use Rattle.std.specs.Prelude.{◌≡◌, ◌≤◌, IfOk, IfErr, OnOk};
-ghost use Rattle.jobs.specs.Fits.{fits};
 ghost use Rattle.jobs.specs.Job.{written};
 ghost use Rattle.jobs.specs.Law.{HasColumns, HasNoCycle, HasShape, HasTables, IsRefused};
 ghost use Rattle.jobs.specs.Weights.{weight};
 ghost use Rattle.jobs.specs.Written.{written_as};
 
 use crate::{
-    Column, ColumnDefs, Func, Job, LawFault, Named, NodeDef, NodeDefs, Table, Tables, fitting, limits,
+    Column, ColumnDefs, Job, LawFault, Named, NodeDef, NodeDefs, Table, Tables, fitting, limits,
     names, ports, weights,
 };
 use flow_dag::{Dag, DagFault, Edge};
@@ -110,20 +110,4 @@ fn check_meaning(
         return Err(LawFault::Weight(weight));
     }
     Ok(())
-}
-
-/// Whether a node of the job may have the function: the columns and the table that it names are there and fit. Takes no memory.
-pub fn fits(job: &Job, func: &Func) -> bool
-    ensures { result ≡ fits (written job.now) func.now }
-{
-    fitting::fits_columns(job.columns.as_slice(), job.tables.as_slice(), func)
-        && fitting::fits_table(job.tables.as_slice(), func)
-}
-
-/// The weight of the job: how many tuples one row may bring to its nodes that aren't sources. Takes no memory.
-pub fn weight(job: &Job) -> u64
-    ensures value { result ≡ weight (written job.now) }
-    ensures limit { result ≤ 1024 }
-{
-    weights::weight_of(job.nodes.as_slice(), job.dag.all_edges())
 }

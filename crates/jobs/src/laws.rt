@@ -1,6 +1,8 @@
 // Laws of jobs: each stands in the contract of a function that does nothing.
+ghost use Rattle.jobs.specs.Fits.{fits};
 ghost use Rattle.jobs.specs.Job.{written};
 ghost use Rattle.jobs.specs.Law.{Excludes};
+ghost use Rattle.jobs.specs.Places.{EachPasses};
 ghost use Rattle.jobs.specs.Weights.{HasSettledWeights};
 
 use crate::Job;
@@ -13,4 +15,9 @@ pub fn refused_is_unlawful()
 /// In every job a source weighs 1, and any other node the sum over its edges in, of the sender's weight times the sender's fan-out, cut.
 pub fn weights_settle(job: &Job)
     ensures { HasSettledWeights (written job.now) }
+{}
+
+/// The function of each node of a job fits.
+pub fn functions_fit(job: &Job)
+    ensures { EachPasses (λ _ node. fits (written job.now) node.func) job.now.nodes }
 {}

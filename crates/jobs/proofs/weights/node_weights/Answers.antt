@@ -13,5 +13,5 @@ loop-init c u inside =
 pub loop-preserved : goal.loop-preserved
 loop-preserved c u inside =
     let same = weighed-inside c.args.nodes.now c.args.edges.now (slice_index c.loop.weights) (weight_after c.args.nodes.now c.args.edges.now c.loop.counter) u
-        c.requires.inside c.loop.invariant in
+    c.requires.inside c.loop.invariant in
     c.next_round-weights.ensures u inside ∙ same ∙ sym (weight_after-more c.args.nodes.now c.args.edges.now c.loop.counter u)
