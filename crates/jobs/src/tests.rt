@@ -9,105 +9,167 @@ use std::alloc::Global;
 use std::test::Fail;
 use tuple_trace::{NoMemory, Txt, Value};
 
+// A function of a node over the columns account, merchant, amount, risk and seen, of which the first two hold texts, and over one table of numbers.
+#[derive(Clone, Copy)]
+enum Kind {
+    Source,
+    // So many conditions that the amount is 1 at least.
+    Filter(u32),
+    // A test of this column against a text of so many bytes.
+    Compare(u32, Test, usize),
+    // A test of this column against 1.
+    AtLeast(u32),
+    // So many steps on the risk.
+    Map(u32),
+    // The account's number in this table goes into this column; 1 where there is none.
+    Enrich(u32, u32),
+    // The account's entry in the table goes into this column; a text of so many bytes where there is none.
+    EnrichText(u32, usize),
+    Count(u32, Operand, u32),
+    Split(u32),
+    Replicate,
+    // This column alone is shown.
+    Sink(u32),
+}
+
+fn func(alloc: Global, kind: Kind) -> Result<Func, NoMemory> {
+    Ok(match kind {
+        Kind::Source => Func::Source,
+        Kind::Filter(count) => filter(alloc, count, 2)?,
+        Kind::AtLeast(column) => filter(alloc, 1, column)?,
+        Kind::Compare(column, test, len) => compare(alloc, column, test, text(alloc, len)?)?,
+        Kind::Map(count) => map(alloc, count)?,
+        Kind::Enrich(into, table) => enrich(into, table, Value::Num(1)),
+        Kind::EnrichText(into, len) => enrich(into, 0, Value::Text(text(alloc, len)?)),
+        Kind::Count(key, add, into) => Func::Count(CountBy { key, add, into }),
+        Kind::Split(most) => Func::Split(SplitBy {
+            on: 0,
+            by: b' ',
+            most,
+        }),
+        Kind::Replicate => Func::Replicate,
+        Kind::Sink(column) => Func::Sink(Columns::from_slice(alloc, &[column])?),
+    })
+}
+
 fn text(alloc: Global, len: usize) -> Result<Txt, NoMemory> {
-    let bytes = [b'x'; 64];
-    match bytes.get(..len) {
+    match [b'x'; 64].get(..len) {
         Some(bytes) => Txt::from_slice(alloc, bytes),
         None => Err(NoMemory),
     }
 }
 
-fn column(alloc: Global, name: &[u8], kind: ColumnKind) -> Result<Column, NoMemory> {
-    Ok(Column {
-        name: Txt::from_slice(alloc, name)?,
-        kind,
-        own: false,
-    })
-}
-
-// A text, an amount and a number.
-fn columns(alloc: Global) -> Result<ColumnDefs, NoMemory> {
-    let mut columns = ColumnDefs::new(alloc);
-    columns.push(column(alloc, b"account", ColumnKind::Text)?)?;
-    columns.push(column(alloc, b"amount", ColumnKind::Cents)?)?;
-    columns.push(column(alloc, b"risk", ColumnKind::Number)?)?;
-    Ok(columns)
-}
-
-// A table of one number.
-fn tables(alloc: Global) -> Result<Tables, NoMemory> {
-    let mut entries = TextMap::new(alloc);
-    entries.insert(b"casino", Value::Num(3))?;
-    let mut tables = Tables::new(alloc);
-    tables.push(Table {
-        name: Txt::from_slice(alloc, b"risks")?,
-        entries,
-    })?;
-    Ok(tables)
-}
-
-fn cond(column: u32, test: Test, literal: Value) -> Cond {
-    Cond {
-        column,
-        test,
-        literal,
-    }
-}
-
-// A filter of this many conditions on the amount.
-fn filter(alloc: Global, count: u32) -> Result<Func, NoMemory> {
+fn filter(alloc: Global, count: u32, column: u32) -> Result<Func, NoMemory> {
     let mut conds = Conds::new(alloc);
     for _ in 0..count {
-        conds.push(cond(1, Test::Ge, Value::Num(100)))?;
+        conds.push(Cond {
+            column,
+            test: Test::Ge,
+            literal: Value::Num(1),
+        })?;
     }
     Ok(Func::Filter(conds))
 }
 
-// A map of this many steps on the risk.
+fn compare(alloc: Global, column: u32, test: Test, literal: Txt) -> Result<Func, NoMemory> {
+    let mut conds = Conds::new(alloc);
+    conds.push(Cond {
+        column,
+        test,
+        literal: Value::Text(literal),
+    })?;
+    Ok(Func::Filter(conds))
+}
+
 fn map(alloc: Global, count: u32) -> Result<Func, NoMemory> {
     let mut steps = Steps::new(alloc);
     for _ in 0..count {
         steps.push(Step {
-            column: 2,
+            column: 3,
             op: Op::Add,
-            a: Operand::Column(1),
+            a: Operand::Column(2),
             b: Operand::Number(1),
         })?;
     }
     Ok(Func::Map(steps))
 }
 
-fn split(most: u32) -> Func {
-    Func::Split(SplitBy {
-        on: 0,
-        by: b' ',
-        most,
+fn enrich(into: u32, table: u32, other: Value) -> Func {
+    Func::Enrich(Lookup {
+        key: 0,
+        into,
+        table,
+        other,
     })
 }
 
-fn sink(alloc: Global) -> Func {
-    Func::Sink(Columns::new(alloc))
+fn columns(alloc: Global) -> Result<ColumnDefs, NoMemory> {
+    let mut columns = ColumnDefs::new(alloc);
+    for (name, kind) in [
+        (b'a', ColumnKind::Text),
+        (b'm', ColumnKind::Text),
+        (b'c', ColumnKind::Cents),
+        (b'r', ColumnKind::Number),
+        (b's', ColumnKind::Number),
+    ] {
+        columns.push(Column {
+            name: Txt::from_slice(alloc, &[name])?,
+            kind,
+            own: false,
+        })?;
+    }
+    Ok(columns)
 }
 
-// Appends a node of one worker that is named by this byte.
-fn add(alloc: Global, nodes: &mut NodeDefs, name: u8, func: Func) -> Result<(), NoMemory> {
-    nodes.push(NodeDef {
-        name: Txt::from_slice(alloc, &[name])?,
-        func,
-        workers: 1,
-    })
+// A table of these entries.
+fn tables(alloc: Global, entries: TextMap<Value>) -> Result<Tables, NoMemory> {
+    let mut tables = Tables::new(alloc);
+    tables.push(Table {
+        name: Txt::new(alloc),
+        entries,
+    })?;
+    Ok(tables)
+}
+
+// A node for each of these kinds, named by its number.
+fn nodes(alloc: Global, kinds: &[Kind]) -> Result<NodeDefs, NoMemory> {
+    let mut nodes = NodeDefs::new(alloc);
+    for (i, kind) in kinds.iter().enumerate() {
+        nodes.push(NodeDef {
+            name: Txt::from_slice(alloc, &[(i % 256) as u8])?,
+            func: func(alloc, *kind)?,
+            workers: 1,
+        })?;
+    }
+    Ok(nodes)
+}
+
+// So many nodes of this kind with so many workers each, every seventh of the same name.
+fn crew(alloc: Global, count: u32, kind: Kind, workers: u32) -> Result<NodeDefs, NoMemory> {
+    let mut nodes = NodeDefs::new(alloc);
+    for i in 0..count {
+        nodes.push(NodeDef {
+            name: Txt::from_slice(alloc, &[(i % 7) as u8])?,
+            func: func(alloc, kind)?,
+            workers,
+        })?;
+    }
+    Ok(nodes)
 }
 
 fn edge(from: u32, port: u32, to: u32) -> Edge {
     Edge { from, port, to }
 }
 
-fn answer(
+fn check(
     alloc: Global,
     nodes: NodeDefs,
     edges: &[Edge],
 ) -> Result<Result<Job, LawFault>, NoMemory> {
-    Ok(Job::check(alloc, columns(alloc)?, nodes, edges, tables(alloc)?))
+    let mut entries = TextMap::new(alloc);
+    entries.insert(b"casino", Value::Num(3))?;
+    let tables = tables(alloc, entries)?;
+    Ok(Job::check(alloc, columns(alloc)?, nodes, edges, tables))
 }
 
 fn fault_of(answer: Result<Job, LawFault>) -> Option<LawFault> {
@@ -117,102 +179,69 @@ fn fault_of(answer: Result<Job, LawFault>) -> Option<LawFault> {
     }
 }
 
-// The fault of a job with these nodes and edges.
 fn fault(alloc: Global, nodes: NodeDefs, edges: &[Edge]) -> Result<Option<LawFault>, NoMemory> {
-    Ok(fault_of(answer(alloc, nodes, edges)?))
-}
-
-// The fault of a job of a source, a node with this function, and a sink.
-fn fault_between(alloc: Global, func: Func) -> Result<Option<LawFault>, NoMemory> {
-    let mut nodes = NodeDefs::new(alloc);
-    add(alloc, &mut nodes, b's', Func::Source)?;
-    add(alloc, &mut nodes, b'f', func)?;
-    add(alloc, &mut nodes, b't', sink(alloc))?;
-    fault(alloc, nodes, &[edge(0, 0, 1), edge(1, 0, 2)])
-}
-
-// The fault of so many sources with one name, of so many workers each.
-fn fault_of_sources(
-    alloc: Global,
-    count: u32,
-    workers: u32,
-    edges: &[Edge],
-) -> Result<Option<LawFault>, NoMemory> {
-    let mut nodes = NodeDefs::new(alloc);
-    for _ in 0..count {
-        nodes.push(NodeDef {
-            name: Txt::new(alloc),
-            func: Func::Source,
-            workers,
-        })?;
-    }
-    fault(alloc, nodes, edges)
+    Ok(fault_of(check(alloc, nodes, edges)?))
 }
 
 #[test]
-fn nodes_edges_and_workers_have_limits(rt: HostRuntime) -> Result<(), Fail> {
+fn nodes_and_workers_have_limits(rt: HostRuntime) -> Result<(), Fail> {
     let alloc = rt.alloc();
-    let limit = |which: Which, number: i64| Some(LawFault::Limit(which, number));
-    let twice = Some(LawFault::NameTwice(Named::Node, 1));
-    for (count, want) in [
-        (0, limit(Which::Nodes, 0)),
-        (64, twice),
-        (65, limit(Which::Nodes, 65)),
+    let twice = LawFault::NameTwice(Named::Node, 7);
+    for (count, kind, workers, want) in [
+        (0, Kind::Source, 1, LawFault::Limit(Which::Nodes, 0)),
+        (64, Kind::Source, 1, twice),
+        (65, Kind::Source, 1, LawFault::Limit(Which::Nodes, 65)),
+        (1, Kind::Source, 2, LawFault::Limit(Which::Workers, 2)),
+        (1, Kind::Sink(0), 0, LawFault::Limit(Which::Workers, 0)),
+        (1, Kind::Split(1), 9, LawFault::Limit(Which::Workers, 9)),
+        (8, Kind::Split(1), 8, twice),
+        (
+            13,
+            Kind::Split(1),
+            5,
+            LawFault::Limit(Which::AllWorkers, 65),
+        ),
     ] {
-        assert_eq!(rt; fault_of_sources(alloc, count, 1, &[])?, want);
-    }
-    let edges = [edge(0, 0, 9); 129];
-    let many = fault_of_sources(alloc, 1, 1, &edges)?;
-    assert_eq!(rt; many, limit(Which::Edges, 129));
-    let fewer = fault_of_sources(alloc, 1, 1, &edges[1..])?;
-    assert_eq!(rt; fewer, Some(LawFault::NoSuchEnd(0)));
-    for workers in [0, 2] {
-        let want = limit(Which::Workers, i64::from(workers));
-        assert_eq!(rt; fault_of_sources(alloc, 1, workers, &[])?, want);
+        let nodes = crew(alloc, count, kind, workers)?;
+        assert_eq!(rt; fault(alloc, nodes, &[])?, Some(want));
     }
     Ok(())
 }
 
-// The fault of so many nodes of this kind with one name, of eight workers each, and one more of one worker where `more` is set.
-fn fault_of_crew(alloc: Global, count: u32, more: bool) -> Result<Option<LawFault>, NoMemory> {
-    let mut nodes = NodeDefs::new(alloc);
-    for _ in 0..count {
-        nodes.push(NodeDef {
-            name: Txt::new(alloc),
-            func: Func::Replicate,
-            workers: 8,
-        })?;
-    }
-    if more {
-        add(alloc, &mut nodes, b't', sink(alloc))?;
-    }
-    fault(alloc, nodes, &[])
+#[test]
+fn edges_have_a_limit(rt: HostRuntime) -> Result<(), Fail> {
+    let alloc = rt.alloc();
+    let edges = [edge(0, 0, 1); 129];
+    let over = fault(alloc, nodes(alloc, &[Kind::Source])?, &edges)?;
+    assert_eq!(rt; over, Some(LawFault::Limit(Which::Edges, 129)));
+    let most = fault(alloc, nodes(alloc, &[Kind::Source])?, &edges[1..])?;
+    assert_eq!(rt; most, Some(LawFault::NoSuchEnd(0)));
+    Ok(())
 }
 
 // The fault of a job of so many columns with one name.
 fn fault_of_columns(alloc: Global, count: u32) -> Result<Option<LawFault>, NoMemory> {
     let mut columns = ColumnDefs::new(alloc);
     for _ in 0..count {
-        columns.push(column(alloc, b"x", ColumnKind::Text)?)?;
+        columns.push(Column {
+            name: Txt::new(alloc),
+            kind: ColumnKind::Text,
+            own: false,
+        })?;
     }
-    let mut nodes = NodeDefs::new(alloc);
-    add(alloc, &mut nodes, b's', Func::Source)?;
-    Ok(fault_of(Job::check(alloc, columns, nodes, &[], Tables::new(alloc))))
+    let nodes = nodes(alloc, &[Kind::Source])?;
+    let answer = Job::check(alloc, columns, nodes, &[], Tables::new(alloc));
+    Ok(fault_of(answer))
 }
 
 #[test]
-fn crews_and_columns_have_limits(rt: HostRuntime) -> Result<(), Fail> {
-    let alloc = rt.alloc();
-    let full = fault_of_crew(alloc, 8, false)?;
-    assert_eq!(rt; full, Some(LawFault::NameTwice(Named::Node, 1)));
-    let over = fault_of_crew(alloc, 8, true)?;
-    assert_eq!(rt; over, Some(LawFault::Limit(Which::AllWorkers, 65)));
+fn columns_have_a_limit(rt: HostRuntime) -> Result<(), Fail> {
     for (count, want) in [
         (0, LawFault::Limit(Which::Columns, 0)),
         (12, LawFault::NameTwice(Named::Column, 1)),
         (13, LawFault::Limit(Which::Columns, 13)),
     ] {
-        assert_eq!(rt; fault_of_columns(alloc, count)?, Some(want));
+        assert_eq!(rt; fault_of_columns(rt.alloc(), count)?, Some(want));
     }
     Ok(())
 }
@@ -220,72 +249,55 @@ fn crews_and_columns_have_limits(rt: HostRuntime) -> Result<(), Fail> {
 #[test]
 fn sizes_of_functions_have_limits(rt: HostRuntime) -> Result<(), Fail> {
     let alloc = rt.alloc();
-    for (count, conditions, steps) in [
-        (8, None, None),
-        (9, Some((Which::Conditions, 9)), Some((Which::Steps, 9))),
+    for (kind, want) in [
+        (Kind::Filter(8), None),
+        (Kind::Filter(9), Some((Which::Conditions, 9))),
+        (Kind::Map(8), None),
+        (Kind::Map(9), Some((Which::Steps, 9))),
+        (Kind::Split(0), Some((Which::Most, 0))),
+        (Kind::Split(16), None),
+        (Kind::Split(17), Some((Which::Most, 17))),
+        (Kind::Compare(0, Test::Eq, 48), None),
+        (Kind::Compare(0, Test::Eq, 49), Some((Which::Text, 49))),
+        (Kind::EnrichText(0, 48), None),
+        (Kind::EnrichText(0, 49), Some((Which::Text, 49))),
     ] {
-        assert_eq!(rt; size_fault(&filter(alloc, count)?), conditions);
-        assert_eq!(rt; size_fault(&map(alloc, count)?), steps);
-    }
-    for (most, want) in [
-        (0, Some((Which::Most, 0))),
-        (1, None),
-        (16, None),
-        (17, Some((Which::Most, 17))),
-    ] {
-        assert_eq!(rt; size_fault(&split(most)), want);
-    }
-    for (len, want) in [(48, None), (49, Some((Which::Text, 49)))] {
-        let other = Func::Enrich(Lookup {
-            key: 0,
-            into: 0,
-            table: 0,
-            other: Value::Text(text(alloc, len)?),
-        });
-        assert_eq!(rt; size_fault(&other), want);
-        let mut conds = Conds::new(alloc);
-        conds.push(cond(0, Test::Eq, Value::Text(text(alloc, len)?)))?;
-        assert_eq!(rt; size_fault(&Func::Filter(conds)), want);
+        assert_eq!(rt; size_fault(&func(alloc, kind)?), want);
     }
     Ok(())
 }
 
-// The fault of a job of one source with this one table.
+// The fault of a job of one source without edges, with one table of these entries.
 fn fault_of_table(alloc: Global, entries: TextMap<Value>) -> Result<Option<LawFault>, NoMemory> {
-    let mut nodes = NodeDefs::new(alloc);
-    add(alloc, &mut nodes, b's', Func::Source)?;
-    let mut tables = Tables::new(alloc);
-    tables.push(Table {
-        name: Txt::new(alloc),
-        entries,
-    })?;
-    Ok(fault_of(Job::check(alloc, columns(alloc)?, nodes, &[], tables)))
+    let tables = tables(alloc, entries)?;
+    let nodes = nodes(alloc, &[Kind::Source])?;
+    let answer = Job::check(alloc, columns(alloc)?, nodes, &[], tables);
+    Ok(fault_of(answer))
 }
 
 #[test]
 fn tables_have_limits(rt: HostRuntime) -> Result<(), Fail> {
     let alloc = rt.alloc();
-    let lawful_but_for_ports = Some(LawFault::Ports(0));
     for (len, want) in [
-        (48, lawful_but_for_ports),
-        (49, Some(LawFault::Limit(Which::Text, 49))),
+        (48, LawFault::Ports(0)),
+        (49, LawFault::Limit(Which::Text, 49)),
     ] {
         let mut keys = TextMap::new(alloc);
         keys.insert(text(alloc, len)?.as_slice(), Value::Num(1))?;
-        assert_eq!(rt; fault_of_table(alloc, keys)?, want);
+        assert_eq!(rt; fault_of_table(alloc, keys)?, Some(want));
         let mut values = TextMap::new(alloc);
         values.insert(b"", Value::Text(text(alloc, len)?))?;
-        assert_eq!(rt; fault_of_table(alloc, values)?, want);
+        assert_eq!(rt; fault_of_table(alloc, values)?, Some(want));
     }
     for (count, want) in [
-        (4096u16, lawful_but_for_ports),
-        (4097, Some(LawFault::Limit(Which::Entries, 4097))),
+        (4096u16, LawFault::Ports(0)),
+        (4097, LawFault::Limit(Which::Entries, 4097)),
     ] {
         let mut entries = TextMap::new(alloc);
         for key in 0..count {
             entries.insert(&key.to_be_bytes(), Value::Num(0))?;
         }
-        assert_eq!(rt; fault_of_table(alloc, entries)?, want);
+        assert_eq!(rt; fault_of_table(alloc, entries)?, Some(want));
     }
     Ok(())
 }
@@ -293,38 +305,29 @@ fn tables_have_limits(rt: HostRuntime) -> Result<(), Fail> {
 #[test]
 fn edges_are_those_of_their_nodes(rt: HostRuntime) -> Result<(), Fail> {
     let alloc = rt.alloc();
+    let kinds = [Kind::Source, Kind::Filter(1), Kind::Sink(0), Kind::Sink(0)];
+    let enter = edge(0, 0, 1);
     let cases: [(&[Edge], Option<LawFault>); 8] = [
-        (&[edge(0, 0, 1), edge(1, 0, 2), edge(1, 1, 3)], None),
-        (
-            &[edge(0, 0, 1), edge(1, 0, 4)],
-            Some(LawFault::NoSuchEnd(1)),
-        ),
+        (&[enter, edge(1, 0, 2), edge(1, 1, 3)], None),
+        (&[enter, edge(1, 0, 4)], Some(LawFault::NoSuchEnd(1))),
         // A source with an edge in.
+        (&[enter, edge(1, 0, 0)], Some(LawFault::Ports(0))),
+        // A filter with no edge out, with one on port 1 alone, with two on one port, and with both to one node.
+        (&[enter], Some(LawFault::Ports(1))),
+        (&[enter, edge(1, 1, 2)], Some(LawFault::Ports(1))),
         (
-            &[edge(0, 0, 1), edge(1, 0, 2), edge(1, 1, 0)],
-            Some(LawFault::Ports(0)),
-        ),
-        // A filter with no edge out, with one on port 1 alone, with two on one port, with both to one node.
-        (&[edge(0, 0, 1)], Some(LawFault::Ports(1))),
-        (&[edge(0, 0, 1), edge(1, 1, 2)], Some(LawFault::Ports(1))),
-        (
-            &[edge(0, 0, 1), edge(1, 0, 2), edge(1, 0, 3)],
+            &[enter, edge(1, 0, 2), edge(1, 0, 3)],
             Some(LawFault::Ports(1)),
         ),
         (
-            &[edge(0, 0, 1), edge(1, 0, 2), edge(1, 1, 2)],
+            &[enter, edge(1, 0, 2), edge(1, 1, 2)],
             Some(LawFault::Ports(1)),
         ),
         // A sink with no edge in.
-        (&[edge(0, 0, 1), edge(1, 0, 2)], Some(LawFault::Ports(3))),
+        (&[enter, edge(1, 0, 2)], Some(LawFault::Ports(3))),
     ];
     for (edges, want) in cases {
-        let mut nodes = NodeDefs::new(alloc);
-        add(alloc, &mut nodes, b's', Func::Source)?;
-        add(alloc, &mut nodes, b'f', filter(alloc, 1)?)?;
-        add(alloc, &mut nodes, b't', sink(alloc))?;
-        add(alloc, &mut nodes, b'u', sink(alloc))?;
-        assert_eq!(rt; fault(alloc, nodes, edges)?, want);
+        assert_eq!(rt; fault(alloc, nodes(alloc, &kinds)?, edges)?, want);
     }
     Ok(())
 }
@@ -332,148 +335,85 @@ fn edges_are_those_of_their_nodes(rt: HostRuntime) -> Result<(), Fail> {
 #[test]
 fn cycle_is_refused(rt: HostRuntime) -> Result<(), Fail> {
     let alloc = rt.alloc();
-    let mut nodes = NodeDefs::new(alloc);
-    for name in [b'a', b'b', b'c'] {
-        add(alloc, &mut nodes, name, map(alloc, 1)?)?;
-    }
+    let nodes = nodes(alloc, &[Kind::Map(1); 3])?;
     let edges = [edge(0, 0, 1), edge(1, 0, 2), edge(2, 0, 0)];
     assert_eq!(rt; fault(alloc, nodes, &edges)?, Some(LawFault::Cycle(0)));
     Ok(())
 }
 
-fn lookup(into: u32, table: u32, other: Value) -> Func {
-    Func::Enrich(Lookup {
-        key: 0,
-        into,
-        table,
-        other,
-    })
+// A job whose nodes, of these kinds, are in a row.
+fn chain(alloc: Global, kinds: &[Kind]) -> Result<Result<Job, LawFault>, NoMemory> {
+    let mut edges = Vec::new(alloc);
+    for to in 1..kinds.len() % 256 {
+        edges.push(edge(to as u32 - 1, 0, to as u32))?;
+    }
+    check(alloc, nodes(alloc, kinds)?, &edges)
 }
 
 #[test]
 fn functions_fit_their_columns_and_tables(rt: HostRuntime) -> Result<(), Fail> {
     let alloc = rt.alloc();
-    let column = Some(LawFault::Column(1));
-    let table = Some(LawFault::NoTable(1));
-    let word = Value::Text(text(alloc, 1)?);
-    let cases: [(Func, Option<LawFault>); 9] = [
-        (lookup(2, 0, Value::Num(1)), None),
-        (lookup(1, 0, Value::Num(1)), None),
-        (lookup(2, NOWHERE, Value::Num(1)), table),
+    for (kind, want) in [
+        (Kind::Enrich(3, 0), None),
+        (Kind::Enrich(2, 0), None),
+        (Kind::Enrich(3, NOWHERE), Some(LawFault::NoTable(1))),
         // A column that isn't there comes before a table that isn't.
-        (lookup(NOWHERE, NOWHERE, Value::Num(1)), column),
-        (lookup(2, 0, word), column),
+        (Kind::Enrich(NOWHERE, NOWHERE), Some(LawFault::Column(1))),
+        (Kind::EnrichText(3, 0), Some(LawFault::Column(1))),
         // The table has a number.
-        (lookup(0, 0, Value::Text(Txt::new(alloc))), column),
-        (split(1), None),
-        (map(alloc, 8)?, None),
-        (filter(alloc, 8)?, None),
-    ];
-    for (func, want) in cases {
-        assert_eq!(rt; fault_between(alloc, func)?, want);
+        (Kind::EnrichText(1, 0), Some(LawFault::Column(1))),
+    ] {
+        let answer = chain(alloc, &[Kind::Source, kind, Kind::Sink(4)])?;
+        assert_eq!(rt; fault_of(answer), want);
     }
     Ok(())
 }
 
-// A source, nodes with these functions, and a sink in a row.
-fn chain(alloc: Global, funcs: Vec<Func>) -> Result<Result<Job, LawFault>, NoMemory> {
-    let mut nodes = NodeDefs::new(alloc);
-    add(alloc, &mut nodes, 0, Func::Source)?;
-    let mut edges = Vec::new(alloc);
-    let mut last = 0u8;
-    for func in funcs {
-        let next = last.wrapping_add(1);
-        add(alloc, &mut nodes, next, func)?;
-        edges.push(edge(u32::from(last), 0, u32::from(next)))?;
-        last = next;
-    }
-    let end = last.wrapping_add(1);
-    add(alloc, &mut nodes, end, sink(alloc))?;
-    edges.push(edge(u32::from(last), 0, u32::from(end)))?;
-    answer(alloc, nodes, &edges)
-}
-
 // The weight of a chain, or the one for which it is refused.
-fn weight_of_chain(alloc: Global, funcs: Vec<Func>) -> Result<Option<u64>, NoMemory> {
-    match chain(alloc, funcs)? {
-        Ok(job) => Ok(Some(weight(&job))),
-        Err(LawFault::Weight(weight)) => Ok(Some(weight)),
-        Err(_) => Ok(None),
-    }
-}
-
-// A split of so many pieces, so many maps, another split, and so many maps.
-fn two_splits(
-    alloc: Global,
-    first: u32,
-    maps: u32,
-    second: u32,
-    more: u32,
-) -> Result<Vec<Func>, NoMemory> {
-    let mut funcs = Vec::new(alloc);
-    funcs.push(split(first))?;
-    for _ in 0..maps {
-        funcs.push(map(alloc, 1)?)?;
-    }
-    funcs.push(split(second))?;
-    for _ in 0..more {
-        funcs.push(map(alloc, 1)?)?;
-    }
-    Ok(funcs)
+fn weight_of_chain(alloc: Global, kinds: &[Kind]) -> Result<Option<u64>, NoMemory> {
+    Ok(match chain(alloc, kinds)? {
+        Ok(job) => Some(weight(&job)),
+        Err(LawFault::Weight(weight)) => Some(weight),
+        Err(_) => None,
+    })
 }
 
 #[test]
 fn splits_in_a_chain_multiply(rt: HostRuntime) -> Result<(), Fail> {
     let alloc = rt.alloc();
-    let one = Vec::from_array(alloc, [map(alloc, 1)?])?;
-    assert_eq!(rt; weight_of_chain(alloc, one)?, Some(2));
-    let three = Vec::from_array(alloc, [split(16), split(16), split(16)])?;
-    assert_eq!(rt; weight_of_chain(alloc, three)?, Some(4369));
-    // 1 + 3 times 11 + 30 times 33, and 1 + 2 times 16 + 31 times 32.
-    let most = two_splits(alloc, 11, 2, 3, 29)?;
-    assert!(rt; chain(alloc, most)?.is_ok());
-    let over = two_splits(alloc, 16, 1, 2, 30)?;
-    let fault = fault_of(chain(alloc, over)?);
+    let split = Kind::Split(16);
+    let three = [Kind::Source, split, split, split, Kind::Sink(0)];
+    assert_eq!(rt; weight_of_chain(alloc, &three)?, Some(4369));
+    let mut row = [Kind::Map(1); 35];
+    row[0] = Kind::Source;
+    row[34] = Kind::Sink(0);
+    assert_eq!(rt; weight_of_chain(alloc, &row)?, Some(34));
+    // 1 + 3 times 11 + 30 times 33
+    row[1] = Kind::Split(11);
+    row[4] = Kind::Split(3);
+    assert!(rt; chain(alloc, &row)?.is_ok());
+    // 1 + 2 times 16 + 31 times 32
+    row[1] = split;
+    row[3] = Kind::Split(2);
+    row[4] = Kind::Map(1);
+    let fault = fault_of(chain(alloc, &row)?);
     assert_eq!(rt; fault, Some(LawFault::Weight(1025)));
     Ok(())
 }
 
-// A filter on a number that is at least so much.
-fn at_least(alloc: Global, column: u32, least: i64) -> Result<Func, NoMemory> {
-    let mut conds = Conds::new(alloc);
-    conds.push(cond(column, Test::Ge, Value::Num(least)))?;
-    Ok(Func::Filter(conds))
-}
-
-// Two sources, a rating by merchant, filters on the amount and the risk, and a count of payments by account.
+// Two sources, a rating by account, filters on the amount, the risk and how often the account was seen, and the count.
 fn payments_job(alloc: Global) -> Result<Result<Job, LawFault>, NoMemory> {
-    let mut columns = ColumnDefs::new(alloc);
-    columns.push(column(alloc, b"account", ColumnKind::Text)?)?;
-    columns.push(column(alloc, b"merchant", ColumnKind::Text)?)?;
-    columns.push(column(alloc, b"amount", ColumnKind::Cents)?)?;
-    columns.push(column(alloc, b"risk", ColumnKind::Number)?)?;
-    columns.push(column(alloc, b"seen", ColumnKind::Number)?)?;
-    let rate = Lookup {
-        key: 1,
-        into: 3,
-        table: 0,
-        other: Value::Num(1),
-    };
-    let tally = CountBy {
-        key: 0,
-        add: Operand::Number(1),
-        into: 4,
-    };
-    let mut nodes = NodeDefs::new(alloc);
-    add(alloc, &mut nodes, b'c', Func::Source)?;
-    add(alloc, &mut nodes, b'w', Func::Source)?;
-    add(alloc, &mut nodes, b'r', Func::Enrich(rate))?;
-    add(alloc, &mut nodes, b'b', at_least(alloc, 2, 10_000)?)?;
-    add(alloc, &mut nodes, b'h', at_least(alloc, 3, 2)?)?;
-    add(alloc, &mut nodes, b't', Func::Count(tally))?;
-    add(alloc, &mut nodes, b'v', sink(alloc))?;
-    add(alloc, &mut nodes, b'o', at_least(alloc, 4, 3)?)?;
-    add(alloc, &mut nodes, b'x', sink(alloc))?;
+    let kinds = [
+        Kind::Source,
+        Kind::Source,
+        Kind::Enrich(3, 0),
+        Kind::AtLeast(2),
+        Kind::AtLeast(3),
+        Kind::Count(0, Operand::Number(1), 4),
+        Kind::Sink(3),
+        Kind::AtLeast(4),
+        Kind::Sink(4),
+    ];
     let edges = [
         edge(0, 0, 2),
         edge(1, 0, 2),
@@ -484,17 +424,12 @@ fn payments_job(alloc: Global) -> Result<Result<Job, LawFault>, NoMemory> {
         edge(5, 0, 7),
         edge(7, 0, 8),
     ];
-    Ok(Job::check(alloc, columns, nodes, &edges, tables(alloc)?))
-}
-
-fn counting(key: u32, add: Operand, into: u32) -> Func {
-    Func::Count(CountBy { key, add, into })
+    check(alloc, nodes(alloc, &kinds)?, &edges)
 }
 
 #[test]
 fn payments_job_is_lawful(rt: HostRuntime) -> Result<(), Fail> {
-    let alloc = rt.alloc();
-    let Ok(job) = payments_job(alloc)? else {
+    let Ok(job) = payments_job(rt.alloc())? else {
         return Err("a job".into());
     };
     assert_eq!(rt; weight(&job), 14);
@@ -503,70 +438,54 @@ fn payments_job_is_lawful(rt: HostRuntime) -> Result<(), Fail> {
         journals = journals.wrapping_add(node.journals());
     }
     assert_eq!(rt; journals, 7);
-    let cases = [
-        (Func::Source, true),
-        (Func::Replicate, true),
-        (at_least(alloc, 2, 0)?, true),
-        (at_least(alloc, 1, 0)?, false),
-        (at_least(alloc, 5, 0)?, false),
-        (counting(0, Operand::Column(2), 4), true),
-        (counting(2, Operand::Number(1), 4), false),
-        (counting(0, Operand::Column(0), 4), false),
-        (counting(0, Operand::Number(1), 1), false),
-        (split(1), true),
-        (lookup(3, 0, Value::Num(1)), true),
-        (lookup(3, 1, Value::Num(1)), false),
-    ];
-    for (func, want) in cases {
-        assert_eq!(rt; fits(&job, &func), want);
-    }
     Ok(())
 }
 
 #[test]
-fn texts_are_tested_for_equality_alone(rt: HostRuntime) -> Result<(), Fail> {
+fn functions_fit_a_job(rt: HostRuntime) -> Result<(), Fail> {
     let alloc = rt.alloc();
     let Ok(job) = payments_job(alloc)? else {
         return Err("a job".into());
     };
-    let cases = [
-        (Test::Eq, true),
-        (Test::Ne, true),
-        (Test::Lt, false),
-        (Test::Le, false),
-        (Test::Gt, false),
-        (Test::Ge, false),
-    ];
-    for (test, want) in cases {
-        let mut conds = Conds::new(alloc);
-        conds.push(cond(0, test, Value::Text(Txt::new(alloc))))?;
-        assert_eq!(rt; fits(&job, &Func::Filter(conds)), want);
-        let mut conds = Conds::new(alloc);
-        conds.push(cond(2, test, Value::Text(Txt::new(alloc))))?;
-        assert!(rt; !fits(&job, &Func::Filter(conds)));
+    let one = Operand::Number(1);
+    for (kind, want) in [
+        (Kind::AtLeast(2), true),
+        (Kind::AtLeast(1), false),
+        (Kind::AtLeast(5), false),
+        (Kind::Compare(0, Test::Eq, 0), true),
+        (Kind::Compare(0, Test::Ne, 0), true),
+        (Kind::Compare(0, Test::Lt, 0), false),
+        (Kind::Compare(0, Test::Le, 0), false),
+        (Kind::Compare(0, Test::Gt, 0), false),
+        (Kind::Compare(0, Test::Ge, 0), false),
+        (Kind::Compare(2, Test::Eq, 0), false),
+        (Kind::Count(0, Operand::Column(2), 4), true),
+        (Kind::Count(2, one, 4), false),
+        (Kind::Count(0, Operand::Column(0), 4), false),
+        (Kind::Count(0, one, 1), false),
+        (Kind::Enrich(3, 1), false),
+        (Kind::Sink(4), true),
+        (Kind::Sink(5), false),
+    ] {
+        assert_eq!(rt; fits(&job, &func(alloc, kind)?), want);
     }
-    let mut listed = Columns::new(alloc);
-    listed.push(4)?;
-    assert!(rt; fits(&job, &Func::Sink(listed)));
-    let mut listed = Columns::new(alloc);
-    listed.push(5)?;
-    assert!(rt; !fits(&job, &Func::Sink(listed)));
     Ok(())
 }
 
 #[test]
 fn splits_and_replicates_emit_many(rt: HostRuntime) -> Result<(), Fail> {
     let alloc = rt.alloc();
-    for (func, many, source) in [
-        (Func::Source, false, true),
-        (filter(alloc, 0)?, false, false),
-        (map(alloc, 0)?, false, false),
-        (lookup(0, 0, Value::Num(0)), false, false),
-        (counting(0, Operand::Number(1), 0), false, false),
-        (split(1), true, false),
-        (Func::Replicate, true, false),
-        (sink(alloc), false, false),
+    for (kind, many, source) in [
+        (Kind::Source, false, true),
+        (Kind::Filter(0), false, false),
+        (Kind::Map(0), false, false),
+        (Kind::Enrich(3, 0), false, false),
+        (Kind::Count(0, Operand::Number(1), 4), false, false),
+        (Kind::Split(1), true, false),
+        (Kind::Replicate, true, false),
+        (Kind::Sink(0), false, false),
     ] {
+        let func = func(alloc, kind)?;
         assert_eq!(rt; may_emit_many(&func), many);
         assert_eq!(rt; is_source(&func), source);
     }
