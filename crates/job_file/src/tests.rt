@@ -120,6 +120,31 @@ fn answer(alloc: Global, text: &str) -> Result<Answer, AllocError> {
     }
 }
 
+/// What a piece of text is of the file of a small job.
+#[derive(Clone, Copy)]
+enum Text {
+    /// The whole file.
+    File,
+    /// The columns and tables, before a source, a filter and a sink.
+    Columns,
+    /// The function of a node between a source and a sink.
+    Func,
+    /// The name of a sink behind a source.
+    Name,
+    /// The edges of a source and a sink, and maybe nodes before them.
+    Edges,
+}
+
+fn answer_to(alloc: Global, text: Text, piece: &str) -> Result<Answer, AllocError> {
+    match text {
+        Text::File => answer(alloc, piece),
+        Text::Columns => answer_with_columns(alloc, piece),
+        Text::Func => answer_with_func(alloc, piece),
+        Text::Name => answer_with_name(alloc, piece),
+        Text::Edges => answer_with_edges(alloc, piece),
+    }
+}
+
 fn answer_with_columns(alloc: Global, columns: &str) -> Result<Answer, AllocError> {
     let text = format!(in alloc;
         "{columns}{SOURCE}[[node]]\nname = \"x\"\nkind = \"filter\"\nwhen = []\n{REST}"
@@ -159,15 +184,15 @@ fn answer_in_line(alloc: Global, count: u32, func: &str) -> Result<Answer, Alloc
         text.push_str(node.as_str())?;
     }
     text.push_str("[[node]]\nname = \"out\"\nkind = \"sink\"\ncolumns = []\n")?;
-    let last = format!(in alloc; "[[edge]]\nfrom = \"n{count}\"\nto = \"out\"\n")?;
-    text.push_str(last.as_str())?;
+    let ends = format!(in alloc; "[[edge]]\nfrom = \"n{count}\"\nto = \"out\"\n")?;
+    text.push_str(ends.as_str())?;
     answer(alloc, text.as_str())
 }
 
 fn answer_with_entries(alloc: Global, count: u32) -> Result<Answer, AllocError> {
     let mut columns = format!(in alloc; "columns = [\"who:text\"]\n[tables.known]\n")?;
     for i in 0..count {
-        let entry = format!(in alloc; "k{i} = {i}\n")?;
+        let entry = format!(in alloc; "k{i} = 7\n")?;
         columns.push_str(entry.as_str())?;
     }
     answer_with_columns(alloc, columns.as_str())
@@ -208,404 +233,484 @@ fn a_file_cut_anywhere(rt: HostRuntime) {
     }
 }
 
-#[test]
-fn files(rt: HostRuntime) -> Result<(), Fail> {
-    let cases: [(&str, Answer); 7] = [
-        ("columns = [\n", Err(JobFault::NotToml)),
-        ("node = []\nnode = []\n", Err(JobFault::NotToml)),
-        ("", Err(JobFault::Shape(Part::Columns))),
-        (
-            "columns = [\"who:text\"]\n",
-            Err(JobFault::Shape(Part::Node)),
-        ),
-        (
-            "columns = [\"who:text\"]\nnode = [3]\n",
-            Err(JobFault::Shape(Part::Node)),
-        ),
-        (
-            "columns = [\"who:text\"]\nnode = []\nedge = []\n",
-            Err(JobFault::Limit(Which::Nodes, 0)),
-        ),
-        (
-            "columns = []\nnode = [{}]\n",
-            Err(JobFault::Shape(Part::Name)),
-        ),
-    ];
-    for (text, want) in cases {
-        assert_eq!(rt; answer(rt.alloc(), text)?, want);
-    }
-    Ok(())
-}
+const CASES: &[(Text, &str, Answer)] = &[
+    (Text::File, "columns = [\n", Err(JobFault::NotToml)),
+    (Text::File, "node = []\nnode = []\n", Err(JobFault::NotToml)),
+    (Text::File, "", Err(JobFault::Shape(Part::Columns))),
+    (
+        Text::File,
+        "columns = [\"who:text\"]\n",
+        Err(JobFault::Shape(Part::Node)),
+    ),
+    (
+        Text::File,
+        "columns = [\"who:text\"]\nnode = [3]\n",
+        Err(JobFault::Shape(Part::Node)),
+    ),
+    (
+        Text::File,
+        "columns = [\"who:text\"]\nnode = []\nedge = []\n",
+        Err(JobFault::Limit(Which::Nodes, 0)),
+    ),
+    (
+        Text::File,
+        "columns = []\nnode = [{}]\n",
+        Err(JobFault::Shape(Part::Name)),
+    ),
+    (
+        Text::Columns,
+        "columns = [\"who:text\", \"sum:cents\", \"risk:number:own\"]\n",
+        Ok(()),
+    ),
+    (
+        Text::Columns,
+        "columns = [\"who:text\", \"aaaaaaaaaaaaaaaaaaaaaaaaaaaaaaaa:text:own\"]\n",
+        Ok(()),
+    ),
+    (
+        Text::Columns,
+        "columns = [\"who:text\", \"aaaaaaaaaaaaaaaaaaaaaaaaaaaaaaaaa:text\"]\n",
+        Err(JobFault::Shape(Part::Columns)),
+    ),
+    (
+        Text::Columns,
+        "columns = [\"who:text\", \"Sum:cents\"]\n",
+        Err(JobFault::Shape(Part::Columns)),
+    ),
+    (
+        Text::Columns,
+        "columns = [\"who:text\", \":cents\"]\n",
+        Err(JobFault::Shape(Part::Columns)),
+    ),
+    (
+        Text::Columns,
+        "columns = [\"who:text\", \"sum\"]\n",
+        Err(JobFault::Shape(Part::Columns)),
+    ),
+    (
+        Text::Columns,
+        "columns = [\"who:text\", \"sum:number:own:own\"]\n",
+        Err(JobFault::Shape(Part::Columns)),
+    ),
+    (
+        Text::Columns,
+        "columns = [\"who:text\", 3]\n",
+        Err(JobFault::Shape(Part::Columns)),
+    ),
+    (
+        Text::Columns,
+        "columns = \"who:text\"\n",
+        Err(JobFault::Shape(Part::Columns)),
+    ),
+    (Text::Columns, "", Err(JobFault::Shape(Part::Columns))),
+    (
+        Text::Columns,
+        "columns = [\"who:text\"]\nmore = 1\n",
+        Err(JobFault::Shape(Part::Unknown)),
+    ),
+    (
+        Text::Columns,
+        "columns = [\"who:text\"]\ntables = 1\n",
+        Err(JobFault::Shape(Part::Tables)),
+    ),
+    (
+        Text::Columns,
+        "columns = [\"who:text\"]\n[tables]\nknown = 1\n",
+        Err(JobFault::Shape(Part::Tables)),
+    ),
+    (
+        Text::Columns,
+        "columns = [\"who:text\"]\n[tables.Known]\n",
+        Err(JobFault::Shape(Part::Tables)),
+    ),
+    (
+        Text::Columns,
+        "columns = [\"who:text\"]\n[tables.known]\nann = 1.5\n",
+        Err(JobFault::Shape(Part::Tables)),
+    ),
+    (
+        Text::Columns,
+        "columns = [\"who:text\"]\n[tables.aaaaaaaaaaaaaaaaaaaaaaaaaaaaaaaa]\ntttttttttttttttttttttttttttttttttttttttttttttttt = \"tttttttttttttttttttttttttttttttttttttttttttttttt\"\n",
+        Ok(()),
+    ),
+    (
+        Text::Columns,
+        "columns = [\"who:text\"]\n[tables.aaaaaaaaaaaaaaaaaaaaaaaaaaaaaaaaa]\n",
+        Err(JobFault::Shape(Part::Tables)),
+    ),
+    (
+        Text::Columns,
+        "columns = [\"who:text\"]\n[tables.known]\nttttttttttttttttttttttttttttttttttttttttttttttttt = 1\n",
+        Err(JobFault::Limit(Which::Text, 49)),
+    ),
+    (
+        Text::Columns,
+        "columns = [\"who:text\"]\n[tables.known]\nann = \"ttttttttttttttttttttttttttttttttttttttttttttttttt\"\n",
+        Err(JobFault::Limit(Which::Text, 49)),
+    ),
+    (
+        Text::Columns,
+        "columns = []\n",
+        Err(JobFault::Limit(Which::Columns, 0)),
+    ),
+    (
+        Text::Columns,
+        "columns = [\"who:text\",\"a:text\",\"b:text\",\"c:text\",\"d:text\",\"e:text\",\"f:text\",\"g:text\",\"h:text\",\"i:text\",\"j:text\",\"k:text\"]\n",
+        Ok(()),
+    ),
+    (
+        Text::Columns,
+        "columns = [\"who:text\",\"a:text\",\"b:text\",\"c:text\",\"d:text\",\"e:text\",\"f:text\",\"g:text\",\"h:text\",\"i:text\",\"j:text\",\"k:text\",\"l:text\"]\n",
+        Err(JobFault::Limit(Which::Columns, 13)),
+    ),
+    (
+        Text::Columns,
+        "columns = [\"who:text\", \"sum:text\", \"who:cents\"]\n",
+        Err(JobFault::NameTwice(Named::Column, 2)),
+    ),
+    (
+        Text::Columns,
+        "columns = [\"sum:cents\"]\n",
+        Err(JobFault::Column(2)),
+    ),
+    (Text::Func, "when = []\n", Err(JobFault::Shape(Part::Kind))),
+    (
+        Text::Func,
+        "kind = \"filters\"\nwhen = []\n",
+        Err(JobFault::Shape(Part::Kind)),
+    ),
+    (
+        Text::Func,
+        "kind = \"filter\"\n",
+        Err(JobFault::Shape(Part::When)),
+    ),
+    (
+        Text::Func,
+        "kind = \"filter\"\nwhen = [[\"who\", \"=\"]]\n",
+        Err(JobFault::Shape(Part::When)),
+    ),
+    (
+        Text::Func,
+        "kind = \"filter\"\nwhen = [[\"who\", \"==\", \"ann\"]]\n",
+        Err(JobFault::Shape(Part::When)),
+    ),
+    (
+        Text::Func,
+        "kind = \"filter\"\nwhen = [[\"sum\", \"<\", 1.5]]\n",
+        Err(JobFault::Shape(Part::When)),
+    ),
+    (
+        Text::Func,
+        "kind = \"filter\"\nwhen = []\nsteps = []\n",
+        Err(JobFault::Shape(Part::Unknown)),
+    ),
+    (
+        Text::Func,
+        "kind = \"filter\"\nwhen = [[\"who\", \"=\", \"a\"], [\"who\", \"=\", \"a\"], [\"who\", \"=\", \"a\"], [\"who\", \"=\", \"a\"], [\"who\", \"=\", \"a\"], [\"who\", \"=\", \"a\"], [\"who\", \"=\", \"a\"], [\"who\", \"=\", \"a\"]]\n",
+        Ok(()),
+    ),
+    (
+        Text::Func,
+        "kind = \"filter\"\nwhen = [[\"who\", \"=\", \"a\"], [\"who\", \"=\", \"a\"], [\"who\", \"=\", \"a\"], [\"who\", \"=\", \"a\"], [\"who\", \"=\", \"a\"], [\"who\", \"=\", \"a\"], [\"who\", \"=\", \"a\"], [\"who\", \"=\", \"a\"], [\"sum\", \"<\", 1]]\n",
+        Err(JobFault::Limit(Which::Conditions, 9)),
+    ),
+    (
+        Text::Func,
+        "kind = \"filter\"\nwhen = [[\"who\", \"!=\", \"tttttttttttttttttttttttttttttttttttttttttttttttt\"]]\n",
+        Ok(()),
+    ),
+    (
+        Text::Func,
+        "kind = \"filter\"\nwhen = [[\"who\", \"!=\", \"ttttttttttttttttttttttttttttttttttttttttttttttttt\"]]\n",
+        Err(JobFault::Limit(Which::Text, 49)),
+    ),
+    (
+        Text::Func,
+        "kind = \"filter\"\nwhen = [[\"who\", \"<\", \"ann\"]]\n",
+        Err(JobFault::Column(1)),
+    ),
+    (
+        Text::Func,
+        "kind = \"filter\"\nwhen = [[\"whom\", \"=\", \"ann\"]]\n",
+        Err(JobFault::Column(1)),
+    ),
+    (
+        Text::Func,
+        "kind = \"map\"\n",
+        Err(JobFault::Shape(Part::Steps)),
+    ),
+    (
+        Text::Func,
+        "kind = \"map\"\nsteps = [[\"sum\", \"add\", 1]]\n",
+        Err(JobFault::Shape(Part::Steps)),
+    ),
+    (
+        Text::Func,
+        "kind = \"map\"\nsteps = [[\"sum\", \"div\", 1, 2]]\n",
+        Err(JobFault::Shape(Part::Steps)),
+    ),
+    (
+        Text::Func,
+        "kind = \"map\"\nsteps = [[\"sum\", \"add\", 1, []]]\n",
+        Err(JobFault::Shape(Part::Steps)),
+    ),
+    (
+        Text::Func,
+        "kind = \"map\"\nsteps = [[\"sum\", \"add\", 1, \"risk\"], [\"sum\", \"add\", 1, \"risk\"], [\"sum\", \"add\", 1, \"risk\"], [\"sum\", \"add\", 1, \"risk\"], [\"sum\", \"add\", 1, \"risk\"], [\"sum\", \"add\", 1, \"risk\"], [\"sum\", \"add\", 1, \"risk\"], [\"sum\", \"max\", \"sum\", 2]]\n",
+        Ok(()),
+    ),
+    (
+        Text::Func,
+        "kind = \"map\"\nsteps = [[\"sum\", \"add\", 1, \"risk\"], [\"sum\", \"add\", 1, \"risk\"], [\"sum\", \"add\", 1, \"risk\"], [\"sum\", \"add\", 1, \"risk\"], [\"sum\", \"add\", 1, \"risk\"], [\"sum\", \"add\", 1, \"risk\"], [\"sum\", \"add\", 1, \"risk\"], [\"sum\", \"max\", \"sum\", 2], [\"sum\", \"min\", 1, 2]]\n",
+        Err(JobFault::Limit(Which::Steps, 9)),
+    ),
+    (
+        Text::Func,
+        "kind = \"map\"\nsteps = [[\"sum\", \"mul\", \"who\", 2]]\n",
+        Err(JobFault::Column(1)),
+    ),
+    (
+        Text::Func,
+        "kind = \"enrich\"\nkey = \"who\"\ninto = \"risk\"\ntable = \"known\"\nother = 0\n",
+        Ok(()),
+    ),
+    (
+        Text::Func,
+        "kind = \"enrich\"\ninto = \"risk\"\ntable = \"known\"\nother = 0\n",
+        Err(JobFault::Shape(Part::Key)),
+    ),
+    (
+        Text::Func,
+        "kind = \"enrich\"\nkey = \"who\"\ninto = 3\ntable = \"known\"\nother = 0\n",
+        Err(JobFault::Shape(Part::Into)),
+    ),
+    (
+        Text::Func,
+        "kind = \"enrich\"\nkey = \"who\"\ninto = \"risk\"\nother = 0\n",
+        Err(JobFault::Shape(Part::Table)),
+    ),
+    (
+        Text::Func,
+        "kind = \"enrich\"\nkey = \"who\"\ninto = \"risk\"\ntable = \"known\"\n",
+        Err(JobFault::Shape(Part::Other)),
+    ),
+    (
+        Text::Func,
+        "kind = \"enrich\"\nkey = \"who\"\ninto = \"who\"\ntable = \"none\"\nother = \"ttttttttttttttttttttttttttttttttttttttttttttttttt\"\n",
+        Err(JobFault::Limit(Which::Text, 49)),
+    ),
+    (
+        Text::Func,
+        "kind = \"enrich\"\nkey = \"who\"\ninto = \"who\"\ntable = \"known\"\nother = \"a\"\n",
+        Err(JobFault::Column(1)),
+    ),
+    (
+        Text::Func,
+        "kind = \"enrich\"\nkey = \"who\"\ninto = \"risk\"\ntable = \"Known\"\nother = 0\n",
+        Err(JobFault::NoTable(1)),
+    ),
+    (
+        Text::Func,
+        "kind = \"count\"\nkey = \"who\"\nadd = \"sum\"\ninto = \"risk\"\n",
+        Ok(()),
+    ),
+    (
+        Text::Func,
+        "kind = \"count\"\nkey = \"who\"\nadd = 1.5\ninto = \"risk\"\n",
+        Err(JobFault::Shape(Part::Add)),
+    ),
+    (
+        Text::Func,
+        "kind = \"count\"\nkey = \"who\"\nadd = 1\ninto = \"who\"\n",
+        Err(JobFault::Column(1)),
+    ),
+    (
+        Text::Func,
+        "kind = \"split\"\non = \"who\"\nby = \";\"\nmost = 16\n",
+        Ok(()),
+    ),
+    (
+        Text::Func,
+        "kind = \"split\"\nby = \";\"\nmost = 16\n",
+        Err(JobFault::Shape(Part::On)),
+    ),
+    (
+        Text::Func,
+        "kind = \"split\"\non = \"who\"\nby = \";;\"\nmost = 16\n",
+        Err(JobFault::Shape(Part::By)),
+    ),
+    (
+        Text::Func,
+        "kind = \"split\"\non = \"who\"\nby = \"é\"\nmost = 16\n",
+        Err(JobFault::Shape(Part::By)),
+    ),
+    (
+        Text::Func,
+        "kind = \"split\"\non = \"who\"\nby = \"\"\nmost = 16\n",
+        Err(JobFault::Shape(Part::By)),
+    ),
+    (
+        Text::Func,
+        "kind = \"split\"\non = \"who\"\nby = \";\"\nmost = \"2\"\n",
+        Err(JobFault::Shape(Part::Most)),
+    ),
+    (
+        Text::Func,
+        "kind = \"split\"\non = \"who\"\nby = \";\"\nmost = 0\n",
+        Err(JobFault::Limit(Which::Most, 0)),
+    ),
+    (
+        Text::Func,
+        "kind = \"split\"\non = \"who\"\nby = \";\"\nmost = 17\n",
+        Err(JobFault::Limit(Which::Most, 17)),
+    ),
+    (
+        Text::Func,
+        "kind = \"split\"\non = \"who\"\nby = \";\"\nmost = -1\n",
+        Err(JobFault::Limit(Which::Most, -1)),
+    ),
+    (
+        Text::Func,
+        "kind = \"split\"\non = \"who\"\nby = \";\"\nmost = 5000000000\n",
+        Err(JobFault::Limit(Which::Most, 5_000_000_000)),
+    ),
+    (
+        Text::Func,
+        "kind = \"replicate\"\n",
+        Err(JobFault::Ports(1)),
+    ),
+    (
+        Text::Func,
+        "kind = \"source\"\nworkers = 1\n",
+        Err(JobFault::Shape(Part::Unknown)),
+    ),
+    (
+        Text::Func,
+        "kind = \"sink\"\n",
+        Err(JobFault::Shape(Part::Columns)),
+    ),
+    (
+        Text::Func,
+        "kind = \"sink\"\ncolumns = [3]\n",
+        Err(JobFault::Shape(Part::Columns)),
+    ),
+    (
+        Text::Func,
+        "kind = \"filter\"\nwhen = []\nworkers = 8\n",
+        Ok(()),
+    ),
+    (
+        Text::Func,
+        "kind = \"filter\"\nwhen = []\nworkers = 9\n",
+        Err(JobFault::Limit(Which::Workers, 9)),
+    ),
+    (
+        Text::Func,
+        "kind = \"filter\"\nwhen = []\nworkers = 0\n",
+        Err(JobFault::Limit(Which::Workers, 0)),
+    ),
+    (
+        Text::Func,
+        "kind = \"filter\"\nwhen = []\nworkers = \"2\"\n",
+        Err(JobFault::Shape(Part::Workers)),
+    ),
+    (
+        Text::Func,
+        "kind = \"filter\"\nwhen = []\nworkers = 4294967296\n",
+        Err(JobFault::Limit(Which::Workers, 4_294_967_296)),
+    ),
+    (
+        Text::Func,
+        "kind = \"filter\"\nwhen = []\nworkers = 9\n[[edge]]\nfrom = \"in\"\n",
+        Err(JobFault::Shape(Part::To)),
+    ),
+    (
+        Text::Func,
+        "kind = \"filter\"\nwhen = []\nworkers = 9\n[[node]]\nname = \"x\"\nkind = \"split\"\non = \"who\"\nby = \";\"\nmost = 4294967296\n",
+        Err(JobFault::Limit(Which::Most, 4_294_967_296)),
+    ),
+    (
+        Text::Func,
+        "kind = \"filter\"\nwhen = []\nworkers = 9\n[[node]]\nname = \"x\"\nkind = \"replicate\"\n",
+        Err(JobFault::Limit(Which::Workers, 9)),
+    ),
+    (
+        Text::Func,
+        "kind = \"filter\"\nwhen = []\n[[node]]\nname = \"x\"\nkind = \"replicate\"\n[[edge]]\nfrom = \"y\"\nto = \"x\"\n",
+        Err(JobFault::NameTwice(Named::Node, 2)),
+    ),
+    (Text::Name, "aaaaaaaaaaaaaaaaaaaaaaaaaaaaaaaa", Ok(())),
+    (
+        Text::Name,
+        "aaaaaaaaaaaaaaaaaaaaaaaaaaaaaaaaa",
+        Err(JobFault::Shape(Part::Name)),
+    ),
+    (Text::Name, "", Err(JobFault::Shape(Part::Name))),
+    (Text::Name, "X", Err(JobFault::Shape(Part::Name))),
+    (Text::Name, "x_9", Ok(())),
+    (Text::Name, "in", Err(JobFault::NameTwice(Named::Node, 1))),
+    (
+        Text::Edges,
+        "[[edge]]\nfrom = \"in\"\nto = \"out\"\nport = 0\n",
+        Ok(()),
+    ),
+    (Text::Edges, "", Err(JobFault::Ports(0))),
+    (
+        Text::Edges,
+        "[[edge]]\nfrom = \"in\"\nto = \"out\"\nport = 1\n",
+        Err(JobFault::Ports(0)),
+    ),
+    (
+        Text::Edges,
+        "[[edge]]\nfrom = \"in\"\nto = \"out\"\nport = 5000000000\n",
+        Err(JobFault::Ports(0)),
+    ),
+    (
+        Text::Edges,
+        "[[edge]]\nfrom = \"in\"\nto = \"out\"\nport = -1\n",
+        Err(JobFault::Shape(Part::Port)),
+    ),
+    (
+        Text::Edges,
+        "[[edge]]\nto = \"out\"\n",
+        Err(JobFault::Shape(Part::From)),
+    ),
+    (
+        Text::Edges,
+        "[[edge]]\nfrom = \"in\"\nto = 1\n",
+        Err(JobFault::Shape(Part::To)),
+    ),
+    (
+        Text::Edges,
+        "[[edge]]\nfrom = \"in\"\nto = \"out\"\nname = \"e\"\n",
+        Err(JobFault::Shape(Part::Unknown)),
+    ),
+    (
+        Text::Edges,
+        "[edge]\nfrom = \"in\"\nto = \"out\"\n",
+        Err(JobFault::Shape(Part::Edge)),
+    ),
+    (
+        Text::Edges,
+        "[[edge]]\nfrom = \"in\"\nto = \"out\"\n[[edge]]\nfrom = \"in\"\nto = \"Out\"\n",
+        Err(JobFault::NoSuchEnd(1)),
+    ),
+    (
+        Text::Edges,
+        "[[edge]]\nfrom = \"none\"\nto = \"out\"\n",
+        Err(JobFault::NoSuchEnd(0)),
+    ),
+    (
+        Text::Edges,
+        "[[node]]\nname = \"a\"\nkind = \"filter\"\nwhen = []\n[[node]]\nname = \"b\"\nkind = \"filter\"\nwhen = [[\"no\", \"=\", 1]]\n[[edge]]\nfrom = \"in\"\nto = \"a\"\n[[edge]]\nfrom = \"a\"\nto = \"b\"\n[[edge]]\nfrom = \"b\"\nto = \"out\"\n[[edge]]\nfrom = \"b\"\nto = \"a\"\nport = 1\n",
+        Err(JobFault::Cycle(2)),
+    ),
+];
 
 #[test]
-fn columns_and_tables(rt: HostRuntime) -> Result<(), Fail> {
-    let cases: [(&str, Answer); 24] = [
-        (
-            "columns = [\"who:text\", \"sum:cents\", \"risk:number:own\"]\n",
-            Ok(()),
-        ),
-        (
-            "columns = [\"who:text\", \"aaaaaaaaaaaaaaaaaaaaaaaaaaaaaaaa:text:own\"]\n",
-            Ok(()),
-        ),
-        (
-            "columns = [\"who:text\", \"aaaaaaaaaaaaaaaaaaaaaaaaaaaaaaaaa:text\"]\n",
-            Err(JobFault::Shape(Part::Columns)),
-        ),
-        (
-            "columns = [\"who:text\", \"Sum:cents\"]\n",
-            Err(JobFault::Shape(Part::Columns)),
-        ),
-        (
-            "columns = [\"who:text\", \":cents\"]\n",
-            Err(JobFault::Shape(Part::Columns)),
-        ),
-        (
-            "columns = [\"who:text\", \"sum\"]\n",
-            Err(JobFault::Shape(Part::Columns)),
-        ),
-        (
-            "columns = [\"who:text\", \"sum:number:own:own\"]\n",
-            Err(JobFault::Shape(Part::Columns)),
-        ),
-        (
-            "columns = [\"who:text\", 3]\n",
-            Err(JobFault::Shape(Part::Columns)),
-        ),
-        (
-            "columns = \"who:text\"\n",
-            Err(JobFault::Shape(Part::Columns)),
-        ),
-        ("", Err(JobFault::Shape(Part::Columns))),
-        (
-            "columns = [\"who:text\"]\nmore = 1\n",
-            Err(JobFault::Shape(Part::Unknown)),
-        ),
-        (
-            "columns = [\"who:text\"]\ntables = 1\n",
-            Err(JobFault::Shape(Part::Tables)),
-        ),
-        (
-            "columns = [\"who:text\"]\n[tables]\nknown = 1\n",
-            Err(JobFault::Shape(Part::Tables)),
-        ),
-        (
-            "columns = [\"who:text\"]\n[tables.Known]\n",
-            Err(JobFault::Shape(Part::Tables)),
-        ),
-        (
-            "columns = [\"who:text\"]\n[tables.known]\nann = 1.5\n",
-            Err(JobFault::Shape(Part::Tables)),
-        ),
-        (
-            "columns = [\"who:text\"]\n[tables.aaaaaaaaaaaaaaaaaaaaaaaaaaaaaaaa]\ntttttttttttttttttttttttttttttttttttttttttttttttt = \"tttttttttttttttttttttttttttttttttttttttttttttttt\"\n",
-            Ok(()),
-        ),
-        (
-            "columns = [\"who:text\"]\n[tables.aaaaaaaaaaaaaaaaaaaaaaaaaaaaaaaaa]\n",
-            Err(JobFault::Shape(Part::Tables)),
-        ),
-        (
-            "columns = [\"who:text\"]\n[tables.known]\nttttttttttttttttttttttttttttttttttttttttttttttttt = 1\n",
-            Err(JobFault::Limit(Which::Text, 49)),
-        ),
-        (
-            "columns = [\"who:text\"]\n[tables.known]\nann = \"ttttttttttttttttttttttttttttttttttttttttttttttttt\"\n",
-            Err(JobFault::Limit(Which::Text, 49)),
-        ),
-        ("columns = []\n", Err(JobFault::Limit(Which::Columns, 0))),
-        (
-            "columns = [\"who:text\",\"a:text\",\"b:text\",\"c:text\",\"d:text\",\"e:text\",\"f:text\",\"g:text\",\"h:text\",\"i:text\",\"j:text\",\"k:text\"]\n",
-            Ok(()),
-        ),
-        (
-            "columns = [\"who:text\",\"a:text\",\"b:text\",\"c:text\",\"d:text\",\"e:text\",\"f:text\",\"g:text\",\"h:text\",\"i:text\",\"j:text\",\"k:text\",\"l:text\"]\n",
-            Err(JobFault::Limit(Which::Columns, 13)),
-        ),
-        (
-            "columns = [\"who:text\", \"sum:text\", \"who:cents\"]\n",
-            Err(JobFault::NameTwice(Named::Column, 2)),
-        ),
-        ("columns = [\"sum:cents\"]\n", Err(JobFault::Column(2))),
-    ];
-    for (text, want) in cases {
-        assert_eq!(rt; answer_with_columns(rt.alloc(), text)?, want);
-    }
-    Ok(())
-}
-
-#[test]
-fn functions(rt: HostRuntime) -> Result<(), Fail> {
-    let cases: [(&str, Answer); 54] = [
-        ("when = []\n", Err(JobFault::Shape(Part::Kind))),
-        (
-            "kind = \"filters\"\nwhen = []\n",
-            Err(JobFault::Shape(Part::Kind)),
-        ),
-        ("kind = \"filter\"\n", Err(JobFault::Shape(Part::When))),
-        (
-            "kind = \"filter\"\nwhen = [[\"who\", \"=\"]]\n",
-            Err(JobFault::Shape(Part::When)),
-        ),
-        (
-            "kind = \"filter\"\nwhen = [[\"who\", \"==\", \"ann\"]]\n",
-            Err(JobFault::Shape(Part::When)),
-        ),
-        (
-            "kind = \"filter\"\nwhen = [[\"sum\", \"<\", 1.5]]\n",
-            Err(JobFault::Shape(Part::When)),
-        ),
-        (
-            "kind = \"filter\"\nwhen = []\nsteps = []\n",
-            Err(JobFault::Shape(Part::Unknown)),
-        ),
-        (
-            "kind = \"filter\"\nwhen = [[\"who\", \"=\", \"a\"], [\"who\", \"=\", \"a\"], [\"who\", \"=\", \"a\"], [\"who\", \"=\", \"a\"], [\"who\", \"=\", \"a\"], [\"who\", \"=\", \"a\"], [\"who\", \"=\", \"a\"], [\"who\", \"=\", \"a\"]]\n",
-            Ok(()),
-        ),
-        (
-            "kind = \"filter\"\nwhen = [[\"who\", \"=\", \"a\"], [\"who\", \"=\", \"a\"], [\"who\", \"=\", \"a\"], [\"who\", \"=\", \"a\"], [\"who\", \"=\", \"a\"], [\"who\", \"=\", \"a\"], [\"who\", \"=\", \"a\"], [\"who\", \"=\", \"a\"], [\"sum\", \"<\", 1]]\n",
-            Err(JobFault::Limit(Which::Conditions, 9)),
-        ),
-        (
-            "kind = \"filter\"\nwhen = [[\"who\", \"!=\", \"tttttttttttttttttttttttttttttttttttttttttttttttt\"]]\n",
-            Ok(()),
-        ),
-        (
-            "kind = \"filter\"\nwhen = [[\"who\", \"!=\", \"ttttttttttttttttttttttttttttttttttttttttttttttttt\"]]\n",
-            Err(JobFault::Limit(Which::Text, 49)),
-        ),
-        (
-            "kind = \"filter\"\nwhen = [[\"who\", \"<\", \"ann\"]]\n",
-            Err(JobFault::Column(1)),
-        ),
-        (
-            "kind = \"filter\"\nwhen = [[\"whom\", \"=\", \"ann\"]]\n",
-            Err(JobFault::Column(1)),
-        ),
-        ("kind = \"map\"\n", Err(JobFault::Shape(Part::Steps))),
-        (
-            "kind = \"map\"\nsteps = [[\"sum\", \"add\", 1]]\n",
-            Err(JobFault::Shape(Part::Steps)),
-        ),
-        (
-            "kind = \"map\"\nsteps = [[\"sum\", \"div\", 1, 2]]\n",
-            Err(JobFault::Shape(Part::Steps)),
-        ),
-        (
-            "kind = \"map\"\nsteps = [[\"sum\", \"add\", 1, []]]\n",
-            Err(JobFault::Shape(Part::Steps)),
-        ),
-        (
-            "kind = \"map\"\nsteps = [[\"sum\", \"add\", 1, \"risk\"], [\"sum\", \"add\", 1, \"risk\"], [\"sum\", \"add\", 1, \"risk\"], [\"sum\", \"add\", 1, \"risk\"], [\"sum\", \"add\", 1, \"risk\"], [\"sum\", \"add\", 1, \"risk\"], [\"sum\", \"add\", 1, \"risk\"], [\"sum\", \"max\", \"sum\", 2]]\n",
-            Ok(()),
-        ),
-        (
-            "kind = \"map\"\nsteps = [[\"sum\", \"add\", 1, \"risk\"], [\"sum\", \"add\", 1, \"risk\"], [\"sum\", \"add\", 1, \"risk\"], [\"sum\", \"add\", 1, \"risk\"], [\"sum\", \"add\", 1, \"risk\"], [\"sum\", \"add\", 1, \"risk\"], [\"sum\", \"add\", 1, \"risk\"], [\"sum\", \"max\", \"sum\", 2], [\"sum\", \"min\", 1, 2]]\n",
-            Err(JobFault::Limit(Which::Steps, 9)),
-        ),
-        (
-            "kind = \"map\"\nsteps = [[\"sum\", \"mul\", \"who\", 2]]\n",
-            Err(JobFault::Column(1)),
-        ),
-        (
-            "kind = \"enrich\"\nkey = \"who\"\ninto = \"risk\"\ntable = \"known\"\nother = 0\n",
-            Ok(()),
-        ),
-        (
-            "kind = \"enrich\"\ninto = \"risk\"\ntable = \"known\"\nother = 0\n",
-            Err(JobFault::Shape(Part::Key)),
-        ),
-        (
-            "kind = \"enrich\"\nkey = \"who\"\ninto = 3\ntable = \"known\"\nother = 0\n",
-            Err(JobFault::Shape(Part::Into)),
-        ),
-        (
-            "kind = \"enrich\"\nkey = \"who\"\ninto = \"risk\"\nother = 0\n",
-            Err(JobFault::Shape(Part::Table)),
-        ),
-        (
-            "kind = \"enrich\"\nkey = \"who\"\ninto = \"risk\"\ntable = \"known\"\n",
-            Err(JobFault::Shape(Part::Other)),
-        ),
-        (
-            "kind = \"enrich\"\nkey = \"who\"\ninto = \"who\"\ntable = \"none\"\nother = \"ttttttttttttttttttttttttttttttttttttttttttttttttt\"\n",
-            Err(JobFault::Limit(Which::Text, 49)),
-        ),
-        (
-            "kind = \"enrich\"\nkey = \"who\"\ninto = \"who\"\ntable = \"known\"\nother = \"a\"\n",
-            Err(JobFault::Column(1)),
-        ),
-        (
-            "kind = \"enrich\"\nkey = \"who\"\ninto = \"risk\"\ntable = \"Known\"\nother = 0\n",
-            Err(JobFault::NoTable(1)),
-        ),
-        (
-            "kind = \"count\"\nkey = \"who\"\nadd = \"sum\"\ninto = \"risk\"\n",
-            Ok(()),
-        ),
-        (
-            "kind = \"count\"\nkey = \"who\"\nadd = 1.5\ninto = \"risk\"\n",
-            Err(JobFault::Shape(Part::Add)),
-        ),
-        (
-            "kind = \"count\"\nkey = \"who\"\nadd = 1\ninto = \"who\"\n",
-            Err(JobFault::Column(1)),
-        ),
-        (
-            "kind = \"split\"\non = \"who\"\nby = \";\"\nmost = 16\n",
-            Ok(()),
-        ),
-        (
-            "kind = \"split\"\nby = \";\"\nmost = 16\n",
-            Err(JobFault::Shape(Part::On)),
-        ),
-        (
-            "kind = \"split\"\non = \"who\"\nby = \";;\"\nmost = 16\n",
-            Err(JobFault::Shape(Part::By)),
-        ),
-        (
-            "kind = \"split\"\non = \"who\"\nby = \"é\"\nmost = 16\n",
-            Err(JobFault::Shape(Part::By)),
-        ),
-        (
-            "kind = \"split\"\non = \"who\"\nby = \"\"\nmost = 16\n",
-            Err(JobFault::Shape(Part::By)),
-        ),
-        (
-            "kind = \"split\"\non = \"who\"\nby = \";\"\nmost = \"2\"\n",
-            Err(JobFault::Shape(Part::Most)),
-        ),
-        (
-            "kind = \"split\"\non = \"who\"\nby = \";\"\nmost = 0\n",
-            Err(JobFault::Limit(Which::Most, 0)),
-        ),
-        (
-            "kind = \"split\"\non = \"who\"\nby = \";\"\nmost = 17\n",
-            Err(JobFault::Limit(Which::Most, 17)),
-        ),
-        (
-            "kind = \"split\"\non = \"who\"\nby = \";\"\nmost = -1\n",
-            Err(JobFault::Limit(Which::Most, -1)),
-        ),
-        (
-            "kind = \"split\"\non = \"who\"\nby = \";\"\nmost = 5000000000\n",
-            Err(JobFault::Limit(Which::Most, 5_000_000_000)),
-        ),
-        ("kind = \"replicate\"\n", Err(JobFault::Ports(1))),
-        (
-            "kind = \"source\"\nworkers = 1\n",
-            Err(JobFault::Shape(Part::Unknown)),
-        ),
-        ("kind = \"sink\"\n", Err(JobFault::Shape(Part::Columns))),
-        (
-            "kind = \"sink\"\ncolumns = [3]\n",
-            Err(JobFault::Shape(Part::Columns)),
-        ),
-        ("kind = \"filter\"\nwhen = []\nworkers = 8\n", Ok(())),
-        (
-            "kind = \"filter\"\nwhen = []\nworkers = 9\n",
-            Err(JobFault::Limit(Which::Workers, 9)),
-        ),
-        (
-            "kind = \"filter\"\nwhen = []\nworkers = 0\n",
-            Err(JobFault::Limit(Which::Workers, 0)),
-        ),
-        (
-            "kind = \"filter\"\nwhen = []\nworkers = \"2\"\n",
-            Err(JobFault::Shape(Part::Workers)),
-        ),
-        (
-            "kind = \"filter\"\nwhen = []\nworkers = 4294967296\n",
-            Err(JobFault::Limit(Which::Workers, 4_294_967_296)),
-        ),
-        (
-            "kind = \"filter\"\nwhen = []\nworkers = 9\n[[edge]]\nfrom = \"in\"\n",
-            Err(JobFault::Shape(Part::To)),
-        ),
-        (
-            "kind = \"filter\"\nwhen = []\nworkers = 9\n[[node]]\nname = \"x\"\nkind = \"split\"\non = \"who\"\nby = \";\"\nmost = 4294967296\n",
-            Err(JobFault::Limit(Which::Most, 4_294_967_296)),
-        ),
-        (
-            "kind = \"filter\"\nwhen = []\nworkers = 9\n[[node]]\nname = \"x\"\nkind = \"replicate\"\n",
-            Err(JobFault::Limit(Which::Workers, 9)),
-        ),
-        (
-            "kind = \"filter\"\nwhen = []\n[[node]]\nname = \"x\"\nkind = \"replicate\"\n[[edge]]\nfrom = \"y\"\nto = \"x\"\n",
-            Err(JobFault::NameTwice(Named::Node, 2)),
-        ),
-    ];
-    for (text, want) in cases {
-        assert_eq!(rt; answer_with_func(rt.alloc(), text)?, want);
-    }
-    Ok(())
-}
-
-#[test]
-fn names_of_nodes(rt: HostRuntime) -> Result<(), Fail> {
-    let cases: [(&str, Answer); 6] = [
-        ("aaaaaaaaaaaaaaaaaaaaaaaaaaaaaaaa", Ok(())),
-        (
-            "aaaaaaaaaaaaaaaaaaaaaaaaaaaaaaaaa",
-            Err(JobFault::Shape(Part::Name)),
-        ),
-        ("", Err(JobFault::Shape(Part::Name))),
-        ("X", Err(JobFault::Shape(Part::Name))),
-        ("x_9", Ok(())),
-        ("in", Err(JobFault::NameTwice(Named::Node, 1))),
-    ];
-    for (text, want) in cases {
-        assert_eq!(rt; answer_with_name(rt.alloc(), text)?, want);
-    }
-    Ok(())
-}
-
-#[test]
-fn edges(rt: HostRuntime) -> Result<(), Fail> {
-    let cases: [(&str, Answer); 12] = [
-        ("[[edge]]\nfrom = \"in\"\nto = \"out\"\nport = 0\n", Ok(())),
-        ("", Err(JobFault::Ports(0))),
-        (
-            "[[edge]]\nfrom = \"in\"\nto = \"out\"\nport = 1\n",
-            Err(JobFault::Ports(0)),
-        ),
-        (
-            "[[edge]]\nfrom = \"in\"\nto = \"out\"\nport = 5000000000\n",
-            Err(JobFault::Ports(0)),
-        ),
-        (
-            "[[edge]]\nfrom = \"in\"\nto = \"out\"\nport = -1\n",
-            Err(JobFault::Shape(Part::Port)),
-        ),
-        ("[[edge]]\nto = \"out\"\n", Err(JobFault::Shape(Part::From))),
-        (
-            "[[edge]]\nfrom = \"in\"\nto = 1\n",
-            Err(JobFault::Shape(Part::To)),
-        ),
-        (
-            "[[edge]]\nfrom = \"in\"\nto = \"out\"\nname = \"e\"\n",
-            Err(JobFault::Shape(Part::Unknown)),
-        ),
-        (
-            "[edge]\nfrom = \"in\"\nto = \"out\"\n",
-            Err(JobFault::Shape(Part::Edge)),
-        ),
-        (
-            "[[edge]]\nfrom = \"in\"\nto = \"out\"\n[[edge]]\nfrom = \"in\"\nto = \"Out\"\n",
-            Err(JobFault::NoSuchEnd(1)),
-        ),
-        (
-            "[[edge]]\nfrom = \"none\"\nto = \"out\"\n",
-            Err(JobFault::NoSuchEnd(0)),
-        ),
-        (
-            "[[node]]\nname = \"a\"\nkind = \"filter\"\nwhen = []\n[[node]]\nname = \"b\"\nkind = \"filter\"\nwhen = [[\"no\", \"=\", 1]]\n[[edge]]\nfrom = \"in\"\nto = \"a\"\n[[edge]]\nfrom = \"a\"\nto = \"b\"\n[[edge]]\nfrom = \"b\"\nto = \"out\"\n[[edge]]\nfrom = \"b\"\nto = \"a\"\nport = 1\n",
-            Err(JobFault::Cycle(2)),
-        ),
-    ];
-    for (text, want) in cases {
-        assert_eq!(rt; answer_with_edges(rt.alloc(), text)?, want);
+fn faults_and_where_they_stand(rt: HostRuntime) -> Result<(), Fail> {
+    for (text, piece, want) in CASES.iter().copied() {
+        assert_eq!(rt; answer_to(rt.alloc(), text, piece)?, want);
     }
     Ok(())
 }
