@@ -1,7 +1,7 @@
 -- What a call of `check` answers, why, and what it leaves.
 use Rattle.std.specs.Prelude.{◌≡◌, ◌≢◌, ◌⊎◌, ◌<◌, ◌≤◌, ℕ, List, Option, None, Some, length}
 use Rattle.jobs.specs.Written.{Written}
-use Rattle.job_file.specs.Jobs.{IsFaultIn, IsJobIn}
+use Rattle.job_file.specs.Job.{IsFaultIn, IsJobIn}
 use Rattle.job_file.specs.declared.fault.JobFault.{JobFault}
 use Rattle.job_file.specs.declared.fault.JobFault.TheVariants as job
 use Rattle.payments.specs.Causes.{Faults, GainsPrefix, ReadFailed}

@@ -4,7 +4,8 @@ ghost use Rattle.fries.specs.FirstJob.{at_least as at_least_of, column_of, first
 
 use flow_dag::Edge;
 use jobs::{
-    Column, ColumnDefs, ColumnKind, Columns, Cond, Conds, Func, Job, NodeDef, NodeDefs, Tables, Test,
+    Column, ColumnDefs, ColumnKind, Columns, Cond, Conds, Func, Job, NodeDef, NodeDefs, Tables,
+    Test,
 };
 use std::alloc::Global;
 use tuple_trace::{NoMemory, Txt, Value};

@@ -15,6 +15,7 @@ use crate::fault::{Fault, FileIs};
 use crate::first::{Answer, first_command};
 use crate::lines::fault_line;
 use crate::printing::print;
+use job_file::faulty_is_no_job;
 use payments::{Shelf, Sink};
 use std::alloc::Global;
 use std::sync::Wait;
@@ -109,12 +110,7 @@ fn answer_first<S: Shelf, O: Sink>(
     answer
 }
 
-fn answer_check<S: Shelf, O: Sink>(
-    alloc: Global,
-    job: &Word,
-    shelf: &mut S,
-    out: &mut O,
-) -> Answer
+fn answer_check<S: Shelf, O: Sink>(alloc: Global, job: &Word, shelf: &mut S, out: &mut O) -> Answer
     ensures check { AnswersCheck job.now
         (outside (S.files shelf.old) (S.faults shelf.old) (S.target shelf.old) (O.written out.old) (O.faults out.old))
         (outside (S.files shelf.new) (S.faults shelf.new) (S.target shelf.new) (O.written out.new) (O.faults out.new))
@@ -124,6 +120,7 @@ fn answer_check<S: Shelf, O: Sink>(
         (outside (S.files shelf.new) (S.faults shelf.new) (S.target shelf.new) (O.written out.new) (O.faults out.new))
         result.fault }
 {
+    faulty_is_no_job();
     let fault = check_command(alloc, job, shelf, out).err();
     report(alloc, fault, out);
     Answer { fault, ran: None }

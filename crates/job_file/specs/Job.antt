@@ -2,9 +2,7 @@
 use Rattle.std.specs.Prelude.{◌≡◌, ◌≢◌, ℕ, List, Option, None, Some, Result, Ok, Err}
 use Rattle.toml.specs.Data.{Members}
 use Rattle.jobs.specs.declared.fault.LawFault.{LawFault}
-use Rattle.jobs.specs.declared.job.Job.{Job}
-use Rattle.jobs.specs.Job.{written}
-use Rattle.jobs.specs.Law.{IsRefused}
+use Rattle.jobs.specs.Law.{IsLawful, IsRefused}
 use Rattle.jobs.specs.Limits.{Oversize}
 use Rattle.jobs.specs.Written.{Written}
 use Rattle.job_file.specs.declared.fault.JobFault.{JobFault}
@@ -36,6 +34,10 @@ IsFaultOf f (Ok job) = (law : LawFault) × (f ≡ of_law law) × IsRefused law j
 abbrev pub IsFaultIn : List ℕ → JobFault → Type 0
 IsFaultIn bytes f = IsFaultOf f (job_of bytes)
 
+-- the file writes down this job, and it is lawful
+abbrev pub IsJobIn : List ℕ → Written → Type 0
+IsJobIn bytes job = (job_of bytes ≡ Ok job) × IsLawful job
+
 -- no file both has a fault and is that of a job
 abbrev pub Excludes : Type 0
-Excludes = (bytes : List ℕ) (f : JobFault) (job : Job) → f ≢ fault.NoMemory → IsFaultIn bytes f → job_of bytes ≡ Ok (written job) → ⊥
+Excludes = (bytes : List ℕ) (f : JobFault) (job : Written) → f ≢ fault.NoMemory → IsFaultIn bytes f → IsJobIn bytes job → ⊥

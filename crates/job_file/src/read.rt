@@ -1,6 +1,6 @@
-ghost use Rattle.std.specs.Prelude.{◌≡◌, ◌≢◌, Ok, IfOk, IfErr};
+ghost use Rattle.std.specs.Prelude.{◌≢◌, IfOk, IfErr};
 ghost use Rattle.jobs.specs.Job.{written};
-ghost use Rattle.job_file.specs.Job.{Excludes, IsFaultIn, job_of};
+ghost use Rattle.job_file.specs.Job.{Excludes, IsFaultIn, IsJobIn};
 
 use crate::document::document;
 use crate::fault::JobFault;
@@ -18,7 +18,7 @@ use std::alloc::Global;
 /// Of sizes, a number that has more than 32 bits or is below 0 comes first; the others come in the order of their limits.
 /// [`JobFault::NoMemory`] may come of any file.
 pub fn read_job(alloc: Global, bytes: &[u8]) -> Result<Job, JobFault>
-    ensures ok { IfOk result (λ job. job_of bytes.now ≡ Ok (written job)) }
+    ensures ok { IfOk result (λ job. IsJobIn bytes.now (written job)) }
     ensures fault { IfErr result (λ fault. fault ≢ JobFault.NoMemory → IsFaultIn bytes.now fault) }
 {
     let members = document(alloc, bytes)?;

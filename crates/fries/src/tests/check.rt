@@ -1,7 +1,7 @@
 use crate::fault::{Fault, FileIs};
 use crate::lines::fault_line;
-use crate::top::{Outcome, fries};
 use crate::tests::{word, words_of};
+use crate::top::{Outcome, fries};
 use job_file::{JobFault, Named, Part, Which};
 use payments::{Calls, MemoryShelf, MemorySink};
 use std::alloc::Global;
@@ -182,7 +182,10 @@ fn sizes_of_jobs(rt: HostRuntime) -> Result<(), Fail> {
 #[test]
 fn cycle_is_refused(rt: HostRuntime) -> Result<(), Fail> {
     let (status, out) = checked(&rt, rt.alloc(), "job.toml", CYCLE.as_bytes(), &[])?;
-    assert_eq!(rt; (status, out.as_slice()), (2, b"fault 2 J7 node 0\n".as_slice()));
+    assert_eq!(rt;
+        (status, out.as_slice()),
+        (2, b"fault 2 J7 node 0\n".as_slice())
+    );
     Ok(())
 }
 
@@ -198,7 +201,10 @@ fn missing_and_cut_files(rt: HostRuntime) -> Result<(), Fail> {
     let (status, out) = checked(&rt, alloc, "job.toml", &longest, &[])?;
     assert_eq!(rt; (status, out.as_slice()), (9, b"fault 9 job\n".as_slice()));
     let (status, out) = checked(&rt, alloc, "job.toml", longest.split_at(1).1, &[])?;
-    assert_eq!(rt; (status, out.as_slice()), (2, b"fault 2 J2 columns\n".as_slice()));
+    assert_eq!(rt;
+        (status, out.as_slice()),
+        (2, b"fault 2 J2 columns\n".as_slice())
+    );
     Ok(())
 }
 
@@ -221,10 +227,16 @@ fn lines_of_job_faults(rt: HostRuntime) -> Result<(), Fail> {
     let cases = [
         (JobFault::NotToml, "fault 2 J1\n"),
         (JobFault::Shape(Part::Unknown), "fault 2 J2 unknown\n"),
-        (JobFault::Limit(Which::AllWorkers, 65), "fault 2 J3 allworkers 65\n"),
+        (
+            JobFault::Limit(Which::AllWorkers, 65),
+            "fault 2 J3 allworkers 65\n",
+        ),
         (JobFault::Limit(Which::Most, -1), "fault 2 J3 most -1\n"),
         (JobFault::NameTwice(Named::Node, 3), "fault 2 J4 node 3\n"),
-        (JobFault::NameTwice(Named::Column, 1), "fault 2 J4 column 1\n"),
+        (
+            JobFault::NameTwice(Named::Column, 1),
+            "fault 2 J4 column 1\n",
+        ),
         (JobFault::NoSuchEnd(0), "fault 2 J5 edge 0\n"),
         (JobFault::Ports(7), "fault 2 J6 node 7\n"),
         (JobFault::Cycle(2), "fault 2 J7 node 2\n"),

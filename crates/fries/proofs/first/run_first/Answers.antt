@@ -1,6 +1,7 @@
 use Rattle.std.proofs.Common.{◌≡◌, Ok, rules, subst}
 use Rattle.jobs.specs.Job.{written}
-use Rattle.payments.specs.Reading.{rows_of}
+use Rattle.jobs.specs.Written.{Written}
+use Rattle.payments.specs.Reading.{AreFromSources, rows_of}
 use Rattle.tuple_trace.specs.Rows.{AreRows}
 use Rattle.fries.specs.Asked.{first_asked}
 use Rattle.fries.specs.First.{asked_job}
@@ -20,7 +21,7 @@ returns-clause-run g c =
       rows = c.in_ok-rows.rows;
       read = rows_read asked (g.S.Shelf.files c.args.shelf.now) c.in_ok-bytes.bytes c.in_ok-rows.rows c.in_ok-bytes.ensures.bytes are;
       are_rows = subst AreRows c.rows.view_is c.rows.invariant;
-      from_sources = rw job at c.in_ok-rows.ensures.sources;
+      from_sources = subst (λ (w : Written). AreFromSources w c.in_ok-rows.rows) job c.in_ok-rows.ensures.sources;
       run = run.0;
       whole = run.1;
     }
