@@ -111,16 +111,22 @@ fn request(alloc: Global, after: u64, only: Change) -> Result<Request, NoMemory>
     Ok(Request { after, changes })
 }
 
-/// What one request is refused for by a job that no other has changed.
+/// What a request is refused for that stands alone in its file.
 fn fault_of(alloc: Global, job: &Job, changes: Vec<Change>) -> Result<Option<QFault>, Fail> {
     if changes.len() > 64 {
         return Err("too many changes".into());
     }
-    let request = Request {
-        after: 3,
-        changes: Changes::from_vec(changes),
-    };
-    Ok(judge(&Book::of(alloc, job)?, job, &request, 0).err())
+    let changes = Changes::from_vec(changes);
+    let mut list = Requests::new(alloc);
+    list.push(Request { after: 3, changes })?;
+    let judged = judge_all(alloc, job, &list)?;
+    Ok(
+        judged
+            .refused
+            .as_slice()
+            .first()
+            .map(|refused| refused.fault),
+    )
 }
 
 #[test]
@@ -255,7 +261,14 @@ fn the_first_fault_of_a_request(rt: HostRuntime) -> Result<(), Fail> {
 #[test]
 fn books_begin_with_the_job(rt: HostRuntime) -> Result<(), Fail> {
     let alloc = rt.alloc();
-    let book = Book::of(alloc, &job(alloc)?)?.copy()?;
+    let job = job(alloc)?;
+    let book = Book::of(alloc, &job)?.copy()?;
+    let request = request(alloc, 0, change(TALLY, 0, count(0), Carry::Keep))?;
+    assert_eq!(rt; judge(&book, &job, &request, 0), Ok(()));
+    assert_eq!(rt;
+        judge(&book, &job, &request.copy(alloc)?, 1),
+        Err(QFault::Backwards(1))
+    );
     assert_eq!(rt; book.nodes(), 7);
     assert_eq!(rt; book.version(TALLY), 0);
     assert!(rt; matches!(book.func(TALLY), Func::Count(count) if count.key == 0));
