@@ -10,6 +10,7 @@ mod effect;
 mod fields;
 mod kinds;
 mod lanes;
+mod laws;
 mod output;
 mod pieces;
 mod several;
@@ -21,4 +22,5 @@ pub use jobs::{
     Which, fits, holds, is_source, kind_at, may_emit_many, size_fault, weight,
 };
 pub use lanes::lane_of;
+pub use laws::{counts_serve_counts_alone, outputs_are_blind, outputs_are_made_of_their_tuple};
 pub use output::{Output, Outs};
