@@ -14,6 +14,8 @@ mod laws;
 mod output;
 mod pieces;
 mod several;
+#[cfg(test)]
+mod tests;
 
 pub use effect::apply;
 pub use jobs::{
