@@ -79,7 +79,7 @@ leaves_by_edge : (edges : List Edge) (node : ℕ) (f : Func) (k port : ℕ) → 
 leaves_by_edge edges node func.Source k port all may = absurd may
 leaves_by_edge edges node (func.Filter conds) k port all may =
     elim may.1 [
-      | inl zero ↦ port_zero edges node (func.Filter conds) port all (some_leave (out_count edges node) (and_left _ _ (leaves_by_kind edges node (func.Filter conds) all))) zero
+      | inl none ↦ port_zero edges node (func.Filter conds) port all (some_leave (out_count edges node) (and_left _ _ (leaves_by_kind edges node (func.Filter conds) all))) none
       | inr one ↦ rw one.0 one.1
     ]
 leaves_by_edge edges node (func.Map steps) k port all may = port_zero edges node (func.Map steps) port all (one_leaves (out_count edges node) (leaves_by_kind edges node (func.Map steps) all)) may.1
