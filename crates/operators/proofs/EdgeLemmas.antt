@@ -1,5 +1,5 @@
 -- The ports by which outputs leave, where the edges of a node are those of its kind.
-use Rattle.std.proofs.Common.{◌≡◌, ◌∙◌, ◌≢◌, ℕ, ◌+◌, ◌<◌, ◌≤◌, ◌==◌, ◌⊎◌, ◌&&◌, ◌||◌, zero, suc, sym, ap, refl, subst, List, [], ◌∷◌, ◌++◌, length, map, filter, cond, Bool, true, false, not, eqb, nat_le, Some, None, inl, inr, arith}
+use Rattle.std.proofs.Common.{◌≡◌, ◌∙◌, ◌≢◌, ℕ, ◌+◌, ◌<◌, ◌≤◌, ◌==◌, ◌&&◌, ◌||◌, zero, suc, sym, ap, refl, List, [], ◌∷◌, length, map, filter, cond, Bool, true, false, eqb, nat_le, Some, inl, inr, arith}
 use Rattle.std.specs.Prelude.{IsTrue, slice_get}
 use Rattle.std.specs.List.{list_any}
 use Rattle.std.proofs.lemmas.Bool.{cases_eq, eq-eqb, eqb-true}
@@ -13,7 +13,7 @@ use Rattle.keyed_state.specs.Counts.{Counts}
 use Rattle.jobs.specs.declared.func.Func.{Func}
 use Rattle.jobs.specs.declared.func.Func.TheVariants as func
 use Rattle.jobs.specs.Places.{Each}
-use Rattle.jobs.specs.Ports.{are_ports, has_port, has_ports, is_entered, leads_twice, leaves, may_enter, may_leave, out_count}
+use Rattle.jobs.specs.Ports.{are_ports, has_port, has_ports, leaves, may_leave, out_count}
 use Rattle.jobs.specs.Written.{Written}
 use Rattle.jobs.proofs.PortLemmas.{has_ports-lacks}
 use Rattle.operators.specs.declared.output.Output.{Output}
