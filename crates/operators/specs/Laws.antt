@@ -1,1 +1,107 @@
 -- What is true of all outputs.
+use Rattle.std.specs.Prelude.{◌≡◌, ◌≢◌, ℕ, ◌<◌, ◌⊎◌, Bool, true, false, IsTrue, List, [], ◌∷◌, ◌++◌, map, filter, Some, slice_get}
+use Rattle.flow_dag.specs.declared.edge.Edge.{Edge}
+use Rattle.tuple_trace.specs.declared.tuple.Tuple.{Tuple}
+use Rattle.tuple_trace.specs.declared.tuple.Visit.{Visit}
+use Rattle.keyed_state.specs.Counts.{Counts}
+use Rattle.jobs.specs.declared.func.Func.{Func}
+use Rattle.jobs.specs.declared.func.Func.TheVariants as func
+use Rattle.jobs.specs.Places.{Each}
+use Rattle.jobs.specs.Ports.{are_ports, has_port, leaves}
+use Rattle.jobs.specs.Written.{Written}
+use Rattle.operators.specs.declared.output.Output.{Output}
+use Rattle.operators.specs.Meaning.{step}
+
+-- the births of the output with number k, which leaves by the port: a split adds the number, a replicate the port, and no other function
+-- adds anything
+abbrev pub births_of : Func → List ℕ → ℕ → ℕ → List ℕ
+births_of func.Source birth k port = birth
+births_of (func.Filter conds) birth k port = birth
+births_of (func.Map steps) birth k port = birth
+births_of (func.Enrich lookup) birth k port = birth
+births_of (func.Count count) birth k port = birth
+births_of (func.Split split) birth k port = birth ++ k ∷ []
+births_of func.Replicate birth k port = birth ++ port ∷ []
+births_of (func.Sink listed) birth k port = birth
+
+-- the ports of the edges that leave a node, in the order of the edges
+abbrev pub out_ports : List Edge → ℕ → List ℕ
+out_ports edges node = map (λ (e : Edge). e.port) (filter (leaves node) edges)
+
+-- the output with number k may leave the node by the port: at most one leaves a filter, by port 0 or 1; one leaves a map, an enrich and a
+-- count, by port 0; up to `most` leave a split, by port 0; one leaves a replicate by each of its edges
+abbrev pub MayLeaveBy : List Edge → ℕ → Func → ℕ → ℕ → Type 0
+MayLeaveBy edges node func.Source k port = ⊥
+MayLeaveBy edges node (func.Filter conds) k port = (k ≡ 0) × ((port ≡ 0) ⊎ ((port ≡ 1) × IsTrue (has_port edges node 1)))
+MayLeaveBy edges node (func.Map steps) k port = (k ≡ 0) × (port ≡ 0)
+MayLeaveBy edges node (func.Enrich lookup) k port = (k ≡ 0) × (port ≡ 0)
+MayLeaveBy edges node (func.Count count) k port = (k ≡ 0) × (port ≡ 0)
+MayLeaveBy edges node (func.Split split) k port = (k < split.most) × (port ≡ 0)
+MayLeaveBy edges node func.Replicate k port = slice_get (out_ports edges node) k ≡ Some port
+MayLeaveBy edges node (func.Sink listed) k port = ⊥
+
+-- what every output has of the tuple that it was made of
+pub record IsMadeOf (edges : List Edge) (visit : Visit) (func : Func) (tuple : Tuple) (k : ℕ) (output : Output) : Type 0 where
+  pub row : output.tuple.row ≡ tuple.row
+  pub issued : output.tuple.issued ≡ tuple.issued
+  pub trace : output.tuple.trace ≡ tuple.trace ++ visit ∷ []
+  pub birth : output.tuple.birth ≡ births_of func tuple.birth k output.port
+  pub port : MayLeaveBy edges visit.node func k output.port
+
+-- every output is made of its tuple, whatever the job, the function and the counts are
+abbrev pub OutputsAreMadeOf : Type 0
+OutputsAreMadeOf =
+    (job : Written) (visit : Visit) (func : Func) (counts : Counts) (tuple : Tuple)
+    → Each (IsMadeOf job.edges visit func tuple) (step job visit func counts tuple).1
+
+-- the function is a count
+abbrev pub is_count : Func → Bool
+is_count func.Source = false
+is_count (func.Filter conds) = false
+is_count (func.Map steps) = false
+is_count (func.Enrich lookup) = false
+is_count (func.Count count) = true
+is_count (func.Split split) = false
+is_count func.Replicate = false
+is_count (func.Sink listed) = false
+
+-- every function but a count leaves the counts as they are, and puts out the same whatever they are
+abbrev pub CountsServeCounts : Type 0
+CountsServeCounts =
+    (job : Written) (visit : Visit) (func : Func) (counts other : Counts) (tuple : Tuple)
+    → is_count func ≡ false
+    → ((step job visit func counts tuple).0 ≡ counts) × ((step job visit func counts tuple).1 ≡ (step job visit func other tuple).1)
+
+-- a tuple and an output without what a flow writes on them: the trace, and how many requests had been issued
+abbrev pub bare_tuple : Tuple → Tuple
+bare_tuple tuple = record tuple { issued = 0; trace = [] }
+
+abbrev pub bare : Output → Output
+bare output = record output { tuple = bare_tuple output.tuple }
+
+-- a visit of the same node, at its first worker and before any request
+abbrev pub bare_visit : Visit → Visit
+bare_visit visit = record visit { worker = 0; last = 0 }
+
+-- ports, rows, births and fields of what is put out depend neither on the worker and the requests, nor on the trace and `issued`
+abbrev pub OutputsAreBlind : Type 0
+OutputsAreBlind =
+    (job : Written) (visit : Visit) (func : Func) (counts : Counts) (tuple : Tuple)
+    → map bare (step job visit func counts tuple).1 ≡ map bare (step job (bare_visit visit) func counts (bare_tuple tuple)).1
+
+-- where the edges of the node are those of the function's kind, each output leaves by the port of one of them
+abbrev pub PortsHaveEdges : Type 0
+PortsHaveEdges =
+    (job : Written) (visit : Visit) (func : Func) (counts : Counts) (tuple : Tuple)
+    → IsTrue (are_ports job.edges visit.node func)
+    → Each (λ k (output : Output). IsTrue (has_port job.edges visit.node output.port)) (step job visit func counts tuple).1
+
+-- and two outputs for one tuple have different births
+abbrev pub OutputsArePeers : Type 0
+OutputsArePeers =
+    (job : Written) (visit : Visit) (func : Func) (counts : Counts) (tuple : Tuple) (k l : ℕ) (a b : Output)
+    → IsTrue (are_ports job.edges visit.node func)
+    → slice_get (step job visit func counts tuple).1 k ≡ Some a
+    → slice_get (step job visit func counts tuple).1 l ≡ Some b
+    → k ≢ l
+    → a.tuple.birth ≢ b.tuple.birth

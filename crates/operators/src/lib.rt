@@ -10,9 +10,12 @@ mod effect;
 mod fields;
 mod kinds;
 mod lanes;
+mod laws;
 mod output;
 mod pieces;
 mod several;
+#[cfg(test)]
+mod tests;
 
 pub use effect::apply;
 pub use jobs::{
@@ -21,4 +24,8 @@ pub use jobs::{
     Which, fits, holds, is_source, kind_at, may_emit_many, size_fault, weight,
 };
 pub use lanes::lane_of;
+pub use laws::{
+    counts_serve_counts_alone, outputs_are_blind, outputs_are_made_of_their_tuple,
+    outputs_are_told_apart, outputs_leave_by_edges,
+};
 pub use output::{Output, Outs};
