@@ -134,7 +134,8 @@ fn has_column(columns: &[Column], column: u32) -> bool
     (column as usize) < columns.len()
 }
 
-fn kind_at(columns: &[Column], column: u32) -> Option<ColumnKind>
+/// The kind of the column with this number, if there is one. Takes no memory.
+pub fn kind_at(columns: &[Column], column: u32) -> Option<ColumnKind>
     ensures { result ≡ kind_at columns.now column }
 {
     match columns.get(column as usize) {
@@ -161,6 +162,7 @@ fn is_amount(kind: Option<ColumnKind>) -> bool
     }
 }
 
+/// Whether there is a column of this kind, and it may hold the value. Takes no memory.
 pub fn holds(kind: Option<ColumnKind>, value: &Value) -> bool
     ensures { result ≡ holds kind value.now }
 {

@@ -24,6 +24,7 @@ mod weights;
 
 pub use column::{Column, ColumnDefs, ColumnKind, Columns};
 pub use fault::{LawFault, Named, Which};
+pub use fitting::{holds, kind_at};
 pub use func::{
     Cond, Conds, CountBy, Func, Lookup, NOWHERE, NodeDef, NodeDefs, Op, Operand, SplitBy, Step,
     Steps, Test,
@@ -32,5 +33,5 @@ pub use job::Job;
 pub use laws::{functions_fit, refused_is_unlawful, weights_settle};
 pub use limits::size_fault;
 pub use node::{is_source, may_emit_many};
-pub use queries::{fits, weight};
+pub use queries::{fits, weight, worker_count};
 pub use table::{Table, Tables};

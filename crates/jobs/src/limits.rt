@@ -105,7 +105,7 @@ fn workers_fault(nodes: &[NodeDef]) -> Option<(Which, i64)>
 }
 
 // The workers of all nodes that aren't sources.
-fn all_workers(nodes: &[NodeDef]) -> u64
+pub fn all_workers(nodes: &[NodeDef]) -> u64
     requires { length nodes.now ≤ 64 }
     ensures { result ≡ worker_count nodes.now }
 {

@@ -5,7 +5,7 @@ ghost use Rattle.keyed_state.specs.Counts.{scaled, raised, scaled_all, from_leas
 ghost use Rattle.keyed_state.specs.TextMap.{text_cmp};
 
 use crate::TextMap;
-use crate::number::scale;
+use crate::number::{scale, total};
 use std::collections::BTreeMap;
 use tuple_trace::NoMemory;
 
@@ -17,7 +17,7 @@ impl TextMap<i64> {
         ensures err { OnErr result (self.new ≡ self.old) }
     {
         if let Some(count) = self.entries.get_mut(key) {
-            let sum = count.saturating_add(by);
+            let sum = total(*count, by);
             *count = sum;
             return Ok(sum);
         }

@@ -2,6 +2,7 @@ ghost use Rattle.std.specs.Prelude.{◌≡◌, IfOk, OnErr};
 ghost use Rattle.std.specs.FinMap as finite;
 ghost use Rattle.keyed_state.specs.Counts.{raised, carried, CanCarry};
 
+use crate::number::total;
 use crate::{Carry, TextEntries, TextMap};
 use std::alloc::Global;
 use std::marker::Model;
@@ -57,7 +58,26 @@ impl Keyed {
         ensures ok { IfOk result (λ sum. self.new ≡ finite.insert self.old key.now sum) }
         ensures err { OnErr result (self.new ≡ self.old) }
     {
-        self.counts.add(key.as_slice(), by)
+        self.add(key.as_slice(), by)
+    }
+
+    /// The same for a text that is at hand as a slice.
+    pub fn add(&mut self, key: &[u8], by: i64) -> Result<i64, NoMemory>
+        ensures sum { IfOk result (λ sum. sum ≡ raised self.old key.now by) }
+        ensures ok { IfOk result (λ sum. self.new ≡ finite.insert self.old key.now sum) }
+        ensures err { OnErr result (self.new ≡ self.old) }
+    {
+        self.counts.add(key, by)
+    }
+
+    /// What [`Keyed::add`] would answer, if there is memory. Nothing changes.
+    pub fn raised(&self, key: &[u8], by: i64) -> i64
+        ensures { result ≡ raised self.now key.now by }
+    {
+        match self.counts.get(key) {
+            Some(count) => total(*count, by),
+            None => by,
+        }
     }
 
     /// Changes the counters as a change of function asks. The divisor of a [`Carry::Scale`] is at least 1. Takes no memory.

@@ -1,4 +1,4 @@
-ghost use Rattle.std.specs.Prelude.{◌≡◌, pos, ◌≤ℤ◌, ◌*ℤ◌};
+ghost use Rattle.std.specs.Prelude.{◌≡◌, pos, ◌≤ℤ◌, ◌*ℤ◌, ◌+ℤ◌};
 ghost use Rattle.std.specs.Int.{int_div_euclid};
 ghost use Rattle.keyed_state.specs.Counts.{clamp as clamp_of, scaled};
 
@@ -13,6 +13,13 @@ pub fn clamp(number: i128) -> i64
     } else {
         number as i64
     }
+}
+
+/// The sum, cut to the range of an `i64`.
+pub(crate) fn total(count: i64, by: i64) -> i64
+    ensures { result ≡ clamp_of (count +ℤ by) }
+{
+    count.saturating_add(by)
 }
 
 /// A count times `by`, divided by `over` and rounded down, and then cut to the range of an `i64`. `over` is at least 1.

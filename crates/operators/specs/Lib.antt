@@ -1,2 +1,7 @@
+pub mod Fields
+pub mod Conditions
+pub mod Arithmetic
+pub mod Pieces
 pub mod Meaning
-pub mod Nodes
+pub mod Lanes
+pub mod Laws

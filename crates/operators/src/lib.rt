@@ -1,15 +1,24 @@
-//! The operators of a job as data, and what each makes of one tuple.
+//! What an operator makes of one tuple, and which worker a tuple reaches.
 //!
-//! An operator is a plain function on a tuple. Workers, lanes and requests are unknown here.
+//! An operator is a plain function on a tuple and the counts of its node. Workers, lanes and requests are unknown here. The jobs that it
+//! belongs to, and their parts, are handed on from the crate `jobs`.
 #![tactic(auto)]
 
+mod arithmetic;
+mod conditions;
 mod effect;
-mod job;
-#[cfg(test)]
-mod tests;
+mod fields;
+mod kinds;
+mod lanes;
+mod output;
+mod pieces;
+mod several;
 
-pub use effect::{Output, Outs, apply};
-pub use job::{
-    Column, ColumnDefs, ColumnKind, Columns, Cond, Conds, Func, Job, NodeDef, NodeDefs, Test,
-    weight,
+pub use effect::apply;
+pub use jobs::{
+    Column, ColumnDefs, ColumnKind, Columns, Cond, Conds, CountBy, Func, Job, LawFault, Lookup,
+    NOWHERE, Named, NodeDef, NodeDefs, Op, Operand, SplitBy, Step, Steps, Table, Tables, Test,
+    Which, fits, holds, is_source, kind_at, may_emit_many, size_fault, weight,
 };
+pub use lanes::lane_of;
+pub use output::{Output, Outs};

@@ -11,17 +11,17 @@ use Rattle.keyed_state.proofs.counts.TextMap+i64.add.Goals as goal
 
 pub returns-in-Some-clause-sum : goal.returns-in-Some-clause-sum
 returns-in-Some-clause-sum c =
-    let fits : SFits w64 c.saturating_add-sum.result = search rules in
+    let fits : SFits w64 c.total-sum.result = search rules in
     let fits_count : SFits w64 c.in-Some.count.now = search rules in
     let fits_by : SFits w64 c.args.by = search rules in
-    let sum : c.saturating_add-sum.result ≡ clamp (c.in-Some.count.now +ℤ c.args.by) = simp to_z-of_z at c.saturating_add-sum.ensures in
+    let sum : c.total-sum.result ≡ clamp (c.in-Some.count.now +ℤ c.args.by) = simp to_z-of_z at c.total-sum.ensures in
     let held : finite.get c.args.self.now c.args.key.now ≡ Some c.in-Some.count.now =
     ap (λ m. finite.get m c.args.key.now) (sym c.self.view_is) ∙ get-map_of c.self.inside.entries.entries c.args.key.now ∙ sym c.in-Some.ensures.value in
     rw held (simp to_z-of_z sum)
 
 pub returns-in-Some-clause-ok : goal.returns-in-Some-clause-ok
 returns-in-Some-clause-ok c =
-    let sum = to_z w64 (of_z w64 c.saturating_add-sum.result) in
+    let sum = to_z w64 (of_z w64 c.total-sum.result) in
     ap map_of (c.get_mut.follows.holds sum).0
     ∙ map_of-set_value c.self.inside.entries.entries c.args.key.now sum (search rules)
     ∙ ap (λ m. finite.insert m c.args.key.now sum) c.self.view_is

@@ -1,0 +1,59 @@
+// The conditions of a filter.
+ghost use Rattle.std.specs.Prelude.{◌≡◌, slice_get, option_copied};
+ghost use Rattle.std.specs.List.{list_all};
+ghost use Rattle.operators.specs.Conditions.{admits as admits_of, compares as compares_of, meets as meets_of};
+
+use jobs::{Column, ColumnKind, Cond, Test, kind_at};
+use std::cmp::Ordering;
+use tuple_trace::{Value, number_in, text_in};
+
+/// Whether fields meet all conditions.
+pub fn passes(columns: &[Column], conds: &[Cond], fields: &[Value]) -> bool
+    ensures { result ≡ list_all (meets_of columns.now fields.now) conds.now }
+{
+    conds.iter().all(|cond| meets(columns, cond, fields))
+}
+
+fn meets(columns: &[Column], cond: &Cond, fields: &[Value]) -> bool
+    ensures { result ≡ meets_of columns.now fields.now cond.now }
+{
+    let field = fields.get(cond.column as usize);
+    compares(
+        kind_at(columns, cond.column),
+        cond.test,
+        field,
+        &cond.literal,
+    )
+}
+
+fn compares(kind: Option<ColumnKind>, test: Test, field: Option<&Value>, literal: &Value) -> bool
+    ensures { result ≡ compares_of kind test (option_copied field.entry) literal.now }
+{
+    match kind {
+        Some(ColumnKind::Text) => {
+            let same = text_in(field) == text_in(Some(literal));
+            match test {
+                Test::Eq => same,
+                Test::Ne => !same,
+                Test::Lt | Test::Le | Test::Gt | Test::Ge => false,
+            }
+        }
+        Some(ColumnKind::Number | ColumnKind::Cents) => {
+            admits(test, number_in(field).cmp(&number_in(Some(literal))))
+        }
+        None => false,
+    }
+}
+
+fn admits(test: Test, order: Ordering) -> bool
+    ensures { result ≡ admits_of test order }
+{
+    match test {
+        Test::Eq => order == Ordering::Equal,
+        Test::Ne => order != Ordering::Equal,
+        Test::Lt => order == Ordering::Less,
+        Test::Le => order != Ordering::Greater,
+        Test::Gt => order == Ordering::Greater,
+        Test::Ge => order != Ordering::Less,
+    }
+}
