@@ -38,6 +38,7 @@ HasPorts job = EachPasses (has_ports_of job) job.nodes
 abbrev pub HasNoCycle : Written → Type 0
 HasNoCycle job = IsAcyclic (HasEdge job.edges)
 
+-- the function of the node fits the columns
 abbrev pub has_columns_of : Written → ℕ → NodeDef → Bool
 has_columns_of job v node = fits_columns job.columns job.tables node.func
 
@@ -45,6 +46,7 @@ has_columns_of job v node = fits_columns job.columns job.tables node.func
 abbrev pub HasColumns : Written → Type 0
 HasColumns job = EachPasses (has_columns_of job) job.nodes
 
+-- the table that the node names is there
 abbrev pub has_table_of : Written → ℕ → NodeDef → Bool
 has_table_of job v node = fits_table job.tables node.func
 

@@ -35,10 +35,12 @@ first_oversize size (x ∷ xs) = option_or (size x) (first_oversize size xs)
 abbrev pub text_oversize : List ℕ → Option Oversize
 text_oversize text = outside which.Text 0 48 (length text)
 
+-- a value that is a text has its length for a size, and a number has none
 abbrev pub value_oversize : Value → Option Oversize
 value_oversize (value.Num number) = None
 value_oversize (value.Text text) = text_oversize text
 
+-- the literal of a condition
 abbrev pub literal_oversize : Cond → Option Oversize
 literal_oversize cond = value_oversize cond.literal
 
@@ -53,6 +55,7 @@ oversize (func.Split split) = outside which.Most 1 16 split.most
 oversize func.Replicate = None
 oversize (func.Sink listed) = None
 
+-- the function of a node
 abbrev pub func_oversize : NodeDef → Option Oversize
 func_oversize node = oversize node.func
 
@@ -69,6 +72,7 @@ entry_count (table ∷ tables) = finite.len table.entries + entry_count tables
 abbrev pub entry_oversize : List ℕ × Value → Option Oversize
 entry_oversize entry = option_or (text_oversize entry.0) (value_oversize entry.1)
 
+-- the entries of a table, in the order of their texts
 abbrev pub table_oversize : Table → Option Oversize
 table_oversize table = first_oversize entry_oversize (finite.entries table.entries)
 

@@ -19,6 +19,7 @@ fan_out (func.Split split) = split.most
 fan_out func.Replicate = 1
 fan_out (func.Sink listed) = 1
 
+-- the same for the function of a node, if there is one
 abbrev pub fan_out_at : Option NodeDef → ℕ
 fan_out_at None = 1
 fan_out_at (Some node) = fan_out node.func
@@ -62,6 +63,7 @@ weight_from weight v (node ∷ nodes) = added_by node.func (weight v) + weight_f
 abbrev pub weight_of : List NodeDef → List Edge → ℕ
 weight_of nodes edges = weight_from (node_weight nodes edges) 0 nodes
 
+-- the weight of a job: how many tuples one row may bring to its nodes that aren't sources
 abbrev pub weight : Written → ℕ
 weight job = weight_of job.nodes job.edges
 

@@ -1,5 +1,7 @@
 use super::parts::{Kind, check, edge, fault, fault_of, func, nodes};
-use crate::{Job, LawFault, NOWHERE, Operand, Test, fits, is_source, may_emit_many, weight};
+use crate::{
+    Job, LawFault, NOWHERE, Operand, Test, fits, is_source, may_emit_many, weight, worker_count,
+};
 use flow_dag::Edge;
 use std::alloc::Global;
 use std::test::Fail;
@@ -145,8 +147,8 @@ fn payments_job(alloc: Global) -> Result<Result<Job, LawFault>, NoMemory> {
     check(alloc, nodes(alloc, &kinds)?, &edges)
 }
 
-// The weight of the job, and how many journals it has.
-fn weight_and_journals(alloc: Global) -> Result<Option<(u64, u32)>, NoMemory> {
+// The weight of the job, and how many journals it has, once by the job and once by its nodes.
+fn weight_and_journals(alloc: Global) -> Result<Option<(u64, u64, u32)>, NoMemory> {
     let Ok(job) = payments_job(alloc)? else {
         return Ok(None);
     };
@@ -154,12 +156,12 @@ fn weight_and_journals(alloc: Global) -> Result<Option<(u64, u32)>, NoMemory> {
     for node in job.nodes.as_slice() {
         journals = journals.wrapping_add(node.journals());
     }
-    Ok(Some((weight(&job), journals)))
+    Ok(Some((weight(&job), worker_count(&job), journals)))
 }
 
 #[test]
 fn payments_job_is_lawful(rt: HostRuntime) -> Result<(), Fail> {
-    assert_eq!(rt; weight_and_journals(rt.alloc())?, Some((14, 7)));
+    assert_eq!(rt; weight_and_journals(rt.alloc())?, Some((14, 7, 7)));
     Ok(())
 }
 
