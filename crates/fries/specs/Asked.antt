@@ -2,10 +2,12 @@
 use Rattle.std.specs.Prelude.{◌^◌, ◌-◌, ℕ, ℤ, pos, Bool, false, not, List, [], ◌∷◌, ◌&&◌, nat_eq, Option, None, Some, option_map, codes, if◌then◌else◌}
 use Rattle.std.specs.Cmp.Lexicographic.{pointwise}
 use Rattle.tuple_trace.specs.Digits.{at_most, digits_of}
-use Rattle.fries.specs.declared.command.First.{First}
+use Rattle.fries.specs.declared.command.Command.{Command}
+use Rattle.fries.specs.declared.command.Command.TheVariants as command
+use Rattle.fries.specs.declared.command.First.{First as FirstWords}
 
 -- what `first` is asked to do: the files, the least amount at first, after which row it changes, and the least amount from then on
-pub record Asked : Type 0 where
+pub record FirstAsked : Type 0 where
   pub payments : List ℕ
   pub alerts : List ℕ
   pub least : ℤ
@@ -30,29 +32,47 @@ abbrev pub after_of : List ℕ → Option ℕ
 after_of word = at_most after_max (digits_of word)
 
 -- the words after the command, the numbers of which are in range
-abbrev pub with_numbers : List ℕ → List ℕ → Option ℤ → Option ℕ → Option ℤ → Option Asked
+abbrev pub with_numbers : List ℕ → List ℕ → Option ℤ → Option ℕ → Option ℤ → Option FirstAsked
 with_numbers payments alerts (Some least) (Some after) (Some least_after) =
     Some (record { payments = payments; alerts = alerts; least = least; after = after; least_after = least_after })
 with_numbers payments alerts None after least_after = None
 with_numbers payments alerts (Some least) None least_after = None
 with_numbers payments alerts (Some least) (Some after) None = None
 
-abbrev pub with_names : List (List ℕ) → Option Asked
+abbrev pub with_names : List (List ℕ) → Option FirstAsked
 with_names (payments ∷ alerts ∷ least ∷ after ∷ least_after ∷ []) =
     if is_name payments && is_name alerts then with_numbers payments alerts (least_of least) (after_of after) (least_of least_after) else None
 with_names words = None
 
--- the plain form `first PAYMENTS ALERTS MIN AFTER MIN2`
+-- one name of a file
+abbrev pub one_name : List (List ℕ) → Option (List ℕ)
+one_name (name ∷ []) = if is_name name then Some name else None
+one_name words = None
+
+-- what a command line asks for
+pub data Asked : Type 0 where
+  First : FirstAsked → Asked
+  -- the job file that is to be checked
+  Check : List ℕ → Asked
+
+-- What words ask for, in the plain forms `first PAYMENTS ALERTS MIN AFTER MIN2` and `check JOB`. None where they have neither.
 abbrev pub asked_of : List (List ℕ) → Option Asked
 asked_of [] = None
-asked_of (command ∷ words) = if pointwise nat_eq command (codes "first") then with_names words else None
+asked_of (command ∷ words) =
+    if pointwise nat_eq command (codes "first") then option_map First (with_names words)
+    else if pointwise nat_eq command (codes "check") then option_map Check (one_name words) else None
 
 -- what a `First` asks for
-abbrev pub asked_by : First → Asked
-asked_by first = record {
+abbrev pub first_asked : FirstWords → FirstAsked
+first_asked first = record {
   payments = first.payments.now;
   alerts = first.alerts.now;
   least = first.least;
   after = first.after;
   least_after = first.least_after;
 }
+
+-- what a `Command` asks for
+abbrev pub asked_by : Command → Asked
+asked_by (command.First first) = First (first_asked first)
+asked_by (command.Check name) = Check name.now

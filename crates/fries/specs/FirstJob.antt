@@ -1,13 +1,14 @@
 -- The job of `first`.
 use Rattle.std.specs.Prelude.{ℕ, ℤ, List, [], ◌∷◌, false, codes}
-use Rattle.operators.specs.declared.job.Column.{Column}
-use Rattle.operators.specs.declared.job.ColumnKind.{ColumnKind}
-use Rattle.operators.specs.declared.job.ColumnKind.TheVariants as kind
-use Rattle.operators.specs.declared.job.Func.{Func}
-use Rattle.operators.specs.declared.job.Func.TheVariants as func
-use Rattle.operators.specs.declared.job.Job.{Job}
-use Rattle.operators.specs.declared.job.NodeDef.{NodeDef}
-use Rattle.operators.specs.declared.job.Test.TheVariants as test
+use Rattle.flow_dag.specs.declared.edge.Edge.{Edge}
+use Rattle.jobs.specs.Written.{Written}
+use Rattle.jobs.specs.declared.column.Column.{Column}
+use Rattle.jobs.specs.declared.column.ColumnKind.{ColumnKind}
+use Rattle.jobs.specs.declared.column.ColumnKind.TheVariants as kind
+use Rattle.jobs.specs.declared.func.Func.{Func}
+use Rattle.jobs.specs.declared.func.Func.TheVariants as func
+use Rattle.jobs.specs.declared.func.NodeDef.{NodeDef}
+use Rattle.jobs.specs.declared.func.Test.TheVariants as test
 use Rattle.tuple_trace.specs.declared.value.Value.TheVariants as value
 
 -- a column of the payments file
@@ -27,9 +28,14 @@ first_columns =
     column_of (codes "account") kind.Text ∷ column_of (codes "merchant") kind.Text
     ∷ column_of (codes "amount") kind.Cents ∷ column_of (codes "tags") kind.Text ∷ []
 
+abbrev pub first_edges : List Edge
+first_edges = (record { from = 0; port = 0; to = 1 }) ∷ (record { from = 1; port = 0; to = 2 }) ∷ []
+
 -- a source, a filter of large amounts, and a sink that shows every column
-abbrev pub first_job : ℤ → Job
+abbrev pub first_job : ℤ → Written
 first_job least = record {
   columns = first_columns;
   nodes = node_of (codes "card") func.Source ∷ node_of (codes "big") (at_least least) ∷ node_of (codes "alerts") (func.Sink (0 ∷ 1 ∷ 2 ∷ 3 ∷ [])) ∷ [];
+  edges = first_edges;
+  tables = [];
 }

@@ -7,5 +7,9 @@ pub mod Plain
 pub mod FirstJob
 pub mod Asked
 pub mod Faults
+pub mod FaultWords
 pub mod Lines
+pub mod Outside
+pub mod First
+pub mod Check
 pub mod Answers

@@ -1,47 +1,15 @@
 -- The lines that the program prints.
-use Rattle.std.specs.Prelude.{ℕ, Bool, true, false, List, ◌++◌, codes, count_by, decimal, is_some}
-use Rattle.payments.specs.declared.read.PFault.{PFault}
-use Rattle.payments.specs.declared.read.PFault.TheVariants as rows
+use Rattle.std.specs.Prelude.{ℕ, Bool, true, false, List, ◌++◌, codes, count_by, decimal, is_some, length}
+use Rattle.jobs.specs.Nodes.{worker_count}
+use Rattle.jobs.specs.Weights.{weight}
+use Rattle.jobs.specs.Written.{Written}
 use Rattle.sink_journal.specs.declared.journal.Feed.{Feed}
 use Rattle.sink_journal.specs.declared.journal.Feed.TheVariants as feed
 use Rattle.sink_journal.specs.Alerts.{met}
-use Rattle.fries.specs.Faults.{status_of}
 use Rattle.fries.specs.Whole.{journal_of}
 use Rattle.fries.specs.declared.executor.RunRecord.{RunRecord}
-use Rattle.fries.specs.declared.fault.Fault.{Fault}
-use Rattle.fries.specs.declared.fault.Fault.TheVariants as fault
-use Rattle.fries.specs.declared.fault.FileIs.{FileIs}
+use Rattle.fries.specs.declared.lines.Sizes.{Sizes}
 use Rattle.fries.specs.declared.lines.Summary.{Summary}
-use Rattle.fries.specs.declared.fault.FileIs.TheVariants as file
-
--- ---- faults
-
-abbrev pub file_words : FileIs → List ℕ
-file_words file.Payments = codes "payments"
-file_words file.Alerts = codes "alerts"
-file_words file.Out = codes "out"
-
-abbrev pub payments_words : PFault → List ℕ
-payments_words rows.NoHeader = codes "P1"
-payments_words rows.Header = codes "P2"
-payments_words (rows.Length row) = codes "P3 row " ++ decimal row
-payments_words (rows.Source row) = codes "P4 row " ++ decimal row
-payments_words (rows.Value row column) = codes "P5 row " ++ decimal row ++ codes " column " ++ decimal column
-payments_words (rows.TextLong row column) = codes "P6 row " ++ decimal row ++ codes " column " ++ decimal column
-payments_words (rows.TooMuch row) = codes "P7 row " ++ decimal row
-payments_words rows.NoMemory = codes "memory"
-
-abbrev pub fault_words : Fault → List ℕ
-fault_words fault.Usage = codes "usage"
-fault_words (fault.Payments code) = payments_words code
-fault_words (fault.Read file) = file_words file
-fault_words (fault.Write file) = file_words file
-fault_words fault.NoMemory = codes "memory"
-fault_words (fault.Long file) = file_words file
-
--- the line of a fault
-abbrev pub fault_line : Fault → List ℕ
-fault_line fault = codes "fault " ++ decimal (status_of fault) ++ codes " " ++ fault_words fault ++ codes "\n"
 
 -- ---- the summary of a run of `first`
 
@@ -71,3 +39,18 @@ summary_of done = record { rows = row_count done; alerts = alert_count done; req
 -- the line that ends such a run
 abbrev pub summary_line : RunRecord → List ℕ
 summary_line done = summary_words (summary_of done) ++ codes "\n"
+
+-- ---- the sizes of a job
+
+abbrev pub sizes_words : Sizes → List ℕ
+sizes_words sizes =
+    codes "nodes " ++ decimal sizes.nodes ++ codes " edges " ++ decimal sizes.edges
+    ++ codes " workers " ++ decimal sizes.workers ++ codes " weight " ++ decimal sizes.weight
+
+-- what is counted of a job: its workers are those that keep a journal
+abbrev pub sizes_of : Written → Sizes
+sizes_of job = record { nodes = length job.nodes; edges = length job.edges; workers = worker_count job.nodes; weight = weight job }
+
+-- the line that `check` prints
+abbrev pub sizes_line : Written → List ℕ
+sizes_line job = sizes_words (sizes_of job) ++ codes "\n"

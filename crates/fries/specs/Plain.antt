@@ -2,8 +2,8 @@
 use Rattle.std.specs.Prelude.{◌≡◌, ◌++◌, ℕ, List, map}
 use Rattle.std.specs.List.{flat_map}
 use Rattle.operators.specs.Meaning.{outputs}
-use Rattle.operators.specs.declared.job.Func.{Func}
-use Rattle.operators.specs.declared.job.Job.{Job}
+use Rattle.jobs.specs.declared.func.Func.{Func}
+use Rattle.jobs.specs.Written.{Written}
 use Rattle.sink_journal.specs.declared.journal.Entry.{Entry}
 use Rattle.sink_journal.specs.declared.journal.Entry.TheVariants as entry
 use Rattle.sink_journal.specs.declared.journal.Feed.{Feed}
@@ -23,11 +23,11 @@ abbrev pub big_entries : ℕ → List Row → List Entry
 big_entries issued rows = map (λ row. entry.Met 0 (fed_tuple issued row)) rows
 
 -- what `alerts` notes of a tuple that `big` meets
-abbrev pub passed_entries : Job → Local → Tuple → List Entry
+abbrev pub passed_entries : Written → Local → Tuple → List Entry
 passed_entries job local tuple = map (λ out. entry.Met 1 out.tuple) (outputs job (visit_at 1 local) local.func tuple)
 
 -- what `alerts` notes of these rows
-abbrev pub alert_entries : Job → Local → List Row → List Entry
+abbrev pub alert_entries : Written → Local → List Row → List Entry
 alert_entries job local rows = flat_map (λ row. passed_entries job local (fed_tuple local.last row)) rows
 
 -- what a tuple's way leaves as it was
@@ -36,7 +36,7 @@ pub record Keeps (old new : Run) : Type 0 where
   pub issued : new.issued ≡ old.issued
 
 -- a run with more rows
-pub record Gains (job : Job) (local : Local) (rows : List Row) (old new : Run) : Type 0 where
+pub record Gains (job : Written) (local : Local) (rows : List Row) (old new : Run) : Type 0 where
   pub feeds : new.feeds ≡ old.feeds ++ fed_entries rows
   pub big : new.big ≡ old.big ++ big_entries local.last rows
   pub alerts : new.alerts ≡ old.alerts ++ alert_entries job local rows

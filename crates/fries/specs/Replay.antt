@@ -2,8 +2,8 @@
 use Rattle.std.specs.Prelude.{◌==◌, ℕ, List, [], ◌∷◌, ◌++◌, map, if◌then◌else◌}
 use Rattle.std.specs.List.{flat_map}
 use Rattle.operators.specs.Meaning.{outputs}
-use Rattle.operators.specs.declared.job.Func.{Func}
-use Rattle.operators.specs.declared.job.Job.{Job}
+use Rattle.jobs.specs.declared.func.Func.{Func}
+use Rattle.jobs.specs.Written.{Written}
 use Rattle.sink_journal.specs.declared.journal.Entry.{Entry}
 use Rattle.sink_journal.specs.declared.journal.Entry.TheVariants as entry
 use Rattle.tuple_trace.specs.declared.tuple.Item.{Item}
@@ -27,14 +27,14 @@ abbrev pub visit_at : ℕ → Local → Visit
 visit_at node local = record { node = node; worker = 0; last = local.last }
 
 -- what the worker of a node with one lane in and one out puts on its lane at an entry, where no request covers that lane
-abbrev pub puts : Job → ℕ → Local → Entry → List Item
+abbrev pub puts : Written → ℕ → Local → Entry → List Item
 puts job node local (entry.Met lane tuple) = map (λ out. item.Carry out.tuple) (outputs job (visit_at node local) local.func tuple)
 puts job node local (entry.Marked lane request) = []
 puts job node local (entry.Turned request) = []
 puts job node local (entry.Ended lane) = item.Last ∷ []
 
 -- what the replay of a journal sends, from what is in force on
-abbrev pub sent : Job → ℕ → Func → Local → List Entry → List Item
+abbrev pub sent : Written → ℕ → Func → Local → List Entry → List Item
 sent job node next local [] = []
 sent job node next local (entry ∷ more) = puts job node local entry ++ sent job node next (after next local entry) more
 

@@ -1,8 +1,8 @@
 -- What a run of `first` is. The filter `big` is node 1 with worker 0, the sink `alerts` is node 2 with worker 1. Lane 0 leads from the source
 -- to `big`, lane 1 from `big` to `alerts`. The one request asks `big`, which is all that it covers, and no lane brings a marker.
 use Rattle.std.specs.Prelude.{◌≡◌, ◌==◌, ℕ, false, List, [], ◌∷◌, ◌++◌, length}
-use Rattle.operators.specs.declared.job.Func.{Func}
-use Rattle.operators.specs.declared.job.Job.{Job}
+use Rattle.jobs.specs.declared.func.Func.{Func}
+use Rattle.jobs.specs.Written.{Written}
 use Rattle.sink_journal.specs.declared.journal.Entry.{Entry}
 use Rattle.sink_journal.specs.declared.journal.Feed.{Feed}
 use Rattle.tuple_trace.specs.declared.row.Row.{Row}
@@ -23,7 +23,7 @@ abbrev pub cover : ℕ → ℕ
 cover request = 2
 
 -- The feeds and journals are a run of these rows by a job whose filter has one function at first, and another from the request after row `after` on.
-pub record IsRun (job : Job) (func next : Func) (after : ℕ) (rows : List Row) (feeds : List Feed) (journals : List (List Entry)) : Type 0 where
+pub record IsRun (job : Written) (func next : Func) (after : ℕ) (rows : List Row) (feeds : List Feed) (journals : List (List Entry)) : Type 0 where
   pub big : List Entry
   pub alerts : List Entry
   -- each worker has one journal, which is finished

@@ -1,7 +1,15 @@
-ghost use Rattle.std.specs.Prelude.{◌≡◌, option_map};
-ghost use Rattle.fries.specs.Asked.{asked_by, asked_of, is_name as is_name_of, least_of as least_of_word};
+ghost use Rattle.std.specs.Prelude.{◌≡◌, option_copied, option_map};
+ghost use Rattle.fries.specs.Asked.{asked_by, asked_of, first_asked, is_name as is_name_of, least_of as least_of_word, one_name, with_names};
 
 use tuple_trace::{Word, digits_up_to};
+
+/// What the program is asked to do.
+#[derive(Clone, Copy, Debug)]
+pub enum Command<'a> {
+    First(First<'a>),
+    /// To read this job file, and print the sizes of its job.
+    Check(&'a Word),
+}
 
 /// What the command `first` is asked to do.
 #[derive(Clone, Copy, Debug)]
@@ -21,14 +29,28 @@ pub struct First<'a> {
 /// The greatest number of rows that a request may wait for.
 const AFTER_MAX: u64 = 1_048_576;
 
-/// Reads the words `first PAYMENTS ALERTS MIN AFTER MIN2`. None where they have another form, or a number is outside its range.
-pub fn first_of(words: &[Word]) -> Option<First<'_>>
+/// Reads the words after the program's name, in the plain forms `first PAYMENTS ALERTS MIN AFTER MIN2` and `check JOB`. None where they
+/// have neither form, or a number is outside its range.
+pub fn command_of(words: &[Word]) -> Option<Command<'_>>
     ensures { option_map asked_by result ≡ asked_of words.now }
 {
-    let [command, payments, alerts, least, after, least_after] = words else {
+    let (command, rest) = words.split_first()?;
+    if command.as_str() == "first" {
+        Some(Command::First(first_of(rest)?))
+    } else if command.as_str() == "check" {
+        Some(Command::Check(name_of(rest)?))
+    } else {
+        None
+    }
+}
+
+fn first_of(words: &[Word]) -> Option<First<'_>>
+    ensures { option_map first_asked result ≡ with_names words.now }
+{
+    let [payments, alerts, least, after, least_after] = words else {
         return None;
     };
-    if command.as_str() != "first" || !is_name(payments) || !is_name(alerts) {
+    if !is_name(payments) || !is_name(alerts) {
         return None;
     }
     Some(First {
@@ -38,6 +60,15 @@ pub fn first_of(words: &[Word]) -> Option<First<'_>>
         after: digits_up_to(after.as_str().as_bytes(), AFTER_MAX)?,
         least_after: least_of(least_after)?,
     })
+}
+
+fn name_of(words: &[Word]) -> Option<&Word>
+    ensures { option_copied result ≡ one_name words.now }
+{
+    match words {
+        [name] if is_name(name) => Some(name),
+        _ => None,
+    }
 }
 
 // Whether a word may name a file.

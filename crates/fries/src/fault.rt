@@ -1,16 +1,16 @@
-ghost use Rattle.std.specs.Prelude.{◌≡◌, Some};
-ghost use Rattle.fries.specs.Faults.{payments_fault, status_of as status_of_fault};
-ghost use Rattle.fries.specs.Lines.{file_words, fault_words, payments_words};
+ghost use Rattle.std.specs.Prelude.{◌≡◌};
+ghost use Rattle.fries.specs.Faults.{job_fault, payments_fault, status_of as status_of_fault};
 ghost use Rattle.fries.specs.declared.fault.Fault.TheVariants.{NoMemory as OutOfMemory};
 
+use job_file::JobFault;
 use payments::PFault;
 use std::alloc::AllocError;
-use std::fmt;
 use tuple_trace::NoMemory;
 
 /// A file or stream that the program reads or writes.
 #[derive(Clone, Copy, Debug, PartialEq, Eq)]
 pub enum FileIs {
+    Job,
     Payments,
     Alerts,
     /// The standard output.
@@ -22,6 +22,8 @@ pub enum FileIs {
 pub enum Fault {
     /// The words have no form that the program knows.
     Usage,
+    /// The job file was read and is refused.
+    Job(JobFault),
     /// The payments were read and are refused.
     Payments(PFault),
     /// A file couldn't be read.
@@ -40,6 +42,7 @@ impl Fault {
     {
         match self {
             Fault::Usage => 1,
+            Fault::Job(_) => 2,
             Fault::Payments(_) => 4,
             Fault::Read(_) => 5,
             Fault::Write(_) => 6,
@@ -65,6 +68,17 @@ impl From<AllocError> for Fault {
     }
 }
 
+impl From<JobFault> for Fault {
+    ghost from_gives = { λ p e. e ≡ job_fault p };
+
+    fn from(fault: JobFault) -> Self {
+        match fault {
+            JobFault::NoMemory => Fault::NoMemory,
+            refused => Fault::Job(refused),
+        }
+    }
+}
+
 impl From<PFault> for Fault {
     ghost from_gives = { λ p e. e ≡ payments_fault p };
 
@@ -72,52 +86,6 @@ impl From<PFault> for Fault {
         match fault {
             PFault::NoMemory => Fault::NoMemory,
             refused => Fault::Payments(refused),
-        }
-    }
-}
-
-impl fmt::Display for FileIs {
-    ghost output = { λ file. Some (file_words file) };
-
-    fn fmt<W: fmt::Write>(&self, f: &mut fmt::Formatter<W>) -> fmt::Result {
-        match self {
-            FileIs::Payments => write!(f, "payments"),
-            FileIs::Alerts => write!(f, "alerts"),
-            FileIs::Out => write!(f, "out"),
-        }
-    }
-}
-
-/// Writes a fault of the payments as its code, and its row and column where it has them.
-#[derive(Drop)]
-struct PaymentsFault(PFault);
-
-impl fmt::Display for PaymentsFault {
-    ghost output = { λ fault. Some (payments_words fault.0) };
-
-    fn fmt<W: fmt::Write>(&self, f: &mut fmt::Formatter<W>) -> fmt::Result {
-        match self.0 {
-            PFault::NoHeader => write!(f, "P1"),
-            PFault::Header => write!(f, "P2"),
-            PFault::Length(row) => write!(f, "P3 row {row}"),
-            PFault::Source(row) => write!(f, "P4 row {row}"),
-            PFault::Value(row, column) => write!(f, "P5 row {row} column {column}"),
-            PFault::TextLong(row, column) => write!(f, "P6 row {row} column {column}"),
-            PFault::TooMuch(row) => write!(f, "P7 row {row}"),
-            PFault::NoMemory => write!(f, "memory"),
-        }
-    }
-}
-
-impl fmt::Display for Fault {
-    ghost output = { λ fault. Some (fault_words fault) };
-
-    fn fmt<W: fmt::Write>(&self, f: &mut fmt::Formatter<W>) -> fmt::Result {
-        match self {
-            Fault::Usage => write!(f, "usage"),
-            Fault::Payments(fault) => PaymentsFault(*fault).fmt(f),
-            Fault::Read(file) | Fault::Write(file) | Fault::Long(file) => file.fmt(f),
-            Fault::NoMemory => write!(f, "memory"),
         }
     }
 }

@@ -1,9 +1,10 @@
 ghost use Rattle.std.specs.Prelude.{◌≡◌, ◌⊎◌, None, IfOk, IfErr, OnOk, OnErr, length, string_bytes};
 ghost use Rattle.std.specs.Result.{result_err};
 ghost use Rattle.payments.specs.Files.{with_bytes, HoldsPrefix};
-ghost use Rattle.fries.specs.Answers.{alerts_of, outside, EndsAfterRun, EndsFirst, IsFirstRun, IsRead, StopsFor, StoresNot};
-ghost use Rattle.fries.specs.Asked.{asked_by};
+ghost use Rattle.fries.specs.Asked.{first_asked};
+ghost use Rattle.fries.specs.First.{alerts_of, payments_max, EndsAfterRun, EndsFirst, IsFirstRun, StopsFor};
 ghost use Rattle.fries.specs.Lines.{summary_line as summary_line_of};
+ghost use Rattle.fries.specs.Outside.{outside, IsRead, StoresNot};
 
 use crate::command::First;
 use crate::executor::{Change, RunRecord, run_rows};
@@ -33,7 +34,7 @@ pub fn first_command<S: Shelf, O: Sink>(
     shelf: &mut S,
     out: &mut O,
 ) -> Answer
-    ensures { EndsFirst (asked_by first.entry)
+    ensures { EndsFirst (first_asked first.entry)
         (outside (S.files shelf.old) (S.faults shelf.old) (S.target shelf.old) (O.written out.old) (O.faults out.old))
         (outside (S.files shelf.new) (S.faults shelf.new) (S.target shelf.new) (O.written out.new) (O.faults out.new))
         result.fault result.ran }
@@ -52,9 +53,9 @@ pub fn first_command<S: Shelf, O: Sink>(
 
 // Reads the payments and runs them.
 fn run_first<S: Shelf>(alloc: Global, first: First<'_>, shelf: &mut S) -> Result<RunRecord, Fault>
-    ensures run { IfOk result (IsFirstRun (asked_by first.entry) (S.files shelf.old)) }
+    ensures run { IfOk result (IsFirstRun (first_asked first.entry) (S.files shelf.old)) }
     ensures counts { OnOk result (S.faults shelf.new ≡ S.faults shelf.old) }
-    ensures cause { IfErr result (StopsFor (asked_by first.entry) (S.files shelf.old) (S.faults shelf.old) (S.faults shelf.new)) }
+    ensures cause { IfErr result (StopsFor (first_asked first.entry) (S.files shelf.old) (S.faults shelf.old) (S.faults shelf.new)) }
     ensures files { S.files shelf.new ≡ S.files shelf.old }
 {
     let job = first_job(alloc, first.least)?;
@@ -69,9 +70,9 @@ fn run_first<S: Shelf>(alloc: Global, first: First<'_>, shelf: &mut S) -> Result
 }
 
 fn read_payments<S: Shelf>(alloc: Global, first: First<'_>, shelf: &mut S) -> Result<Bytes, Fault>
-    ensures bytes { IfOk result (λ bytes. IsRead (asked_by first.entry) (S.files shelf.old) bytes) }
+    ensures bytes { IfOk result (λ bytes. IsRead (S.files shelf.old) first.entry.payments.now payments_max bytes) }
     ensures counts { OnOk result (S.faults shelf.new ≡ S.faults shelf.old) }
-    ensures cause { IfErr result (StopsFor (asked_by first.entry) (S.files shelf.old) (S.faults shelf.old) (S.faults shelf.new)) }
+    ensures cause { IfErr result (StopsFor (first_asked first.entry) (S.files shelf.old) (S.faults shelf.old) (S.faults shelf.new)) }
     ensures files { S.files shelf.new ≡ S.files shelf.old }
 {
     match shelf.read_all(alloc, first.payments, PAYMENTS_MAX) {
@@ -90,8 +91,8 @@ fn write_run<S: Shelf, O: Sink>(
     shelf: &mut S,
     out: &mut O,
 ) -> Result<(), Fault>
-    requires { IsFirstRun (asked_by first) (S.files shelf.old) done.now }
-    ensures { EndsAfterRun first.entry.alerts.now (alerts_of (asked_by first.entry) done.now) (summary_line_of done.now)
+    requires { IsFirstRun (first_asked first) (S.files shelf.old) done.now }
+    ensures { EndsAfterRun first.entry.alerts.now (alerts_of (first_asked first.entry) done.now) (summary_line_of done.now)
         (outside (S.files shelf.old) (S.faults shelf.old) (S.target shelf.old) (O.written out.old) (O.faults out.old))
         (outside (S.files shelf.new) (S.faults shelf.new) (S.target shelf.new) (O.written out.new) (O.faults out.new))
         (result_err result) }
@@ -109,7 +110,7 @@ struct Texts {
 
 fn texts_of(alloc: Global, first: First<'_>, done: &RunRecord) -> Result<Texts, NoMemory>
     requires { length done.now.journals ≡ 2 }
-    ensures alerts { IfOk result (λ texts. texts.alerts ≡ alerts_of (asked_by first.entry) done.now) }
+    ensures alerts { IfOk result (λ texts. texts.alerts ≡ alerts_of (first_asked first.entry) done.now) }
     ensures summary { IfOk result (λ texts. string_bytes texts.summary ≡ summary_line_of done.now) }
 {
     let job = first_job(alloc, first.least)?;

@@ -1,8 +1,10 @@
 ghost use Rattle.std.specs.Prelude.{◌≡◌, IfOk};
+ghost use Rattle.jobs.specs.Job.{written};
 ghost use Rattle.fries.specs.FirstJob.{at_least as at_least_of, column_of, first_columns, first_job as first_job_of, node_of};
 
-use operators::{
-    Column, ColumnDefs, ColumnKind, Columns, Cond, Conds, Func, Job, NodeDef, NodeDefs, Test,
+use flow_dag::Edge;
+use jobs::{
+    Column, ColumnDefs, ColumnKind, Columns, Cond, Conds, Func, Job, NodeDef, NodeDefs, Tables, Test,
 };
 use std::alloc::Global;
 use tuple_trace::{NoMemory, Txt, Value};
@@ -12,17 +14,28 @@ const AMOUNT: u32 = 2;
 
 /// The job of the command `first`: payments enter by `card`, those of at least so many cents pass `big`, and `alerts` shows them.
 pub fn first_job(alloc: Global, least: i64) -> Result<Job, NoMemory>
-    ensures { IfOk result (λ job. job ≡ first_job_of least) }
+    ensures { IfOk result (λ job. written job ≡ first_job_of least) }
 {
     let listed = Columns::from_slice(alloc, &[0, 1, 2, 3])?;
     let card = node(alloc, b"card", Func::Source)?;
     let big = node(alloc, b"big", at_least(alloc, least)?)?;
     let alerts = node(alloc, b"alerts", Func::Sink(listed))?;
     let nodes = Vec::from_array(alloc, [card, big, alerts])?;
-    Ok(Job {
-        columns: columns(alloc)?,
-        nodes: NodeDefs::from_vec(nodes),
-    })
+    let edges = [
+        Edge {
+            from: 0,
+            port: 0,
+            to: 1,
+        },
+        Edge {
+            from: 1,
+            port: 0,
+            to: 2,
+        },
+    ];
+    let (columns, nodes) = (columns(alloc)?, NodeDefs::from_vec(nodes));
+    // The parts are lawful, so memory is all that can be wanting.
+    Job::check(alloc, columns, nodes, &edges, Tables::new(alloc)).map_err(|_| NoMemory)
 }
 
 /// The function of `big` that lets amounts from so many cents on pass.

@@ -1,8 +1,11 @@
 ghost use Rattle.std.specs.Prelude.{◌≡◌, Some, IfOk, string_bytes};
-ghost use Rattle.fries.specs.Lines.{alert_count as alert_count_of, fault_line as fault_line_of, row_count as row_count_of, summary_line as summary_line_of};
+ghost use Rattle.jobs.specs.Job.{written};
+ghost use Rattle.fries.specs.FaultWords.{fault_line as fault_line_of};
+ghost use Rattle.fries.specs.Lines.{alert_count as alert_count_of, row_count as row_count_of, sizes_line as sizes_line_of, sizes_of as sizes_of_job, summary_line as summary_line_of};
 
 use crate::executor::RunRecord;
 use crate::fault::Fault;
+use jobs::{Job, weight, worker_count};
 use sink_journal::{Entry, Feed};
 use std::alloc::Global;
 use std::fmt;
@@ -84,4 +87,53 @@ pub fn fault_line(alloc: Global, fault: Fault) -> Result<String, NoMemory>
 {
     let status = fault.status();
     Ok(format!(in alloc; "fault {status} {fault}\n")?)
+}
+
+/// What a job is measured by.
+#[derive(Clone, Copy, Debug, PartialEq, Eq)]
+pub struct Sizes {
+    pub nodes: usize,
+    pub edges: u32,
+    /// The workers of the nodes that aren't sources.
+    pub workers: u64,
+    /// How many tuples one row may bring to the nodes that aren't sources.
+    pub weight: u64,
+}
+
+impl fmt::Display for Sizes {
+    ghost use Rattle.fries.specs.Lines.{sizes_words};
+
+    ghost output = { λ sizes. Some (sizes_words sizes) };
+
+    fn fmt<W: fmt::Write>(&self, f: &mut fmt::Formatter<W>) -> fmt::Result {
+        let Sizes {
+            nodes,
+            edges,
+            workers,
+            weight,
+        } = *self;
+        write!(
+            f,
+            "nodes {nodes} edges {edges} workers {workers} weight {weight}"
+        )
+    }
+}
+
+/// The line that `check` prints of a job.
+pub fn sizes_line(alloc: Global, job: &Job) -> Result<String, NoMemory>
+    ensures { IfOk result (λ line. string_bytes line ≡ sizes_line_of (written job.now)) }
+{
+    let sizes = sizes_of(job);
+    Ok(format!(in alloc; "{sizes}\n")?)
+}
+
+fn sizes_of(job: &Job) -> Sizes
+    ensures { result ≡ sizes_of_job (written job.now) }
+{
+    Sizes {
+        nodes: job.nodes.len(),
+        edges: job.dag.edges(),
+        workers: worker_count(job),
+        weight: weight(job),
+    }
 }

@@ -4,9 +4,11 @@
 //! `main` makes; its contract is what the program promises.
 #![tactic(auto)]
 
+mod check;
 mod command;
 mod executor;
 mod fault;
+mod fault_words;
 mod first;
 mod job;
 mod lines;

@@ -1,6 +1,6 @@
 ghost use Rattle.std.specs.Prelude.{◌≡◌, ◌++◌, IfErr, OnOk, option_map};
 ghost use Rattle.payments.specs.Causes.{GainsPrefix};
-ghost use Rattle.fries.specs.Answers.{PrintsNot};
+ghost use Rattle.fries.specs.Outside.{PrintsNot};
 
 use crate::fault::{Fault, FileIs};
 use payments::{Sink, SinkFault, write_all};

@@ -1,11 +1,15 @@
 ghost use Rattle.std.specs.Prelude.{◌≡◌, ◌++◌, [], None, Some, IfErr, IfNone, IfSome, OnOk, option_map};
 ghost use Rattle.payments.specs.Causes.{GainsPrefix};
-ghost use Rattle.fries.specs.Answers.{outside, AnswersFirst, AnswersUsage, FollowsFile, PrintsNot, PrintsReport};
-ghost use Rattle.fries.specs.Asked.{asked_by, asked_of};
+ghost use Rattle.fries.specs.Answers.{Answers, AnswersUsage, Follows};
+ghost use Rattle.fries.specs.Asked.{asked_by, asked_of, first_asked};
+ghost use Rattle.fries.specs.Check.{AnswersCheck, FollowsJob};
+ghost use Rattle.fries.specs.FaultWords.{fault_line as fault_line_of};
 ghost use Rattle.fries.specs.Faults.{status_for};
-ghost use Rattle.fries.specs.Lines.{fault_line as fault_line_of};
+ghost use Rattle.fries.specs.First.{AnswersFirst, FollowsPayments};
+ghost use Rattle.fries.specs.Outside.{outside, PrintsNot, PrintsReport};
 
-use crate::command::{First, first_of};
+use crate::check::check_command;
+use crate::command::{Command, First, command_of};
 use crate::executor::RunRecord;
 use crate::fault::{Fault, FileIs};
 use crate::first::{Answer, first_command};
@@ -61,19 +65,20 @@ where
         (outside (S.files shelf.old) (S.faults shelf.old) (S.target shelf.old) (O.written out.old) (O.faults out.old))
         (outside (S.files shelf.new) (S.faults shelf.new) (S.target shelf.new) (O.written out.new) (O.faults out.new))
         result.fault result.ran) }
-    ensures first { IfSome (asked_of words.now) (λ asked. AnswersFirst asked
+    ensures answers { IfSome (asked_of words.now) (λ asked. Answers asked
         (outside (S.files shelf.old) (S.faults shelf.old) (S.target shelf.old) (O.written out.old) (O.faults out.old))
         (outside (S.files shelf.new) (S.faults shelf.new) (S.target shelf.new) (O.written out.new) (O.faults out.new))
         result.fault result.ran) }
-    ensures file { IfSome (asked_of words.now) (λ asked. FollowsFile asked
+    ensures file { IfSome (asked_of words.now) (λ asked. Follows asked
         (outside (S.files shelf.old) (S.faults shelf.old) (S.target shelf.old) (O.written out.old) (O.faults out.old))
         (outside (S.files shelf.new) (S.faults shelf.new) (S.target shelf.new) (O.written out.new) (O.faults out.new))
         result.fault) }
     ensures status { result.status ≡ status_for result.fault }
     ensures refused { result.refused ≡ [] }
 {
-    let answer = match first_of(words) {
-        Some(first) => answer_first(alloc, first, shelf, out),
+    let answer = match command_of(words) {
+        Some(Command::First(first)) => answer_first(alloc, first, shelf, out),
+        Some(Command::Check(job)) => answer_check(alloc, job, shelf, out),
         None => answer_usage(alloc, out),
     };
     Outcome {
@@ -90,11 +95,11 @@ fn answer_first<S: Shelf, O: Sink>(
     shelf: &mut S,
     out: &mut O,
 ) -> Answer
-    ensures first { AnswersFirst (asked_by first.entry)
+    ensures first { AnswersFirst (first_asked first.entry)
         (outside (S.files shelf.old) (S.faults shelf.old) (S.target shelf.old) (O.written out.old) (O.faults out.old))
         (outside (S.files shelf.new) (S.faults shelf.new) (S.target shelf.new) (O.written out.new) (O.faults out.new))
         result.fault result.ran }
-    ensures file { FollowsFile (asked_by first.entry)
+    ensures file { FollowsPayments (first_asked first.entry)
         (outside (S.files shelf.old) (S.faults shelf.old) (S.target shelf.old) (O.written out.old) (O.faults out.old))
         (outside (S.files shelf.new) (S.faults shelf.new) (S.target shelf.new) (O.written out.new) (O.faults out.new))
         result.fault }
@@ -102,6 +107,26 @@ fn answer_first<S: Shelf, O: Sink>(
     let answer = first_command(alloc, first, shelf, out);
     report(alloc, answer.fault, out);
     answer
+}
+
+fn answer_check<S: Shelf, O: Sink>(
+    alloc: Global,
+    job: &Word,
+    shelf: &mut S,
+    out: &mut O,
+) -> Answer
+    ensures check { AnswersCheck job.now
+        (outside (S.files shelf.old) (S.faults shelf.old) (S.target shelf.old) (O.written out.old) (O.faults out.old))
+        (outside (S.files shelf.new) (S.faults shelf.new) (S.target shelf.new) (O.written out.new) (O.faults out.new))
+        result.fault result.ran }
+    ensures file { FollowsJob job.now
+        (outside (S.files shelf.old) (S.faults shelf.old) (S.target shelf.old) (O.written out.old) (O.faults out.old))
+        (outside (S.files shelf.new) (S.faults shelf.new) (S.target shelf.new) (O.written out.new) (O.faults out.new))
+        result.fault }
+{
+    let fault = check_command(alloc, job, shelf, out).err();
+    report(alloc, fault, out);
+    Answer { fault, ran: None }
 }
 
 fn answer_usage<O: Sink>(alloc: Global, out: &mut O) -> Answer

@@ -1,6 +1,7 @@
 -- Edges between the nodes of a job.
-use Rattle.std.proofs.Common.{◌≡◌, ◌<◌, ◌+◌, ℕ, List, [], ◌∷◌, length, take, get_or, Bool, true, false, ◌&&◌, ◌||◌, ◌==◌, not, Some, All, IsTrue, refl, sym, ◌∙◌, arith, zero, suc, rules}
-use Rattle.std.specs.List.{slice_get, list_any}
+use Rattle.std.proofs.Common.{◌≡◌, ◌<◌, ℕ, List, [], ◌∷◌, length, take, get_or, Bool, true, false, ◌&&◌, ◌==◌, not, Some, All, refl, sym, ◌∙◌, arith, zero, suc}
+use Rattle.std.specs.List.{slice_get}
+use Rattle.std.proofs.lemmas.Bool.{and_from, and_parts, both_ways, eq-eqb, not-true, or_parts}
 use Rattle.std.proofs.lemmas.Grind.{common_steps}
 use Rattle.std.proofs.lemmas.Option.{get_or_from_slice_get, slice_get_within, slice_get-get_or}
 use Rattle.std.proofs.lemmas.List.{length-take}
@@ -13,9 +14,6 @@ use Rattle.jobs.specs.declared.func.NodeDef.{NodeDef}
 use Rattle.jobs.specs.Places.{EachPasses}
 use Rattle.jobs.specs.Ports.{are_ports, has_edge, has_ports, is_entered, leads_twice, leaves, may_enter, may_leave, out_count}
 
-pub clash : {b : Bool} → b ≡ false → b ≡ true → ⊥
-clash p q = cc
-
 -- an edge with an end outside is no edge inside
 pub IsOutside-inside : (n : ℕ) (edges : List Edge) (i : ℕ) → IsOutside n edges i → All (IsInside n) edges → ⊥
 IsOutside-inside n edges i (e, at, out) all =
@@ -24,29 +22,9 @@ IsOutside-inside n edges i (e, at, out) all =
     let inside : IsInside n (get_or edges i e) = All-get_or (IsInside n) edges i e within all in
     out (rw here at inside)
 
-or-false : (a b : Bool) → (a || b) ≡ false → (a ≡ false) × (b ≡ false)
-or-false true b e = absurd (cc e)
-or-false false b e = (refl, e)
-
-and-false_right : (a b : Bool) → a ≡ true → (a && b) ≡ false → b ≡ false
-and-false_right true b p e = e
-and-false_right false b p e = absurd (cc p)
-
-not-true : (b : Bool) → not b ≡ true → b ≡ false
-not-true true e = absurd (cc e)
-not-true false e = refl
-
-last-of_four : (a b c d : Bool) → (a && b && c && not d) ≡ true → d ≡ false
-last-of_four true true true d e = not-true d e
-last-of_four false b c d e = absurd (cc e)
-last-of_four true false c d e = absurd (cc e)
-last-of_four true true false d e = absurd (cc e)
-
-same-eqb : (a b : ℕ) → a ≡ b → (a == b) ≡ true
-same-eqb a b is = grind (arith, common_steps)
-
-and-both : (a b : Bool) → a ≡ true → b ≡ true → (a && b) ≡ true
-and-both a b p q = rw p q
+and_cases-right : (a b : Bool) → a ≡ true → (a && b) ≡ false → b ≡ false
+and_cases-right true b p e = e
+and_cases-right false b p e = absurd (both_ways false refl p)
 
 -- where a node's edges lead to different nodes, no two of them lead to one
 leads_twice-apart :
@@ -55,14 +33,14 @@ leads_twice-apart :
 leads_twice-apart [] v i j d apart lt within fi fj to = omega arith
 leads_twice-apart (e ∷ edges) v i zero d apart lt within fi fj to = omega arith
 leads_twice-apart (e ∷ edges) v zero (suc j) d apart lt within fi fj to =
-    let (first, rest) = or-false (leaves v e && has_edge edges v e.to) (leads_twice edges v) apart in
-    let none : has_edge edges v e.to ≡ false = and-false_right (leaves v e) (has_edge edges v e.to) (same-eqb e.from v fi) first in
+    let (first, rest) = or_parts (leaves v e && has_edge edges v e.to) (leads_twice edges v) apart in
+    let none : has_edge edges v e.to ≡ false = and_cases-right (leaves v e) (has_edge edges v e.to) (eq-eqb e.from v fi) first in
     let joins : ((get_or edges j d).from == v && (get_or edges j d).to == e.to) ≡ true =
-    and-both ((get_or edges j d).from == v) ((get_or edges j d).to == e.to) (same-eqb (get_or edges j d).from v fj) (same-eqb (get_or edges j d).to e.to to) in
+    and_from ((get_or edges j d).from == v) ((get_or edges j d).to == e.to) (eq-eqb (get_or edges j d).from v fj) (eq-eqb (get_or edges j d).to e.to to) in
     let some : has_edge edges v e.to ≡ true = list_any_at (λ (x : Edge). x.from == v && x.to == e.to) edges j d (omega (arith, within)) joins in
-    clash none some
+    both_ways (has_edge edges v e.to) none some
 leads_twice-apart (e ∷ edges) v (suc i) (suc j) d apart lt within fi fj to =
-    let (first, rest) = or-false (leaves v e && has_edge edges v e.to) (leads_twice edges v) apart in
+    let (first, rest) = or_parts (leaves v e && has_edge edges v e.to) (leads_twice edges v) apart in
     leads_twice-apart edges v i j d rest (omega (arith, lt)) (omega (arith, within)) fi fj to
 
 get_or-take : {A : Type 0} (xs : List A) (i k : ℕ) (d : A) → k < i → get_or (take i xs) k d ≡ get_or xs k d
@@ -79,7 +57,8 @@ IsRepeated-twice edges i e at (k, x, lt, there, (from, to)) apart =
 are_ports-apart : (edges : List Edge) (v : ℕ) (f : Func) → are_ports edges v f ≡ true → leads_twice edges v ≡ false
 unfolding are_ports
 are_ports-apart edges v f ok =
-    last-of_four (may_enter f (is_entered edges v)) (may_leave f (out_count edges v)) (has_ports edges v (out_count edges v)) (leads_twice edges v) ok
+    let kind : Bool = may_enter f (is_entered edges v) && may_leave f (out_count edges v) && has_ports edges v (out_count edges v) in
+    not-true (leads_twice edges v) (and_parts kind (not (leads_twice edges v)) ok).1
 
 item_at : {A : Type 0} (xs : List A) (i : ℕ) → i < length xs → (x : A) × (slice_get xs i ≡ Some x)
 item_at [] i lt = absurd (omega arith)

@@ -1,15 +1,8 @@
 -- Ports of a node.
-use Rattle.std.proofs.Common.{◌≡◌, ◌<◌, ◌+◌, ℕ, List, Bool, true, false, ◌&&◌, refl, subst, inl, inr, arith, zero, suc}
-use Rattle.std.proofs.lemmas.Bool.{cases_eq}
+use Rattle.std.proofs.Common.{◌≡◌, ◌<◌, ◌+◌, ℕ, List, true, false, ◌&&◌, refl, subst, inl, inr, arith, zero, suc}
+use Rattle.std.proofs.lemmas.Bool.{and_from, and_right, cases_eq}
 use Rattle.flow_dag.specs.declared.edge.Edge.{Edge}
 use Rattle.jobs.specs.Ports.{has_port, has_ports}
-
-and-true : (a b : Bool) → a ≡ true → b ≡ true → (a && b) ≡ true
-and-true a b p q = rw p q
-
-and-false : (a b : Bool) → b ≡ false → (a && b) ≡ false
-and-false true b e = e
-and-false false b e = refl
 
 pub has_ports-zero : (edges : List Edge) (node : ℕ) → has_ports edges node 0 ≡ true
 unfolding has_ports
@@ -17,7 +10,7 @@ has_ports-zero edges node = refl
 
 has_ports-suc : (edges : List Edge) (node n : ℕ) → has_ports edges node n ≡ true → has_port edges node n ≡ true → has_ports edges node (suc n) ≡ true
 unfolding has_ports
-has_ports-suc edges node n below here = and-true (has_ports edges node n) (has_port edges node n) below here
+has_ports-suc edges node n below here = and_from (has_ports edges node n) (has_port edges node n) below here
 
 -- one port more
 pub has_ports-more : (edges : List Edge) (node n : ℕ) → has_ports edges node n ≡ true → has_port edges node n ≡ true → has_ports edges node (n + 1) ≡ true
@@ -32,7 +25,7 @@ has_ports-lacks edges node n zero below none = absurd (omega arith)
 has_ports-lacks edges node n (suc m) below none =
     elim (cases_eq n m) [
       | inl same ↦
-          let here : (has_ports edges node n && has_port edges node n) ≡ false = and-false (has_ports edges node n) (has_port edges node n) none in
+          let here : (has_ports edges node n && has_port edges node n) ≡ false = and_right (has_ports edges node n) (has_port edges node n) none in
           rw (← same) here
       | inr ne ↦ rw (has_ports-lacks edges node n m (omega arith) none) refl
     ]

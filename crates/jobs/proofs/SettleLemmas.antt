@@ -1,6 +1,5 @@
 -- Weights settle: a node at place p of a topological order has its weight from round p + 1 on.
-use Rattle.std.proofs.Common.{◌≡◌, ◌<◌, ◌+◌, ℕ, List, All, length, get_or, Some, refl, sym, ◌∙◌, arith, zero, suc, slice_index_or}
-use Rattle.std.specs.List.{slice_get}
+use Rattle.std.proofs.Common.{◌≡◌, ◌<◌, ℕ, List, All, length, sym, ◌∙◌, arith, zero, suc, slice_index_or}
 use Rattle.std.proofs.lemmas.Option.{slice_get-get_or, slice_get_within}
 use Rattle.flow_dag.specs.declared.edge.Edge.{Edge}
 use Rattle.flow_dag.specs.Dag.{DagView}

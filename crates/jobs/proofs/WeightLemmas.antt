@@ -1,15 +1,12 @@
 -- Weights of nodes, round by round.
-use Rattle.std.proofs.Common.{◌≡◌, ◌<◌, ◌+◌, ℕ, List, [], ◌∷◌, All, Bool, true, false, length, inl, inr, refl, ap, subst, sym, ◌∙◌, arith, zero, suc, ◌==◌, slice_index_or}
-use Rattle.std.specs.List.{fold, slice_get}
+use Rattle.std.proofs.Common.{◌≡◌, ◌<◌, ◌+◌, ℕ, List, [], ◌∷◌, All, length, inl, inr, refl, ap, subst, ◌∙◌, arith, suc, slice_index_or}
+use Rattle.std.specs.List.{fold}
 use Rattle.std.proofs.lemmas.Bool.{cases_eq, ne_eqb}
 use Rattle.std.proofs.lemmas.List.Elements.{All-head, All-tail}
 use Rattle.flow_dag.specs.declared.edge.Edge.{Edge}
-use Rattle.flow_dag.specs.Edges.{HasEdge, IsInside}
-use Rattle.flow_dag.specs.Order.{IsTopologicalOrder, place_of}
-use Rattle.flow_dag.proofs.PlaceLemmas.{place_of-below, place_of-forward}
+use Rattle.flow_dag.specs.Edges.{IsInside}
 use Rattle.jobs.specs.declared.func.NodeDef.{NodeDef}
-use Rattle.jobs.specs.Nodes.{is_source_node}
-use Rattle.jobs.specs.Weights.{added_by, brought_to, weighed, weight_after, weight_from, with_edge, with_more, fan_out_at}
+use Rattle.jobs.specs.Weights.{weighed, weight_after, weight_from, with_edge}
 
 -- what an edge brings is the same where its sender weighs the same
 with_edge-same :

@@ -5,7 +5,6 @@ use Rattle.flow_dag.specs.Paths.{IsAcyclic, Reaches}
 use Rattle.jobs.specs.declared.fault.LawFault.{LawFault}
 use Rattle.jobs.specs.declared.fault.LawFault.TheVariants as fault
 use Rattle.jobs.specs.declared.fault.Named.TheVariants as named
-use Rattle.jobs.specs.declared.func.Func.{Func}
 use Rattle.jobs.specs.declared.func.NodeDef.{NodeDef}
 use Rattle.jobs.specs.Fits.{fits_columns, fits_table}
 use Rattle.jobs.specs.Limits.{HasLimits, first_oversize_of}

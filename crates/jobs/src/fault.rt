@@ -5,7 +5,7 @@ pub enum Named {
     Column,
 }
 
-/// What has a limit.
+/// What has a limit. Requests, changes and `after` are those of a request file.
 #[derive(Clone, Copy, Debug, PartialEq, Eq)]
 pub enum Which {
     Nodes,
@@ -23,12 +23,12 @@ pub enum Which {
     After,
 }
 
-/// Why the parts of a job make no lawful job.
+/// Why the parts of a job make no lawful job, in the order in which the faults are looked for.
 #[derive(Clone, Copy, Debug, PartialEq, Eq)]
 pub enum LawFault {
     /// A count or a size is outside its limit; the number is the one that is.
     Limit(Which, i64),
-    /// The column or node at this place has the name of an earlier one.
+    /// The column or node at this place has the name of an earlier one. Columns are looked at before nodes.
     NameTwice(Named, u32),
     /// The edge at this place has an end that is no node.
     NoSuchEnd(u32),
@@ -40,7 +40,7 @@ pub enum LawFault {
     Column(u32),
     /// The table of this node isn't there.
     NoTable(u32),
-    /// The weight of the job is too great.
+    /// The weight of the job is above 1,024.
     Weight(u64),
     NoMemory,
 }

@@ -21,7 +21,6 @@ mod tables;
 #[cfg(test)]
 mod tests;
 mod weights;
-mod workers;
 
 pub use column::{Column, ColumnDefs, ColumnKind, Columns};
 pub use fault::{LawFault, Named, Which};
@@ -34,6 +33,5 @@ pub use job::Job;
 pub use laws::{functions_fit, refused_is_unlawful, weights_settle};
 pub use limits::size_fault;
 pub use node::{is_source, may_emit_many};
-pub use queries::{fits, weight};
+pub use queries::{fits, weight, worker_count};
 pub use table::{Table, Tables};
-pub use workers::worker_count;

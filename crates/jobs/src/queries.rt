@@ -2,9 +2,10 @@
 ghost use Rattle.std.specs.Prelude.{◌≡◌, ◌≤◌};
 ghost use Rattle.jobs.specs.Fits.{fits};
 ghost use Rattle.jobs.specs.Job.{written};
+ghost use Rattle.jobs.specs.Nodes.{worker_count};
 ghost use Rattle.jobs.specs.Weights.{weight};
 
-use crate::{Func, Job, fitting, weights};
+use crate::{Func, Job, fitting, limits, weights};
 
 /// Whether a node of the job may have the function: the columns and the table that it names are there and fit. Takes no memory.
 pub fn fits(job: &Job, func: &Func) -> bool
@@ -20,4 +21,12 @@ pub fn weight(job: &Job) -> u64
     ensures limit { result ≤ 1024 }
 {
     weights::weight_of(job.nodes.as_slice(), job.dag.all_edges())
+}
+
+/// How many workers of the job keep a journal: those of its nodes that aren't sources. Takes no memory.
+pub fn worker_count(job: &Job) -> u64
+    ensures value { result ≡ worker_count job.now.nodes }
+    ensures limit { result ≤ 64 }
+{
+    limits::all_workers(job.nodes.as_slice())
 }

@@ -4,7 +4,7 @@ use Rattle.std.proofs.lemmas.List.{drop-drop, drop_all}
 use Rattle.std.specs.Prelude.{nat_eq}
 use Rattle.std.specs.Cmp.Lexicographic.{pointwise}
 use Rattle.csv.specs.Records.{field_at}
-use Rattle.operators.specs.declared.job.Column.{Column}
+use Rattle.jobs.specs.declared.column.Column.{Column}
 use Rattle.tuple_trace.specs.declared.value.Value.{Value}
 use Rattle.payments.specs.declared.read.PFault.{PFault}
 use Rattle.payments.proofs.Rest.{after, after-before, after-end, drop-item}

@@ -6,7 +6,7 @@ ghost use Rattle.payments.specs.Reading.{begins_with, cells_behind, field_of as 
 use crate::PFault;
 use crate::spelling::{amount, number};
 use csv::ByteRecord;
-use operators::{Column, ColumnKind};
+use jobs::{Column, ColumnKind};
 use std::alloc::Global;
 use tuple_trace::{Fields, Txt, Value};
 

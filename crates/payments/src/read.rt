@@ -1,5 +1,6 @@
 ghost use Rattle.std.specs.Prelude.{◌≡◌, ◌≢◌, Ok, Err, IfOk, IfErr, length};
 ghost use Rattle.csv.specs.Records.{fields_of as cells_of};
+ghost use Rattle.jobs.specs.Job.{written};
 ghost use Rattle.payments.specs.Reading.{AreFromSources, header_of, rows_from, rows_of};
 ghost use Rattle.payments.specs.declared.read.PFault.TheVariants.{NoMemory as OutOfMemory};
 
@@ -7,7 +8,7 @@ use crate::cells::is_header;
 use crate::records::TextRecords;
 use crate::row::{Measure, row_of};
 use csv::ByteRecord;
-use operators::{Job, weight};
+use jobs::{Job, weight};
 use std::alloc::Global;
 use tuple_trace::{NoMemory, Rows};
 
@@ -42,12 +43,12 @@ impl From<NoMemory> for PFault {
 /// The rows of a payments file of this job, or its first fault.
 ///
 /// The file is CSV with a header. Its faults are looked for in this order: the header; then row by row the number of rows, the number
-/// of fields, the source, and the columns from left to right. Columns that are the job's own aren't in the file. Where two sources
-/// have one name, it means the first. The file is read in one pass, and no more of it is kept than its rows.
+/// of fields, the source, and the columns from left to right. Columns that are the job's own aren't in the file. The file is read in one
+/// pass, and no more of it is kept than its rows.
 pub fn read_rows(alloc: Global, job: &Job, bytes: &[u8]) -> Result<Rows, PFault>
-    ensures ok { IfOk result (λ rows. rows_of job.now bytes.now ≡ Ok rows) }
-    ensures sources { IfOk result (λ rows. AreFromSources job.now rows) }
-    ensures fault { IfErr result (λ fault. fault ≢ PFault.NoMemory → rows_of job.now bytes.now ≡ Err fault) }
+    ensures ok { IfOk result (λ rows. rows_of (written job.now) bytes.now ≡ Ok rows) }
+    ensures sources { IfOk result (λ rows. AreFromSources (written job.now) rows) }
+    ensures fault { IfErr result (λ fault. fault ≢ PFault.NoMemory → rows_of (written job.now) bytes.now ≡ Err fault) }
 {
     let mut records = TextRecords::of(alloc, bytes);
     let mut cells = ByteRecord::new(alloc);
@@ -67,10 +68,10 @@ fn later_rows(
     records: &mut TextRecords<'_>,
     cells: &mut ByteRecord,
 ) -> Result<Rows, PFault>
-    requires header { length (cells_of cells.old) ≡ length (header_of job.now) }
-    ensures ok { IfOk result (λ rows. rows_from job.now 1 records.old ≡ Ok rows) }
-    ensures sources { IfOk result (λ rows. AreFromSources job.now rows) }
-    ensures fault { IfErr result (λ fault. fault ≢ PFault.NoMemory → rows_from job.now 1 records.old ≡ Err fault) }
+    requires header { length (cells_of cells.old) ≡ length (header_of (written job.now)) }
+    ensures ok { IfOk result (λ rows. rows_from (written job.now) 1 records.old ≡ Ok rows) }
+    ensures sources { IfOk result (λ rows. AreFromSources (written job.now) rows) }
+    ensures fault { IfErr result (λ fault. fault ≢ PFault.NoMemory → rows_from (written job.now) 1 records.old ≡ Err fault) }
 {
     let measure = Measure {
         weight: weight(job),

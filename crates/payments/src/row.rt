@@ -1,12 +1,13 @@
 ghost use Rattle.std.specs.Prelude.{◌≡◌, ◌≢◌, Ok, Err, IfOk, IfErr, length};
 ghost use Rattle.csv.specs.Records.{fields_of as cells_of};
-ghost use Rattle.operators.specs.Nodes.{weight as weight_of};
+ghost use Rattle.jobs.specs.Job.{written};
+ghost use Rattle.jobs.specs.Weights.{weight as weight_of};
 ghost use Rattle.payments.specs.Reading.{header_of, is_source_with as is_source_node_with, row_from as row_from_record, row_of as row_of_record, source_named as source_named_of};
 
 use crate::PFault;
 use crate::cells::{fields_of, number_of, take_cell};
 use csv::ByteRecord;
-use operators::{Func, Job, NodeDef};
+use jobs::{Job, NodeDef, is_source};
 use std::alloc::Global;
 use tuple_trace::{Births, Row, Tuple, Visits};
 
@@ -28,10 +29,10 @@ pub(crate) fn row_of(
     row: u64,
     cells: &ByteRecord,
 ) -> Result<Row, PFault>
-    requires weight { measure.weight ≡ weight_of job.now }
-    requires width { measure.width ≡ length (header_of job.now) }
-    ensures ok { IfOk result (λ made. row_of_record job.now row (cells_of cells.now) ≡ Ok made) }
-    ensures fault { IfErr result (λ fault. fault ≢ PFault.NoMemory → row_of_record job.now row (cells_of cells.now) ≡ Err fault) }
+    requires weight { measure.weight ≡ weight_of (written job.now) }
+    requires width { measure.width ≡ length (header_of (written job.now)) }
+    ensures ok { IfOk result (λ made. row_of_record (written job.now) row (cells_of cells.now) ≡ Ok made) }
+    ensures fault { IfErr result (λ fault. fault ≢ PFault.NoMemory → row_of_record (written job.now) row (cells_of cells.now) ≡ Err fault) }
 {
     if row.saturating_mul(measure.weight) > WORK_MAX {
         return Err(PFault::TooMuch(row));
@@ -43,8 +44,8 @@ pub(crate) fn row_of(
 }
 
 fn row_from(alloc: Global, job: &Job, row: u64, cells: &ByteRecord) -> Result<Row, PFault>
-    ensures ok { IfOk result (λ made. row_from_record job.now row (cells_of cells.now) ≡ Ok made) }
-    ensures fault { IfErr result (λ fault. fault ≢ PFault.NoMemory → row_from_record job.now row (cells_of cells.now) ≡ Err fault) }
+    ensures ok { IfOk result (λ made. row_from_record (written job.now) row (cells_of cells.now) ≡ Ok made) }
+    ensures fault { IfErr result (λ fault. fault ≢ PFault.NoMemory → row_from_record (written job.now) row (cells_of cells.now) ≡ Err fault) }
 {
     let Some(source) = source_named(job, take_cell(cells, &mut 0)) else {
         return Err(PFault::Source(row));
@@ -63,7 +64,7 @@ fn row_from(alloc: Global, job: &Job, row: u64, cells: &ByteRecord) -> Result<Ro
 }
 
 fn source_named(job: &Job, name: &[u8]) -> Option<usize>
-    ensures { result ≡ source_named_of job.now name.now }
+    ensures { result ≡ source_named_of (written job.now) name.now }
 {
     job.nodes
         .as_slice()
@@ -74,5 +75,5 @@ fn source_named(job: &Job, name: &[u8]) -> Option<usize>
 fn is_source_with(name: &[u8], node: &NodeDef) -> bool
     ensures { result ≡ is_source_node_with name.now node.now }
 {
-    matches!(node.func, Func::Source) && node.name.as_slice() == name
+    is_source(&node.func) && node.name.as_slice() == name
 }

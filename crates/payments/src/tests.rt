@@ -3,8 +3,10 @@ use crate::{
     Calls, HostShelf, MemoryShelf, MemorySink, PFault, Shelf, ShelfFault, Sink, SinkFault, StdOut,
     read_rows, store, write_all,
 };
-use operators::{
-    Column, ColumnDefs, ColumnKind, Columns, Conds, Func, Job, NodeDef, NodeDefs, weight,
+use flow_dag::Edge;
+use jobs::{
+    Column, ColumnDefs, ColumnKind, Columns, Func, Job, NodeDef, NodeDefs, SplitBy, Steps, Tables,
+    weight,
 };
 use std::alloc::Global;
 use std::fs;
@@ -26,12 +28,13 @@ fn node(alloc: Global, name: &[u8], func: Func) -> Result<NodeDef, NoMemory> {
     })
 }
 
+/// A job in which rows go from these sources through the maps and splits, one after the other, to a sink.
 fn chain(
     alloc: Global,
     columns: &[(&[u8], ColumnKind, bool)],
     sources: &[&[u8]],
-    filters: u64,
-) -> Result<Job, NoMemory> {
+    between: &[(&[u8], u32)],
+) -> Result<Job, Fail> {
     let mut defs = ColumnDefs::new(alloc);
     for (name, kind, own) in columns {
         defs.push(Column {
@@ -44,14 +47,38 @@ fn chain(
     for name in sources {
         nodes.push(node(alloc, name, Func::Source)?)?;
     }
-    for _ in 0..filters {
-        nodes.push(node(alloc, b"big", Func::Filter(Conds::new(alloc)))?)?;
+    for (name, most) in between {
+        nodes.push(node(alloc, name, many(alloc, *most))?)?;
     }
     nodes.push(node(alloc, b"alerts", Func::Sink(Columns::new(alloc)))?)?;
-    Ok(Job {
-        columns: defs,
-        nodes,
-    })
+    let edges = edges_of(alloc, sources.len(), nodes.len())?;
+    Ok(Job::check(alloc, defs, nodes, edges.as_slice(), Tables::new(alloc))?)
+}
+
+/// A map, or a split into so many pieces.
+fn many(alloc: Global, most: u32) -> Func {
+    if most == 1 {
+        Func::Map(Steps::new(alloc))
+    } else {
+        Func::Split(SplitBy {
+            on: 0,
+            by: b';',
+            most,
+        })
+    }
+}
+
+fn edges_of(alloc: Global, sources: usize, nodes: usize) -> Result<Vec<Edge>, NoMemory> {
+    let mut edges = Vec::new(alloc);
+    for from in 0..nodes.saturating_sub(1) {
+        let to = if from < sources { sources } else { from + 1 };
+        edges.push(Edge {
+            from: u32::try_from(from).unwrap_or(u32::MAX),
+            port: 0,
+            to: u32::try_from(to).unwrap_or(u32::MAX),
+        })?;
+    }
+    Ok(edges)
 }
 
 fn count_of(alloc: Global, job: &Job, text: &[u8]) -> Result<usize, PFault> {
@@ -65,7 +92,7 @@ fn word(alloc: Global, name: &str) -> Result<Word, Fail> {
 #[test]
 fn payment_faults(rt: HostRuntime) -> Result<(), Fail> {
     let alloc = rt.alloc();
-    let job = chain(alloc, &PLAIN, &[b"card"], 1)?;
+    let job = chain(alloc, &PLAIN, &[b"card"], &[])?;
     let mut four_fields = Bytes::from_slice(alloc, b"source,account,merchant,amount,tags\n")?;
     for _ in 0..6 {
         four_fields.extend_from_slice(b"card,a,m,99.99,\n")?;
@@ -87,7 +114,7 @@ fn payment_faults(rt: HostRuntime) -> Result<(), Fail> {
 #[test]
 fn quoted_merchant(rt: HostRuntime) -> Result<(), Fail> {
     let alloc = rt.alloc();
-    let job = chain(alloc, &PLAIN, &[b"card"], 1)?;
+    let job = chain(alloc, &PLAIN, &[b"card"], &[])?;
     let text = b"source,account,merchant,amount,tags\r\ncard,ann,\"A, \"\"B\"\" Ltd\",12.00,\r\n";
     let rows = read_rows(alloc, &job, text)?;
     assert!(rt;
@@ -109,7 +136,7 @@ fn payments_of_every_form(rt: HostRuntime) -> Result<(), Fail> {
         (b"who", ColumnKind::Text, false),
         (b"sum", ColumnKind::Cents, false),
     ];
-    let job = chain(alloc, &columns, &[b"card", b"wire"], 1)?;
+    let job = chain(alloc, &columns, &[b"card", b"wire"], &[(b"big", 1)])?;
     let cases: [(&[u8], Result<usize, PFault>); 15] = [
         (b"", Err(PFault::NoHeader)),
         (b"\r\n\n", Err(PFault::NoHeader)),
@@ -182,7 +209,7 @@ fn own_columns_in_between(rt: HostRuntime) -> Result<(), Fail> {
         (b"seen", ColumnKind::Cents, true),
         (b"sum", ColumnKind::Cents, false),
     ];
-    let job = chain(alloc, &columns, &[b"card", b"wire", b"card"], 0)?;
+    let job = chain(alloc, &columns, &[b"card", b"wire"], &[])?;
     let rows = read_rows(alloc, &job, b"source,who,sum\nwire,ann,1.5\ncard,bob,2\n")?;
     assert!(rt;
         matches!(rows.as_slice(), [first, second] if first.source == 1 && second.source == 0 && second.tuple.row == 2)
@@ -216,18 +243,41 @@ fn own_columns_in_between(rt: HostRuntime) -> Result<(), Fail> {
 #[test]
 fn first_row_past_the_limit(rt: HostRuntime) -> Result<(), Fail> {
     let alloc = rt.alloc();
-    let job = chain(alloc, &[], &[b"card"], 1023)?;
-    assert_eq!(rt; weight(&job), 1024);
+    let own: [(&[u8], ColumnKind, bool); 1] = [(b"tags", ColumnKind::Text, true)];
+    let splits: [(&[u8], u32); 4] = [(b"s", 16), (b"t", 16), (b"a", 1), (b"b", 1)];
+    let job = chain(alloc, &own, &[b"card"], &splits)?;
+    // 1 at s, 16 at t, and 256 at each of a, b and the sink.
+    assert_eq!(rt; weight(&job), 785);
     let mut text = Bytes::from_slice(alloc, b"source\n")?;
-    for _ in 0..1024 {
+    for _ in 0..1335 {
         text.extend_from_slice(b"card\n")?;
     }
-    assert_eq!(rt; count_of(alloc, &job, text.as_slice()), Ok(1024));
+    assert_eq!(rt; count_of(alloc, &job, text.as_slice()), Ok(1335));
     text.extend_from_slice(b"card,more\n")?;
     assert_eq!(rt;
         count_of(alloc, &job, text.as_slice()),
-        Err(PFault::TooMuch(1025))
+        Err(PFault::TooMuch(1336))
     );
+    Ok(())
+}
+
+#[test]
+fn columns_of_every_number(rt: HostRuntime) -> Result<(), Fail> {
+    let alloc = rt.alloc();
+    let names: [&[u8]; 12] = [
+        b"a", b"b", b"c", b"d", b"e", b"f", b"g", b"h", b"i", b"j", b"k", b"l",
+    ];
+    let given = names.map(|name| (name, ColumnKind::Number, false));
+    let twelve = chain(alloc, &given, &[b"card"], &[])?;
+    let text = b"source,a,b,c,d,e,f,g,h,i,j,k,l\ncard,1,2,3,4,5,6,7,8,9,10,11,12\n";
+    assert_eq!(rt; count_of(alloc, &twelve, text), Ok(1));
+    let one = chain(alloc, &given[..1], &[b"card"], &[])?;
+    assert_eq!(rt;
+        count_of(alloc, &one, b"source,a\ncard,1\ncard,-1\n"),
+        Ok(2)
+    );
+    let none = chain(alloc, &[(b"a", ColumnKind::Number, true)], &[b"card"], &[])?;
+    assert_eq!(rt; count_of(alloc, &none, b"source\ncard\ncard\n"), Ok(2));
     Ok(())
 }
 

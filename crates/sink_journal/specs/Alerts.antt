@@ -1,13 +1,13 @@
 -- The text of what reached the sinks.
 use Rattle.std.specs.Prelude.{ℕ, List, [], ◌∷◌, ◌++◌, Option, Some, None, take, drop, map, decimal, codes, slice_get, if◌then◌else◌, nat_eq}
 use Rattle.std.specs.List.{enumerate_from, filter_map, flat_map, list_any}
-use Rattle.operators.specs.Nodes.{workers_of}
-use Rattle.operators.specs.declared.job.Column.{Column}
-use Rattle.operators.specs.declared.job.ColumnKind.{ColumnKind}
-use Rattle.operators.specs.declared.job.Func.{Func}
-use Rattle.operators.specs.declared.job.Func.TheVariants as func
-use Rattle.operators.specs.declared.job.Job.{Job}
-use Rattle.operators.specs.declared.job.NodeDef.{NodeDef}
+use Rattle.jobs.specs.Nodes.{workers_of}
+use Rattle.jobs.specs.Written.{Written}
+use Rattle.jobs.specs.declared.column.Column.{Column}
+use Rattle.jobs.specs.declared.column.ColumnKind.{ColumnKind}
+use Rattle.jobs.specs.declared.func.Func.{Func}
+use Rattle.jobs.specs.declared.func.Func.TheVariants as func
+use Rattle.jobs.specs.declared.func.NodeDef.{NodeDef}
 use Rattle.tuple_trace.specs.declared.tuple.Tuple.{Tuple}
 use Rattle.sink_journal.specs.Records.{records_text}
 use Rattle.sink_journal.specs.Printed.{cell}
@@ -51,5 +51,5 @@ all_alerts columns (node ∷ nodes) journals =
     node_alerts columns node (take (workers_of node) journals) ++ all_alerts columns nodes (drop (workers_of node) journals)
 
 -- the whole text
-abbrev pub alerts : Job → List (List Entry) → List ℕ
+abbrev pub alerts : Written → List (List Entry) → List ℕ
 alerts job journals = records_text (header job.columns ∷ all_alerts job.columns job.nodes journals)

@@ -2,9 +2,9 @@
 use Rattle.std.specs.Prelude.{ℕ, ◌/◌, ◌%◌, ℤ, List, [], ◌++◌, Option, Some, None, unsigned_abs, decimal, codes, if◌then◌else◌}
 use Rattle.std.specs.Fmt.{signed_decimal}
 use Rattle.std.specs.Int.{is_negative}
-use Rattle.operators.specs.Meaning.{as_number, as_text}
-use Rattle.operators.specs.declared.job.ColumnKind.{ColumnKind}
-use Rattle.operators.specs.declared.job.ColumnKind.TheVariants as kind
+use Rattle.jobs.specs.declared.column.ColumnKind.{ColumnKind}
+use Rattle.jobs.specs.declared.column.ColumnKind.TheVariants as kind
+use Rattle.tuple_trace.specs.Values.{as_number, as_text}
 use Rattle.tuple_trace.specs.declared.value.Value.{Value}
 
 -- a number of hundredths: the whole part, a point and two digits

@@ -1,13 +1,14 @@
 ghost use Rattle.std.specs.Prelude.{◌≡◌, ◌++◌, IfOk, OnOk, length, nat_eq};
 ghost use Rattle.std.specs.List.{list_any};
-ghost use Rattle.operators.specs.Nodes.{worker_count};
+ghost use Rattle.jobs.specs.Job.{written};
+ghost use Rattle.jobs.specs.Nodes.{worker_count};
 ghost use Rattle.sink_journal.specs.Alerts.{alert, alerts, header, layout as layout_of, node_alerts, sink_alerts};
 ghost use Rattle.sink_journal.specs.Records.{record_text, records_text};
 
 use crate::cells::Cells;
 use crate::sheet::Sheet;
 use crate::{Entry, Journal, Journals};
-use operators::{Column, ColumnKind, Func, Job, NodeDef};
+use jobs::{Column, ColumnKind, Func, Job, NodeDef};
 use std::alloc::Global;
 use tuple_trace::{Bytes, NoMemory, Tuple};
 
@@ -18,7 +19,7 @@ use tuple_trace::{Bytes, NoMemory, Tuple};
 /// sink doesn't list is empty. Fields are quoted where they need it, and a line feed ends each record.
 pub fn alerts_text(alloc: Global, job: &Job, journals: &Journals) -> Result<Bytes, NoMemory>
     requires { length journals.now ≡ worker_count job.now.nodes }
-    ensures { IfOk result (λ text. text ≡ alerts job.now journals.now) }
+    ensures { IfOk result (λ text. text ≡ alerts (written job.now) journals.now) }
 {
     let columns = job.columns.as_slice();
     let mut sheet = Sheet::new(alloc);

@@ -1,15 +1,14 @@
-ghost use Rattle.std.specs.Prelude.{◌≡◌, ◌++◌, ◌∷◌, [], OnOk, IfSome, Some, option_copied, slice_get};
+ghost use Rattle.std.specs.Prelude.{◌≡◌, ◌++◌, ◌∷◌, [], OnOk, IfSome, Some, slice_get};
 ghost use Rattle.csv.specs.Records.{fields_of};
-ghost use Rattle.operators.specs.Meaning.{as_number, as_text};
 ghost use Rattle.sink_journal.specs.Printed.{cell};
 
 use csv::ByteRecord;
-use operators::ColumnKind;
+use jobs::ColumnKind;
 use std::alloc::Global;
 use std::fmt;
 use std::fmt::{Display, Write};
 use std::marker::Model;
-use tuple_trace::{NoMemory, Value};
+use tuple_trace::{NoMemory, Value, number_in, text_in};
 
 /// The cells of one record, in memory that the next record uses again. Contracts see the list of their texts. What a refused push leaves
 /// is open: [`Cells::clear`] makes a new start.
@@ -112,23 +111,5 @@ impl Display for Cents {
         let tens = size / 10 % 10;
         let units = size % 10;
         write!(f, "{sign}{whole}.{tens}{units}")
-    }
-}
-
-fn number_in(field: Option<&Value>) -> i64
-    ensures { result ≡ as_number (option_copied field.entry) }
-{
-    match field {
-        Some(Value::Num(number)) => *number,
-        _ => 0,
-    }
-}
-
-fn text_in(field: Option<&Value>) -> &[u8]
-    ensures { result.now ≡ as_text (option_copied field.entry) }
-{
-    match field {
-        Some(Value::Text(text)) => text.as_slice(),
-        _ => &[],
     }
 }

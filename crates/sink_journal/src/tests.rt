@@ -1,8 +1,11 @@
 ghost use Rattle.std.specs.Prelude.{◌≡◌, IfOk, length};
-ghost use Rattle.operators.specs.Nodes.{worker_count, workers_of, workers_with};
+ghost use Rattle.jobs.specs.Nodes.{worker_count, workers_of, workers_with};
 
 use crate::{Entry, Journal, Journals, alerts_text};
-use operators::{Column, ColumnDefs, ColumnKind, Columns, Conds, Func, Job, NodeDef, NodeDefs};
+use flow_dag::Edge;
+use jobs::{
+    Column, ColumnDefs, ColumnKind, Columns, Conds, Func, Job, NodeDef, NodeDefs, Tables,
+};
 use std::alloc::Global;
 use std::test::Fail;
 use tuple_trace::{Births, Fields, NoMemory, Tuple, Txt, Value, Visits};
@@ -29,6 +32,10 @@ fn sink(alloc: Global, columns: &[u32]) -> Result<Func, NoMemory>
     ensures { IfOk result (λ func. workers_with func 1 ≡ 1) }
 {
     Ok(Func::Sink(Columns::from_slice(alloc, columns)?))
+}
+
+fn edge(from: u32, port: u32, to: u32) -> Edge {
+    Edge { from, port, to }
 }
 
 fn text(alloc: Global, text: &str) -> Result<Value, NoMemory> {
@@ -65,7 +72,7 @@ fn payment(
 }
 
 // A source, a filter and a sink that lists all four columns.
-fn chain(alloc: Global) -> Result<Job, NoMemory>
+fn chain(alloc: Global) -> Result<Job, Fail>
     ensures { IfOk result (λ job. worker_count job.nodes ≡ 2) }
 {
     let columns = ColumnDefs::from_vec(vec![in alloc;
@@ -79,7 +86,14 @@ fn chain(alloc: Global) -> Result<Job, NoMemory>
         node(alloc, "big", Func::Filter(Conds::new(alloc)), 1)?,
         node(alloc, "alerts", sink(alloc, &[0, 1, 2, 3])?, 1)?,
     ]?);
-    Ok(Job { columns, nodes })
+    let edges = [edge(0, 0, 1), edge(1, 0, 2)];
+    Ok(Job::check(
+        alloc,
+        columns,
+        nodes,
+        &edges,
+        Tables::new(alloc),
+    )?)
 }
 
 #[test]
@@ -158,7 +172,7 @@ fn rated(alloc: Global, row: u64, texts: [&str; 2], numbers: [i64; 3]) -> Result
 }
 
 // Two sinks, of which the first lists the columns 0 to 3 and the second 0, 1 and 4, above two sources and filters of one and two workers.
-fn two_sinks(alloc: Global) -> Result<Job, NoMemory>
+fn two_sinks(alloc: Global) -> Result<Job, Fail>
     ensures { IfOk result (λ job. worker_count job.nodes ≡ 5) }
 {
     let columns = ColumnDefs::from_vec(vec![in alloc;
@@ -176,7 +190,20 @@ fn two_sinks(alloc: Global) -> Result<Job, NoMemory>
         node(alloc, "often", Func::Filter(Conds::new(alloc)), 1)?,
         node(alloc, "watch", sink(alloc, &[4, 0, 1])?, 1)?,
     ]?);
-    Ok(Job { columns, nodes })
+    let edges = [
+        edge(0, 0, 2),
+        edge(1, 0, 2),
+        edge(2, 0, 3),
+        edge(2, 1, 4),
+        edge(4, 0, 5),
+    ];
+    Ok(Job::check(
+        alloc,
+        columns,
+        nodes,
+        &edges,
+        Tables::new(alloc),
+    )?)
 }
 
 #[test]

@@ -1,4 +1,4 @@
-use Rattle.std.proofs.Common.{◌≡◌, sym, ◌∙◌}
+use Rattle.std.proofs.Common.{sym, ◌∙◌}
 use Rattle.jobs.proofs.PortLemmas.{has_ports-lacks, has_ports-more, has_ports-zero}
 use Rattle.jobs.proofs.ports.has_ports.Goals as goal
 

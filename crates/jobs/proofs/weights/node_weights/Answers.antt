@@ -1,4 +1,4 @@
-use Rattle.std.proofs.Common.{◌≡◌, ◌<◌, ◌∙◌, sym, ℕ, replicate, slice_index, arith}
+use Rattle.std.proofs.Common.{◌≡◌, ◌<◌, ◌∙◌, sym, replicate, slice_index, arith}
 use Rattle.std.proofs.lemmas.List.{get_or-replicate}
 use Rattle.jobs.specs.Weights.{weight_after}
 use Rattle.jobs.proofs.WeightLemmas.{weighed-inside, weight_after-more, weight_after-zero}

@@ -1,4 +1,4 @@
-use Rattle.std.proofs.Common.{◌≡◌, ◌∙◌, slice_index, arith}
+use Rattle.std.proofs.Common.{◌∙◌, slice_index, arith}
 use Rattle.jobs.specs.Weights.{node_weight}
 use Rattle.jobs.proofs.WeightLemmas.{weight_from-same}
 use Rattle.jobs.proofs.weights.weight_of.Goals as goal

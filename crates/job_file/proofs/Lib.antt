@@ -1,0 +1,6 @@
+pub mod DocumentLemmas
+pub mod EntryLemmas
+pub mod ItemLemmas
+pub mod JobLemmas
+pub mod PartLemmas
+pub mod WideLemmas

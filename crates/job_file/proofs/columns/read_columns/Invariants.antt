@@ -1,0 +1,9 @@
+use Rattle.std.proofs.Common.{◌≡◌, drop}
+use Rattle.toml.specs.View.{items_view}
+use Rattle.job_file.specs.Document.{all_of}
+use Rattle.job_file.specs.Columns.{column_of}
+use Rattle.job_file.proofs.ItemLemmas.{after}
+use Rattle.job_file.proofs.columns.read_columns.Given as goal
+
+abbrev pub invariant-loop-item : goal.invariant-loop-item
+invariant-loop-item l = all_of column_of (items_view l.items) ≡ after l.list (all_of column_of (items_view (drop l.item-index l.items)))

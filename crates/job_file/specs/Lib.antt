@@ -1,0 +1,16 @@
+pub mod Columns
+pub mod Conds
+pub mod Document
+pub mod Edges
+pub mod Faults
+pub mod Funcs
+pub mod Job
+pub mod Kinds
+pub mod Layout
+pub mod Literals
+pub mod Names
+pub mod Nodes
+pub mod Numbers
+pub mod Steps
+pub mod Tables
+pub mod Wide

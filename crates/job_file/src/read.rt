@@ -1,0 +1,40 @@
+ghost use Rattle.std.specs.Prelude.{◌≡◌, ◌≢◌, Ok, IfOk, IfErr};
+ghost use Rattle.jobs.specs.Job.{written};
+ghost use Rattle.job_file.specs.Job.{Excludes, IsFaultIn, job_of};
+
+use crate::document::document;
+use crate::fault::JobFault;
+use crate::layout::{Layout, read_layout};
+use crate::wide::wide_in;
+use jobs::Job;
+use std::alloc::Global;
+
+/// The job that a file writes down.
+///
+/// # Errors
+///
+/// The faults are looked for in the order of [`JobFault`], and the first that stands is answered. Of faults of form, the first in the
+/// order of the layout is: the keys of a table, then what stands at each, and the columns before the tables, the nodes and the edges.
+/// Of sizes, a number that has more than 32 bits or is below 0 comes first; the others come in the order of their limits.
+/// [`JobFault::NoMemory`] may come of any file.
+pub fn read_job(alloc: Global, bytes: &[u8]) -> Result<Job, JobFault>
+    ensures ok { IfOk result (λ job. job_of bytes.now ≡ Ok (written job)) }
+    ensures fault { IfErr result (λ fault. fault ≢ JobFault.NoMemory → IsFaultIn bytes.now fault) }
+{
+    let members = document(alloc, bytes)?;
+    let Layout {
+        columns,
+        nodes,
+        edges,
+        tables,
+    } = read_layout(alloc, &members)?;
+    if let Some((which, number)) = wide_in(&members) {
+        return Err(JobFault::Limit(which, number));
+    }
+    Ok(Job::check(alloc, columns, nodes, edges.as_slice(), tables)?)
+}
+
+/// No file both has a fault and is that of a job, so each fault is answered exactly where it stands.
+pub fn faulty_is_no_job()
+    ensures { Excludes }
+{}

@@ -1,0 +1,4 @@
+pub mod BookLemmas
+pub mod FirstLemmas
+pub mod JudgedLemmas
+pub mod YoungLemmas

@@ -1,0 +1,32 @@
+-- A list of requests, judged in order.
+use Rattle.std.specs.Prelude.{ℕ, ◌+◌, List, [], ◌∷◌, Option, Some, None}
+use Rattle.jobs.specs.Written.{Written}
+use Rattle.versions.specs.declared.book.Current.{Current}
+use Rattle.versions.specs.declared.in_order.Judged.{Judged}
+use Rattle.versions.specs.declared.request.Request.{Request}
+use Rattle.versions.specs.declared.fault.QFault.{QFault}
+use Rattle.versions.specs.Book.{accepted, first_book}
+use Rattle.versions.specs.Judging.{fault_of}
+
+abbrev pub accepting : Request → Judged → Judged
+accepting request later = record { accepted = request ∷ later.accepted; refused = later.refused }
+
+abbrev pub refusing : ℕ → QFault → Judged → Judged
+refusing place fault later = record { accepted = later.accepted; refused = (record { place = place; fault = fault }) ∷ later.refused }
+
+-- the one answer with a fault, the other without
+abbrev pub by_fault : Option QFault → (QFault → Judged) → Judged → Judged
+by_fault None refused accepted = accepted
+by_fault (Some fault) refused accepted = refused fault
+
+-- The requests from this place on, with this book and the row of the latest accepted request. One with a fault is refused, and leaves both as
+-- they were; any other is accepted, gives its nodes their new functions and the next versions, and is the latest.
+unfoldable pub judged_from : Written → List Current → ℕ → ℕ → List Request → Judged
+judged_from job book last_after place [] = record { accepted = []; refused = [] }
+judged_from job book last_after place (request ∷ rest) =
+    by_fault (fault_of book job request last_after) (λ fault. refusing place fault (judged_from job book last_after (place + 1) rest)) (
+    accepting request (judged_from job (accepted book request.changes) request.after (place + 1) rest))
+
+-- the judging of a list of requests
+abbrev pub judged : Written → List Request → Judged
+judged job requests = judged_from job (first_book job.nodes) 0 1 requests

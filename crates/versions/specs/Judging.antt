@@ -1,0 +1,135 @@
+-- Which requests are accepted, and why another isn't.
+use Rattle.std.specs.Prelude.{ℕ, pos, ◌+◌, Bool, true, false, not, ◌||◌, List, [], ◌∷◌, ◌++◌, length, Option, Some, None, slice_get, nat_lt, nat_le, int_lt, ◌==◌, if◌then◌else◌}
+use Rattle.keyed_state.specs.declared.carry.Carry.{Carry}
+use Rattle.keyed_state.specs.declared.carry.Carry.TheVariants as carry
+use Rattle.jobs.specs.Fits.{fits}
+use Rattle.jobs.specs.Written.{Written}
+use Rattle.jobs.specs.declared.func.Func.{Func}
+use Rattle.jobs.specs.declared.func.Func.TheVariants as func
+use Rattle.jobs.specs.declared.func.NodeDef.{NodeDef}
+use Rattle.versions.specs.Book.{current_version, is_named}
+use Rattle.versions.specs.declared.book.Current.{Current}
+use Rattle.versions.specs.declared.judging.Code.{Code}
+use Rattle.versions.specs.declared.judging.Code.TheVariants as code
+use Rattle.versions.specs.declared.request.Change.{Change}
+use Rattle.versions.specs.declared.request.Request.{Request}
+use Rattle.versions.specs.declared.fault.QFault.{QFault}
+use Rattle.versions.specs.declared.fault.QFault.TheVariants as fault
+
+-- ---- one change
+
+-- requests leave sources, replicates and sinks as they are
+abbrev pub is_fixed : Func → Bool
+is_fixed func.Source = true
+is_fixed (func.Filter conds) = false
+is_fixed (func.Map steps) = false
+is_fixed (func.Enrich lookup) = false
+is_fixed (func.Count count) = false
+is_fixed (func.Split split) = false
+is_fixed func.Replicate = true
+is_fixed (func.Sink listed) = true
+
+abbrev pub is_fixed_at : Option NodeDef → Bool
+is_fixed_at None = false
+is_fixed_at (Some node) = is_fixed node.func
+
+abbrev pub is_count : Func → Bool
+is_count (func.Count count) = true
+is_count _ = false
+
+abbrev pub is_count_at : Option NodeDef → Bool
+is_count_at None = false
+is_count_at (Some node) = is_count node.func
+
+abbrev pub most_of : Func → ℕ
+most_of (func.Split split) = split.most
+most_of _ = 0
+
+-- the most pieces that the job lets a node make
+abbrev pub most_at : Option NodeDef → ℕ
+most_at None = 0
+most_at (Some node) = most_of node.func
+
+-- the change was written for another version
+abbrev pub is_stale_at : Option Current → ℕ → Bool
+is_stale_at None from = false
+is_stale_at (Some current) from = not (current.version == from)
+
+-- a new function may follow the current one: it is of its kind, counts by the same key, and splits into no more pieces than `most`
+abbrev pub may_replace : Func → Func → ℕ → Bool
+may_replace (func.Filter a) (func.Filter b) most = true
+may_replace (func.Map a) (func.Map b) most = true
+may_replace (func.Enrich a) (func.Enrich b) most = true
+may_replace (func.Count a) (func.Count b) most = a.key == b.key
+may_replace (func.Split a) (func.Split b) most = nat_le b.most most
+may_replace _ _ most = false
+
+abbrev pub may_replace_at : Option Current → Func → ℕ → Bool
+may_replace_at None new most = true
+may_replace_at (Some current) new most = may_replace current.func new most
+
+-- counts are carried by a count alone, and are divided by 1 or more
+abbrev pub is_bad_carry : Bool → Carry → Bool
+is_bad_carry counts carry.Keep = false
+is_bad_carry counts carry.Reset = not counts
+is_bad_carry counts (carry.Scale by over) = not counts || int_lt over (pos 1)
+is_bad_carry counts (carry.DropBelow least) = not counts
+
+-- the change has this fault, with these changes before it in the request
+abbrev pub has_fault : Code → List Current → Written → List Change → Change → Bool
+has_fault code.NoNode book job before c = nat_le (length job.nodes) c.node
+has_fault code.Fixed book job before c = is_fixed_at (slice_get job.nodes c.node)
+has_fault code.NodeTwice book job before c = is_named before c.node
+has_fault code.Stale book job before c = is_stale_at (slice_get book c.node) c.from
+has_fault code.IllTyped book job before c = not (fits job c.func)
+has_fault code.KindOrKey book job before c = not (may_replace_at (slice_get book c.node) c.func (most_at (slice_get job.nodes c.node)))
+has_fault code.BadCarry book job before c = is_bad_carry (is_count_at (slice_get job.nodes c.node)) c.carry
+
+-- ---- a request
+
+-- the place of the first change with the fault, behind those before it
+unfoldable pub first_with : Code → List Current → Written → List Change → List Change → Option ℕ
+first_with code book job before [] = None
+first_with code book job before (change ∷ rest) =
+    if has_fault code book job before change then Some (length before) else first_with code book job (before ++ change ∷ []) rest
+
+-- the first change with the fault, as a fault that names it; changes are counted from 1
+abbrev pub named : (ℕ → QFault) → Option ℕ → Option QFault
+named f None = None
+named f (Some place) = Some (f (place + 1))
+
+-- the version of the node of the change at a place
+abbrev pub version_of : List Current → Option Change → ℕ
+version_of book None = 0
+version_of book (Some change) = current_version (slice_get book change.node)
+
+-- a stale change is shown the version that is current
+abbrev pub stale : List Current → List Change → Option ℕ → Option QFault
+stale book changes None = None
+stale book changes (Some place) = Some (fault.Stale (place + 1) (version_of book (slice_get changes place)))
+
+abbrev pub is_empty : List Change → Bool
+is_empty [] = true
+is_empty (change ∷ rest) = false
+
+abbrev pub or_else : Option QFault → Option QFault → Option QFault
+or_else (Some fault) later = Some fault
+or_else None later = later
+
+-- a request as a whole: it has a change, and isn't for an earlier row than the latest accepted one
+abbrev pub whole_fault : Request → ℕ → Option QFault
+whole_fault request last_after =
+    if is_empty request.changes then Some fault.Empty
+    else if nat_lt request.after last_after then Some (fault.Backwards last_after) else None
+
+-- the first fault that a request has, in the order of the codes
+abbrev pub fault_of : List Current → Written → Request → ℕ → Option QFault
+fault_of book job request last_after =
+    or_else (named fault.NoNode (first_with code.NoNode book job [] request.changes)) (
+    or_else (named fault.Fixed (first_with code.Fixed book job [] request.changes)) (
+    or_else (named fault.NodeTwice (first_with code.NodeTwice book job [] request.changes)) (
+    or_else (stale book request.changes (first_with code.Stale book job [] request.changes)) (
+    or_else (named fault.IllTyped (first_with code.IllTyped book job [] request.changes)) (
+    or_else (named fault.KindOrKey (first_with code.KindOrKey book job [] request.changes)) (
+    or_else (named fault.BadCarry (first_with code.BadCarry book job [] request.changes)) (
+    whole_fault request last_after)))))))

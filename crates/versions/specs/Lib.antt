@@ -1,0 +1,4 @@
+pub mod Book
+pub mod Judging
+pub mod Judged
+pub mod Young

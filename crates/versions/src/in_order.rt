@@ -1,0 +1,87 @@
+ghost use Rattle.std.specs.Prelude.{◌≡◌, ◌≤◌, ◌+◌, ◌*◌, ◌∷◌, List, IfOk, OnOk, All, length};
+ghost use Rattle.jobs.specs.Job.{written};
+ghost use Rattle.versions.specs.Judged.{judged};
+ghost use Rattle.versions.specs.Young.{judged_on, IsYoung};
+ghost use Rattle.versions.specs.declared.request.Request.{Request as RequestIs};
+
+use crate::{Book, QFault, Request, Requests, accept, judge};
+use jobs::Job;
+use std::alloc::Global;
+use tuple_trace::{Items, NoMemory};
+
+/// A request that isn't accepted.
+#[derive(Clone, Copy, Debug, PartialEq, Eq)]
+pub struct Refused {
+    /// Its place in the file, counted from 1.
+    pub place: u32,
+    pub fault: QFault,
+}
+
+/// The refused requests in the order of the file.
+pub type Refusals = Items<Refused>;
+
+/// A list of requests, judged.
+#[derive(Debug, Drop)]
+pub struct Judged {
+    /// The accepted requests, in order. Request r is the r-th of these, counted from 1.
+    pub accepted: Requests,
+    pub refused: Refusals,
+}
+
+/// Judges the requests of a job in order, each by the book that those before it leave. A refused request changes nothing.
+pub fn judge_all(alloc: Global, job: &Job, requests: &Requests) -> Result<Judged, NoMemory>
+    requires count { length requests.now ≤ 64 }
+    requires changes { All (λ request. length request.changes ≤ 64) requests.now }
+    ensures { IfOk result (λ done. done ≡ judged (written job.now) requests.now) }
+{
+    let mut bench = Bench {
+        book: Book::of(alloc, job)?,
+        last_after: 0,
+        accepted: Requests::new(alloc),
+        refused: Refusals::new(alloc),
+    };
+    for (place, request) in requests.as_slice().iter().enumerate() {
+        next(alloc, job, &mut bench, place as u32 + 1, request)?;
+    }
+    let Bench {
+        accepted,
+        refused,
+        ..
+    } = bench;
+    Ok(Judged { accepted, refused })
+}
+
+/// A list of requests in the middle of its judging.
+#[derive(Debug, Drop)]
+struct Bench {
+    book: Book,
+    last_after: u64,
+    accepted: Requests,
+    refused: Refusals,
+}
+
+fn next(
+    alloc: Global,
+    job: &Job,
+    bench: &mut Bench,
+    place: u32,
+    request: &Request,
+) -> Result<(), NoMemory>
+    requires few { length request.now.changes ≤ 64 }
+    requires place { place ≤ 64 }
+    requires young { IsYoung (written job.now) bench.old.book (place * 64) }
+    ensures young { OnOk result (IsYoung (written job.now) bench.new.book (place * 64 + 64)) }
+    ensures judged { OnOk result ((rest : List RequestIs) → judged_on (written job.now) bench.old place (request.now ∷ rest) ≡ judged_on (written job.now) bench.new (place + 1) rest) }
+{
+    match judge(&bench.book, job, request, bench.last_after) {
+        Ok(()) => {
+            let book = accept(alloc, &bench.book, request)?;
+            let request = request.copy(alloc)?;
+            bench.book = book;
+            bench.last_after = request.after;
+            bench.accepted.push(request)?;
+        }
+        Err(fault) => bench.refused.push(Refused { place, fault })?,
+    }
+    Ok(())
+}

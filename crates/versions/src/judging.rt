@@ -1,0 +1,197 @@
+ghost use Rattle.std.specs.Prelude.{◌≡◌, ◌≤◌, ◌<◌, [], None, Some, IfErr, IfSome, OnOk, length, slice_get};
+ghost use Rattle.jobs.specs.Job.{written};
+ghost use Rattle.versions.specs.Book.{is_named as is_named_in};
+ghost use Rattle.versions.specs.Judging.{fault_of, first_with as first_with_in, has_fault as has_fault_in, is_bad_carry as is_bad_carry_of, is_count_at as is_count_node, is_fixed as is_fixed_func, is_fixed_at as is_fixed_node, is_stale_at as is_stale_node, may_replace as may_replace_func, may_replace_at as may_replace_current, most_at as most_of_node, version_of as version_of_change, whole_fault as whole_fault_of};
+
+use crate::{Book, Change, Current, QFault, Request};
+use jobs::{Func, Job, NodeDef, fits};
+use keyed_state::Carry;
+
+/// Whether a request is accepted by a book, and else its first fault in the order of [`QFault`], with the first change that has it.
+///
+/// `last_after` is the row of the latest accepted request, 0 before the first. Takes no memory.
+pub fn judge(book: &Book, job: &Job, request: &Request, last_after: u64) -> Result<(), QFault>
+    requires { length request.now.changes ≤ 64 }
+    ensures ok { OnOk result (fault_of book.now (written job.now) request.now last_after ≡ None) }
+    ensures err { IfErr result (λ fault. fault_of book.now (written job.now) request.now last_after ≡ Some fault) }
+{
+    let book = book.as_slice();
+    let changes = request.changes.as_slice();
+    if let Some(place) = first_with(Code::NoNode, book, job, changes) {
+        return Err(QFault::NoNode(place + 1));
+    }
+    if let Some(place) = first_with(Code::Fixed, book, job, changes) {
+        return Err(QFault::Fixed(place + 1));
+    }
+    if let Some(place) = first_with(Code::NodeTwice, book, job, changes) {
+        return Err(QFault::NodeTwice(place + 1));
+    }
+    if let Some(place) = first_with(Code::Stale, book, job, changes) {
+        return Err(QFault::Stale(place + 1, version_of(book, changes, place)));
+    }
+    if let Some(place) = first_with(Code::IllTyped, book, job, changes) {
+        return Err(QFault::IllTyped(place + 1));
+    }
+    if let Some(place) = first_with(Code::KindOrKey, book, job, changes) {
+        return Err(QFault::KindOrKey(place + 1));
+    }
+    if let Some(place) = first_with(Code::BadCarry, book, job, changes) {
+        return Err(QFault::BadCarry(place + 1));
+    }
+    whole_fault(request, last_after).map_or(Ok(()), Err)
+}
+
+fn whole_fault(request: &Request, last_after: u64) -> Option<QFault>
+    ensures { result ≡ whole_fault_of request.now last_after }
+{
+    if request.changes.is_empty() {
+        Some(QFault::Empty)
+    } else if request.after < last_after {
+        Some(QFault::Backwards(last_after))
+    } else {
+        None
+    }
+}
+
+/// A fault that names a change.
+#[derive(Clone, Copy, Debug, PartialEq, Eq)]
+enum Code {
+    NoNode,
+    Fixed,
+    NodeTwice,
+    Stale,
+    IllTyped,
+    KindOrKey,
+    BadCarry,
+}
+
+/// The place of the first change with this fault, counted from 0.
+fn first_with(code: Code, book: &[Current], job: &Job, changes: &[Change]) -> Option<u32>
+    requires { length changes.now ≤ 64 }
+    ensures first { result ≡ first_with_in code book.now (written job.now) [] changes.now }
+    ensures inside { IfSome result (λ place. place < 64) }
+{
+    for place in 0..changes.len() {
+        if has_fault(code, book, job, &changes[..place], &changes[place]) {
+            return Some(place as u32);
+        }
+    }
+    None
+}
+
+fn has_fault(code: Code, book: &[Current], job: &Job, before: &[Change], change: &Change) -> bool
+    ensures { result ≡ has_fault_in code book.now (written job.now) before.now change.now }
+{
+    let nodes = job.nodes.as_slice();
+    match code {
+        Code::NoNode => change.node as usize >= nodes.len(),
+        Code::Fixed => is_fixed_at(nodes, change.node),
+        Code::NodeTwice => is_named(before, change.node),
+        Code::Stale => is_stale_at(book, change.node, change.from),
+        Code::IllTyped => !fits(job, &change.func),
+        Code::KindOrKey => {
+            !may_replace_at(book, change.node, &change.func, most_at(nodes, change.node))
+        }
+        Code::BadCarry => is_bad_carry(is_count_at(nodes, change.node), change.carry),
+    }
+}
+
+fn is_fixed_at(nodes: &[NodeDef], node: u32) -> bool
+    ensures { result ≡ is_fixed_node (slice_get nodes.now node) }
+{
+    match nodes.get(node as usize) {
+        Some(found) => is_fixed(&found.func),
+        None => false,
+    }
+}
+
+fn is_fixed(func: &Func) -> bool
+    ensures { result ≡ is_fixed_func func.now }
+{
+    match func {
+        Func::Source | Func::Sink(_) | Func::Replicate => true,
+        Func::Filter(_) | Func::Map(_) | Func::Enrich(_) | Func::Count(_) | Func::Split(_) => false,
+    }
+}
+
+fn is_named(changes: &[Change], node: u32) -> bool
+    ensures { result ≡ is_named_in changes.now node }
+{
+    changes.iter().any(|change| change.node == node)
+}
+
+fn is_stale_at(book: &[Current], node: u32, from: u64) -> bool
+    ensures { result ≡ is_stale_node (slice_get book.now node) from }
+{
+    match book.get(node as usize) {
+        Some(current) => current.version != from,
+        None => false,
+    }
+}
+
+fn may_replace_at(book: &[Current], node: u32, new: &Func, most: u32) -> bool
+    ensures { result ≡ may_replace_current (slice_get book.now node) new.now most }
+{
+    match book.get(node as usize) {
+        Some(current) => may_replace(&current.func, new, most),
+        None => true,
+    }
+}
+
+fn may_replace(current: &Func, new: &Func, most: u32) -> bool
+    ensures { result ≡ may_replace_func current.now new.now most }
+{
+    match (current, new) {
+        (Func::Filter(_), Func::Filter(_))
+        | (Func::Map(_), Func::Map(_))
+        | (Func::Enrich(_), Func::Enrich(_)) => true,
+        (Func::Count(old), Func::Count(new)) => old.key == new.key,
+        (Func::Split(_), Func::Split(new)) => new.most <= most,
+        _ => false,
+    }
+}
+
+/// The most pieces that the job lets a node make.
+fn most_at(nodes: &[NodeDef], node: u32) -> u32
+    ensures { result ≡ most_of_node (slice_get nodes.now node) }
+{
+    match nodes.get(node as usize) {
+        Some(found) => match &found.func {
+            Func::Split(split) => split.most,
+            _ => 0,
+        },
+        None => 0,
+    }
+}
+
+fn is_count_at(nodes: &[NodeDef], node: u32) -> bool
+    ensures { result ≡ is_count_node (slice_get nodes.now node) }
+{
+    match nodes.get(node as usize) {
+        Some(found) => matches!(&found.func, Func::Count(_)),
+        None => false,
+    }
+}
+
+fn is_bad_carry(counts: bool, carry: Carry) -> bool
+    ensures { result ≡ is_bad_carry_of counts carry }
+{
+    match carry {
+        Carry::Keep => false,
+        Carry::Reset | Carry::DropBelow(_) => !counts,
+        Carry::Scale(_, over) => !counts || over < 1,
+    }
+}
+
+/// The version of the node of the change at a place.
+fn version_of(book: &[Current], changes: &[Change], place: u32) -> u64
+    ensures { result ≡ version_of_change book.now (slice_get changes.now place) }
+{
+    match changes.get(place as usize) {
+        Some(change) => match book.get(change.node as usize) {
+            Some(current) => current.version,
+            None => 0,
+        },
+        None => 0,
+    }
+}
