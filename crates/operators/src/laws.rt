@@ -20,11 +20,9 @@ pub fn outputs_are_blind()
 /// Where the edges of the node are those of the function's kind, every output leaves by the port of one of them.
 pub fn outputs_leave_by_edges()
     ensures { PortsHaveEdges }
-{
-}
+{}
 
 /// And two outputs for one tuple have different births.
 pub fn outputs_are_told_apart()
     ensures { OutputsArePeers }
-{
-}
+{}

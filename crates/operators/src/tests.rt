@@ -159,25 +159,76 @@ fn bare(alloc: Global) -> Tuple {
     of_fields(alloc, Fields::new(alloc))
 }
 
-// What the function puts out at a node that has no counts.
-fn outs(alloc: Global, node: u32, func: &Func, tuple: &Tuple) -> Result<Outs, NoMemory> {
+// What the function puts out at a node with these counts.
+fn outs_after(
+    alloc: Global,
+    node: u32,
+    func: &Func,
+    counts: &mut Keyed,
+    tuple: &Tuple,
+) -> Result<Outs, NoMemory> {
     let visit = Visit {
         node,
         worker: 0,
         last: 1,
     };
-    let mut counts = Keyed::new(alloc);
     let mut outs = Outs::new(alloc);
-    apply(
-        alloc,
-        &job(alloc)?,
-        visit,
-        func,
-        &mut counts,
-        tuple,
-        &mut outs,
-    )?;
+    apply(alloc, &job(alloc)?, visit, func, counts, tuple, &mut outs)?;
     Ok(outs)
+}
+
+// What it puts out at a node that has no counts.
+fn outs(alloc: Global, node: u32, func: &Func, tuple: &Tuple) -> Result<Outs, NoMemory> {
+    outs_after(alloc, node, func, &mut Keyed::new(alloc), tuple)
+}
+
+// The risk in what it puts out.
+fn risk(alloc: Global, func: &Func, tuple: &Tuple) -> Result<Option<i64>, NoMemory> {
+    Ok(number(&outs(alloc, 3, func, tuple)?, RISK))
+}
+
+// How many pieces a split makes of the tags.
+fn pieces(alloc: Global, tags: &[u8], most: u32) -> Result<usize, NoMemory> {
+    Ok(outs(alloc, 4, &split(most), &tuple(alloc, b"", tags, 0)?)?.len())
+}
+
+// The count of an account, as a count puts it out.
+fn counted(
+    alloc: Global,
+    counts: &mut Keyed,
+    account: &[u8],
+    amount: i64,
+) -> Result<Option<i64>, NoMemory> {
+    let tuple = tuple(alloc, account, b"", amount)?;
+    Ok(number(&outs_after(alloc, 3, &count(RISK), counts, &tuple)?, RISK))
+}
+
+// The result of an operation in a map.
+fn computed(alloc: Global, op: Op, a: i64, b: i64) -> Result<Option<i64>, NoMemory> {
+    let step = Step {
+        column: RISK,
+        op,
+        a: Operand::Number(a),
+        b: Operand::Number(b),
+    };
+    risk(alloc, &map(alloc, &[step])?, &tuple(alloc, b"", b"", 0)?)
+}
+
+// A map that doubles the amount into the risk, and the risk into the amount.
+fn doubled(alloc: Global) -> Result<Func, NoMemory> {
+    let risk = Step {
+        column: RISK,
+        op: Op::Add,
+        a: Operand::Column(AMOUNT),
+        b: Operand::Column(AMOUNT),
+    };
+    let amount = Step {
+        column: AMOUNT,
+        op: Op::Add,
+        a: Operand::Column(RISK),
+        b: Operand::Column(RISK),
+    };
+    map(alloc, &[risk, amount])
 }
 
 // The number in a column of the first output. None where there is no such number.
@@ -222,27 +273,6 @@ fn split_into_pieces(rt: HostRuntime) -> Result<(), Fail> {
 }
 
 #[test]
-fn splits_count_their_pieces(rt: HostRuntime) -> Result<(), Fail> {
-    let alloc = rt.alloc();
-    let cases: [(&[u8], u32, usize); 5] = [
-        (b"a;b", 2, 2),
-        (b"a;b;c", 2, 2),
-        (b";", 16, 2),
-        (b";;;", 3, 3),
-        (b"abc", 1, 1),
-    ];
-    for (tags, most, want) in cases {
-        let made = outs(alloc, 4, &split(most), &tuple(alloc, b"", tags, 0)?)?;
-        assert_eq!(rt; made.len(), want);
-    }
-    let made = outs(alloc, 4, &split(3), &turned(alloc)?)?;
-    assert_eq!(rt; made.len(), 1);
-    assert_eq!(rt; number(&made, TAGS), Some(8));
-    assert_eq!(rt; outs(alloc, 4, &split(3), &bare(alloc))?.len(), 1);
-    Ok(())
-}
-
-#[test]
 fn clamped_product(rt: HostRuntime) -> Result<(), Fail> {
     let alloc = rt.alloc();
     let step = Step {
@@ -259,76 +289,6 @@ fn clamped_product(rt: HostRuntime) -> Result<(), Fail> {
         &tuple(alloc, b"", b"", amount)?,
     )?;
     assert_eq!(rt; number(&made, AMOUNT), Some(i64::MAX));
-    Ok(())
-}
-
-#[test]
-fn maps_compute(rt: HostRuntime) -> Result<(), Fail> {
-    let alloc = rt.alloc();
-    let cases = [
-        (Op::Add, 3, 4, 7),
-        (Op::Add, i64::MAX, 1, i64::MAX),
-        (Op::Sub, i64::MIN, 1, i64::MIN),
-        (Op::Sub, 0, i64::MIN, i64::MAX),
-        (Op::Mul, i64::MIN, i64::MIN, i64::MAX),
-        (Op::Mul, -3, 4, -12),
-        (Op::Min, -5, 3, -5),
-        (Op::Max, -5, 3, 3),
-    ];
-    for (op, a, b, want) in cases {
-        let step = Step {
-            column: RISK,
-            op,
-            a: Operand::Number(a),
-            b: Operand::Number(b),
-        };
-        let made = outs(alloc, 3, &map(alloc, &[step])?, &tuple(alloc, b"", b"", 0)?)?;
-        assert_eq!(rt; number(&made, RISK), Some(want));
-    }
-    Ok(())
-}
-
-#[test]
-fn later_steps_read_what_earlier_ones_wrote(rt: HostRuntime) -> Result<(), Fail> {
-    let alloc = rt.alloc();
-    let double = Step {
-        column: RISK,
-        op: Op::Add,
-        a: Operand::Column(AMOUNT),
-        b: Operand::Column(AMOUNT),
-    };
-    let twice = Step {
-        column: AMOUNT,
-        op: Op::Add,
-        a: Operand::Column(RISK),
-        b: Operand::Column(RISK),
-    };
-    let both = map(alloc, &[double, twice])?;
-    let made = outs(alloc, 3, &both, &tuple(alloc, b"", b"", 10)?)?;
-    assert_eq!(rt; number(&made, RISK), Some(20));
-    assert_eq!(rt; number(&made, AMOUNT), Some(40));
-    let made = outs(alloc, 3, &both, &turned(alloc)?)?;
-    assert_eq!(rt; made.len(), 1);
-    assert_eq!(rt; number(&made, RISK), None);
-    assert_eq!(rt; outs(alloc, 3, &both, &bare(alloc))?.len(), 1);
-    Ok(())
-}
-
-#[test]
-fn accounts_are_looked_up(rt: HostRuntime) -> Result<(), Fail> {
-    let alloc = rt.alloc();
-    let cases: [(&[u8], i64); 4] = [(b"ann", 3), (b"anna", -1), (b"", 5), (b"ANN", -1)];
-    for (account, want) in cases {
-        let made = outs(alloc, 3, &enrich(RISK), &tuple(alloc, account, b"x", 4)?)?;
-        assert!(rt; shows(&made, 0, 0, b"x", &[]));
-        assert_eq!(rt; number(&made, RISK), Some(want));
-        assert_eq!(rt; number(&made, AMOUNT), Some(4));
-    }
-    let made = outs(alloc, 3, &enrich(RISK), &turned(alloc)?)?;
-    assert_eq!(rt; number(&made, RISK), None);
-    assert_eq!(rt; number(&made, ACCOUNT), Some(8));
-    let made = outs(alloc, 3, &enrich(9), &tuple(alloc, b"ann", b"", 4)?)?;
-    assert_eq!(rt; number(&made, RISK), Some(1));
     Ok(())
 }
 
@@ -415,50 +375,93 @@ fn copies_are_told_apart_by_their_ports(rt: HostRuntime) -> Result<(), Fail> {
 }
 
 #[test]
-fn keys_are_counted(rt: HostRuntime) -> Result<(), Fail> {
+fn workers_are_reached_by_key_or_by_row(rt: HostRuntime) -> Result<(), Fail> {
     let alloc = rt.alloc();
     let job = job(alloc)?;
-    let visit = Visit {
-        node: 3,
-        worker: 1,
-        last: 2,
-    };
-    let mut counts = Keyed::new(alloc);
-    for (account, amount, want) in [
-        (b"ann".as_slice(), 5, 5),
-        (b"bob", -7, -7),
-        (b"ann", i64::MAX, i64::MAX),
-        (b"bob", i64::MIN, i64::MIN),
-        (b"", 2, 2),
-    ] {
-        let mut outs = Outs::new(alloc);
-        let tuple = tuple(alloc, account, b"", amount)?;
-        apply(
-            alloc,
-            &job,
-            visit,
-            &count(RISK),
-            &mut counts,
-            &tuple,
-            &mut outs,
-        )?;
-        assert_eq!(rt; number(&outs, RISK), Some(want));
+    let tuple = tuple(alloc, b"k1", b"", 0)?;
+    // The count has eight workers and the split three; the row is 7.
+    for (edge, want) in [(0, 0), (3, 6), (4, 1), (6, 0)] {
+        assert!(rt; edge < job.dag.edges());
+        assert_eq!(rt; lane_of(&job, edge, &tuple), want);
     }
+    assert!(rt; job.dag.edges() > 3);
+    assert_eq!(rt; lane_of(&job, 3, &bare(alloc)), 0);
+    Ok(())
+}
+
+#[test]
+fn splits_count_their_pieces(rt: HostRuntime) -> Result<(), Fail> {
+    let alloc = rt.alloc();
+    assert_eq!(rt; pieces(alloc, b"a;b", 2)?, 2);
+    assert_eq!(rt; pieces(alloc, b"a;b;c", 2)?, 2);
+    assert_eq!(rt; pieces(alloc, b";", 16)?, 2);
+    assert_eq!(rt; pieces(alloc, b"abc", 1)?, 1);
+    let made = outs(alloc, 4, &split(3), &turned(alloc)?)?;
+    assert_eq!(rt; made.len(), 1);
+    assert_eq!(rt; number(&made, TAGS), Some(8));
+    Ok(())
+}
+
+#[test]
+fn maps_compute(rt: HostRuntime) -> Result<(), Fail> {
+    let alloc = rt.alloc();
+    let cases = [
+        (Op::Add, 3, 4, 7),
+        (Op::Add, i64::MAX, 1, i64::MAX),
+        (Op::Sub, i64::MIN, 1, i64::MIN),
+        (Op::Sub, 0, i64::MIN, i64::MAX),
+        (Op::Mul, i64::MIN, i64::MIN, i64::MAX),
+        (Op::Mul, -3, 4, -12),
+        (Op::Min, -5, 3, -5),
+        (Op::Max, -5, 3, 3),
+    ];
+    for (op, a, b, want) in cases {
+        assert_eq!(rt; computed(alloc, op, a, b)?, Some(want));
+    }
+    Ok(())
+}
+
+#[test]
+fn later_steps_read_what_earlier_ones_wrote(rt: HostRuntime) -> Result<(), Fail> {
+    let alloc = rt.alloc();
+    let made = outs(alloc, 3, &doubled(alloc)?, &tuple(alloc, b"", b"", 10)?)?;
+    assert_eq!(rt; number(&made, RISK), Some(20));
+    assert_eq!(rt; number(&made, AMOUNT), Some(40));
+    assert_eq!(rt; risk(alloc, &doubled(alloc)?, &turned(alloc)?)?, None);
+    assert_eq!(rt; risk(alloc, &doubled(alloc)?, &bare(alloc))?, None);
+    Ok(())
+}
+
+#[test]
+fn accounts_are_looked_up(rt: HostRuntime) -> Result<(), Fail> {
+    let alloc = rt.alloc();
+    for (account, want) in [(b"ann".as_slice(), 3), (b"anna", -1), (b"", 5)] {
+        let tuple = tuple(alloc, account, b"", 4)?;
+        assert_eq!(rt; risk(alloc, &enrich(RISK), &tuple)?, Some(want));
+    }
+    assert_eq!(rt; risk(alloc, &enrich(RISK), &turned(alloc)?)?, None);
+    let tuple = tuple(alloc, b"ann", b"", 4)?;
+    assert_eq!(rt; risk(alloc, &enrich(9), &tuple)?, Some(1));
+    Ok(())
+}
+
+#[test]
+fn keys_are_counted(rt: HostRuntime) -> Result<(), Fail> {
+    let alloc = rt.alloc();
+    let mut counts = Keyed::new(alloc);
+    assert_eq!(rt; counted(alloc, &mut counts, b"ann", 5)?, Some(5));
+    assert_eq!(rt; counted(alloc, &mut counts, b"bob", -7)?, Some(-7));
     assert_eq!(rt;
-        counts.get(&Txt::from_slice(alloc, b"ann")?),
+        counted(alloc, &mut counts, b"ann", i64::MAX)?,
         Some(i64::MAX)
     );
-    let mut outs = Outs::new(alloc);
-    apply(
-        alloc,
-        &job,
-        visit,
-        &count(RISK),
-        &mut counts,
-        &turned(alloc)?,
-        &mut outs,
-    )?;
-    assert_eq!(rt; number(&outs, RISK), None);
+    assert_eq!(rt;
+        counted(alloc, &mut counts, b"bob", i64::MIN)?,
+        Some(i64::MIN)
+    );
+    assert_eq!(rt; counted(alloc, &mut counts, b"", 2)?, Some(2));
+    let made = outs_after(alloc, 3, &count(RISK), &mut counts, &turned(alloc)?)?;
+    assert_eq!(rt; number(&made, RISK), None);
     assert_eq!(rt; counts.get(&Txt::new(alloc)), Some(2));
     assert_eq!(rt; counts.iter().count(), 3);
     Ok(())
@@ -471,34 +474,25 @@ fn an_output_is_the_tuple_with_its_visit(rt: HostRuntime) -> Result<(), Fail> {
     let [output] = made.as_slice() else {
         return Err("one output".into());
     };
-    assert_eq!(rt;
-        (output.port, output.tuple.row, output.tuple.issued),
-        (0, 7, 2)
-    );
     let visit = Visit {
         node: 3,
         worker: 0,
         last: 1,
     };
+    assert_eq!(rt;
+        (output.port, output.tuple.row, output.tuple.issued),
+        (0, 7, 2)
+    );
     assert_eq!(rt; output.tuple.trace.get(0).copied(), Some(visit));
     assert_eq!(rt; output.tuple.fields.len(), 4);
-    let sink = Func::Sink(Columns::new(alloc));
-    assert_eq!(rt; outs(alloc, 5, &sink, &bare(alloc))?.len(), 0);
-    assert_eq!(rt; outs(alloc, 0, &Func::Source, &bare(alloc))?.len(), 0);
     Ok(())
 }
 
 #[test]
-fn workers_are_reached_by_key_or_by_row(rt: HostRuntime) -> Result<(), Fail> {
+fn sources_and_sinks_put_nothing_out(rt: HostRuntime) -> Result<(), Fail> {
     let alloc = rt.alloc();
-    let job = job(alloc)?;
-    let tuple = tuple(alloc, b"k1", b"", 0)?;
-    // The count has eight workers and the split three; the row is 7.
-    for (edge, want) in [(0, 0), (3, 6), (4, 1), (6, 0)] {
-        assert!(rt; edge < job.dag.edges());
-        assert_eq!(rt; lane_of(&job, edge, &tuple), want);
-    }
-    assert!(rt; job.dag.edges() > 3);
-    assert_eq!(rt; lane_of(&job, 3, &bare(alloc)), 0);
+    let sink = Func::Sink(Columns::new(alloc));
+    assert_eq!(rt; outs(alloc, 5, &sink, &bare(alloc))?.len(), 0);
+    assert_eq!(rt; outs(alloc, 0, &Func::Source, &bare(alloc))?.len(), 0);
     Ok(())
 }
