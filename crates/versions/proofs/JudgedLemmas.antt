@@ -1,8 +1,7 @@
 -- Judging on from the middle of a list.
-use Rattle.std.proofs.Common.{◌≡◌, ◌<◌, ◌≤◌, ◌+◌, ℕ, List, [], ◌∷◌, ◌++◌, length, drop, get_or, Some, None, refl, sym, ap, subst, ◌∙◌, append_assoc}
-use Rattle.std.proofs.lemmas.List.{append-nil, drop_all, drop_more}
+use Rattle.std.proofs.Common.{◌≡◌, ◌≤◌, ◌+◌, ℕ, List, [], ◌∷◌, ◌++◌, length, drop, Some, None, refl, sym, ap, ◌∙◌, append_assoc}
+use Rattle.std.proofs.lemmas.List.{append-nil, drop_all}
 use Rattle.jobs.specs.Written.{Written}
-use Rattle.jobs.specs.declared.func.NodeDef.{NodeDef}
 use Rattle.versions.specs.declared.book.Current.{Current}
 use Rattle.versions.specs.declared.in_order.Bench.{Bench}
 use Rattle.versions.specs.declared.in_order.Judged.{Judged}

@@ -1,5 +1,5 @@
 -- Books whose versions are small, and requests that they can take.
-use Rattle.std.proofs.Common.{◌≡◌, ◌<◌, ◌≤◌, ◌+◌, ◌-◌, ◌^◌, ℕ, List, [], ◌∷◌, ◌++◌, length, take, get_or, Option, Some, None, true, false, refl, sym, ap, subst, ◌∙◌, inl, inr, arith, zero, suc, slice_set, append_assoc}
+use Rattle.std.proofs.Common.{◌≡◌, ◌<◌, ◌≤◌, ◌+◌, ◌-◌, ◌^◌, ℕ, List, [], ◌∷◌, ◌++◌, length, take, Option, Some, None, false, refl, sym, subst, ◌∙◌, inl, inr, arith, zero, suc, slice_set, append_assoc}
 use Rattle.std.proofs.lemmas.Grind.{common_steps}
 use Rattle.std.proofs.lemmas.Option.{gets, same_Some, slice_get_cases, slice_get_within}
 use Rattle.std.proofs.lemmas.Bool.{cases_Bool, cases_eq}
@@ -17,7 +17,7 @@ use Rattle.versions.specs.declared.fault.QFault.{QFault}
 use Rattle.versions.specs.declared.fault.QFault.TheVariants as fault
 use Rattle.versions.specs.declared.request.Request.{Request}
 use Rattle.versions.specs.Book.{CanAccept, accepted, current_version, first_book, with_change}
-use Rattle.versions.specs.Judging.{fault_of, first_with, has_fault, named, or_else, stale, whole_fault}
+use Rattle.versions.specs.Judging.{fault_of, first_with, has_fault, named, or_else}
 use Rattle.versions.specs.Young.{IsBelow, IsYoung}
 use Rattle.versions.proofs.BookLemmas.{long_still, other_place}
 use Rattle.versions.proofs.FirstLemmas.{one_found, one_more}

@@ -1,5 +1,4 @@
-use Rattle.std.proofs.Common.{◌≡◌, ◌∙◌, sym, rules, arith, false, ◌==◌}
-use Rattle.versions.specs.Book.{current_version}
+use Rattle.std.proofs.Common.{◌∙◌, sym}
 use Rattle.versions.proofs.BookLemmas.{accepted_end, accepted_more, eq_apart, long_still, other_place, twice_more}
 use Rattle.versions.proofs.book.accept.Goals as goal
 

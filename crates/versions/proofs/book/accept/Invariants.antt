@@ -1,7 +1,6 @@
-use Rattle.std.proofs.Common.{◌≡◌, ◌<◌, ℕ, Some, false, drop, take, length}
+use Rattle.std.proofs.Common.{◌≡◌, ℕ, false, drop, take, length}
 use Rattle.std.specs.List.{slice_get}
-use Rattle.versions.specs.Book.{HasRoom, accepted, is_named}
-use Rattle.versions.specs.declared.request.Change.{Change}
+use Rattle.versions.specs.Book.{accepted, is_named}
 use Rattle.versions.proofs.book.accept.Given as goal
 
 abbrev pub invariant-loop-change : goal.invariant-loop-change

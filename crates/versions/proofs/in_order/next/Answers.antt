@@ -1,6 +1,5 @@
-use Rattle.std.proofs.Common.{◌≡◌, ◌∙◌, ◌++◌, ◌∷◌, [], ◌<◌, ◌^◌, ◌-◌, ◌*◌, sym, rules, arith, None, Some}
+use Rattle.std.proofs.Common.{◌≡◌, ◌++◌, ◌∷◌, [], ◌<◌, ◌^◌, ◌-◌, ◌*◌, rules, arith}
 use Rattle.jobs.specs.Job.{written}
-use Rattle.versions.specs.Judging.{fault_of}
 use Rattle.versions.proofs.JudgedLemmas.{judged_on-accepted, judged_on-refused}
 use Rattle.versions.proofs.YoungLemmas.{CanAccept-fault_of, IsYoung-accepted}
 use Rattle.versions.proofs.in_order.next.Goals as goal
