@@ -1,10 +1,11 @@
--- Arrays that have another length than a condition or a step.
+-- Arrays of the length of a condition, and arrays that have another length than a condition, a step or a carry.
 use Rattle.std.proofs.Common.{◌≡◌, ◌≢◌, ℕ, List, [], ◌∷◌, length, get_or, Ok, Err, refl, arith}
 use Rattle.toml.specs.View.{items_view, view}
 use Rattle.toml.specs.declared.value.Value.{Value}
 use Rattle.jobs.specs.declared.column.Column.{Column}
 use Rattle.job_file.specs.declared.fault.FormFault.TheVariants as fault
 use Rattle.job_file.specs.declared.fault.Part.TheVariants as part
+use Rattle.job_file.specs.Carries.{carry_from}
 use Rattle.job_file.specs.Conds.{three_of}
 use Rattle.job_file.specs.Steps.{step_in}
 
@@ -29,3 +30,10 @@ step_in-length columns (a ∷ b ∷ []) other = refl
 step_in-length columns (a ∷ b ∷ c ∷ []) other = refl
 step_in-length columns (a ∷ b ∷ c ∷ d ∷ []) other = absurd (other refl)
 step_in-length columns (a ∷ b ∷ c ∷ d ∷ e ∷ parts) other = refl
+
+pub carry_from-length : (parts : List Value) → length parts ≢ 3 → length parts ≢ 2 → carry_from (items_view parts) ≡ Err (fault.Shape part.Carry)
+carry_from-length [] three two = refl
+carry_from-length (a ∷ []) three two = refl
+carry_from-length (a ∷ b ∷ []) three two = absurd (two refl)
+carry_from-length (a ∷ b ∷ c ∷ []) three two = absurd (three refl)
+carry_from-length (a ∷ b ∷ c ∷ d ∷ parts) three two = refl
