@@ -21,7 +21,11 @@ pub(crate) fn read_list(alloc: Global, job: &Job, members: &Members) -> Result<R
     if !has_only(members, &["request"], &[]) {
         return Err(FormFault::Shape(Part::Unknown));
     }
-    read_requests_of(alloc, job, items_or_none(members, "request", Part::Request)?)
+    read_requests_of(
+        alloc,
+        job,
+        items_or_none(members, "request", Part::Request)?,
+    )
 }
 
 fn read_requests_of(alloc: Global, job: &Job, items: &[Toml]) -> Result<Requests, FormFault>

@@ -13,7 +13,7 @@ returns-in_err-read_change-clause-fault c =
 pub loop-item-preserved : goal.loop-item-preserved
 loop-item-preserved c =
     rw c.in_ok-push.ensures.ok (c.loop-item.invariant
-        ∙ all_of-Ok (change_of (written c.args.job.now)) c.loop-item.list c.args.items.now c.loop-item.item-index c.item-item.result _ c.loop-item-test.true c.item-item.is c.in_ok-read_change.ensures.ok)
+    ∙ all_of-Ok (change_of (written c.args.job.now)) c.loop-item.list c.args.items.now c.loop-item.item-index c.item-item.result _ c.loop-item-test.true c.item-item.is c.in_ok-read_change.ensures.ok)
 
 pub returns-clause-ok : goal.returns-clause-ok
 returns-clause-ok c = c.loop-item.invariant ∙ all_of-end (change_of (written c.args.job.now)) c.loop-item.list c.args.items.now c.loop-item.item-index c.loop-item-test.false
