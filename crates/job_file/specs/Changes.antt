@@ -1,5 +1,5 @@
 -- The changes of a request.
-use Rattle.std.specs.Prelude.{ℕ, ℤ, pos, List, [], ◌∷◌, codes, int_lt, nat_abs, Result, Ok, Err, if◌then◌else◌}
+use Rattle.std.specs.Prelude.{ℕ, pos, List, [], ◌∷◌, codes, int_lt, nat_abs, Result, Ok, Err, if◌then◌else◌}
 use Rattle.toml.specs.Data.{Data, Members, get_member}
 use Rattle.keyed_state.specs.declared.carry.Carry.{Carry}
 use Rattle.keyed_state.specs.declared.carry.Carry.TheVariants as carry

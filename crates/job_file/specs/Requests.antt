@@ -1,5 +1,5 @@
 -- The layout of a request file.
-use Rattle.std.specs.Prelude.{ℕ, ℤ, List, [], ◌∷◌, codes, Result, Ok, Err, if◌then◌else◌}
+use Rattle.std.specs.Prelude.{ℤ, List, [], ◌∷◌, codes, Result, Ok, Err, if◌then◌else◌}
 use Rattle.toml.specs.Data.{Data, Members}
 use Rattle.jobs.specs.Written.{Written}
 use Rattle.versions.specs.declared.request.Change.{Change}

@@ -264,7 +264,9 @@ fn requests_of_the_example(rt: HostRuntime) {
     for (request, after, node) in [(0, 4, 3), (1, 8, 7), (2, 9, 3)] {
         let request = &requests.as_slice()[request];
         assert_eq!(rt; request.after, after);
-        let change = &request.changes.as_slice()[0];
+        let [change, ..] = request.changes.as_slice() else {
+            panic!(rt; "a request has no change");
+        };
         assert_eq!(rt;
             (change.node, change.from, change.carry),
             (node, 0, Carry::Keep)
