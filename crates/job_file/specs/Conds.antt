@@ -1,5 +1,5 @@
 -- The conditions of a filter.
-use Rattle.std.specs.Prelude.{ℕ, List, codes, Option, None, Some, Result, Ok, Err, ok_or, if◌then◌else◌}
+use Rattle.std.specs.Prelude.{ℕ, List, codes, Result, Ok, Err, if◌then◌else◌}
 use Rattle.std.specs.Str.{bytes_eq}
 use Rattle.toml.specs.Data.{Data, Items, no_items, item}
 use Rattle.tuple_trace.specs.declared.value.Value.{Value}
@@ -30,18 +30,16 @@ test_of d = and_then (text_of part.When d) test_named
 abbrev pub cond_with : List Column → List ℕ → Test → Value → Result Cond FormFault
 cond_with columns name t literal = Ok (record { column = column_named columns name; test = t; literal = literal })
 
--- the three parts of a condition
-abbrev pub three_of : Items → Result (Data × Data × Data) FormFault
-three_of (item column (item t (item literal no_items))) = Ok (column, t, literal)
-three_of _ = Err (fault.Shape part.When)
-
 -- a condition is the name of a column, a test and a literal
-abbrev pub cond_in : List Column → Items → Result Cond FormFault
-cond_in columns items =
-    and_then (three_of items) (λ (column, t, literal).
+abbrev pub cond_by : List Column → Data → Data → Data → Result Cond FormFault
+cond_by columns column t literal =
     and_then (text_of part.When column) (λ name.
     and_then (test_of t) (λ found.
-    and_then (literal_of part.When literal) (cond_with columns name found))))
+    and_then (literal_of part.When literal) (cond_with columns name found)))
+
+abbrev pub cond_in : List Column → Items → Result Cond FormFault
+cond_in columns (item column (item t (item literal no_items))) = cond_by columns column t literal
+cond_in columns _ = Err (fault.Shape part.When)
 
 abbrev pub cond_of : List Column → Data → Result Cond FormFault
 cond_of columns d = and_then (items_of part.When d) (cond_in columns)

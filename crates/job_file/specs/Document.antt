@@ -1,5 +1,5 @@
 -- What is taken from the tree of a TOML document, by its form alone.
-use Rattle.std.specs.Prelude.{ℕ, ℤ, List, [], ◌∷◌, ◌++◌, Bool, true, ◌&&◌, ◌||◌, Option, Some, None, Result, Ok, Err, ok_or, if◌then◌else◌}
+use Rattle.std.specs.Prelude.{ℕ, ℤ, List, [], ◌∷◌, Bool, true, ◌&&◌, ◌||◌, Option, Some, None, Result, Ok, Err, ok_or, if◌then◌else◌}
 use Rattle.std.specs.List.{list_any}
 use Rattle.std.specs.Str.{bytes_eq, is_utf8}
 use Rattle.toml.specs.Data.{Data, Items, no_items, item, Members, no_members, member, as_array, as_integer, as_str, as_table, get_member}

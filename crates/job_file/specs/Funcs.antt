@@ -3,12 +3,9 @@ use Rattle.std.specs.Prelude.{ℕ, ℤ, List, [], ◌∷◌, codes, Result, Ok, 
 use Rattle.toml.specs.Data.{Data, Members}
 use Rattle.tuple_trace.specs.declared.value.Value.{Value}
 use Rattle.jobs.specs.declared.column.Column.{Column}
-use Rattle.jobs.specs.declared.func.CountBy.{CountBy}
 use Rattle.jobs.specs.declared.func.Func.{Func}
 use Rattle.jobs.specs.declared.func.Func.TheVariants as func
-use Rattle.jobs.specs.declared.func.Lookup.{Lookup}
 use Rattle.jobs.specs.declared.func.Operand.{Operand}
-use Rattle.jobs.specs.declared.func.SplitBy.{SplitBy}
 use Rattle.jobs.specs.declared.table.Table.{Table}
 use Rattle.job_file.specs.declared.fault.FormFault.{FormFault}
 use Rattle.job_file.specs.declared.fault.FormFault.TheVariants as fault

@@ -1,6 +1,6 @@
 -- The layout of a job file.
-use Rattle.std.specs.Prelude.{ℕ, List, [], ◌∷◌, codes, Result, Ok, Err, if◌then◌else◌}
-use Rattle.toml.specs.Data.{Data, Members, get_member}
+use Rattle.std.specs.Prelude.{List, [], ◌∷◌, codes, Result, Ok, Err, if◌then◌else◌}
+use Rattle.toml.specs.Data.{Members, get_member}
 use Rattle.flow_dag.specs.declared.edge.Edge.{Edge}
 use Rattle.jobs.specs.declared.column.Column.{Column}
 use Rattle.jobs.specs.declared.func.NodeDef.{NodeDef}

@@ -1,3 +1,5 @@
+pub mod Carries
+pub mod Changes
 pub mod Columns
 pub mod Conds
 pub mod Document
@@ -11,6 +13,9 @@ pub mod Literals
 pub mod Names
 pub mod Nodes
 pub mod Numbers
+pub mod RequestFile
+pub mod RequestSizes
+pub mod Requests
 pub mod Steps
 pub mod Tables
 pub mod Wide

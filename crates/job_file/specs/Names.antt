@@ -1,5 +1,5 @@
 -- Names, and the numbers that they stand for.
-use Rattle.std.specs.Prelude.{ℕ, List, length, take, position, Bool, ◌&&◌, ◌||◌, not, min, nat_le, nat_eq, ◌==◌, Option, None, Some}
+use Rattle.std.specs.Prelude.{ℕ, List, length, take, position, Bool, ◌&&◌, ◌||◌, min, nat_le, nat_eq, ◌==◌, Option, None, Some}
 use Rattle.std.specs.Char.{is_ascii_digit, is_ascii_lowercase}
 use Rattle.std.specs.Cmp.Lexicographic.{pointwise}
 use Rattle.std.specs.List.{list_all}

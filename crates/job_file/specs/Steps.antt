@@ -1,5 +1,5 @@
 -- The steps of a map.
-use Rattle.std.specs.Prelude.{ℕ, List, codes, Option, None, Some, Result, Ok, Err, ok_or, if◌then◌else◌}
+use Rattle.std.specs.Prelude.{ℕ, List, codes, Result, Ok, Err, if◌then◌else◌}
 use Rattle.std.specs.Str.{bytes_eq}
 use Rattle.toml.specs.Data.{Data, Items, no_items, item}
 use Rattle.jobs.specs.declared.column.Column.{Column}
@@ -30,12 +30,15 @@ abbrev pub step_with : List Column → List ℕ → Op → Operand → Operand �
 step_with columns name o a b = Ok (record { column = column_named columns name; op = o; a = a; b = b })
 
 -- a step is the name of a column, what is computed, and two operands
-abbrev pub step_in : List Column → Items → Result Step FormFault
-step_in columns (item column (item o (item a (item b no_items)))) =
+abbrev pub step_by : List Column → Data → Data → Data → Data → Result Step FormFault
+step_by columns column o a b =
     and_then (text_of part.Steps column) (λ name.
     and_then (op_of o) (λ found.
     and_then (operand_of columns part.Steps a) (λ first.
     and_then (operand_of columns part.Steps b) (step_with columns name found first))))
+
+abbrev pub step_in : List Column → Items → Result Step FormFault
+step_in columns (item column (item o (item a (item b no_items)))) = step_by columns column o a b
 step_in columns _ = Err (fault.Shape part.Steps)
 
 abbrev pub step_of : List Column → Data → Result Step FormFault

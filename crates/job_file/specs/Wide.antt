@@ -32,13 +32,14 @@ abbrev pub found_in : {A : Type 0} → (A → Option Oversize) → Result A Form
 found_in find (Err fault) = None
 found_in find (Ok x) = find x
 
+-- the first of the items in which something is found
+unfoldable pub first_found : (Data → Option Oversize) → Items → Option Oversize
+first_found find no_items = None
+first_found find (item d ds) = option_or (find d) (first_found find ds)
+
 abbrev pub wide_item : Data → Option Oversize
 wide_item d = found_in wide_node (table_of part.Node d)
 
 -- the first of the nodes' numbers that is wide
-unfoldable pub first_wide : Items → Option Oversize
-first_wide no_items = None
-first_wide (item d ds) = option_or (wide_item d) (first_wide ds)
-
 abbrev pub wide_in : Members → Option Oversize
-wide_in ms = found_in first_wide (optional_items_at (codes "node") part.Node ms)
+wide_in ms = found_in (first_found wide_item) (optional_items_at (codes "node") part.Node ms)

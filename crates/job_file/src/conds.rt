@@ -1,6 +1,6 @@
 ghost use Rattle.std.specs.Prelude.{◌≡◌, ◌≢◌, Ok, Err, IfOk, IfErr};
 ghost use Rattle.toml.specs.View.{items_view, view};
-ghost use Rattle.job_file.specs.Conds.{cond_in, cond_of, test_of, three_of};
+ghost use Rattle.job_file.specs.Conds.{cond_by, cond_in, cond_of, test_of};
 ghost use Rattle.job_file.specs.Document.{all_of};
 
 use crate::document::{items, text};
@@ -38,7 +38,22 @@ fn cond_from(alloc: Global, columns: &[Column], parts: &[Toml]) -> Result<Cond, 
     ensures ok { IfOk result (λ cond. cond_in columns.now (items_view parts.now) ≡ Ok cond) }
     ensures fault { IfErr result (λ fault. fault ≢ FormFault.NoMemory → cond_in columns.now (items_view parts.now) ≡ Err fault) }
 {
-    let (column, test, literal) = three_of(parts)?;
+    if parts.len() != 3 {
+        return Err(FormFault::Shape(Part::When));
+    }
+    cond_of_three(alloc, columns, &parts[0], &parts[1], &parts[2])
+}
+
+fn cond_of_three(
+    alloc: Global,
+    columns: &[Column],
+    column: &Toml,
+    test: &Toml,
+    literal: &Toml,
+) -> Result<Cond, FormFault>
+    ensures ok { IfOk result (λ cond. cond_by columns.now (view column.now) (view test.now) (view literal.now) ≡ Ok cond) }
+    ensures fault { IfErr result (λ fault. fault ≢ FormFault.NoMemory → cond_by columns.now (view column.now) (view test.now) (view literal.now) ≡ Err fault) }
+{
     let name = text(column, Part::When)?;
     let test = read_test(test)?;
     let literal = read_literal(alloc, literal, Part::When)?;
@@ -47,16 +62,6 @@ fn cond_from(alloc: Global, columns: &[Column], parts: &[Toml]) -> Result<Cond, 
         test,
         literal,
     })
-}
-
-fn three_of(parts: &[Toml]) -> Result<(&Toml, &Toml, &Toml), FormFault>
-    ensures ok { IfOk result (λ three. three_of (items_view parts.now) ≡ Ok (view three.0.now, view three.1.now, view three.2.now)) }
-    ensures fault { IfErr result (λ fault. three_of (items_view parts.now) ≡ Err fault) }
-{
-    if parts.len() != 3 {
-        return Err(FormFault::Shape(Part::When));
-    }
-    Ok((&parts[0], &parts[1], &parts[2]))
 }
 
 fn read_test(item: &Toml) -> Result<Test, FormFault>

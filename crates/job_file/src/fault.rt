@@ -1,6 +1,6 @@
 ghost use Rattle.std.specs.Prelude.{◌≡◌};
 ghost use Rattle.job_file.specs.declared.fault.FormFault.TheVariants as form_fault;
-ghost use Rattle.job_file.specs.Faults.{of_form, of_law};
+ghost use Rattle.job_file.specs.Faults.{of_form, of_law, of_request_form};
 
 use jobs::{LawFault, Named, Which};
 use tuple_trace::NoMemory;
@@ -64,6 +64,18 @@ pub enum JobFault {
     NoMemory,
 }
 
+/// Why a file holds no requests, in the order in which the faults are looked for.
+#[derive(Clone, Copy, Debug, PartialEq, Eq)]
+pub enum ReqFileFault {
+    /// The bytes are no TOML document.
+    NotToml,
+    /// A needed key is missing, a key isn't in the layout, or a value isn't of the form that its key asks for.
+    Shape(Part),
+    /// A count or a size is outside its limit; the number is the one that is.
+    Limit(Which, i64),
+    NoMemory,
+}
+
 /// Why a document isn't read, whatever it is the file of.
 #[derive(Clone, Copy, Debug, PartialEq, Eq)]
 pub(crate) enum FormFault {
@@ -106,6 +118,18 @@ impl From<LawFault> for JobFault {
             LawFault::NoTable(node) => JobFault::NoTable(node),
             LawFault::Weight(weight) => JobFault::Weight(weight),
             LawFault::NoMemory => JobFault::NoMemory,
+        }
+    }
+}
+
+impl From<FormFault> for ReqFileFault {
+    ghost from_gives = { λ form fault. fault ≡ of_request_form form };
+
+    fn from(form: FormFault) -> Self {
+        match form {
+            FormFault::NotToml => ReqFileFault::NotToml,
+            FormFault::Shape(part) => ReqFileFault::Shape(part),
+            FormFault::NoMemory => ReqFileFault::NoMemory,
         }
     }
 }

@@ -1,8 +1,10 @@
-//! Reads a job from the bytes of its file.
+//! Reads a job, and requests to change it, from the bytes of their files.
 //!
-//! A job file is a TOML document. [`read_job`] answers the job that it writes down, or the first of its faults.
+//! Both files are TOML documents. [`read_job`] answers the job that a file writes down, and [`read_requests`] the requests, or the first fault.
 #![tactic(auto)]
 
+mod carries;
+mod changes;
 mod columns;
 mod conds;
 mod document;
@@ -16,12 +18,14 @@ mod names;
 mod nodes;
 mod numbers;
 mod read;
+mod request_sizes;
+mod requests;
 mod steps;
 mod tables;
 #[cfg(test)]
 mod tests;
 mod wide;
 
-pub use fault::{JobFault, Part};
+pub use fault::{JobFault, Part, ReqFileFault};
 pub use jobs::{Named, Which};
-pub use read::{faulty_is_no_job, read_job};
+pub use read::{faulty_is_no_job, read_job, read_requests};

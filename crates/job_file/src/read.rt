@@ -1,13 +1,18 @@
-ghost use Rattle.std.specs.Prelude.{◌≢◌, IfOk, IfErr};
+ghost use Rattle.std.specs.Prelude.{◌≡◌, ◌≢◌, Ok, Err, IfOk, IfErr};
 ghost use Rattle.jobs.specs.Job.{written};
 ghost use Rattle.job_file.specs.Job.{Excludes, IsFaultIn, IsJobIn};
+ghost use Rattle.job_file.specs.RequestFile.{requests_of};
+ghost use Rattle.job_file.specs.RequestSizes.{AreFew};
 
 use crate::document::document;
-use crate::fault::JobFault;
+use crate::fault::{JobFault, ReqFileFault};
 use crate::layout::{Layout, read_layout};
+use crate::request_sizes::{list_fault, wide_in_requests};
+use crate::requests::read_list;
 use crate::wide::wide_in;
 use jobs::Job;
 use std::alloc::Global;
+use versions::Requests;
 
 /// The job that a file writes down.
 ///
@@ -38,3 +43,27 @@ pub fn read_job(alloc: Global, bytes: &[u8]) -> Result<Job, JobFault>
 pub fn faulty_is_no_job()
     ensures { Excludes }
 {}
+
+/// The requests that a file makes of a job, in the order of the file.
+///
+/// # Errors
+///
+/// The faults are looked for in the order of [`ReqFileFault`], and the first that stands is answered. Of faults of form, the first in the
+/// order of the layout is: the keys of a table, then what stands at each. Of sizes, an `after` or a `most` that has more than 32 bits or is
+/// below 0 comes first, then the number of requests, and then request by request its `after`, the number of its changes, and the
+/// sizes of their functions. [`ReqFileFault::NoMemory`] may come of any file.
+pub fn read_requests(alloc: Global, job: &Job, bytes: &[u8]) -> Result<Requests, ReqFileFault>
+    ensures ok { IfOk result (λ requests. requests_of (written job.now) bytes.now ≡ Ok requests) }
+    ensures few { IfOk result AreFew }
+    ensures fault { IfErr result (λ fault. fault ≢ ReqFileFault.NoMemory → requests_of (written job.now) bytes.now ≡ Err fault) }
+{
+    let members = document(alloc, bytes)?;
+    let requests = read_list(alloc, job, &members)?;
+    if let Some((which, number)) = wide_in_requests(&members) {
+        return Err(ReqFileFault::Limit(which, number));
+    }
+    if let Some((which, number)) = list_fault(requests.as_slice()) {
+        return Err(ReqFileFault::Limit(which, number));
+    }
+    Ok(requests)
+}

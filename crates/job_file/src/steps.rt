@@ -1,7 +1,7 @@
 ghost use Rattle.std.specs.Prelude.{◌≡◌, ◌≢◌, Ok, Err, IfOk, IfErr};
 ghost use Rattle.toml.specs.View.{items_view, view};
 ghost use Rattle.job_file.specs.Document.{all_of};
-ghost use Rattle.job_file.specs.Steps.{op_of, step_in, step_of};
+ghost use Rattle.job_file.specs.Steps.{op_of, step_by, step_in, step_of};
 
 use crate::document::{items, text};
 use crate::fault::{FormFault, Part};
@@ -38,9 +38,22 @@ fn step_from(columns: &[Column], parts: &[Toml]) -> Result<Step, FormFault>
     ensures ok { IfOk result (λ step. step_in columns.now (items_view parts.now) ≡ Ok step) }
     ensures fault { IfErr result (λ fault. step_in columns.now (items_view parts.now) ≡ Err fault) }
 {
-    let [column, op, a, b] = parts else {
+    if parts.len() != 4 {
         return Err(FormFault::Shape(Part::Steps));
-    };
+    }
+    step_of_four(columns, &parts[0], &parts[1], &parts[2], &parts[3])
+}
+
+fn step_of_four(
+    columns: &[Column],
+    column: &Toml,
+    op: &Toml,
+    a: &Toml,
+    b: &Toml,
+) -> Result<Step, FormFault>
+    ensures ok { IfOk result (λ step. step_by columns.now (view column.now) (view op.now) (view a.now) (view b.now) ≡ Ok step) }
+    ensures fault { IfErr result (λ fault. step_by columns.now (view column.now) (view op.now) (view a.now) (view b.now) ≡ Err fault) }
+{
     let name = text(column, Part::Steps)?;
     let op = read_op(op)?;
     let a = read_operand(columns, a, Part::Steps)?;

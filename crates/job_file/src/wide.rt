@@ -1,6 +1,6 @@
 ghost use Rattle.std.specs.Prelude.{◌≡◌};
 ghost use Rattle.toml.specs.View.{items_view, table_view, view};
-ghost use Rattle.job_file.specs.Wide.{first_wide, is_wide, wide_at, wide_in, wide_item, wide_node};
+ghost use Rattle.job_file.specs.Wide.{first_found, is_wide, wide_at, wide_in, wide_item, wide_node};
 
 use crate::document::{items_or_none, member, table};
 use crate::fault::Part;
@@ -19,7 +19,7 @@ pub(crate) fn wide_in(members: &Members) -> Option<(Which, i64)>
 }
 
 fn first_wide(items: &[Toml]) -> Option<(Which, i64)>
-    ensures { result ≡ first_wide (items_view items.now) }
+    ensures { result ≡ first_found wide_item (items_view items.now) }
 {
     for item in items {
         if let Some(wide) = wide_item(item) {

@@ -1,0 +1,51 @@
+-- The sizes of a list of requests, and their limits.
+use Rattle.std.specs.Prelude.{List, length, codes, Option}
+use Rattle.std.specs.Option.{option_or}
+use Rattle.toml.specs.Data.{Data, Members}
+use Rattle.jobs.specs.Limits.{Oversize, first_oversize, outside, oversize}
+use Rattle.jobs.specs.declared.fault.Which.TheVariants as which
+use Rattle.versions.specs.declared.request.Change.{Change}
+use Rattle.versions.specs.declared.request.Request.{Request}
+use Rattle.job_file.specs.declared.fault.Part.TheVariants as part
+use Rattle.job_file.specs.Document.{optional_items_at, table_of}
+use Rattle.job_file.specs.Wide.{first_found, found_in, wide_at}
+
+-- ---- numbers that a request has no room for
+
+-- the most pieces of a change
+abbrev pub wide_change : Data → Option Oversize
+wide_change d = found_in (wide_at (codes "most") which.Most) (table_of part.Change d)
+
+-- the row of a request, else the first number of its changes
+abbrev pub wide_request : Members → Option Oversize
+wide_request ms =
+    option_or (wide_at (codes "after") which.After ms) (found_in (first_found wide_change) (optional_items_at (codes "change") part.Change ms))
+
+abbrev pub wide_request_item : Data → Option Oversize
+wide_request_item d = found_in wide_request (table_of part.Request d)
+
+-- the first number of the requests that is wide
+abbrev pub wide_in_requests : Members → Option Oversize
+wide_in_requests ms = found_in (first_found wide_request_item) (optional_items_at (codes "request") part.Request ms)
+
+-- ---- sizes outside of their limits
+
+-- the function of a change has the limits that it has in a job
+abbrev pub change_oversize : Change → Option Oversize
+change_oversize change = oversize change.func
+
+-- a request comes after row 0 to 1,048,576, and has up to 64 changes
+abbrev pub request_oversize : Request → Option Oversize
+request_oversize request =
+    option_or (outside which.After 0 1048576 request.after)
+    (option_or (outside which.Changes 0 64 (length request.changes))
+    (first_oversize change_oversize request.changes))
+
+-- a file has up to 64 requests
+abbrev pub list_oversize : List Request → Option Oversize
+list_oversize requests = option_or (outside which.Requests 0 64 (length requests)) (first_oversize request_oversize requests)
+
+-- so few requests with so few changes that they can be judged
+pub record AreFew (requests : List Request) : Type 0 where
+  pub count : length requests ≤ 64
+  pub changes : All (λ request. length request.changes ≤ 64) requests
