@@ -48,4 +48,4 @@ list_oversize requests = option_or (outside which.Requests 0 64 (length requests
 -- so few requests with so few changes that they can be judged
 pub record AreFew (requests : List Request) : Type 0 where
   pub count : length requests ≤ 64
-  pub changes : All (λ request. length request.changes ≤ 64) requests
+  pub changes : All (λ (request : Request). length request.changes ≤ 64) requests

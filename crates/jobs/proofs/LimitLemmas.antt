@@ -10,7 +10,7 @@ use Rattle.jobs.specs.Limits.{HasLimits, Oversize, entry_count, first_oversize, 
 use Rattle.jobs.specs.Nodes.{most_workers, worker_count}
 use Rattle.jobs.specs.Written.{Written}
 
-option_or-none : {A : Type 0} (o p : Option A) → option_or o p ≡ None → (o ≡ None) × (p ≡ None)
+pub option_or-none : {A : Type 0} (o p : Option A) → option_or o p ≡ None → (o ≡ None) × (p ≡ None)
 option_or-none None p e = (refl, e)
 option_or-none (Some x) p e = absurd (cc e)
 
@@ -20,7 +20,7 @@ outside-none w least most n e = (grind (arith, common_steps), grind (arith, comm
 pub outside-within : (w : Which) (least most n : ℕ) → least ≤ n → n ≤ most → outside w least most n ≡ None
 outside-within w least most n low high = grind (arith, common_steps)
 
-first_oversize-none : {A : Type 0} (size : A → Option Oversize) (xs : List A) → first_oversize size xs ≡ None → All (λ x. size x ≡ None) xs
+pub first_oversize-none : {A : Type 0} (size : A → Option Oversize) (xs : List A) → first_oversize size xs ≡ None → All (λ x. size x ≡ None) xs
 first_oversize-none {A} size [] e = All-nil (λ (x : A). size x ≡ None)
 first_oversize-none {A} size (x ∷ xs) e =
     let (head, tail) = option_or-none (size x) (first_oversize size xs) e in

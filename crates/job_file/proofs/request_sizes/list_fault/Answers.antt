@@ -1,0 +1,6 @@
+use Rattle.std.proofs.Common.{rules}
+use Rattle.job_file.proofs.SizeLemmas.{IfNone-few}
+use Rattle.job_file.proofs.request_sizes.list_fault.Goals as goal
+
+pub returns-clause-few : goal.returns-clause-few
+returns-clause-few c = IfNone-few c.args.requests.now c.requests_fault.result (search rules)
