@@ -61,10 +61,6 @@ optional_whole_at key part default ms = read_or default (whole_of part) (get_mem
 abbrev pub optional_items_at : List ℕ → Part → Members → Result Items FormFault
 optional_items_at key part ms = read_or no_items (items_of part) (get_member key ms)
 
--- the table at a key, or an empty one where there is none
-abbrev pub optional_table_at : List ℕ → Part → Members → Result Members FormFault
-optional_table_at key part ms = read_or no_members (table_of part) (get_member key ms)
-
 -- one more before a list, or the first fault
 abbrev pub before : {A : Type 0} → Result A FormFault → Result (List A) FormFault → Result (List A) FormFault
 before (Err fault) later = Err fault

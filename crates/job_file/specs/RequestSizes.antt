@@ -1,5 +1,5 @@
 -- The sizes of a list of requests, and their limits.
-use Rattle.std.specs.Prelude.{List, length, codes, Option}
+use Rattle.std.specs.Prelude.{List, length, codes, Option, ◌≤◌, All}
 use Rattle.std.specs.Option.{option_or}
 use Rattle.toml.specs.Data.{Data, Members}
 use Rattle.jobs.specs.Limits.{Oversize, first_oversize, outside, oversize}

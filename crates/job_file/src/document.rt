@@ -34,6 +34,7 @@ pub(crate) fn has_only(table: &Table, these: &[&str], those: &[&str]) -> bool
     are_among(table, these, those)
 }
 
+// Whether each key of a table is among these or those, over the keys of the map.
 fn are_among(table: &Table, these: &[&str], those: &[&str]) -> bool
     ensures { result ≡ list_all (λ key. list_any (λ k. bytes_eq k.now (string_bytes key)) these.now || list_any (λ k. bytes_eq k.now (string_bytes key)) those.now) (tree.keys table.now) }
 {

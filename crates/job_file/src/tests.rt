@@ -8,6 +8,7 @@ use jobs::{Func, Job};
 use keyed_state::Carry;
 use std::alloc::{AllocError, Global};
 use std::test::Fail;
+use versions::{QFault, judge_all};
 
 /// The columns and a table of a small job, its source, and the rest of it, which leads from the source over a node `x` to a sink.
 const COLUMNS: &str =
@@ -273,4 +274,12 @@ fn requests_of_the_example(rt: HostRuntime) {
         );
         assert!(rt; matches!(&change.func, Func::Filter(conds) if conds.len() == 1));
     }
+    let Ok(judged) = judge_all(rt.alloc(), &job, &requests) else {
+        panic!(rt; "the requests aren't judged");
+    };
+    assert_eq!(rt; judged.accepted.len(), 2);
+    let [refused] = judged.refused.as_slice() else {
+        panic!(rt; "one request is refused");
+    };
+    assert_eq!(rt; (refused.place, refused.fault), (3, QFault::Stale(1, 1)));
 }
