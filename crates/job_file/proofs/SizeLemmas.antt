@@ -1,5 +1,5 @@
 -- Requests whose sizes are within their limits.
-use Rattle.std.proofs.Common.{◌≡◌, ◌≤◌, List, Option, None, Some, All, IfNone, length, sym}
+use Rattle.std.proofs.Common.{◌≡◌, ◌≤◌, List, Option, None, Some, IfNone, length, sym}
 use Rattle.std.proofs.lemmas.List.Elements.{All-weaker}
 use Rattle.jobs.proofs.LimitLemmas.{first_oversize-none, option_or-none, outside-none}
 use Rattle.jobs.specs.Limits.{Oversize, first_oversize, outside}

@@ -3,9 +3,7 @@ ghost use Rattle.jobs.specs.Nodes.{worker_count, workers_of, workers_with};
 
 use crate::{Entry, Journal, Journals, alerts_text};
 use flow_dag::Edge;
-use jobs::{
-    Column, ColumnDefs, ColumnKind, Columns, Conds, Func, Job, NodeDef, NodeDefs, Tables,
-};
+use jobs::{Column, ColumnDefs, ColumnKind, Columns, Conds, Func, Job, NodeDef, NodeDefs, Tables};
 use std::alloc::Global;
 use std::test::Fail;
 use tuple_trace::{Births, Fields, NoMemory, Tuple, Txt, Value, Visits};
@@ -87,13 +85,7 @@ fn chain(alloc: Global) -> Result<Job, Fail>
         node(alloc, "alerts", sink(alloc, &[0, 1, 2, 3])?, 1)?,
     ]?);
     let edges = [edge(0, 0, 1), edge(1, 0, 2)];
-    Ok(Job::check(
-        alloc,
-        columns,
-        nodes,
-        &edges,
-        Tables::new(alloc),
-    )?)
+    Ok(Job::check(alloc, columns, nodes, &edges, Tables::new(alloc))?)
 }
 
 #[test]
@@ -197,13 +189,7 @@ fn two_sinks(alloc: Global) -> Result<Job, Fail>
         edge(2, 1, 4),
         edge(4, 0, 5),
     ];
-    Ok(Job::check(
-        alloc,
-        columns,
-        nodes,
-        &edges,
-        Tables::new(alloc),
-    )?)
+    Ok(Job::check(alloc, columns, nodes, &edges, Tables::new(alloc))?)
 }
 
 #[test]

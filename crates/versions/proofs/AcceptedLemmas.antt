@@ -1,5 +1,5 @@
 -- What accepted requests name.
-use Rattle.std.proofs.Common.{◌≡◌, ◌<◌, ◌≤◌, ◌+◌, ℕ, zero, suc, Bool, true, false, List, [], ◌∷◌, ◌++◌, length, Option, Some, None, refl, sym, ap, ◌∙◌, arith}
+use Rattle.std.proofs.Common.{◌≡◌, ◌<◌, ◌+◌, ℕ, Bool, true, false, List, [], ◌∷◌, ◌++◌, length, Option, Some, None, refl, arith}
 use Rattle.std.specs.Prelude.{All, nat_le, if◌then◌else◌}
 use Rattle.std.proofs.lemmas.Bool.{leb-false}
 use Rattle.std.proofs.lemmas.List.Elements.{All-cons}
@@ -11,7 +11,8 @@ use Rattle.versions.specs.declared.fault.QFault.TheVariants as fault
 use Rattle.versions.specs.declared.request.Change.{Change}
 use Rattle.versions.specs.declared.request.Request.{Request}
 use Rattle.versions.specs.Book.{accepted, first_book}
-use Rattle.versions.specs.Judging.{fault_of, first_with, has_fault, named, or_else}
+use Rattle.versions.specs.Judging.{fault_of, first_with}
+use Rattle.versions.proofs.FirstLemmas.{named-none, or_else-none}
 use Rattle.versions.specs.Judged.{AreAccepted, NameNodes, accepting, by_fault, judged_from, refusing}
 
 -- the change names one of so many nodes
@@ -29,16 +30,8 @@ none-inside book job before (c ∷ changes) e = go (nat_le (length job.nodes) c.
     go true is f later = absurd (cc)
     go false is f later = All-cons (IsInside (length job.nodes)) c changes (leb-false (length job.nodes) c.node is) (later f)
 
-first_none : (a b : Option QFault) → or_else a b ≡ None → a ≡ None
-first_none None b e = refl
-first_none (Some q) b e = absurd cc
-
-named_none : (o : Option ℕ) → named fault.NoNode o ≡ None → o ≡ None
-named_none None e = refl
-named_none (Some k) e = absurd cc
-
 free-inside : (book : List Current) (job : Written) (request : Request) (last : ℕ) → fault_of book job request last ≡ None → All (IsInside (length job.nodes)) request.changes
-free-inside book job request last free = none-inside book job [] request.changes (named_none (first_with code.NoNode book job [] request.changes) (first_none _ _ free))
+free-inside book job request last free = none-inside book job [] request.changes (named-none fault.NoNode (first_with code.NoNode book job [] request.changes) (or_else-none _ _ free).0)
 
 judged-inside : (job : Written) (book : List Current) (last place : ℕ) (requests : List Request) → (judged_from job book last place requests).refused ≡ []
     → NameNodes job requests

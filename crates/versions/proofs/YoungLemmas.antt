@@ -1,5 +1,5 @@
 -- Books whose versions are small, and requests that they can take.
-use Rattle.std.proofs.Common.{◌≡◌, ◌<◌, ◌≤◌, ◌+◌, ◌-◌, ◌^◌, ℕ, List, [], ◌∷◌, ◌++◌, length, take, Option, Some, None, false, refl, sym, subst, ◌∙◌, inl, inr, arith, zero, suc, slice_set, append_assoc}
+use Rattle.std.proofs.Common.{◌≡◌, ◌<◌, ◌≤◌, ◌+◌, ◌-◌, ◌^◌, ℕ, List, [], ◌∷◌, ◌++◌, length, take, Some, None, false, refl, sym, subst, ◌∙◌, inl, inr, arith, zero, suc, slice_set, append_assoc}
 use Rattle.std.proofs.lemmas.Grind.{common_steps}
 use Rattle.std.proofs.lemmas.Option.{gets, same_Some, slice_get_cases, slice_get_within}
 use Rattle.std.proofs.lemmas.Bool.{cases_Bool, cases_eq}
@@ -13,14 +13,13 @@ use Rattle.versions.specs.declared.book.Current.{Current}
 use Rattle.versions.specs.declared.judging.Code.{Code}
 use Rattle.versions.specs.declared.judging.Code.TheVariants as code
 use Rattle.versions.specs.declared.request.Change.{Change}
-use Rattle.versions.specs.declared.fault.QFault.{QFault}
 use Rattle.versions.specs.declared.fault.QFault.TheVariants as fault
 use Rattle.versions.specs.declared.request.Request.{Request}
 use Rattle.versions.specs.Book.{CanAccept, accepted, current_version, first_book, with_change}
-use Rattle.versions.specs.Judging.{fault_of, first_with, has_fault, named, or_else}
+use Rattle.versions.specs.Judging.{fault_of, first_with, has_fault, named}
 use Rattle.versions.specs.Young.{IsBelow, IsYoung}
 use Rattle.versions.proofs.BookLemmas.{long_still, other_place}
-use Rattle.versions.proofs.FirstLemmas.{one_found, one_more}
+use Rattle.versions.proofs.FirstLemmas.{named-none, one_found, one_more, or_else-none}
 
 same_place : (book : List Current) (i : ℕ) (v : Current) → i < length book → slice_get (slice_set book i v) i ≡ Some v
 same_place book i v lt = grind (arith, common_steps, gets)
@@ -74,25 +73,17 @@ none_each k book job before (d ∷ rest) none (suc i) c at =
           subst (λ (x : List Change). has_fault k book job x c ≡ false) (append_assoc before (d ∷ []) (take i rest)) later
     ]
 
-or_none : (a b : Option QFault) → or_else a b ≡ None → (a ≡ None) × (b ≡ None)
-or_none (Some f) b e = absurd cc
-or_none None b e = (refl, e)
-
-named_none : (f : ℕ → QFault) (o : Option ℕ) → named f o ≡ None → o ≡ None
-named_none f None e = refl
-named_none f (Some i) e = absurd cc
-
 not_above : (a b : ℕ) → nat_le a b ≡ false → b < a
 not_above a b e = grind (arith, nat_tests)
 
 -- a request without a fault can be accepted
 pub CanAccept-fault_of : (job : Written) (book : List Current) (r : Request) (last bound : ℕ) → IsYoung job book bound → bound < 2 ^ 64 - 1 → fault_of book job r last ≡ None → CanAccept book r.changes
 CanAccept-fault_of job book r last bound young room free =
-    let one = or_none (named fault.NoNode (first_with code.NoNode book job [] r.changes)) _ free in
-    let two = or_none (named fault.Fixed (first_with code.Fixed book job [] r.changes)) _ one.1 in
-    let three = or_none (named fault.NodeTwice (first_with code.NodeTwice book job [] r.changes)) _ two.1 in
-    let there = none_each code.NoNode book job [] r.changes (named_none fault.NoNode (first_with code.NoNode book job [] r.changes) one.0) in
-    let apart = none_each code.NodeTwice book job [] r.changes (named_none fault.NodeTwice (first_with code.NodeTwice book job [] r.changes) three.0) in
+    let one = or_else-none (named fault.NoNode (first_with code.NoNode book job [] r.changes)) _ free in
+    let two = or_else-none (named fault.Fixed (first_with code.Fixed book job [] r.changes)) _ one.1 in
+    let three = or_else-none (named fault.NodeTwice (first_with code.NodeTwice book job [] r.changes)) _ two.1 in
+    let there = none_each code.NoNode book job [] r.changes (named-none fault.NoNode (first_with code.NoNode book job [] r.changes) one.0) in
+    let apart = none_each code.NodeTwice book job [] r.changes (named-none fault.NodeTwice (first_with code.NodeTwice book job [] r.changes) three.0) in
     record {
       there = λ i c at. omega (arith, young.long, not_above (length job.nodes) c.node (there i c at));
       room = λ i c at current is. omega (arith, room, young.below c.node current is);
