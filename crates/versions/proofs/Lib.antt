@@ -1,3 +1,4 @@
+pub mod AcceptedLemmas
 pub mod BookLemmas
 pub mod FirstLemmas
 pub mod JudgedLemmas

@@ -1,8 +1,9 @@
 -- A list of requests, judged in order.
-use Rattle.std.specs.Prelude.{ℕ, ◌+◌, List, [], ◌∷◌, Option, Some, None}
+use Rattle.std.specs.Prelude.{◌≡◌, ℕ, ◌+◌, ◌<◌, All, length, List, [], ◌∷◌, Option, Some, None}
 use Rattle.jobs.specs.Written.{Written}
 use Rattle.versions.specs.declared.book.Current.{Current}
 use Rattle.versions.specs.declared.in_order.Judged.{Judged}
+use Rattle.versions.specs.declared.request.Change.{Change}
 use Rattle.versions.specs.declared.request.Request.{Request}
 use Rattle.versions.specs.declared.fault.QFault.{QFault}
 use Rattle.versions.specs.Book.{accepted, first_book}
@@ -30,3 +31,11 @@ judged_from job book last_after place (request ∷ rest) =
 -- the judging of a list of requests
 abbrev pub judged : Written → List Request → Judged
 judged job requests = judged_from job (first_book job.nodes) 0 1 requests
+
+-- judging these requests alone refuses none of them
+abbrev pub AreAccepted : Written → List Request → Type 0
+AreAccepted job requests = (judged job requests).refused ≡ []
+
+-- every change of the requests names a node of the job
+abbrev pub NameNodes : Written → List Request → Type 0
+NameNodes job requests = All (λ (request : Request). All (λ (change : Change). change.node < length job.nodes) request.changes) requests

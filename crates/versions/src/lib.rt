@@ -9,6 +9,7 @@ mod book;
 mod fault;
 mod in_order;
 mod judging;
+mod laws;
 mod request;
 #[cfg(test)]
 mod tests;
@@ -17,4 +18,5 @@ pub use book::{Book, Current, accept};
 pub use fault::QFault;
 pub use in_order::{Judged, Refusals, Refused, judge_all};
 pub use judging::judge;
+pub use laws::accepted_requests_name_nodes;
 pub use request::{Change, Changes, Request, Requests};

@@ -1,0 +1,58 @@
+-- What accepted requests name.
+use Rattle.std.proofs.Common.{◌≡◌, ◌<◌, ◌≤◌, ◌+◌, ℕ, zero, suc, Bool, true, false, List, [], ◌∷◌, ◌++◌, length, Option, Some, None, refl, sym, ap, ◌∙◌, arith}
+use Rattle.std.specs.Prelude.{All, nat_le, if◌then◌else◌}
+use Rattle.std.proofs.lemmas.Bool.{leb-false}
+use Rattle.std.proofs.lemmas.List.Elements.{All-cons}
+use Rattle.jobs.specs.Written.{Written}
+use Rattle.versions.specs.declared.book.Current.{Current}
+use Rattle.versions.specs.declared.judging.Code.TheVariants as code
+use Rattle.versions.specs.declared.fault.QFault.{QFault}
+use Rattle.versions.specs.declared.fault.QFault.TheVariants as fault
+use Rattle.versions.specs.declared.request.Change.{Change}
+use Rattle.versions.specs.declared.request.Request.{Request}
+use Rattle.versions.specs.Book.{accepted, first_book}
+use Rattle.versions.specs.Judging.{fault_of, first_with, has_fault, named, or_else}
+use Rattle.versions.specs.Judged.{AreAccepted, NameNodes, accepting, by_fault, judged_from, refusing}
+
+-- the change names one of so many nodes
+abbrev pub IsInside : ℕ → Change → Type 0
+IsInside nodes change = change.node < nodes
+
+none-inside : (book : List Current) (job : Written) (before changes : List Change) → first_with code.NoNode book job before changes ≡ None → All (IsInside (length job.nodes)) changes
+unfolding first_with
+none-inside book job before [] e = λ k d lt. absurd (omega arith)
+none-inside book job before (c ∷ changes) e = go (nat_le (length job.nodes) c.node) refl e (none-inside book job (before ++ c ∷ []) changes)
+  where
+    go : (b : Bool) → nat_le (length job.nodes) c.node ≡ b → (if b then Some (length before) else first_with code.NoNode book job (before ++ c ∷ []) changes) ≡ None
+        → (first_with code.NoNode book job (before ++ c ∷ []) changes ≡ None → All (IsInside (length job.nodes)) changes)
+        → All (IsInside (length job.nodes)) (c ∷ changes)
+    go true is f later = absurd (cc)
+    go false is f later = All-cons (IsInside (length job.nodes)) c changes (leb-false (length job.nodes) c.node is) (later f)
+
+first_none : (a b : Option QFault) → or_else a b ≡ None → a ≡ None
+first_none None b e = refl
+first_none (Some q) b e = absurd cc
+
+named_none : (o : Option ℕ) → named fault.NoNode o ≡ None → o ≡ None
+named_none None e = refl
+named_none (Some k) e = absurd cc
+
+free-inside : (book : List Current) (job : Written) (request : Request) (last : ℕ) → fault_of book job request last ≡ None → All (IsInside (length job.nodes)) request.changes
+free-inside book job request last free = none-inside book job [] request.changes (named_none (first_with code.NoNode book job [] request.changes) (first_none _ _ free))
+
+judged-inside : (job : Written) (book : List Current) (last place : ℕ) (requests : List Request) → (judged_from job book last place requests).refused ≡ []
+    → NameNodes job requests
+unfolding judged_from
+judged-inside job book last place [] e = λ k d lt. absurd (omega arith)
+judged-inside job book last place (r ∷ rest) e =
+    go (fault_of book job r last) refl e (judged-inside job (accepted book r.changes) r.after (place + 1) rest)
+  where
+    go : (o : Option QFault) → fault_of book job r last ≡ o
+        → (by_fault o (λ fault. refusing place fault (judged_from job book last (place + 1) rest)) (accepting r (judged_from job (accepted book r.changes) r.after (place + 1) rest))).refused ≡ []
+        → ((judged_from job (accepted book r.changes) r.after (place + 1) rest).refused ≡ [] → NameNodes job rest)
+        → NameNodes job (r ∷ rest)
+    go None is f later = All-cons (λ (request : Request). All (IsInside (length job.nodes)) request.changes) r rest (free-inside book job r last is) (later f)
+    go (Some q) is f later = absurd (cc)
+
+pub accepted-inside : (job : Written) (requests : List Request) → AreAccepted job requests → NameNodes job requests
+accepted-inside job requests e = judged-inside job (first_book job.nodes) 0 1 requests e
