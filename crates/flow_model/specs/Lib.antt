@@ -2,4 +2,16 @@ pub mod Outline
 pub mod Planned
 pub mod Setup
 pub mod Workers
+pub mod Lanes
 pub mod Covers
+pub mod Requests
+pub mod Law
+pub mod Station
+pub mod Replay
+pub mod Begin
+pub mod Feeding
+pub mod Run
+pub mod Record
+pub mod Whole
+pub mod Fresh
+pub mod Alone

@@ -1,5 +1,5 @@
 -- Setups as the definitions of a run see them.
-use Rattle.std.specs.Prelude.{ℕ, List}
+use Rattle.std.specs.Prelude.{ℕ, List, Option}
 use Rattle.cover_planner.specs.declared.cover.Plan.{Plan}
 use Rattle.jobs.specs.Written.{Written}
 use Rattle.jobs.specs.declared.func.Func.{Func}
@@ -22,3 +22,9 @@ pub record Post : Type 0 where
   pub node : ℕ
   pub place : ℕ
   pub func : Func
+
+-- A lane: its edge, the worker that sends on it, none where the feeder does, and the worker that receives.
+pub record Lane : Type 0 where
+  pub edge : ℕ
+  pub sender : Option ℕ
+  pub receiver : ℕ
