@@ -15,3 +15,5 @@ pub mod Record
 pub mod Whole
 pub mod Fresh
 pub mod Alone
+pub mod FourPayments
+pub mod TwoLanes

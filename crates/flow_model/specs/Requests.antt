@@ -1,5 +1,5 @@
 -- What the requests of a setup change.
-use Rattle.std.specs.Prelude.{ℕ, zero, suc, ◌==◌, Bool, false, List, [], ◌∷◌, Option, Some, None, slice_get, if◌then◌else◌}
+use Rattle.std.specs.Prelude.{ℕ, zero, suc, ◌==◌, Bool, false, List, [], ◌∷◌, map, Option, Some, None, slice_get, if◌then◌else◌}
 use Rattle.jobs.specs.declared.func.Func.{Func}
 use Rattle.versions.specs.Book.{is_named}
 use Rattle.versions.specs.declared.request.Change.{Change}
@@ -40,3 +40,7 @@ func_with (Some change) func = change.func
 abbrev pub func_after : Outline → ℕ → Func → ℕ → Func
 func_after setup node func zero = func
 func_after setup node func (suc r) = func_with (change_of setup (suc r) node) (func_after setup node func r)
+
+-- the rows that the requests wait for
+abbrev pub afters : List Request → List ℕ
+afters requests = map (λ (request : Request). request.after) requests

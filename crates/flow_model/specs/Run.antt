@@ -1,18 +1,18 @@
 -- What a run is.
-use Rattle.std.specs.Prelude.{◌≡◌, ℕ, List, [], ◌∷◌, ◌++◌, length, map, Option, Some, None, slice_get}
+use Rattle.std.specs.Prelude.{◌≡◌, ℕ, List, [], ◌∷◌, ◌++◌, length, Option, Some, None, slice_get}
 use Rattle.keyed_state.specs.Counts.{Counts}
 use Rattle.sink_journal.specs.declared.journal.Entry.{Entry}
 use Rattle.sink_journal.specs.declared.journal.Feed.{Feed}
 use Rattle.tuple_trace.specs.declared.row.Row.{Row}
 use Rattle.tuple_trace.specs.declared.tuple.Item.{Item}
 use Rattle.tuple_trace.specs.declared.tuple.Item.TheVariants as item
-use Rattle.versions.specs.declared.request.Request.{Request}
 use Rattle.flow_model.specs.Outline.{Lane, Outline, Post}
 use Rattle.flow_model.specs.Begin.{Begin, at_first, local_at}
 use Rattle.flow_model.specs.Feeding.{fed, feed_from}
 use Rattle.flow_model.specs.Lanes.{lanes}
 use Rattle.flow_model.specs.Law.{IsFinished, IsLawful}
 use Rattle.flow_model.specs.Replay.{after_all, sent, shown}
+use Rattle.flow_model.specs.Requests.{afters}
 use Rattle.flow_model.specs.Station.{station}
 use Rattle.flow_model.specs.Workers.{posts}
 
@@ -49,10 +49,6 @@ abbrev pub put_by : Begin → List Row → Ran → Lane → Option ℕ → Optio
 put_by begin rows ran lane None = Some (fed ran.setup.job rows begin.turned lane ran.feeds ++ item.Last ∷ [])
 put_by begin rows ran lane (Some worker) =
     sent_by ran.setup begin lane (slice_get (posts ran.setup.job) worker) (slice_get begin.states worker) (slice_get ran.journals worker)
-
--- the rows that the requests wait for
-abbrev pub afters : List Request → List ℕ
-afters requests = map (λ (request : Request). request.after) requests
 
 -- the journal of a worker is finished, and its counts are those of the journal's replay
 pub record IsWorked (setup : Outline) (begin : Begin) (post : Post) (counts : Counts) (journal : List Entry) (state : Counts) : Type 0 where

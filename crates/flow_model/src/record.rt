@@ -1,6 +1,8 @@
+ghost use Rattle.std.specs.Prelude.{◌≡◌, ◌<◌, Some, length, slice_get};
+
 use crate::Setup;
 use keyed_state::Keyed;
-use sink_journal::{Feeds, Journals};
+use sink_journal::{Feeds, Journal, Journals};
 use tuple_trace::Items;
 
 /// The counts of all workers, in the order of the workers.
@@ -13,4 +15,16 @@ pub struct RunRecord {
     pub feeds: Feeds,
     pub journals: Journals,
     pub states: States,
+}
+
+impl RunRecord {
+    ghost use Rattle.flow_model.specs.Record.{told};
+
+    /// The journal of a worker. Takes no memory.
+    pub fn journal(&self, worker: u32) -> &Journal
+        requires { worker < length (told self.now).journals }
+        ensures { slice_get (told self.now).journals worker ≡ Some result.now }
+    {
+        &self.journals.as_slice()[worker as usize]
+    }
 }

@@ -1,4 +1,4 @@
-ghost use Rattle.std.specs.Prelude.{◌≡◌, IfOk};
+ghost use Rattle.std.specs.Prelude.{◌≡◌, ◌<◌, ◌+◌, Some, IfOk, length, slice_get};
 ghost use Rattle.jobs.specs.Job.{written};
 ghost use Rattle.flow_model.specs.Outline.{outline_of};
 ghost use Rattle.versions.specs.Judged.{AreAccepted};
@@ -29,6 +29,7 @@ pub struct Setup {
 }
 
 impl Setup {
+    ghost use Rattle.flow_model.specs.Requests.{afters};
     ghost use Rattle.flow_model.specs.Setup.{outline};
 
     /// The setup of a job and its judged requests, with the plan of each accepted one. A refusal gives both up.
@@ -47,5 +48,20 @@ impl Setup {
             plans,
             many,
         })
+    }
+
+    /// How many requests were accepted. Takes no memory.
+    pub fn requests(&self) -> usize
+        ensures { result ≡ length (outline self.now).requests }
+    {
+        self.judged.accepted.len()
+    }
+
+    /// The row after which the accepted request at this place is issued; places are counted from 0. Takes no memory.
+    pub fn after(&self, place: usize) -> u64
+        requires { place < length (outline self.now).requests }
+        ensures { slice_get (afters (outline self.now).requests) place ≡ Some result }
+    {
+        self.judged.accepted.as_slice()[place].after
     }
 }
