@@ -1,5 +1,5 @@
 -- What accepted requests name.
-use Rattle.std.proofs.Common.{◌≡◌, ◌<◌, ◌≤◌, ◌+◌, ℕ, zero, suc, Bool, true, false, List, [], ◌∷◌, ◌++◌, length, Option, Some, None, refl, sym, ap, ◌∙◌, arith}
+use Rattle.std.proofs.Common.{◌≡◌, ◌<◌, ◌+◌, ℕ, Bool, true, false, List, [], ◌∷◌, ◌++◌, length, Option, Some, None, refl, arith}
 use Rattle.std.specs.Prelude.{All, nat_le, if◌then◌else◌}
 use Rattle.std.proofs.lemmas.Bool.{leb-false}
 use Rattle.std.proofs.lemmas.List.Elements.{All-cons}
@@ -11,8 +11,8 @@ use Rattle.versions.specs.declared.fault.QFault.TheVariants as fault
 use Rattle.versions.specs.declared.request.Change.{Change}
 use Rattle.versions.specs.declared.request.Request.{Request}
 use Rattle.versions.specs.Book.{accepted, first_book}
-use Rattle.versions.specs.Judging.{fault_of, first_with, has_fault, named, or_else}
-use Rattle.versions.specs.Judged.{AreAccepted, NameNodes, accepting, by_fault, judged_from, refusing}
+use Rattle.versions.specs.Judging.{fault_of, first_with, named, or_else}
+use Rattle.versions.specs.Judged.{AreAccepted, NameNodes, accepting, by_fault, judged, judged_from, refusing}
 
 -- the change names one of so many nodes
 abbrev pub IsInside : ℕ → Change → Type 0
@@ -56,3 +56,20 @@ judged-inside job book last place (r ∷ rest) e =
 
 pub accepted-inside : (job : Written) (requests : List Request) → AreAccepted job requests → NameNodes job requests
 accepted-inside job requests e = judged-inside job (first_book job.nodes) 0 1 requests e
+
+alone : (job : Written) (book : List Current) (last place place' : ℕ) (requests : List Request)
+    → (judged_from job book last place' (judged_from job book last place requests).accepted).refused ≡ []
+unfolding judged_from
+alone job book last place place' [] = refl
+alone job book last place place' (r ∷ rest) =
+    go (fault_of book job r last) refl (alone job (accepted book r.changes) r.after (place + 1) (place' + 1) rest) (alone job book last (place + 1) place' rest)
+  where
+    go : (o : Option QFault) → fault_of book job r last ≡ o
+        → (judged_from job (accepted book r.changes) r.after (place' + 1) (judged_from job (accepted book r.changes) r.after (place + 1) rest).accepted).refused ≡ []
+        → (judged_from job book last place' (judged_from job book last (place + 1) rest).accepted).refused ≡ []
+        → (judged_from job book last place' (by_fault o (λ fault. refusing place fault (judged_from job book last (place + 1) rest)) (accepting r (judged_from job (accepted book r.changes) r.after (place + 1) rest))).accepted).refused ≡ []
+    go None is taken left = rw is taken
+    go (Some q) is taken left = left
+
+pub accepted-alone : (job : Written) (requests : List Request) → AreAccepted job (judged job requests).accepted
+accepted-alone job requests = alone job (first_book job.nodes) 0 1 1 requests
