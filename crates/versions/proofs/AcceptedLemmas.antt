@@ -11,9 +11,9 @@ use Rattle.versions.specs.declared.fault.QFault.TheVariants as fault
 use Rattle.versions.specs.declared.request.Change.{Change}
 use Rattle.versions.specs.declared.request.Request.{Request}
 use Rattle.versions.specs.Book.{accepted, first_book}
-use Rattle.versions.specs.Judging.{fault_of, first_with}
+use Rattle.versions.specs.Judging.{fault_of, first_with, named, or_else}
 use Rattle.versions.proofs.FirstLemmas.{named-none, or_else-none}
-use Rattle.versions.specs.Judged.{AreAccepted, NameNodes, accepting, by_fault, judged_from, refusing}
+use Rattle.versions.specs.Judged.{AreAccepted, NameNodes, accepting, by_fault, judged, judged_from, refusing}
 
 -- the change names one of so many nodes
 abbrev pub IsInside : ℕ → Change → Type 0
@@ -49,3 +49,20 @@ judged-inside job book last place (r ∷ rest) e =
 
 pub accepted-inside : (job : Written) (requests : List Request) → AreAccepted job requests → NameNodes job requests
 accepted-inside job requests e = judged-inside job (first_book job.nodes) 0 1 requests e
+
+alone : (job : Written) (book : List Current) (last place place' : ℕ) (requests : List Request)
+    → (judged_from job book last place' (judged_from job book last place requests).accepted).refused ≡ []
+unfolding judged_from
+alone job book last place place' [] = refl
+alone job book last place place' (r ∷ rest) =
+    go (fault_of book job r last) refl (alone job (accepted book r.changes) r.after (place + 1) (place' + 1) rest) (alone job book last (place + 1) place' rest)
+  where
+    go : (o : Option QFault) → fault_of book job r last ≡ o
+        → (judged_from job (accepted book r.changes) r.after (place' + 1) (judged_from job (accepted book r.changes) r.after (place + 1) rest).accepted).refused ≡ []
+        → (judged_from job book last place' (judged_from job book last (place + 1) rest).accepted).refused ≡ []
+        → (judged_from job book last place' (by_fault o (λ fault. refusing place fault (judged_from job book last (place + 1) rest)) (accepting r (judged_from job (accepted book r.changes) r.after (place + 1) rest))).accepted).refused ≡ []
+    go None is taken left = rw is taken
+    go (Some q) is taken left = left
+
+pub accepted-alone : (job : Written) (requests : List Request) → AreAccepted job (judged job requests).accepted
+accepted-alone job requests = alone job (first_book job.nodes) 0 1 1 requests

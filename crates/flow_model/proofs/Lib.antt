@@ -1,0 +1,3 @@
+pub mod PostLemmas
+pub mod PlanLemmas
+pub mod ExampleLemmas

@@ -1,0 +1,13 @@
+use Rattle.std.proofs.Common.{◌≡◌}
+use Rattle.jobs.specs.Job.{written}
+use Rattle.flow_model.proofs.PlanLemmas.{IsPlanned-exact}
+use Rattle.flow_model.proofs.setup.Setup.make.Goals as goal
+
+pub plans_of-requires-clause-inside : goal.plans_of-requires-clause-inside
+plans_of-requires-clause-inside c = rw (c.as_slice-2.ensures, c.args.job.drawn) (c.accepted_requests_name_nodes.ensures (written c.args.job) c.args.judged.accepted c.requires)
+
+pub invariant_of-result : goal.invariant_of-result
+invariant_of-result c = record {
+  accepted = c.requires;
+  planned = ∣ IsPlanned-exact (written c.args.job) c.args.judged.accepted c.in_ok-plans.plans c.many-many.result (rw c.as_slice.ensures at c.many-many.ensures.has) (rw c.as_slice-2.ensures at c.in_ok-plans.ensures) ∣₁;
+}

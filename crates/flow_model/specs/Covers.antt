@@ -1,0 +1,34 @@
+-- What the requests of a setup cover.
+use Rattle.std.specs.Prelude.{ℕ, zero, suc, Bool, false, Option, Some, None, slice_get}
+use Rattle.cover_planner.specs.declared.cover.Plan.{Plan}
+use Rattle.flow_dag.specs.Masks.{has}
+use Rattle.flow_model.specs.Outline.{Outline}
+
+-- the plan of a request; they are counted from 1, so request 0 has none
+abbrev pub plan_of : Outline → ℕ → Option Plan
+plan_of setup zero = None
+plan_of setup (suc r) = slice_get setup.plans r
+
+abbrev pub holds_node : Option Plan → ℕ → Bool
+holds_node None node = false
+holds_node (Some plan) node = has plan.nodes node
+
+abbrev pub holds_edge : Option Plan → ℕ → Bool
+holds_edge None edge = false
+holds_edge (Some plan) edge = has plan.edges edge
+
+abbrev pub heads : Option Plan → ℕ → Bool
+heads None node = false
+heads (Some plan) node = has plan.heads node
+
+-- the request covers the node
+abbrev pub covers : Outline → ℕ → ℕ → Bool
+covers setup request node = holds_node (plan_of setup request) node
+
+-- the request covers the edge with this number
+abbrev pub covers_edge : Outline → ℕ → ℕ → Bool
+covers_edge setup request edge = holds_edge (plan_of setup request) edge
+
+-- the node is a head of what the request covers
+abbrev pub is_head : Outline → ℕ → ℕ → Bool
+is_head setup request node = heads (plan_of setup request) node

@@ -1,0 +1,77 @@
+-- The law of a journal: what may stand in it, and in which order.
+use Rattle.std.specs.Prelude.{◌≡◌, ◌<◌, ℕ, Bool, List, [], ◌∷◌, Option, Some, None, All, Contains, IsTrue, ⊤}
+use Rattle.sink_journal.specs.declared.journal.Entry.{Entry}
+use Rattle.sink_journal.specs.declared.journal.Entry.TheVariants as entry
+use Rattle.tuple_trace.specs.declared.tuple.Tuple.{Tuple}
+
+-- What the law asks of a worker: its lanes in; the requests that cover it, in rising order; whether it heads the cover of a request; the
+-- lanes in that bring it the marker of a request.
+pub record Station : Type 0 where
+  pub lanes : List ℕ
+  pub dues : List ℕ
+  pub is_head : ℕ → Bool
+  pub marked_lanes : ℕ → List ℕ
+
+-- How far a journal has come: the covering requests that it hasn't turned; the lanes that showed the marker of the first of these; the
+-- lanes that ended.
+pub record Progress : Type 0 where
+  pub dues : List ℕ
+  pub marked : List ℕ
+  pub ended : List ℕ
+
+abbrev pub next_due : List ℕ → Option ℕ
+next_due [] = None
+next_due (due ∷ later) = Some due
+
+abbrev pub later_dues : List ℕ → List ℕ
+later_dues [] = []
+later_dues (due ∷ later) = later
+
+-- at a head no tuple that was fed under the next due comes before its turn
+abbrev pub IsInTime : Station → Tuple → Option ℕ → Type 0
+IsInTime station tuple None = ⊤
+IsInTime station tuple (Some due) = IsTrue (station.is_head due) → tuple.issued < due
+
+-- the entry may come next
+abbrev pub IsEnabled : Station → Progress → Entry → Type 0
+-- a tuple comes by a lane in, not between the markers of a request, and not after an end
+IsEnabled station progress (entry.Met lane tuple) =
+    Contains station.lanes lane × (progress.marked ≡ []) × (progress.ended ≡ []) × IsInTime station tuple (next_due progress.dues)
+-- the marker of the next due comes once on each of its lanes
+IsEnabled station progress (entry.Marked lane request) =
+    (next_due progress.dues ≡ Some request) × Contains (station.marked_lanes request) lane × ¬ Contains progress.marked lane × (progress.ended ≡ [])
+-- the next due is turned once its markers stand on all of its lanes
+IsEnabled station progress (entry.Turned request) =
+    (next_due progress.dues ≡ Some request) × All (Contains progress.marked) (station.marked_lanes request) × (progress.ended ≡ [])
+-- a lane ends once, after the last due was turned
+IsEnabled station progress (entry.Ended lane) =
+    Contains station.lanes lane × ¬ Contains progress.ended lane × (progress.dues ≡ []) × (progress.marked ≡ [])
+
+abbrev pub after_entry : Progress → Entry → Progress
+after_entry progress (entry.Met lane tuple) = progress
+after_entry progress (entry.Marked lane request) = record progress { marked = lane ∷ progress.marked }
+after_entry progress (entry.Turned request) = record progress { dues = later_dues progress.dues; marked = [] }
+after_entry progress (entry.Ended lane) = record progress { ended = lane ∷ progress.ended }
+
+abbrev pub progress_after : Progress → List Entry → Progress
+progress_after progress [] = progress
+progress_after progress (entry ∷ more) = progress_after (after_entry progress entry) more
+
+-- each entry may come after those before it
+abbrev pub IsExecution : Station → Progress → List Entry → Type 0
+IsExecution station progress [] = ⊤
+IsExecution station progress (entry ∷ more) = IsEnabled station progress entry × IsExecution station (after_entry progress entry) more
+
+abbrev pub initial : Station → Progress
+initial station = record { dues = station.dues; marked = []; ended = [] }
+
+-- the journal is lawful so far
+pub record IsLawful (station : Station) (journal : List Entry) : Type 0 where
+  pub execution : IsExecution station (initial station) journal
+  -- no marker stands there without its turn
+  pub no_open_turn : (progress_after (initial station) journal).marked ≡ []
+
+-- it is finished: lawful so far, and every lane in has ended
+pub record IsFinished (station : Station) (journal : List Entry) : Type 0 where
+  pub lawful : IsLawful station journal
+  pub ended : All (Contains (progress_after (initial station) journal).ended) station.lanes

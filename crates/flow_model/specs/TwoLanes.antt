@@ -1,0 +1,31 @@
+-- A worked law: a worker with two lanes in, 0 and 1, both of which bring it the marker of request 1.
+use Rattle.std.specs.Prelude.{ℕ, ℤ, pos, Bool, false, List, [], ◌∷◌}
+use Rattle.sink_journal.specs.declared.journal.Entry.{Entry}
+use Rattle.sink_journal.specs.declared.journal.Entry.TheVariants as entry
+use Rattle.flow_model.specs.FourPayments.{payment}
+use Rattle.flow_model.specs.Law.{Station}
+
+abbrev pub joining : Station
+joining = record { lanes = 0 ∷ 1 ∷ []; dues = 1 ∷ []; is_head = λ request. false; marked_lanes = λ request. 0 ∷ 1 ∷ [] }
+
+abbrev pub ends : List Entry
+ends = entry.Ended 0 ∷ entry.Ended 1 ∷ []
+
+abbrev pub meets : ℕ → ℕ → Entry
+meets lane row = entry.Met lane (payment row (pos 1) 0 [])
+
+-- both markers, and directly behind them the turn
+abbrev pub joined : List Entry
+joined = meets 0 1 ∷ entry.Marked 1 1 ∷ entry.Marked 0 1 ∷ entry.Turned 1 ∷ meets 1 2 ∷ ends
+
+-- a marker is missing
+abbrev pub unmarked : List Entry
+unmarked = entry.Marked 0 1 ∷ entry.Turned 1 ∷ ends
+
+-- a tuple stands between two markers
+abbrev pub parted : List Entry
+parted = entry.Marked 0 1 ∷ meets 1 1 ∷ entry.Marked 1 1 ∷ entry.Turned 1 ∷ ends
+
+-- a request is never turned
+abbrev pub unturned : List Entry
+unturned = ends

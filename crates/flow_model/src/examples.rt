@@ -1,0 +1,60 @@
+// Worked runs. Each function proves what its clauses say of one, and does nothing.
+ghost use Rattle.std.specs.Prelude.{◌≡◌, ◌∷◌, [], false, true, pos};
+ghost use Rattle.sink_journal.specs.declared.journal.Feed.TheVariants as feed;
+ghost use Rattle.tuple_trace.specs.declared.value.Value.TheVariants as value;
+ghost use Rattle.flow_model.specs.Alone.{alone, table};
+ghost use Rattle.flow_model.specs.Begin.{at_first};
+ghost use Rattle.flow_model.specs.Feeding.{feed_from};
+ghost use Rattle.flow_model.specs.FourPayments.{chain, filter_post, four_payments, four_ran, four_setup, late_big, row_of, short_ran};
+ghost use Rattle.flow_model.specs.Fresh.{IsFresh};
+ghost use Rattle.flow_model.specs.Law.{IsFinished, IsLawful};
+ghost use Rattle.flow_model.specs.Run.{IsLawfulFrom, IsRun};
+ghost use Rattle.flow_model.specs.TwoLanes.{joined, joining, parted, unmarked, unturned};
+ghost use Rattle.flow_model.specs.Whole.{IsMetOnce, IsWhole, is_new, is_old};
+
+/// Four payments, and a filter whose threshold falls after the second, are a run.
+pub fn four_payments_are_a_run()
+    ensures run { IsRun four_setup four_payments four_ran }
+    ensures fresh { IsFresh 4 four_ran }
+{}
+
+/// In it the second payment is old at the request and the third is new, each is whole, and none comes to a node twice.
+pub fn four_payments_are_whole()
+    ensures old { is_old four_ran 1 2 ≡ true }
+    ensures new { is_new four_ran 1 3 ≡ true }
+    ensures whole_old { IsWhole four_ran 1 2 }
+    ensures whole_new { IsWhole four_ran 1 3 }
+    ensures once { IsMetOnce four_ran 2 }
+{}
+
+/// With the functions that it met, the third payment makes by itself what came to the sink of it; the first makes nothing.
+pub fn payments_alone()
+    ensures first { alone chain (table four_ran 1) (row_of 1 (pos 9999)) ≡ [] }
+    ensures third { alone chain (table four_ran 3) (row_of 3 (pos 5000)) ≡ record { sink = 2; row = 3; fields = value.Num (pos 5000) ∷ [] } ∷ [] }
+{}
+
+/// It is no run where the sink never met the third payment.
+pub fn a_missed_payment_is_no_run()
+    ensures { IsRun four_setup four_payments short_ran → ⊥ }
+{}
+
+/// The filter's journal isn't even lawful so far with the turn one entry later.
+pub fn a_late_turn_is_unlawful()
+    ensures { IsLawfulFrom four_setup (at_first four_setup) filter_post late_big → ⊥ }
+{}
+
+/// The markers of a request stand together, one for each lane that brings it, directly before its turn; and each due is turned before an end.
+pub fn markers_stand_before_their_turn()
+    ensures finished { IsFinished joining joined }
+    ensures missing { IsLawful joining unmarked → ⊥ }
+    ensures between { IsLawful joining parted → ⊥ }
+    ensures unturned { IsLawful joining unturned → ⊥ }
+{}
+
+/// Requests are issued directly after the row that they wait for: at the front for row 0, after the last for a later one, and in order.
+pub fn requests_wait_for_their_rows()
+    ensures front { feed_from 0 0 (0 ∷ []) 1 ≡ feed.Issued 1 ∷ feed.Fed 1 ∷ feed.Stopped ∷ [] }
+    ensures end { feed_from 0 0 (99 ∷ []) 1 ≡ feed.Fed 1 ∷ feed.Issued 1 ∷ feed.Stopped ∷ [] }
+    ensures both { feed_from 0 0 (1 ∷ 1 ∷ []) 2 ≡ feed.Fed 1 ∷ feed.Issued 1 ∷ feed.Issued 2 ∷ feed.Fed 2 ∷ feed.Stopped ∷ [] }
+    ensures later { feed_from 2 1 (1 ∷ 1 ∷ 2 ∷ 3 ∷ []) 3 ≡ feed.Issued 2 ∷ feed.Issued 3 ∷ feed.Fed 3 ∷ feed.Issued 4 ∷ feed.Stopped ∷ [] }
+{}

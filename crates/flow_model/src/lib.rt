@@ -1,0 +1,21 @@
+//! What a run is: the setup that it goes by, the record that it leaves, and the definitions of both.
+//!
+//! Nothing here runs anything. Contracts of whatever does cite these definitions, which know no queue, no capacity and no thread.
+#![tactic(auto)]
+
+mod examples;
+mod laws;
+mod masks;
+mod plans;
+mod record;
+mod setup;
+mod workers;
+
+pub use examples::{
+    a_late_turn_is_unlawful, a_missed_payment_is_no_run, four_payments_are_a_run,
+    four_payments_are_whole, markers_stand_before_their_turn, payments_alone,
+    requests_wait_for_their_rows,
+};
+pub use laws::setups_are_planned;
+pub use record::{RunRecord, States};
+pub use setup::{Plans, Setup};
