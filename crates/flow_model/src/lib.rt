@@ -9,6 +9,8 @@ mod masks;
 mod plans;
 mod record;
 mod setup;
+#[cfg(test)]
+mod tests;
 mod workers;
 
 pub use examples::{
