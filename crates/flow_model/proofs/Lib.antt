@@ -1,3 +1,4 @@
 pub mod PostLemmas
 pub mod PlanLemmas
+pub mod JournalLemmas
 pub mod ExampleLemmas

@@ -4,6 +4,7 @@
 #![tactic(auto)]
 
 mod examples;
+mod journals;
 mod laws;
 mod masks;
 mod plans;
@@ -18,6 +19,7 @@ pub use examples::{
     four_payments_are_whole, markers_stand_before_their_turn, payments_alone,
     requests_wait_for_their_rows,
 };
+pub use journals::{replays_go_on, the_law_goes_on, turns_come_in_order};
 pub use laws::setups_are_planned;
 pub use record::{RunRecord, States};
 pub use setup::{Plans, Setup};

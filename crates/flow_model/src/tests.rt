@@ -1,5 +1,4 @@
-ghost use Rattle.std.specs.Prelude.{◌≤◌, All, IfOk, length};
-ghost use Rattle.versions.specs.declared.request.Request.{Request as RequestIs};
+ghost use Rattle.std.specs.Prelude.{◌≤◌, IfOk, length};
 
 use crate::Setup;
 use flow_dag::Edge;
@@ -49,30 +48,31 @@ fn chain(alloc: Global) -> Result<Job, Fail> {
     Ok(Job::check(alloc, columns, nodes, &edges, Tables::new(alloc))?)
 }
 
-/// One request, of both filters.
-fn requests(alloc: Global) -> Result<Requests, NoMemory>
-    ensures count { IfOk result (λ requests. length requests ≤ 64) }
-    ensures changes { IfOk result (λ requests. All (λ (request : RequestIs). length request.changes ≤ 64) requests) }
+fn change(alloc: Global, node: u32) -> Result<Change, NoMemory> {
+    Ok(Change {
+        node,
+        from: 0,
+        func: at_least(alloc, 500)?,
+        carry: Carry::Keep,
+    })
+}
+
+/// A request that changes both filters.
+fn request(alloc: Global) -> Result<Request, NoMemory>
+    ensures { IfOk result (λ request. length request.changes ≤ 64) }
 {
     let mut changes = Changes::new(alloc);
-    for node in 1..3u32 {
-        changes.push(Change {
-            node,
-            from: 0,
-            func: at_least(alloc, 500)?,
-            carry: Carry::Keep,
-        })?;
-    }
-    let mut requests = Requests::new(alloc);
-    requests.push(Request { after: 7, changes })?;
-    Ok(requests)
+    changes.push(change(alloc, 1)?)?;
+    changes.push(change(alloc, 2)?)?;
+    Ok(Request { after: 7, changes })
 }
 
 #[test]
 fn filters_in_a_row(rt: HostRuntime) -> Result<(), Fail> {
     let alloc = rt.alloc();
     let job = chain(alloc)?;
-    let requests = requests(alloc)?;
+    let mut requests = Requests::new(alloc);
+    requests.push(request(alloc)?)?;
     let judged = judge_all(alloc, &job, &requests)?;
     accepted_requests_stay_accepted();
     let setup = Setup::make(alloc, job, judged)?;

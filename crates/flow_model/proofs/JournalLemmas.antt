@@ -1,0 +1,81 @@
+-- Journals that grow.
+use Rattle.std.proofs.Common.{◌≡◌, ◌∙◌, ℕ, List, [], ◌∷◌, ◌++◌, Option, Some, None, refl, sym, ap, subst, append_assoc}
+use Rattle.std.specs.Prelude.{◌↔◌}
+use Rattle.sink_journal.specs.declared.journal.Entry.{Entry}
+use Rattle.sink_journal.specs.declared.journal.Entry.TheVariants as entry
+use Rattle.tuple_trace.specs.declared.tuple.Item.{Item}
+use Rattle.flow_model.specs.Outline.{Lane, Outline, Post}
+use Rattle.flow_model.specs.Law.{IsEnabled, IsExecution, Progress, Station, after_entry, initial, later_dues, next_due, progress_after}
+use Rattle.flow_model.specs.Points.{MayStandAtItsPlace, TurnsFirst, turned}
+use Rattle.flow_model.specs.Replay.{Local, after, after_all, came_in, items_on, puts, sent, shown}
+
+pub after_all-append : (setup : Outline) (post : Post) (local : Local) (xs ys : List Entry)
+    → after_all setup post local (xs ++ ys) ≡ after_all setup post (after_all setup post local xs) ys
+after_all-append setup post local [] ys = refl
+after_all-append setup post local (x ∷ xs) ys = after_all-append setup post (after setup post local x) xs ys
+
+pub sent-append : (setup : Outline) (post : Post) (local : Local) (lane : Lane) (xs ys : List Entry)
+    → sent setup post local lane (xs ++ ys) ≡ sent setup post local lane xs ++ sent setup post (after_all setup post local xs) lane ys
+sent-append setup post local lane [] ys = refl
+sent-append setup post local lane (x ∷ xs) ys =
+    let here : List Item = items_on lane (puts setup post local x) in
+    let next : Local = after setup post local x in
+    ap (λ (items : List Item). here ++ items) (sent-append setup post next lane xs ys)
+    ∙ sym (append_assoc here (sent setup post next lane xs) (sent setup post (after_all setup post next xs) lane ys))
+
+pub shown-append : (setup : Outline) (lane : ℕ) (xs ys : List Entry) → shown setup lane (xs ++ ys) ≡ shown setup lane xs ++ shown setup lane ys
+shown-append setup lane [] ys = refl
+shown-append setup lane (x ∷ xs) ys =
+    ap (λ (items : List Item). came_in setup lane x ++ items) (shown-append setup lane xs ys)
+    ∙ sym (append_assoc (came_in setup lane x) (shown setup lane xs) (shown setup lane ys))
+
+pub progress_after-append : (progress : Progress) (xs ys : List Entry) → progress_after progress (xs ++ ys) ≡ progress_after (progress_after progress xs) ys
+progress_after-append progress [] ys = refl
+progress_after-append progress (x ∷ xs) ys = progress_after-append (after_entry progress x) xs ys
+
+split : (station : Station) (progress : Progress) (xs ys : List Entry) → IsExecution station progress (xs ++ ys)
+    → IsExecution station progress xs × IsExecution station (progress_after progress xs) ys
+split station progress [] ys h = (tt, h)
+split station progress (x ∷ xs) ys h = let later = split station (after_entry progress x) xs ys h.1 in ((h.0, later.0), later.1)
+
+join : (station : Station) (progress : Progress) (xs ys : List Entry) → IsExecution station progress xs → IsExecution station (progress_after progress xs) ys
+    → IsExecution station progress (xs ++ ys)
+join station progress [] ys a b = b
+join station progress (x ∷ xs) ys a b = (a.0, join station (after_entry progress x) xs ys a.1 b)
+
+pub IsExecution-append : (station : Station) (progress : Progress) (xs ys : List Entry)
+    → IsExecution station progress (xs ++ ys) ↔ (IsExecution station progress xs × IsExecution station (progress_after progress xs) ys)
+IsExecution-append station progress xs ys = (split station progress xs ys, λ both. join station progress xs ys both.0 both.1)
+
+by_places : (station : Station) (progress : Progress) (journal : List Entry)
+    → ((before : List Entry) (entry : Entry) (later : List Entry) → journal ≡ before ++ entry ∷ later → IsEnabled station (progress_after progress before) entry)
+    → IsExecution station progress journal
+by_places station progress [] h = tt
+by_places station progress (x ∷ xs) h =
+    (h [] x xs refl, by_places station (after_entry progress x) xs (λ before entry later is. h (x ∷ before) entry later (ap (λ (l : List Entry). x ∷ l) is)))
+
+at_place : (station : Station) (journal before : List Entry) (entry : Entry) (later : List Entry) → IsExecution station (initial station) journal
+    → journal ≡ before ++ entry ∷ later → IsEnabled station (progress_after (initial station) before) entry
+at_place station journal before entry later h is =
+    let h' = subst (λ (l : List Entry). IsExecution station (initial station) l) is h in
+    (split station (initial station) before (entry ∷ later) h').1.0
+
+pub IsExecution-places : (station : Station) (journal : List Entry) → IsExecution station (initial station) journal ↔ MayStandAtItsPlace station journal
+IsExecution-places station journal =
+    (λ h before entry later is. at_place station journal before entry later h is, λ h. by_places station (initial station) journal h)
+
+due_first : (dues : List ℕ) (request : ℕ) → next_due dues ≡ Some request → dues ≡ request ∷ later_dues dues
+due_first [] request e = absurd (cc)
+due_first (due ∷ later) request e = let same : due ≡ request = cc in ap (λ (r : ℕ). r ∷ later) same
+
+dues_turned : (station : Station) (progress : Progress) (journal : List Entry) → IsExecution station progress journal
+    → progress.dues ≡ turned journal ++ (progress_after progress journal).dues
+dues_turned station progress [] h = refl
+dues_turned station progress (entry.Met lane tuple ∷ more) h = dues_turned station progress more h.1
+dues_turned station progress (entry.Marked lane request ∷ more) h = dues_turned station (after_entry progress (entry.Marked lane request)) more h.1
+dues_turned station progress (entry.Turned request ∷ more) h =
+    due_first progress.dues request h.0.0 ∙ ap (λ (l : List ℕ). request ∷ l) (dues_turned station (after_entry progress (entry.Turned request)) more h.1)
+dues_turned station progress (entry.Ended lane ∷ more) h = dues_turned station (after_entry progress (entry.Ended lane)) more h.1
+
+pub lawful-turns : (station : Station) (journal : List Entry) → IsExecution station (initial station) journal → TurnsFirst station.dues journal
+lawful-turns station journal h = ((progress_after (initial station) journal).dues, dues_turned station (initial station) journal h)
