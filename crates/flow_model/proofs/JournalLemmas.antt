@@ -1,12 +1,13 @@
 -- Journals that grow.
 use Rattle.std.proofs.Common.{◌≡◌, ◌∙◌, ℕ, List, [], ◌∷◌, ◌++◌, Option, Some, None, refl, sym, ap, subst, append_assoc}
-use Rattle.std.specs.Prelude.{◌↔◌}
+use Rattle.std.specs.Prelude.{◌↔◌, All, Contains}
+use Rattle.std.proofs.lemmas.List.{append-nil, append_cancel_left}
 use Rattle.sink_journal.specs.declared.journal.Entry.{Entry}
 use Rattle.sink_journal.specs.declared.journal.Entry.TheVariants as entry
 use Rattle.tuple_trace.specs.declared.tuple.Item.{Item}
 use Rattle.flow_model.specs.Outline.{Lane, Outline, Post}
-use Rattle.flow_model.specs.Law.{IsEnabled, IsExecution, Progress, Station, after_entry, initial, later_dues, next_due, progress_after}
-use Rattle.flow_model.specs.Points.{MayStandAtItsPlace, TurnsFirst, turned}
+use Rattle.flow_model.specs.Law.{IsEnabled, IsExecution, IsInTime, Progress, Station, after_entry, initial, later_dues, next_due, progress_after}
+use Rattle.flow_model.specs.Points.{AreEnds, EndsStandLast, HeadsAreInTime, MayStandAtItsPlace, TurnsFirst, TurnsFollowTheirMarkers, markers, turned}
 use Rattle.flow_model.specs.Replay.{Local, after, after_all, came_in, items_on, puts, sent, shown}
 
 pub after_all-append : (setup : Outline) (post : Post) (local : Local) (xs ys : List Entry)
@@ -79,3 +80,76 @@ dues_turned station progress (entry.Ended lane ∷ more) h = dues_turned station
 
 pub lawful-turns : (station : Station) (journal : List Entry) → IsExecution station (initial station) journal → TurnsFirst station.dues journal
 lawful-turns station journal h = ((progress_after (initial station) journal).dues, dues_turned station (initial station) journal h)
+
+ends : (station : Station) (progress : Progress) (journal : List Entry) → IsExecution station progress journal → (progress.ended ≡ [] → ⊥) → AreEnds journal
+ends station progress [] h never = tt
+ends station progress (entry.Met lane tuple ∷ more) h never = absurd (never h.0.2)
+ends station progress (entry.Marked lane request ∷ more) h never = absurd (never h.0.3)
+ends station progress (entry.Turned request ∷ more) h never = absurd (never h.0.2)
+ends station progress (entry.Ended lane ∷ more) h never = ends station (after_entry progress (entry.Ended lane)) more h.1 (λ e. absurd (cc))
+
+pub lawful-ends : (station : Station) (journal : List Entry) → IsExecution station (initial station) journal → EndsStandLast station journal
+lawful-ends station journal h before lane later is =
+    let h' = subst (λ (l : List Entry). IsExecution station (initial station) l) is h in
+    let both = split station (initial station) before (entry.Ended lane ∷ later) h' in
+    let progress : Progress = progress_after (initial station) before in
+    let done : progress.dues ≡ [] = both.1.0.2 in (
+      ends station (after_entry progress (entry.Ended lane)) later both.1.1 (λ e. absurd (cc)),
+      dues_turned station (initial station) before both.0 ∙ (ap (λ (l : List ℕ). turned before ++ l) done ∙ append-nil (turned before)),
+    )
+
+pub lawful-heads : (station : Station) (journal : List Entry) → IsExecution station (initial station) journal → HeadsAreInTime station journal
+lawful-heads station journal h before lane tuple later is left rest =
+    let h' = subst (λ (l : List Entry). IsExecution station (initial station) l) is h in
+    let both = split station (initial station) before (entry.Met lane tuple ∷ later) h' in
+    let progress : Progress = progress_after (initial station) before in
+    let same : progress.dues ≡ left = append_cancel_left (turned before) progress.dues left (sym (dues_turned station (initial station) before both.0) ∙ rest) in
+    subst (λ (l : List ℕ). IsInTime station tuple (next_due l)) same both.1.0.3
+
+-- what a journal ends in: the markers that no turn has followed
+abbrev EndsInMarkers : Progress → List Entry → Type 0
+EndsInMarkers progress before = (request : ℕ) → next_due progress.dues ≡ Some request → (earlier : List Entry) × (before ≡ earlier ++ markers request progress.marked)
+
+none_open : (progress : Progress) (before : List Entry) → progress.marked ≡ [] → EndsInMarkers progress before
+none_open progress before none request next =
+    (before, sym (ap (λ (l : List ℕ). before ++ markers request l) none ∙ append-nil before))
+
+one_more : (progress : Progress) (before : List Entry) (lane request : ℕ) → next_due progress.dues ≡ Some request → EndsInMarkers progress before
+    → EndsInMarkers (after_entry progress (entry.Marked lane request)) (before ++ entry.Marked lane request ∷ [])
+one_more progress before lane request next ends due is =
+    let same : request ≡ due = cc in
+    let old = ends due is in (
+      old.0,
+      ap (λ (l : List Entry). l ++ entry.Marked lane request ∷ []) old.1
+          ∙ (append_assoc old.0 (markers due progress.marked) (entry.Marked lane request ∷ [])
+          ∙ ap (λ (r : ℕ). old.0 ++ (markers due progress.marked ++ entry.Marked lane r ∷ [])) same),
+    )
+
+open_markers : (station : Station) (progress : Progress) (before journal : List Entry) → IsExecution station progress journal → EndsInMarkers progress before
+    → EndsInMarkers (progress_after progress journal) (before ++ journal)
+open_markers station progress before [] h ends = subst (λ (l : List Entry). EndsInMarkers progress l) (sym (append-nil before)) ends
+open_markers station progress before (entry.Met lane tuple ∷ more) h ends =
+    let x : Entry = entry.Met lane tuple in
+    subst (λ (l : List Entry). EndsInMarkers (progress_after progress (x ∷ more)) l) (append_assoc before (x ∷ []) more) (
+    open_markers station (after_entry progress x) (before ++ x ∷ []) more h.1 (none_open (after_entry progress x) (before ++ x ∷ []) h.0.1))
+open_markers station progress before (entry.Marked lane request ∷ more) h ends =
+    let x : Entry = entry.Marked lane request in
+    subst (λ (l : List Entry). EndsInMarkers (progress_after progress (x ∷ more)) l) (append_assoc before (x ∷ []) more) (
+    open_markers station (after_entry progress x) (before ++ x ∷ []) more h.1 (one_more progress before lane request h.0.0 ends))
+open_markers station progress before (entry.Turned request ∷ more) h ends =
+    let x : Entry = entry.Turned request in
+    subst (λ (l : List Entry). EndsInMarkers (progress_after progress (x ∷ more)) l) (append_assoc before (x ∷ []) more) (
+    open_markers station (after_entry progress x) (before ++ x ∷ []) more h.1 (none_open (after_entry progress x) (before ++ x ∷ []) refl))
+open_markers station progress before (entry.Ended lane ∷ more) h ends =
+    let x : Entry = entry.Ended lane in
+    subst (λ (l : List Entry). EndsInMarkers (progress_after progress (x ∷ more)) l) (append_assoc before (x ∷ []) more) (
+    open_markers station (after_entry progress x) (before ++ x ∷ []) more h.1 (none_open (after_entry progress x) (before ++ x ∷ []) h.0.3))
+
+pub lawful-markers : (station : Station) (journal : List Entry) → IsExecution station (initial station) journal → TurnsFollowTheirMarkers station journal
+lawful-markers station journal h before request later is =
+    let h' = subst (λ (l : List Entry). IsExecution station (initial station) l) is h in
+    let both = split station (initial station) before (entry.Turned request ∷ later) h' in
+    let progress : Progress = progress_after (initial station) before in
+    let last = open_markers station (initial station) [] before both.0 (none_open (initial station) [] refl) in
+    let block = last request both.1.0.0 in
+    (block.0, progress.marked, block.1, both.1.0.1)

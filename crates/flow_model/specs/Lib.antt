@@ -18,3 +18,4 @@ pub mod Fresh
 pub mod Alone
 pub mod FourPayments
 pub mod TwoLanes
+pub mod SteadyLanes

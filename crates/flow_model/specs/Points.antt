@@ -1,9 +1,10 @@
 -- The law of a journal, place by place.
-use Rattle.std.specs.Prelude.{◌≡◌, ℕ, List, [], ◌∷◌, ◌++◌, Option, Some, None}
+use Rattle.std.specs.Prelude.{◌≡◌, ⊤, ℕ, All, Contains, List, [], ◌∷◌, ◌++◌, Option, Some, None}
 use Rattle.std.specs.List.{filter_map}
 use Rattle.sink_journal.specs.declared.journal.Entry.{Entry}
 use Rattle.sink_journal.specs.declared.journal.Entry.TheVariants as entry
-use Rattle.flow_model.specs.Law.{IsEnabled, Station, initial, progress_after}
+use Rattle.tuple_trace.specs.declared.tuple.Tuple.{Tuple}
+use Rattle.flow_model.specs.Law.{IsEnabled, IsInTime, Station, initial, next_due, progress_after}
 
 -- the request that an entry turns
 abbrev pub turn_in : Entry → Option ℕ
@@ -25,3 +26,34 @@ MayStandAtItsPlace station journal =
 -- the journal turns the first of these requests, each once, in their order and with none left out
 abbrev pub TurnsFirst : List ℕ → List Entry → Type 0
 TurnsFirst dues journal = (left : List ℕ) × (dues ≡ turned journal ++ left)
+
+-- only ends
+abbrev pub AreEnds : List Entry → Type 0
+AreEnds [] = ⊤
+AreEnds (entry.Ended lane ∷ more) = AreEnds more
+AreEnds (entry.Met lane tuple ∷ more) = ⊥
+AreEnds (entry.Marked lane request ∷ more) = ⊥
+AreEnds (entry.Turned request ∷ more) = ⊥
+
+-- behind an end stand only ends, and before it every request was turned
+abbrev pub EndsStandLast : Station → List Entry → Type 0
+EndsStandLast station journal =
+    (before : List Entry) (lane : ℕ) (later : List Entry) → journal ≡ before ++ entry.Ended lane ∷ later →
+    AreEnds later × (station.dues ≡ turned before)
+
+-- at a head, a tuple that is met before the turn of the next request was fed before that was issued
+abbrev pub HeadsAreInTime : Station → List Entry → Type 0
+HeadsAreInTime station journal =
+    (before : List Entry) (lane : ℕ) (tuple : Tuple) (later : List Entry) → journal ≡ before ++ entry.Met lane tuple ∷ later →
+    (left : List ℕ) → station.dues ≡ turned before ++ left → IsInTime station tuple (next_due left)
+
+-- the markers of a request, of these lanes, the last one first
+abbrev pub markers : ℕ → List ℕ → List Entry
+markers request [] = []
+markers request (lane ∷ more) = markers request more ++ entry.Marked lane request ∷ []
+
+-- directly before a turn stand its markers, one for each lane that brings it
+abbrev pub TurnsFollowTheirMarkers : Station → List Entry → Type 0
+TurnsFollowTheirMarkers station journal =
+    (before : List Entry) (request : ℕ) (later : List Entry) → journal ≡ before ++ entry.Turned request ∷ later →
+    (earlier : List Entry) × (lanes : List ℕ) × (before ≡ earlier ++ markers request lanes) × All (Contains lanes) (station.marked_lanes request)
