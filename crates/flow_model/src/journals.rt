@@ -1,9 +1,9 @@
 // Laws of journals. Each function proves its clauses, and does nothing.
 ghost use Rattle.std.specs.Prelude.{◌≡◌, ◌↔◌, ◌++◌, ℕ, List};
 ghost use Rattle.sink_journal.specs.declared.journal.Entry.{Entry as EntryIs};
-ghost use Rattle.flow_model.specs.Law.{IsExecution, Progress, Station, initial, progress_after};
+ghost use Rattle.flow_model.specs.Law.{IsExecution, IsLawful, Progress, Station, initial, progress_after};
 ghost use Rattle.flow_model.specs.Outline.{Lane, Outline, Post};
-ghost use Rattle.flow_model.specs.Points.{EndsStandLast, HeadsAreInTime, MayStandAtItsPlace, TurnsFirst, TurnsFollowTheirMarkers};
+ghost use Rattle.flow_model.specs.Points.{HasPoints, MayStandAtItsPlace};
 ghost use Rattle.flow_model.specs.Replay.{Local, after_all, sent, shown};
 
 /// A replay goes on where an earlier one stopped, and what a longer journal shows is what its parts show.
@@ -20,12 +20,10 @@ pub fn the_law_goes_on()
     ensures places { (station : Station) (journal : List EntryIs) → IsExecution station (initial station) journal ↔ MayStandAtItsPlace station journal }
 {}
 
-/// What the law means: a lawful journal turns the first of the requests that cover its worker, each once, in rising order and with none left
-/// out; directly before a turn stand its markers, one for each lane that brings it; at a head no tuple that was fed under the next request
-/// comes before its turn; and the ends stand together at the end, once every request is turned.
-pub fn lawful_journals_are_in_order()
-    ensures turns { (station : Station) (journal : List EntryIs) → IsExecution station (initial station) journal → TurnsFirst station.dues journal }
-    ensures markers { (station : Station) (journal : List EntryIs) → IsExecution station (initial station) journal → TurnsFollowTheirMarkers station journal }
-    ensures heads { (station : Station) (journal : List EntryIs) → IsExecution station (initial station) journal → HeadsAreInTime station journal }
-    ensures ends { (station : Station) (journal : List EntryIs) → IsExecution station (initial station) journal → EndsStandLast station journal }
+/// What the law means. A journal is lawful so far exactly where every lane that an entry names is its worker's; it turns the first of the
+/// requests that cover the worker, each once, in rising order and with none left out; directly before a turn stand its markers, one for each
+/// lane that brings it, and no marker stands anywhere else; at a head no tuple that was fed under the next request comes before its turn; and
+/// the ends stand together at the end, of each lane once, when every request is turned.
+pub fn lawful_journals_have_four_points()
+    ensures { (station : Station) (journal : List EntryIs) → IsLawful station journal ↔ HasPoints station journal }
 {}

@@ -19,7 +19,7 @@ pub use examples::{
     four_payments_are_whole, markers_part_old_from_new, markers_stand_before_their_turn,
     payments_alone, requests_wait_for_their_rows,
 };
-pub use journals::{lawful_journals_are_in_order, replays_go_on, the_law_goes_on};
+pub use journals::{lawful_journals_have_four_points, replays_go_on, the_law_goes_on};
 pub use laws::{changed_nodes_are_asked, setups_are_planned};
 pub use record::{RunRecord, States};
 pub use setup::{Plans, Setup};
