@@ -1,12 +1,11 @@
 -- The worked lanes, item by item.
-use Rattle.std.proofs.Common.{◌≡◌, ◌<◌, ◌≤◌, ℕ, List, [], ◌∷◌, refl, arith, lit<, lit≤}
-use Rattle.std.specs.Prelude.{All, AllPairs, pos}
+use Rattle.std.proofs.Common.{◌<◌, ◌≤◌, ℕ, [], ◌∷◌, refl, arith, lit<, lit≤}
+use Rattle.std.specs.Prelude.{pos}
 use Rattle.flow_model.specs.FourPayments.{passed}
 use Rattle.std.proofs.lemmas.List.Elements.{All-cons, All-nil}
 use Rattle.std.proofs.lemmas.List.Kept.{AllPairs-cons}
 use Rattle.flow_dag.specs.Masks.{Has}
 use Rattle.lane_core.specs.Steady.{Agrees, HasComeTo, IsNewAt, IsOldAt, IsSteady}
-use Rattle.tuple_trace.specs.declared.tuple.Item.{Item}
 use Rattle.tuple_trace.specs.declared.tuple.Item.TheVariants as item
 use Rattle.tuple_trace.specs.declared.tuple.Visit.{Visit}
 use Rattle.flow_model.specs.SteadyLanes.{mark, new_tuple, old_tuple, out_of_filter, stray_tuple}

@@ -1,11 +1,10 @@
 -- What the type of a setup keeps: its requests are accepted, and have the planner's plans.
-use Rattle.std.specs.Prelude.{◌≡◌, ◌↔◌, ℕ, Bool, false, IsTrue, List, [], length, Option, Some, None, slice_get}
+use Rattle.std.specs.Prelude.{◌≡◌, ◌↔◌, ℕ, Bool, false, IsTrue, List, length, Option, Some, None, slice_get}
 use Rattle.cover_planner.specs.declared.cover.Plan.{Plan}
 use Rattle.cover_planner.specs.Plan.{IsPlan}
 use Rattle.flow_dag.specs.declared.edge.Edge.{Edge}
 use Rattle.flow_dag.specs.Masks.{Has}
 use Rattle.jobs.specs.Nodes.{may_emit}
-use Rattle.jobs.specs.Written.{Written}
 use Rattle.jobs.specs.declared.func.NodeDef.{NodeDef}
 use Rattle.versions.specs.Book.{is_named}
 use Rattle.versions.specs.declared.request.Request.{Request}

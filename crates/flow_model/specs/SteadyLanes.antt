@@ -1,5 +1,5 @@
 -- Worked lanes, out of the filter of the four payments.
-use Rattle.std.specs.Prelude.{ℕ, pos, List, [], ◌∷◌, replicate}
+use Rattle.std.specs.Prelude.{pos, [], ◌∷◌, replicate}
 use Rattle.flow_dag.specs.declared.graph.Graph.{Graph}
 use Rattle.lane_core.specs.declared.form.Origin.{Origin}
 use Rattle.tuple_trace.specs.declared.tuple.Item.{Item}
