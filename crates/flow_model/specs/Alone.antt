@@ -1,5 +1,5 @@
 -- What one row makes by itself, and which functions it met.
-use Rattle.std.specs.Prelude.{ℕ, zero, suc, List, [], ◌∷◌, ◌++◌, length, map, filter, Option, Some, None, slice_get, if◌then◌else◌}
+use Rattle.std.specs.Prelude.{ℕ, zero, suc, List, [], ◌∷◌, length, Option, Some, None, slice_get, if◌then◌else◌}
 use Rattle.std.specs.FinMap.{empty}
 use Rattle.std.specs.List.{enumerate_from, flat_map}
 use Rattle.flow_dag.specs.declared.edge.Edge.{Edge}
@@ -13,7 +13,6 @@ use Rattle.tuple_trace.specs.declared.row.Row.{Row}
 use Rattle.tuple_trace.specs.declared.tuple.Tuple.{Tuple}
 use Rattle.tuple_trace.specs.declared.tuple.Visit.{Visit}
 use Rattle.tuple_trace.specs.declared.value.Value.{Value}
-use Rattle.flow_model.specs.Outline.{Outline}
 use Rattle.flow_model.specs.Lanes.{first_on}
 use Rattle.flow_model.specs.Requests.{change_of, func_with}
 use Rattle.flow_model.specs.Run.{Ran}

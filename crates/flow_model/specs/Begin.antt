@@ -1,5 +1,5 @@
 -- Where a run begins.
-use Rattle.std.specs.Prelude.{ℕ, zero, suc, ◌+◌, List, map, if◌then◌else◌}
+use Rattle.std.specs.Prelude.{ℕ, zero, suc, List, map, if◌then◌else◌}
 use Rattle.std.specs.FinMap.{empty}
 use Rattle.keyed_state.specs.Counts.{Counts}
 use Rattle.flow_model.specs.Outline.{Outline, Post}

@@ -32,3 +32,11 @@ covers_edge setup request edge = holds_edge (plan_of setup request) edge
 -- the node is a head of what the request covers
 abbrev pub is_head : Outline → ℕ → ℕ → Bool
 is_head setup request node = heads (plan_of setup request) node
+
+abbrev pub holds_asked : Option Plan → ℕ → Bool
+holds_asked None node = false
+holds_asked (Some plan) node = has plan.asked node
+
+-- the plan of the request was made for the node: so it is for every node that the request changes
+abbrev pub asks : Outline → ℕ → ℕ → Bool
+asks setup request node = holds_asked (plan_of setup request) node

@@ -6,6 +6,7 @@ pub mod Lanes
 pub mod Covers
 pub mod Requests
 pub mod Law
+pub mod Points
 pub mod Station
 pub mod Replay
 pub mod Begin
@@ -17,3 +18,4 @@ pub mod Fresh
 pub mod Alone
 pub mod FourPayments
 pub mod TwoLanes
+pub mod SteadyLanes

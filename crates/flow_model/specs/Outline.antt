@@ -16,6 +16,10 @@ pub record Outline : Type 0 where
 abbrev pub outline_of : Written → List Request → List Plan → ℕ → Outline
 outline_of job requests plans many = record { job = job; requests = requests; plans = plans; many = many }
 
+-- the mask of the nodes that may make several tuples of one
+abbrev pub many_of : Outline → ℕ
+many_of setup = setup.many
+
 -- A worker: its number, its node, its place among the workers of the node, and the function that the job gives the node.
 pub record Post : Type 0 where
   pub number : ℕ

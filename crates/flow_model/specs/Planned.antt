@@ -1,15 +1,14 @@
 -- What the type of a setup keeps: its requests are accepted, and have the planner's plans.
-use Rattle.std.specs.Prelude.{◌≡◌, ◌↔◌, ℕ, Bool, false, IsTrue, List, [], length, Option, Some, None, slice_get}
+use Rattle.std.specs.Prelude.{◌≡◌, ◌↔◌, ℕ, Bool, false, IsTrue, List, length, Option, Some, None, slice_get}
 use Rattle.cover_planner.specs.declared.cover.Plan.{Plan}
 use Rattle.cover_planner.specs.Plan.{IsPlan}
 use Rattle.flow_dag.specs.declared.edge.Edge.{Edge}
 use Rattle.flow_dag.specs.Masks.{Has}
 use Rattle.jobs.specs.Nodes.{may_emit}
-use Rattle.jobs.specs.Written.{Written}
 use Rattle.jobs.specs.declared.func.NodeDef.{NodeDef}
 use Rattle.versions.specs.Book.{is_named}
 use Rattle.versions.specs.declared.request.Request.{Request}
-use Rattle.flow_model.specs.Outline.{Outline}
+use Rattle.flow_model.specs.Outline.{Outline, many_of}
 
 abbrev pub is_many : Option NodeDef → Bool
 is_many None = false
@@ -26,11 +25,11 @@ pub record IsPlanFor (edges : List Edge) (many : ℕ) (request : Request) (plan 
 
 -- the mask holds every node that may make several tuples of one, and each request has its plan
 pub record IsPlanned (setup : Outline) : Type 0 where
-  pub many : (node : ℕ) → IsTrue (is_many_at setup.job.nodes node) → Has setup.many node
+  pub many : (node : ℕ) → IsTrue (is_many_at setup.job.nodes node) → Has (many_of setup) node
   pub one_each : length setup.plans ≡ length setup.requests
   pub plans :
       (r : ℕ) (request : Request) (plan : Plan) → slice_get setup.requests r ≡ Some request → slice_get setup.plans r ≡ Some plan →
-      IsPlanFor setup.job.edges setup.many request plan
+      IsPlanFor setup.job.edges (many_of setup) request plan
 
 -- the plan is the planner's for exactly the nodes that the request changes
 pub record IsPlanOf (edges : List Edge) (many : ℕ) (request : Request) (plan : Plan) : Type 0 where
@@ -46,5 +45,5 @@ pub record ArePlansOf (edges : List Edge) (many : ℕ) (requests : List Request)
 
 -- the masks hold nothing else: the nodes that may make several tuples of one, and for each request the nodes that it changes
 pub record IsExact (setup : Outline) : Type 0 where
-  pub many : (node : ℕ) → Has setup.many node ↔ IsTrue (is_many_at setup.job.nodes node)
-  pub plans : ArePlansOf setup.job.edges setup.many setup.requests setup.plans
+  pub many : (node : ℕ) → Has (many_of setup) node ↔ IsTrue (is_many_at setup.job.nodes node)
+  pub plans : ArePlansOf setup.job.edges (many_of setup) setup.requests setup.plans

@@ -1,5 +1,5 @@
 -- What a journal says of its worker: the counts at its end, and what it sends on each lane.
-use Rattle.std.specs.Prelude.{◌+◌, ◌==◌, ℕ, zero, suc, Bool, List, [], ◌∷◌, ◌++◌, length, map, filter, Option, Some, None, if◌then◌else◌}
+use Rattle.std.specs.Prelude.{◌+◌, ◌==◌, ℕ, Bool, List, [], ◌∷◌, ◌++◌, length, map, filter, Option, Some, None, if◌then◌else◌}
 use Rattle.std.specs.List.{filter_map, flat_map}
 use Rattle.cover_planner.specs.declared.cover.Plan.{Plan}
 use Rattle.keyed_state.specs.Counts.{Counts, carried}
@@ -14,9 +14,9 @@ use Rattle.tuple_trace.specs.declared.tuple.Item.TheVariants as item
 use Rattle.tuple_trace.specs.declared.tuple.Visit.{Visit}
 use Rattle.versions.specs.declared.request.Change.{Change}
 use Rattle.flow_model.specs.Outline.{Lane, Outline, Post}
-use Rattle.flow_model.specs.Covers.{covers, covers_edge, plan_of}
+use Rattle.flow_model.specs.Covers.{covers_edge, plan_of}
 use Rattle.flow_model.specs.Lanes.{is_same_lane, lane_of, lanes_in, lanes_out}
-use Rattle.flow_model.specs.Requests.{change_of, func_after}
+use Rattle.flow_model.specs.Requests.{change_of}
 
 -- What is in force at a worker: its function and its counts, the latest request turned, and how many lanes have ended.
 pub record Local : Type 0 where

@@ -1,5 +1,5 @@
 -- A worked law: a worker with two lanes in, 0 and 1, both of which bring it the marker of request 1.
-use Rattle.std.specs.Prelude.{ℕ, ℤ, pos, Bool, false, List, [], ◌∷◌}
+use Rattle.std.specs.Prelude.{ℕ, pos, false, List, [], ◌∷◌}
 use Rattle.sink_journal.specs.declared.journal.Entry.{Entry}
 use Rattle.sink_journal.specs.declared.journal.Entry.TheVariants as entry
 use Rattle.flow_model.specs.FourPayments.{payment}

@@ -1,6 +1,8 @@
 // Worked runs. Each function proves what its clauses say of one, and does nothing.
 ghost use Rattle.std.specs.Prelude.{◌≡◌, ◌∷◌, [], false, true, pos};
 ghost use Rattle.sink_journal.specs.declared.journal.Feed.TheVariants as feed;
+ghost use Rattle.lane_core.specs.Steady.{IsSteady};
+ghost use Rattle.tuple_trace.specs.declared.tuple.Item.TheVariants as item;
 ghost use Rattle.tuple_trace.specs.declared.value.Value.TheVariants as value;
 ghost use Rattle.flow_model.specs.Alone.{alone, table};
 ghost use Rattle.flow_model.specs.Begin.{at_first};
@@ -9,6 +11,7 @@ ghost use Rattle.flow_model.specs.FourPayments.{chain, filter_post, four_payment
 ghost use Rattle.flow_model.specs.Fresh.{IsFresh};
 ghost use Rattle.flow_model.specs.Law.{IsFinished, IsLawful};
 ghost use Rattle.flow_model.specs.Run.{IsLawfulFrom, IsRun};
+ghost use Rattle.flow_model.specs.SteadyLanes.{mark, new_tuple, old_tuple, out_of_filter, stray_tuple};
 ghost use Rattle.flow_model.specs.TwoLanes.{joined, joining, parted, unmarked, unturned};
 ghost use Rattle.flow_model.specs.Whole.{IsMetOnce, IsWhole, is_new, is_old};
 
@@ -57,4 +60,13 @@ pub fn requests_wait_for_their_rows()
     ensures end { feed_from 0 0 (99 ∷ []) 1 ≡ feed.Fed 1 ∷ feed.Issued 1 ∷ feed.Stopped ∷ [] }
     ensures both { feed_from 0 0 (1 ∷ 1 ∷ []) 2 ≡ feed.Fed 1 ∷ feed.Issued 1 ∷ feed.Issued 2 ∷ feed.Fed 2 ∷ feed.Stopped ∷ [] }
     ensures later { feed_from 2 1 (1 ∷ 1 ∷ 2 ∷ 3 ∷ []) 3 ≡ feed.Issued 2 ∷ feed.Issued 3 ∷ feed.Fed 3 ∷ feed.Issued 4 ∷ feed.Stopped ∷ [] }
+{}
+
+/// On a lane an old tuple stands before the marker and a new one behind it. It isn't steady with an old one behind, a new one before, or a
+/// tuple that didn't come along the edges.
+pub fn markers_part_old_from_new()
+    ensures steady { IsSteady out_of_filter (old_tuple ∷ mark ∷ new_tuple ∷ item.Last ∷ []) }
+    ensures old_behind { IsSteady out_of_filter (mark ∷ old_tuple ∷ []) → ⊥ }
+    ensures new_before { IsSteady out_of_filter (new_tuple ∷ mark ∷ []) → ⊥ }
+    ensures stray { IsSteady out_of_filter (stray_tuple ∷ []) → ⊥ }
 {}

@@ -4,18 +4,22 @@
 #![tactic(auto)]
 
 mod examples;
+mod journals;
 mod laws;
 mod masks;
 mod plans;
 mod record;
 mod setup;
+#[cfg(test)]
+mod tests;
 mod workers;
 
 pub use examples::{
     a_late_turn_is_unlawful, a_missed_payment_is_no_run, four_payments_are_a_run,
-    four_payments_are_whole, markers_stand_before_their_turn, payments_alone,
-    requests_wait_for_their_rows,
+    four_payments_are_whole, markers_part_old_from_new, markers_stand_before_their_turn,
+    payments_alone, requests_wait_for_their_rows,
 };
-pub use laws::setups_are_planned;
+pub use journals::{lawful_journals_have_four_points, replays_go_on, the_law_goes_on};
+pub use laws::{changed_nodes_are_asked, setups_are_planned};
 pub use record::{RunRecord, States};
 pub use setup::{Plans, Setup};

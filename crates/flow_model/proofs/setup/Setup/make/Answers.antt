@@ -1,4 +1,3 @@
-use Rattle.std.proofs.Common.{◌≡◌}
 use Rattle.jobs.specs.Job.{written}
 use Rattle.flow_model.proofs.PlanLemmas.{IsPlanned-exact}
 use Rattle.flow_model.proofs.setup.Setup.make.Goals as goal

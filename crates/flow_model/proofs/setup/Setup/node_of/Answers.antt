@@ -1,4 +1,4 @@
-use Rattle.std.proofs.Common.{◌≡◌, ◌∙◌, ◌+◌, ◌-◌, ◌<◌, ◌∷◌, ◌≤◌, ℕ, drop, get_or, length, sym, ap, arith}
+use Rattle.std.proofs.Common.{◌≡◌, ◌∙◌, ◌+◌, ◌-◌, ◌<◌, ◌∷◌, ℕ, drop, get_or, length, sym, ap, arith}
 use Rattle.std.specs.Prelude.{List, option_map}
 use Rattle.std.proofs.lemmas.List.{drop_more}
 use Rattle.jobs.specs.declared.func.NodeDef.{NodeDef}

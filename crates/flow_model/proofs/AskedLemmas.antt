@@ -1,0 +1,31 @@
+-- What the plans of a setup ask.
+use Rattle.std.proofs.Common.{◌≡◌, ◌<◌, ◌≤◌, ℕ, zero, suc, List, [], ◌∷◌, length, Option, Some, None, refl, arith}
+use Rattle.std.specs.Prelude.{slice_get, IsTrue}
+use Rattle.std.proofs.lemmas.Option.{slice_get_within}
+use Rattle.cover_planner.specs.declared.cover.Plan.{Plan}
+use Rattle.flow_dag.specs.Masks.{Has, has}
+use Rattle.versions.specs.declared.request.Request.{Request}
+use Rattle.flow_model.specs.Outline.{Outline}
+use Rattle.flow_model.specs.Covers.{asks, holds_asked}
+use Rattle.flow_model.specs.Planned.{IsPlanned}
+use Rattle.flow_model.specs.Requests.{changes, names}
+
+has_true : (mask i : ℕ) → Has mask i → IsTrue (has mask i)
+has_true mask i h = rw h refl
+
+past : {A : Type 0} (xs : List A) (i : ℕ) → slice_get xs i ≡ None → length xs ≤ i
+past [] i e = omega arith
+past (x ∷ xs) zero e = absurd (cc)
+past (x ∷ xs) (suc i) e = omega (arith, past xs i e)
+
+pub asked-changed : (setup : Outline) → IsPlanned setup → (request node : ℕ) → IsTrue (changes setup request node) → IsTrue (asks setup request node)
+asked-changed setup is zero node h = h
+asked-changed setup is (suc r) node h = go (slice_get setup.requests r) refl (slice_get setup.plans r) refl h
+  where
+    go : (o : Option Request) → slice_get setup.requests r ≡ o → (p : Option Plan) → slice_get setup.plans r ≡ p → IsTrue (names o node) → IsTrue (holds_asked p node)
+    go None e p ep h = absurd (cc)
+    go (Some q) e None ep h =
+        let within : r < length setup.requests = slice_get_within setup.requests r q e in
+        let none : length setup.plans ≤ r = past setup.plans r ep in
+        absurd (omega (arith, is.one_each))
+    go (Some q) e (Some p) ep h = has_true p.asked node ((is.plans r q p e ep).asked node h)
