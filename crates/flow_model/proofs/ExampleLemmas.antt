@@ -118,7 +118,7 @@ four_tied (suc (suc n)) lane journal l j = absurd (cc)
 pub four-run : IsRun four_setup four_payments four_ran
 four-run = record {
   setup_is = refl;
-  run = record { feed = refl; one_journal_each = refl; one_state_each = refl; worked = four_worked; tied = four_tied };
+  run = record { feed = refl; one_start_each = refl; one_journal_each = refl; one_state_each = refl; worked = four_worked; tied = four_tied };
 }
 
 abbrev item_count : Option (List Item) → ℕ

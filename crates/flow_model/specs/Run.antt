@@ -59,7 +59,8 @@ pub record IsWorked (setup : Outline) (begin : Begin) (post : Post) (counts : Co
 pub record IsRunFrom (begin : Begin) (rows : List Row) (ran : Ran) : Type 0 where
   -- the feeder fed each row and issued each request after its row
   pub feed : ran.feeds ≡ feed_from begin.row begin.turned (afters ran.setup.requests) (length rows)
-  -- each worker has one journal and one state
+  -- each worker has its counts at the beginning, one journal, and its counts at the end
+  pub one_start_each : length begin.states ≡ length (posts ran.setup.job)
   pub one_journal_each : length ran.journals ≡ length (posts ran.setup.job)
   pub one_state_each : length ran.states ≡ length (posts ran.setup.job)
   pub worked :
