@@ -140,14 +140,27 @@ from = "c"
 to = "a"
 "#;
 
-/// The status of `check NAME`, and what it prints, where `job.toml` holds this text. These calls of the output fail.
+/// How a call ended, and what it printed.
+#[derive(Drop)]
+struct Answer {
+    status: u8,
+    out: Bytes,
+}
+
+impl Answer {
+    fn is(&self, status: u8, line: &str) -> bool {
+        self.status == status && self.out.as_slice() == line.as_bytes()
+    }
+}
+
+/// What `check NAME` answers where `job.toml` holds this text. These calls of the output fail.
 fn checked<R>(
     rt: &R,
     alloc: Global,
     name: &str,
     text: &[u8],
     refusing: &[u64],
-) -> Result<(u8, Bytes), NoMemory>
+) -> Result<Answer, NoMemory>
 where
     R: Threads + Wait + Copy + Send + Sync + 'static,
 {
@@ -161,50 +174,56 @@ where
     let mut out = MemorySink::new(alloc, Calls::from_slice(alloc, refusing)?);
     let words = words_of(alloc, &["check", name])?;
     let outcome = fries(rt, alloc, &words, &mut shelf, &mut out, &OpenGate);
-    Ok((outcome.status, Bytes::from_slice(alloc, out.written())?))
+    Ok(Answer {
+        status: outcome.status,
+        out: Bytes::from_slice(alloc, out.written())?,
+    })
 }
 
 #[test]
 fn sizes_of_jobs(rt: HostRuntime) -> Result<(), Fail> {
-    let cases = [
-        (CHAIN, "nodes 3 edges 2 workers 2 weight 2\n"),
-        (PAYMENTS, "nodes 9 edges 8 workers 8 weight 14\n"),
-    ];
-    for (text, line) in cases {
-        let (status, out) = checked(&rt, rt.alloc(), "job.toml", text.as_bytes(), &[])?;
-        assert_eq!(rt; (status, out.as_slice()), (0, line.as_bytes()));
-    }
-    let (status, out) = checked(&rt, rt.alloc(), "job.toml", CHAIN.as_bytes(), &[0])?;
-    assert_eq!(rt; (status, out.len()), (6, 0));
+    let alloc = rt.alloc();
+    let chain = checked(&rt, alloc, "job.toml", CHAIN.as_bytes(), &[])?;
+    assert!(rt; chain.is(0, "nodes 3 edges 2 workers 2 weight 2\n"));
+    let payments = checked(&rt, alloc, "job.toml", PAYMENTS.as_bytes(), &[])?;
+    assert!(rt; payments.is(0, "nodes 9 edges 8 workers 8 weight 14\n"));
+    let unprinted = checked(&rt, alloc, "job.toml", CHAIN.as_bytes(), &[0])?;
+    assert!(rt; unprinted.is(6, ""));
     Ok(())
 }
 
 #[test]
 fn cycle_is_refused(rt: HostRuntime) -> Result<(), Fail> {
-    let (status, out) = checked(&rt, rt.alloc(), "job.toml", CYCLE.as_bytes(), &[])?;
-    assert_eq!(rt;
-        (status, out.as_slice()),
-        (2, b"fault 2 J7 node 0\n".as_slice())
-    );
+    let answer = checked(&rt, rt.alloc(), "job.toml", CYCLE.as_bytes(), &[])?;
+    assert!(rt; answer.is(2, "fault 2 J7 node 0\n"));
     Ok(())
 }
 
 #[test]
 fn missing_and_cut_files(rt: HostRuntime) -> Result<(), Fail> {
     let alloc = rt.alloc();
-    let (status, out) = checked(&rt, alloc, "none.toml", CHAIN.as_bytes(), &[])?;
-    assert_eq!(rt; (status, out.as_slice()), (5, b"fault 5 job\n".as_slice()));
-    let cut = CHAIN.as_bytes().split_at(20).0;
-    let (status, out) = checked(&rt, alloc, "job.toml", cut, &[])?;
-    assert_eq!(rt; (status, out.as_slice()), (2, b"fault 2 J1\n".as_slice()));
-    let longest = vec![in alloc; b'\n'; 1_048_577]?;
-    let (status, out) = checked(&rt, alloc, "job.toml", &longest, &[])?;
-    assert_eq!(rt; (status, out.as_slice()), (9, b"fault 9 job\n".as_slice()));
-    let (status, out) = checked(&rt, alloc, "job.toml", longest.split_at(1).1, &[])?;
-    assert_eq!(rt;
-        (status, out.as_slice()),
-        (2, b"fault 2 J2 columns\n".as_slice())
-    );
+    let missing = checked(&rt, alloc, "none.toml", CHAIN.as_bytes(), &[])?;
+    assert!(rt; missing.is(5, "fault 5 job\n"));
+    let cut = checked(&rt, alloc, "job.toml", CHAIN.as_bytes().split_at(20).0, &[])?;
+    assert!(rt; cut.is(2, "fault 2 J1\n"));
+    Ok(())
+}
+
+#[test]
+fn the_longest_file(rt: HostRuntime) -> Result<(), Fail> {
+    let alloc = rt.alloc();
+    let longest = vec![in alloc; b'\n'; 1_048_576]?;
+    let read = checked(&rt, alloc, "job.toml", &longest, &[])?;
+    assert!(rt; read.is(2, "fault 2 J2 columns\n"));
+    Ok(())
+}
+
+#[test]
+fn one_byte_too_many(rt: HostRuntime) -> Result<(), Fail> {
+    let alloc = rt.alloc();
+    let longer = vec![in alloc; b'\n'; 1_048_577]?;
+    let unread = checked(&rt, alloc, "job.toml", &longer, &[])?;
+    assert!(rt; unread.is(9, "fault 9 job\n"));
     Ok(())
 }
 
