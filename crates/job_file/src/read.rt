@@ -39,7 +39,7 @@ pub fn read_job(alloc: Global, bytes: &[u8]) -> Result<Job, JobFault>
     Ok(Job::check(alloc, columns, nodes, edges.as_slice(), tables)?)
 }
 
-/// No file both has a fault and is that of a job, so each fault is answered exactly where it stands.
+/// No file both has a fault and is that of a job.
 pub fn faulty_is_no_job()
     ensures { Excludes }
 {}

@@ -7,7 +7,7 @@ ghost use Rattle.job_file.specs.Wide.{first_found};
 use crate::document::{items_or_none, table};
 use crate::fault::Part;
 use crate::wide::wide_at;
-use jobs::{Which, size_fault};
+use jobs::{Which, outside, size_fault};
 use toml::{Table as Members, Value as Toml};
 use versions::{Change, Request};
 
@@ -78,7 +78,7 @@ pub(crate) fn list_fault(requests: &[Request]) -> Option<(Which, i64)>
     ensures first { result ≡ list_oversize requests.now }
     ensures few { IfNone result (AreFew requests.now) }
 {
-    if let Some(fault) = above(Which::Requests, 64, requests.len() as u64) {
+    if let Some(fault) = outside(Which::Requests, 0, 64, requests.len() as u64) {
         return Some(fault);
     }
     requests_fault(requests)
@@ -98,10 +98,10 @@ fn requests_fault(requests: &[Request]) -> Option<(Which, i64)>
 fn request_fault(request: &Request) -> Option<(Which, i64)>
     ensures { result ≡ request_oversize request.now }
 {
-    if let Some(fault) = above(Which::After, 1_048_576, request.after) {
+    if let Some(fault) = outside(Which::After, 0, 1_048_576, request.after) {
         return Some(fault);
     }
-    if let Some(fault) = above(Which::Changes, 64, request.changes.len() as u64) {
+    if let Some(fault) = outside(Which::Changes, 0, 64, request.changes.len() as u64) {
         return Some(fault);
     }
     changes_fault(request.changes.as_slice())
@@ -116,14 +116,4 @@ fn changes_fault(changes: &[Change]) -> Option<(Which, i64)>
         }
     }
     None
-}
-
-fn above(which: Which, most: u64, number: u64) -> Option<(Which, i64)>
-    ensures { result ≡ outside which 0 most number }
-{
-    if number <= most {
-        None
-    } else {
-        Some((which, i64::try_from(number).unwrap_or(i64::MAX)))
-    }
 }

@@ -1,9 +1,10 @@
 -- The nodes of a job, by the kinds of their functions.
-use Rattle.std.specs.Prelude.{◌+◌, ℕ, Bool, true, false, List, [], ◌∷◌, Option, Some, None, slice_get, IsTrue}
+use Rattle.std.specs.Prelude.{◌+◌, ℕ, Bool, true, false, List, [], ◌∷◌, Option, Some, None, slice_get, All, IsTrue}
 use Rattle.jobs.specs.declared.func.Func.{Func}
 use Rattle.jobs.specs.declared.func.Func.TheVariants as func
 use Rattle.jobs.specs.declared.func.NodeDef.{NodeDef}
 use Rattle.jobs.specs.Written.{Written}
+use Rattle.tuple_trace.specs.declared.row.Row.{Row}
 
 -- rows enter at a source
 abbrev pub is_source : Func → Bool
@@ -35,6 +36,10 @@ is_source_node (Some node) = is_source node.func
 -- the node with this number is a source
 abbrev pub IsSourceOf : Written → ℕ → Type 0
 IsSourceOf job node = IsTrue (is_source_node (slice_get job.nodes node))
+
+-- each row enters by a source of the job
+abbrev pub AreFromSources : Written → List Row → Type 0
+AreFromSources job rows = All (λ (row : Row). IsSourceOf job row.source) rows
 
 -- the most workers that a node with this function may have
 abbrev pub most_workers : Func → ℕ

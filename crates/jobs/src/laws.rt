@@ -7,7 +7,7 @@ ghost use Rattle.jobs.specs.Weights.{HasSettledWeights};
 
 use crate::Job;
 
-/// No job is both lawful and refused, but for want of memory: so each fault is answered exactly where it stands.
+/// No job is both lawful and refused, but for want of memory.
 pub fn refused_is_unlawful()
     ensures { Excludes }
 {}

@@ -31,7 +31,8 @@ pub use func::{
 };
 pub use job::Job;
 pub use laws::{functions_fit, refused_is_unlawful, weights_settle};
-pub use limits::size_fault;
+pub use limits::{outside, size_fault};
 pub use node::{is_source, may_emit_many};
+pub use ports::has_port;
 pub use queries::{fits, weight, worker_count};
 pub use table::{Table, Tables};

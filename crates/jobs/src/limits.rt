@@ -173,7 +173,8 @@ fn text_fault(text: &[u8]) -> Option<(Which, i64)>
     outside(Which::Text, 0, 48, text.len() as u64)
 }
 
-fn outside(which: Which, least: u64, most: u64, number: u64) -> Option<(Which, i64)>
+/// The size with this name, where the number is outside its limits; both are within them. The number is cut to 63 bits.
+pub fn outside(which: Which, least: u64, most: u64, number: u64) -> Option<(Which, i64)>
     ensures { result ≡ outside which least most number }
 {
     if least <= number && number <= most {

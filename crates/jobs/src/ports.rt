@@ -112,7 +112,8 @@ fn has_ports(edges: &[Edge], node: u32, ports: u32) -> bool
     true
 }
 
-fn has_port(edges: &[Edge], node: u32, port: u32) -> bool
+/// Whether an edge leaves the node on the port. Takes no memory.
+pub fn has_port(edges: &[Edge], node: u32, port: u32) -> bool
     ensures { result ≡ has_port edges.now node port }
 {
     edges

@@ -1,7 +1,6 @@
 // What each kind of function that makes one tuple of one makes of it. After want of memory nothing has changed.
 ghost use Rattle.std.specs.Prelude.{◌≡◌, ◌++◌, ◌∷◌, [], IfOk, OnOk, OnErr, option_copied};
 ghost use Rattle.std.specs.FinMap as finite;
-ghost use Rattle.jobs.specs.Ports.{has_port as has_port_of};
 ghost use Rattle.operators.specs.Fields.{text_at as text_of};
 ghost use Rattle.operators.specs.Meaning.{count_after, counted, enriched, enriched_fields as fields_enriched, filtered, looked_up as found_in, mapped};
 
@@ -10,7 +9,7 @@ use crate::conditions::passes;
 use crate::fields::{copied, text_at, write_number, written_at};
 use crate::output::{Outs, remade, send};
 use flow_dag::Edge;
-use jobs::{Column, Cond, CountBy, Lookup, Step, Table};
+use jobs::{Column, Cond, CountBy, Lookup, Step, Table, has_port};
 use keyed_state::Keyed;
 use std::alloc::Global;
 use tuple_trace::{Births, Fields, NoMemory, Tuple, Value, Visit};
@@ -33,14 +32,6 @@ pub fn filter(
         return send(visit, 1, tuple.copy()?, out);
     }
     Ok(())
-}
-
-fn has_port(edges: &[Edge], node: u32, port: u32) -> bool
-    ensures { result ≡ has_port_of edges.now node port }
-{
-    edges
-        .iter()
-        .any(|edge| edge.from == node && edge.port == port)
 }
 
 pub fn map(

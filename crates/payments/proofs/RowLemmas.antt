@@ -6,10 +6,10 @@ use Rattle.std.proofs.lemmas.Option.{slice_get_cases}
 use Rattle.std.specs.Prelude.{position, slice_get}
 use Rattle.tuple_trace.specs.declared.row.Row.{Row}
 use Rattle.tuple_trace.specs.declared.value.Value.{Value}
-use Rattle.jobs.specs.Nodes.{IsSourceOf, is_source}
+use Rattle.jobs.specs.Nodes.{AreFromSources, IsSourceOf, is_source}
 use Rattle.jobs.specs.Written.{Written}
 use Rattle.payments.specs.declared.read.PFault.{PFault}
-use Rattle.payments.specs.Reading.{AreFromSources, before, fields_from, first_cell, is_source_with, row_by, row_of, row_with, rows_from, source_named}
+use Rattle.payments.specs.Reading.{before, fields_from, first_cell, is_source_with, row_by, row_of, row_with, rows_from, source_named}
 use Rattle.payments.proofs.Rest.{after, after-before, after-end}
 
 rows_from-cons : (job : Written) (row : ℕ) (first : List (List ℕ)) (later : List (List (List ℕ))) → rows_from job row (first ∷ later) ≡ before (row_of job row first) (rows_from job (row + 1) later)

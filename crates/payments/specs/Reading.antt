@@ -117,7 +117,3 @@ rows_behind job (header ∷ later) = if pointwise (pointwise nat_eq) header (hea
 -- the rows of a payments file, or its first fault
 abbrev pub rows_of : Written → List ℕ → Result (List Row) PFault
 rows_of job bytes = rows_behind job (records default_config (strip_bom bytes))
-
--- each row enters by a source of the job
-abbrev pub AreFromSources : Written → List Row → Type 0
-AreFromSources job rows = All (λ row. IsSourceOf job row.source) rows

@@ -1,7 +1,8 @@
 ghost use Rattle.std.specs.Prelude.{◌≡◌, ◌≢◌, Ok, Err, IfOk, IfErr, length};
 ghost use Rattle.csv.specs.Records.{fields_of as cells_of};
 ghost use Rattle.jobs.specs.Job.{written};
-ghost use Rattle.payments.specs.Reading.{AreFromSources, header_of, rows_from, rows_of};
+ghost use Rattle.jobs.specs.Nodes.{AreFromSources};
+ghost use Rattle.payments.specs.Reading.{header_of, rows_from, rows_of};
 ghost use Rattle.payments.specs.declared.read.PFault.TheVariants.{NoMemory as OutOfMemory};
 
 use crate::cells::is_header;
