@@ -11,7 +11,7 @@ use Rattle.versions.specs.declared.fault.QFault.TheVariants as fault
 use Rattle.versions.specs.declared.request.Change.{Change}
 use Rattle.versions.specs.declared.request.Request.{Request}
 use Rattle.versions.specs.Book.{accepted, first_book}
-use Rattle.versions.specs.Judging.{fault_of, first_with, named, or_else}
+use Rattle.versions.specs.Judging.{fault_of, first_with}
 use Rattle.versions.proofs.FirstLemmas.{named-none, or_else-none}
 use Rattle.versions.specs.Judged.{AreAccepted, NameNodes, accepting, by_fault, judged, judged_from, refusing}
 

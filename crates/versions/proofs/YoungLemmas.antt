@@ -21,7 +21,7 @@ use Rattle.versions.specs.Young.{IsBelow, IsYoung}
 use Rattle.versions.proofs.BookLemmas.{long_still, other_place}
 use Rattle.versions.proofs.FirstLemmas.{named-none, one_found, one_more, or_else-none}
 
-same_place : (book : List Current) (i : ℕ) (v : Current) → i < length book → slice_get (slice_set book i v) i ≡ Some v
+pub same_place : (book : List Current) (i : ℕ) (v : Current) → i < length book → slice_get (slice_set book i v) i ≡ Some v
 same_place book i v lt = grind (arith, common_steps, gets)
 
 current_small : (book : List Current) (n bound : ℕ) → IsBelow book bound → current_version (slice_get book n) ≤ bound
@@ -55,7 +55,7 @@ IsYoung-accepted job book (c ∷ cs) bound young =
     let rest = IsYoung-accepted job (with_change book c.node c.func) cs (bound + 1) here in
     record { long = rest.long; below = λ n current is. omega (arith, rest.below n current is) }
 
-none_each : (k : Code) (book : List Current) (job : Written) (before cs : List Change) → first_with k book job before cs ≡ None
+pub none_each : (k : Code) (book : List Current) (job : Written) (before cs : List Change) → first_with k book job before cs ≡ None
     → (i : ℕ) (c : Change) → slice_get cs i ≡ Some c → has_fault k book job (before ++ take i cs) c ≡ false
 none_each k book job before [] none i c at = absurd cc
 none_each k book job before (d ∷ rest) none zero c at =

@@ -1,4 +1,5 @@
 pub mod Book
 pub mod Judging
 pub mod Judged
+pub mod Kept
 pub mod Young

@@ -18,5 +18,8 @@ pub use book::{Book, Current, accept};
 pub use fault::QFault;
 pub use in_order::{Judged, Refusals, Refused, judge_all};
 pub use judging::judge;
-pub use laws::{accepted_requests_name_nodes, accepted_requests_stay_accepted};
+pub use laws::{
+    accepted_requests_are_in_order, accepted_requests_carry_well, accepted_requests_keep_kinds,
+    accepted_requests_name_nodes, accepted_requests_stay_accepted,
+};
 pub use request::{Change, Changes, Request, Requests};

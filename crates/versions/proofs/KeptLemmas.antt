@@ -1,0 +1,179 @@
+-- What accepted requests keep of a job.
+use Rattle.std.proofs.Common.{get_or, ◌≡◌, ◌≤◌, ◌+◌, ℕ, Bool, true, false, List, [], ◌∷◌, ◌⊎◌, inl, inr, ◌==◌, length, Option, Some, None, refl, sym, ap, subst, ◌∙◌, arith}
+use Rattle.std.specs.Prelude.{option_map, All, IsTrue, nat_lt, not, slice_get, slice_set, if◌then◌else◌}
+use Rattle.std.proofs.lemmas.Bool.{cases_eq, eq-eqb, eqb-true}
+use Rattle.std.proofs.lemmas.Bool.Decides.{nat_tests}
+use Rattle.std.proofs.lemmas.List.{length-map}
+use Rattle.std.proofs.lemmas.Option.{same_Some, slice_get-get_or, slice_get-map, slice_get_within}
+use Rattle.std.proofs.lemmas.List.Elements.{All-cons, All-head, All-tail}
+use Rattle.jobs.specs.Written.{Written}
+use Rattle.jobs.specs.declared.func.Func.{Func}
+use Rattle.jobs.specs.declared.func.Func.TheVariants as func
+use Rattle.jobs.specs.declared.func.NodeDef.{NodeDef}
+use Rattle.versions.specs.declared.book.Current.{Current}
+use Rattle.versions.specs.declared.judging.Code.{Code}
+use Rattle.versions.specs.declared.judging.Code.TheVariants as code
+use Rattle.versions.specs.declared.fault.QFault.{QFault}
+use Rattle.versions.specs.declared.fault.QFault.TheVariants as fault
+use Rattle.versions.specs.declared.request.Change.{Change}
+use Rattle.versions.specs.declared.request.Request.{Request}
+use Rattle.versions.specs.Book.{accepted, current_version, first_book, with_change}
+use Rattle.versions.specs.Judged.{AreAccepted, accepting, by_fault, judged_from, refusing}
+use Rattle.versions.specs.Judging.{fault_of, first_with, is_empty, may_replace, may_replace_at, most_at, most_of, named, or_else, stale, whole_fault}
+use Rattle.versions.specs.Kept.{AreInOrder, KeepKinds, KeepsKind}
+use Rattle.versions.proofs.BookLemmas.{long_still, other_place}
+use Rattle.versions.proofs.FirstLemmas.{named-none}
+use Rattle.versions.proofs.YoungLemmas.{none_each, same_place}
+
+-- the function is the one that the job gives the node, or may replace it
+abbrev pub MayStand : NodeDef → Func → Type 0
+MayStand node f = (f ≡ node.func) ⊎ (may_replace node.func f (most_of node.func) ≡ true)
+
+-- so it is with each function of the book
+pub record IsKept (job : Written) (book : List Current) : Type 0 where
+  pub long : length book ≡ length job.nodes
+  pub stands : (n : ℕ) (current : Current) (node : NodeDef) → slice_get book n ≡ Some current → slice_get job.nodes n ≡ Some node → MayStand node current.func
+
+same_key : (a b c : ℕ) → (a == b) ≡ true → (b == c) ≡ true → (a == c) ≡ true
+same_key a b c ab bc = eq-eqb a c (eqb-true a b ab ∙ eqb-true b c bc)
+
+-- what may replace a function that may replace another may replace that
+replaces : (a b c : Func) (most : ℕ) → may_replace a b most ≡ true → may_replace b c most ≡ true → may_replace a c most ≡ true
+replaces (func.Filter a) (func.Filter b) (func.Filter c) most ab bc = refl
+replaces (func.Map a) (func.Map b) (func.Map c) most ab bc = refl
+replaces (func.Enrich a) (func.Enrich b) (func.Enrich c) most ab bc = refl
+replaces (func.Count a) (func.Count b) (func.Count c) most ab bc = same_key a.key b.key c.key ab bc
+replaces (func.Split a) (func.Split b) (func.Split c) most ab bc = bc
+replaces _ _ _ most ab bc = absurd (cc)
+
+-- a function that may stand at the node, and one that may replace it
+stands_after : (node : NodeDef) (current f : Func) → MayStand node current → may_replace current f (most_of node.func) ≡ true → may_replace node.func f (most_of node.func) ≡ true
+stands_after node current f (inl same) may = subst (λ (g : Func). may_replace g f (most_of node.func) ≡ true) same may
+stands_after node current f (inr kept) may = replaces node.func current f (most_of node.func) kept may
+
+not_not : (b : Bool) → not b ≡ false → b ≡ true
+not_not true e = refl
+not_not false e = absurd (cc)
+
+-- where the first of eight faults is none, so are the last three
+last_three : (a b c d e f g h : Option QFault) → or_else a (or_else b (or_else c (or_else d (or_else e (or_else f (or_else g h)))))) ≡ None
+    → (f ≡ None) × (g ≡ None) × (h ≡ None)
+last_three None None None None None None None h none = (refl, refl, none)
+last_three _ _ _ _ _ _ _ h none = absurd (cc)
+
+-- a request without a fault changes no kinds, carries no counts badly, and has none of the faults of a whole request
+pub free_parts : (book : List Current) (job : Written) (request : Request) (last : ℕ) → fault_of book job request last ≡ None
+    → (first_with code.KindOrKey book job [] request.changes ≡ None) × (first_with code.BadCarry book job [] request.changes ≡ None)
+    × (whole_fault request last ≡ None)
+free_parts book job request last free =
+    let fault_with : (ℕ → QFault) → Code → Option QFault = λ f k. named f (first_with k book job [] request.changes) in
+    let parts = last_three (fault_with fault.NoNode code.NoNode) (fault_with fault.Fixed code.Fixed) (fault_with fault.NodeTwice code.NodeTwice)
+    (stale book request.changes (first_with code.Stale book job [] request.changes)) (fault_with fault.IllTyped code.IllTyped)
+    (fault_with fault.KindOrKey code.KindOrKey) (fault_with fault.BadCarry code.BadCarry) (whole_fault request last) free in (
+      named-none fault.KindOrKey (first_with code.KindOrKey book job [] request.changes) parts.0,
+      named-none fault.BadCarry (first_with code.BadCarry book job [] request.changes) parts.1,
+      parts.2,
+    )
+
+-- a request without a fault keeps the kinds of the functions that a book has
+free-kept : (book : List Current) (job : Written) (request : Request) (last : ℕ) → IsKept job book → fault_of book job request last ≡ None → All (KeepsKind job) request.changes
+free-kept book job request last kept free =
+    let none = (free_parts book job request last free).0 in
+    λ i d lt node there.
+    let change : Change = get_or request.changes i d in
+    let may = not_not (may_replace_at (slice_get book change.node) change.func (most_at (slice_get job.nodes change.node)))
+    (none_each code.KindOrKey book job [] request.changes none i change (slice_get-get_or request.changes i d lt)) in
+    by_entry change node there (slice_get book change.node) refl may
+  where
+    by_entry : (change : Change) (node : NodeDef) → slice_get job.nodes change.node ≡ Some node → (entry : Option Current) → slice_get book change.node ≡ entry
+        → may_replace_at (slice_get book change.node) change.func (most_at (slice_get job.nodes change.node)) ≡ true
+        → IsTrue (may_replace node.func change.func (most_of node.func))
+    by_entry change node there None is may =
+        let inside = slice_get_within job.nodes change.node node there in
+        let here : slice_get book change.node ≡ Some (get_or book change.node (record { version = 0; func = change.func })) =
+        slice_get-get_or book change.node _ (omega (arith, inside, kept.long)) in
+        absurd (cc)
+    by_entry change node there (Some current) is may =
+        let stands = kept.stands change.node current node is there in
+        let moved : may_replace_at (Some current) change.func (most_at (Some node)) ≡ true =
+        subst (λ (n : Option NodeDef). may_replace_at (Some current) change.func (most_at n) ≡ true) there (
+        subst (λ (c : Option Current). may_replace_at c change.func (most_at (slice_get job.nodes change.node)) ≡ true) is may) in
+        stands_after node current.func change.func stands moved
+
+-- the book after changes that keep the kinds keeps them too
+kept_after : (job : Written) (book : List Current) (changes : List Change) → IsKept job book → All (KeepsKind job) changes → IsKept job (accepted book changes)
+unfolding accepted
+kept_after job book [] kept all = kept
+kept_after job book (change ∷ rest) kept all =
+    kept_after job (with_change book change.node change.func) rest (record { long = long_still book change.node _ ∙ kept.long; stands = stands }) (All-tail (KeepsKind job) change rest all)
+  where
+    entry : Current
+    entry = record { version = current_version (slice_get book change.node) + 1; func = change.func }
+
+    stands : (n : ℕ) (current : Current) (node : NodeDef) → slice_get (with_change book change.node change.func) n ≡ Some current → slice_get job.nodes n ≡ Some node → MayStand node current.func
+    stands n current node at there =
+        let lt = slice_get_within job.nodes n node there in
+        elim (cases_eq change.node n) [
+          | inl same ↦
+              let here : slice_get (slice_set book change.node entry) change.node ≡ Some entry = same_place book change.node entry (omega (arith, lt, same, kept.long)) in
+              let is : entry ≡ current = same_Some entry current (sym here ∙ (rw same refl ∙ at)) in
+              let may : IsTrue (may_replace node.func change.func (most_of node.func)) = All-head (KeepsKind job) change rest all node (rw same there) in
+              inr (rw (← is) may)
+          | inr ne ↦ kept.stands n current node (sym (other_place book change.node n entry ne) ∙ at) there
+        ]
+
+kept_at_first : (job : Written) → IsKept job (first_book job.nodes)
+kept_at_first job = record { long = length-map job.nodes (λ (d : NodeDef). record { version = 0; func = d.func }); stands = stands }
+  where
+    stands : (n : ℕ) (current : Current) (node : NodeDef) → slice_get (first_book job.nodes) n ≡ Some current → slice_get job.nodes n ≡ Some node → MayStand node current.func
+    stands n current node at there =
+        let made : slice_get (first_book job.nodes) n ≡ Some (record { version = 0; func = node.func }) = slice_get-map (λ (d : NodeDef). record { version = 0; func = d.func }) job.nodes n ∙ ap (option_map (λ (d : NodeDef). record { version = 0; func = d.func })) there in
+        let is = same_Some (record { version = 0; func = node.func }) current (sym made ∙ at) in
+        inl (rw (← is) refl)
+
+judged-kept : (job : Written) (book : List Current) (last place : ℕ) (requests : List Request) → IsKept job book → (judged_from job book last place requests).refused ≡ [] → KeepKinds job requests
+unfolding judged_from
+judged-kept job book last place [] kept e = λ k d lt. absurd (omega arith)
+judged-kept job book last place (r ∷ rest) kept e = go (fault_of book job r last) refl e (λ later. judged-kept job (accepted book r.changes) r.after (place + 1) rest later)
+  where
+    go : (o : Option QFault) → fault_of book job r last ≡ o
+        → (by_fault o (λ fault. refusing place fault (judged_from job book last (place + 1) rest)) (accepting r (judged_from job (accepted book r.changes) r.after (place + 1) rest))).refused ≡ []
+        → (IsKept job (accepted book r.changes) → (judged_from job (accepted book r.changes) r.after (place + 1) rest).refused ≡ [] → KeepKinds job rest)
+        → KeepKinds job (r ∷ rest)
+    go None is f later =
+        let all = free-kept book job r last kept is in
+        All-cons (λ (request : Request). All (KeepsKind job) request.changes) r rest all (later (kept_after job book r.changes kept all) f)
+    go (Some q) is f later = absurd (cc)
+
+pub accepted-kept : (job : Written) (requests : List Request) → AreAccepted job requests → KeepKinds job requests
+accepted-kept job requests e = judged-kept job (first_book job.nodes) 0 1 requests (kept_at_first job) e
+
+not_below : (a b : ℕ) → nat_lt a b ≡ false → b ≤ a
+not_below a b e = grind (arith, nat_tests)
+
+-- a request without a fault waits for no earlier row than the one before it
+free-after : (book : List Current) (job : Written) (request : Request) (last : ℕ) → fault_of book job request last ≡ None → last ≤ request.after
+free-after book job request last free =
+    let whole = (free_parts book job request last free).2 in
+    go (is_empty request.changes) refl (nat_lt request.after last) refl whole
+  where
+    go : (a : Bool) → is_empty request.changes ≡ a → (b : Bool) → nat_lt request.after last ≡ b
+        → (if a then Some fault.Empty else if b then Some (fault.Backwards last) else None) ≡ None → last ≤ request.after
+    go true none b is e = absurd (cc)
+    go false some true is e = absurd (cc)
+    go false some false is e = not_below request.after last is
+
+judged-order : (job : Written) (book : List Current) (last place : ℕ) (requests : List Request) → (judged_from job book last place requests).refused ≡ [] → AreInOrder last requests
+unfolding judged_from
+judged-order job book last place [] e = tt
+judged-order job book last place (r ∷ rest) e = go (fault_of book job r last) refl e (judged-order job (accepted book r.changes) r.after (place + 1) rest)
+  where
+    go : (o : Option QFault) → fault_of book job r last ≡ o
+        → (by_fault o (λ fault. refusing place fault (judged_from job book last (place + 1) rest)) (accepting r (judged_from job (accepted book r.changes) r.after (place + 1) rest))).refused ≡ []
+        → ((judged_from job (accepted book r.changes) r.after (place + 1) rest).refused ≡ [] → AreInOrder r.after rest)
+        → AreInOrder last (r ∷ rest)
+    go None is f later = (free-after book job r last is, later f)
+    go (Some q) is f later = absurd (cc)
+
+pub accepted-order : (job : Written) (requests : List Request) → AreAccepted job requests → AreInOrder 0 requests
+accepted-order job requests e = judged-order job (first_book job.nodes) 0 1 requests e

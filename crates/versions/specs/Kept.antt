@@ -1,0 +1,29 @@
+-- What accepted requests keep of a job.
+use Rattle.std.specs.Prelude.{◌≡◌, ◌≤◌, ⊤, ℕ, All, IsTrue, List, [], ◌∷◌, Some, slice_get}
+use Rattle.keyed_state.specs.Counts.{CanCarry}
+use Rattle.jobs.specs.Written.{Written}
+use Rattle.jobs.specs.declared.func.NodeDef.{NodeDef}
+use Rattle.versions.specs.Judging.{may_replace, most_of}
+use Rattle.versions.specs.declared.request.Change.{Change}
+use Rattle.versions.specs.declared.request.Request.{Request}
+
+-- the new function may replace the one that the job gives the node: it is of its kind, counts by the same key, and splits into no more pieces
+abbrev pub KeepsKind : Written → Change → Type 0
+KeepsKind job change = (node : NodeDef) → slice_get job.nodes change.node ≡ Some node → IsTrue (may_replace node.func change.func (most_of node.func))
+
+-- so it is with each change of the requests
+abbrev pub KeepKinds : Written → List Request → Type 0
+KeepKinds job requests = All (λ (request : Request). All (KeepsKind job) request.changes) requests
+
+-- each request waits for this row or a later one, and for no earlier row than the request before it
+abbrev pub AreInOrder : ℕ → List Request → Type 0
+AreInOrder row [] = ⊤
+AreInOrder row (request ∷ later) = (row ≤ request.after) × AreInOrder request.after later
+
+-- a change carries counts over, and divides them by 1 or more, if it divides them
+abbrev pub CarriesWell : Request → Type 0
+CarriesWell request = All (λ (change : Change). CanCarry change.carry) request.changes
+
+-- so it is with each change of the requests
+abbrev pub CarryWell : List Request → Type 0
+CarryWell requests = All CarriesWell requests
