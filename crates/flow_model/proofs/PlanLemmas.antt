@@ -1,18 +1,28 @@
 -- Plans, one more at a time.
-use Rattle.std.proofs.Common.{◌≡◌, ◌<◌, ◌++◌, ℕ, zero, suc, inl, inr, List, [], ◌∷◌, length, Some, refl, sym, subst, ◌∙◌, arith}
-use Rattle.std.specs.Prelude.{slice_get, IsTrue, ◌↔◌}
-use Rattle.std.proofs.lemmas.Bool.{cases_lt}
+use Rattle.std.proofs.Common.{◌≡◌, ◌<◌, ◌++◌, ◌==◌, ℕ, zero, suc, inl, inr, true, List, [], ◌∷◌, length, Option, Some, None, refl, sym, ap, subst, ◌∙◌, arith}
+use Rattle.std.specs.Prelude.{All, slice_get, IsTrue, ◌↔◌}
+use Rattle.std.proofs.lemmas.List.Folds.{Any-from_list_any}
+use Rattle.std.proofs.lemmas.Bool.{cases_lt, eqb-true}
 use Rattle.std.proofs.lemmas.List.{length_push}
-use Rattle.std.proofs.lemmas.Option.{slice_get_within}
+use Rattle.std.proofs.lemmas.Option.{get_or_from_slice_get, slice_get-get_or, slice_get_within}
 use Rattle.cover_planner.specs.declared.cover.Plan.{Plan}
 use Rattle.flow_dag.specs.declared.edge.Edge.{Edge}
+use Rattle.versions.specs.declared.request.Change.{Change}
 use Rattle.versions.specs.declared.request.Request.{Request}
+use Rattle.versions.specs.Judging.{may_replace, most_of}
+use Rattle.versions.specs.Kept.{KeepKinds, KeepsKind}
+use Rattle.cover_planner.specs.Members.{IsMember}
+use Rattle.flow_dag.specs.Edges.{HasEdge}
+use Rattle.jobs.specs.Nodes.{IsSourceOf, is_source, is_source_node, may_emit}
+use Rattle.jobs.specs.declared.func.Func.{Func}
+use Rattle.jobs.specs.declared.func.Func.TheVariants as func
+use Rattle.jobs.specs.declared.func.NodeDef.{NodeDef}
 use Rattle.flow_dag.specs.Masks.{Has}
 use Rattle.cover_planner.specs.Plan.{IsPlan}
 use Rattle.jobs.specs.Written.{Written}
 use Rattle.versions.specs.Book.{is_named}
 use Rattle.flow_model.specs.Outline.{outline_of}
-use Rattle.flow_model.specs.Planned.{ArePlansOf, IsPlanOf, IsPlanned, is_many_at}
+use Rattle.flow_model.specs.Planned.{ArePlansOf, IsPlanOf, IsPlanned, is_many, is_many_at}
 
 pushed-before : {A : Type 0} (xs : List A) (x : A) (k : ℕ) → k < length xs → slice_get (xs ++ x ∷ []) k ≡ slice_get xs k
 pushed-before [] x k lt = absurd (omega arith)
@@ -51,10 +61,70 @@ IsPlanOf-plan edges many asked request plan is same =
       asked = subst (λ (a : ℕ). (node : ℕ) → Has a node ↔ IsTrue (is_named request.changes node)) e same;
     }
 
+no_source_replaced : (node : NodeDef) (f : Func) (most : ℕ) → is_source node.func ≡ true → may_replace node.func f most ≡ true → ⊥
+no_source_replaced node f most = go node.func
+  where
+    go : (g : Func) → is_source g ≡ true → may_replace g f most ≡ true → ⊥
+    go func.Source is may = cc
+    go (func.Filter conds) is may = cc
+    go (func.Map steps) is may = cc
+    go (func.Enrich lookup) is may = cc
+    go (func.Count count) is may = cc
+    go (func.Split split) is may = cc
+    go func.Replicate is may = cc
+    go (func.Sink listed) is may = cc
+
+no_source_many : (nodes : List NodeDef) (node : ℕ) → is_source_node (slice_get nodes node) ≡ true → is_many_at nodes node ≡ true → ⊥
+no_source_many nodes node = go (slice_get nodes node)
+  where
+    by_func : (g : Func) → is_source g ≡ true → may_emit g ≡ true → ⊥
+    by_func func.Source is many = cc
+    by_func (func.Filter conds) is many = cc
+    by_func (func.Map steps) is many = cc
+    by_func (func.Enrich lookup) is many = cc
+    by_func (func.Count count) is many = cc
+    by_func (func.Split split) is many = cc
+    by_func func.Replicate is many = cc
+    by_func (func.Sink listed) is many = cc
+
+    go : (o : Option NodeDef) → is_source_node o ≡ true → is_many o ≡ true → ⊥
+    go None is many = cc
+    go (Some def) is many = by_func def.func is many
+
+-- a request that keeps the kinds of the job's functions changes no source
+no_source_named : (job : Written) (request : Request) (node : ℕ) → All (KeepsKind job) request.changes → IsSourceOf job node → IsTrue (is_named request.changes node) → ⊥
+no_source_named job request node kept source named =
+    let (k, change, within, at, same) = Any-from_list_any (λ (c : Change). c.node == node) request.changes named in
+    go change (eqb-true change.node node same) (subst (KeepsKind job) at (kept k change within)) (slice_get job.nodes node) refl source
+  where
+    go : (change : Change) → change.node ≡ node → KeepsKind job change → (o : Option NodeDef) → slice_get job.nodes node ≡ o → is_source_node o ≡ true → ⊥
+    go change at kept None is source = cc
+    go change at kept (Some def) is source = no_source_replaced def change.func (most_of def.func) source (kept def (ap (slice_get job.nodes) at ∙ is))
+
+-- so a plan that asks exactly the changed nodes has no source for a member
+no_source_planned : (job : Written) (many : ℕ) (request : Request) (plan : Plan) (node : ℕ) → ((n : ℕ) → Has many n ↔ IsTrue (is_many_at job.nodes n))
+    → All (KeepsKind job) request.changes → IsPlanOf job.edges many request plan → IsSourceOf job node → ¬ Has plan.members node
+no_source_planned job many request plan node has kept is source member = go ((is.planned.members node).0 member)
+  where
+    go : IsMember (HasEdge job.edges) (Has plan.asked) (Has many) node → ⊥
+    go (inl asked) = no_source_named job request node kept source ((is.asked node).0 asked)
+    go (inr multiplies) = no_source_many job.nodes node source ((has node).0 multiplies.0)
+
 pub IsPlanned-exact : (job : Written) (requests : List Request) (plans : List Plan) (many : ℕ)
-    → ((node : ℕ) → Has many node ↔ IsTrue (is_many_at job.nodes node)) → ArePlansOf job.edges many requests plans → IsPlanned (outline_of job requests plans many)
-IsPlanned-exact job requests plans many has are = record {
+    → ((node : ℕ) → Has many node ↔ IsTrue (is_many_at job.nodes node)) → KeepKinds job requests → ArePlansOf job.edges many requests plans
+    → IsPlanned (outline_of job requests plans many)
+IsPlanned-exact job requests plans many has kept are = record {
   many = λ node h. (has node).1 h;
   one_each = are.one_each;
   plans = λ r request plan eq ep. let is = are.each r request plan eq ep in record { planned = is.planned; asked = λ node h. (is.asked node).1 h };
+  no_source = λ r node plan ep source.
+      let within : r < length requests = omega (arith, slice_get_within plans r plan ep, are.one_each) in
+      go r node plan ep source (slice_get requests r) refl within;
 }
+  where
+    go : (r node : ℕ) (plan : Plan) → slice_get plans r ≡ Some plan → IsSourceOf job node → (o : Option Request) → slice_get requests r ≡ o → r < length requests → ¬ Has plan.members node
+    go r node plan ep source None eq within = absurd (let there = slice_get-get_or requests r (record { after = 0; changes = [] }) within in cc)
+    go r node plan ep source (Some request) eq within =
+        let kept' : All (KeepsKind job) request.changes =
+        subst (λ (x : Request). All (KeepsKind job) x.changes) (get_or_from_slice_get requests r request request eq) (kept r request within) in
+        no_source_planned job many request plan node has kept' (are.each r request plan eq ep) source

@@ -7,7 +7,7 @@ use Rattle.jobs.specs.declared.func.NodeDef.{NodeDef}
 use Rattle.flow_model.specs.Outline.{Post}
 use Rattle.flow_model.specs.Workers.{posts_at, posts_from}
 
-length-posts_at : (number node : ℕ) (func : Func) (place n : ℕ) → length (posts_at number node func place n) ≡ n
+pub length-posts_at : (number node : ℕ) (func : Func) (place n : ℕ) → length (posts_at number node func place n) ≡ n
 length-posts_at number node func place zero = refl
 length-posts_at number node func place (suc n) = ap suc (length-posts_at (number + 1) node func (place + 1) n)
 

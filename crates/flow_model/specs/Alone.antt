@@ -1,5 +1,5 @@
 -- What one row makes by itself, and which functions it met.
-use Rattle.std.specs.Prelude.{ℕ, zero, suc, List, [], ◌∷◌, length, Option, Some, None, slice_get, if◌then◌else◌}
+use Rattle.std.specs.Prelude.{ℕ, Bool, true, false, zero, suc, List, [], ◌∷◌, length, Option, Some, None, slice_get, if◌then◌else◌}
 use Rattle.std.specs.FinMap.{empty}
 use Rattle.std.specs.List.{enumerate_from, flat_map}
 use Rattle.flow_dag.specs.declared.edge.Edge.{Edge}
@@ -12,18 +12,24 @@ use Rattle.operators.specs.declared.output.Output.{Output}
 use Rattle.tuple_trace.specs.declared.row.Row.{Row}
 use Rattle.tuple_trace.specs.declared.tuple.Tuple.{Tuple}
 use Rattle.tuple_trace.specs.declared.tuple.Visit.{Visit}
-use Rattle.tuple_trace.specs.declared.value.Value.{Value}
+use Rattle.flow_model.specs.declared.landing.Landing.{Landing}
 use Rattle.flow_model.specs.Lanes.{first_on}
 use Rattle.flow_model.specs.Requests.{change_of, func_with}
 use Rattle.flow_model.specs.Run.{Ran}
 use Rattle.flow_model.specs.Whole.{is_new}
 
--- What comes to a sink.
-pub record Landing : Type 0 where
-  pub sink : ℕ
-  pub row : ℕ
-  pub fields : List Value
+-- what comes to a node with this function goes no further, and is an alert
+abbrev pub is_sink : Func → Bool
+is_sink func.Source = false
+is_sink (func.Filter conds) = false
+is_sink (func.Map steps) = false
+is_sink (func.Enrich lookup) = false
+is_sink (func.Count count) = false
+is_sink (func.Split split) = false
+is_sink func.Replicate = false
+is_sink (func.Sink listed) = true
 
+-- what comes to a sink of a tuple
 abbrev pub landing : ℕ → Tuple → Landing
 landing node tuple = record { sink = node; row = tuple.row; fields = tuple.fields }
 

@@ -1,5 +1,5 @@
 -- How late a request comes into force at the heads of what it covers.
-use Rattle.std.specs.Prelude.{◌≡◌, ◌≤◌, ℕ, IsTrue, ⊤, List, [], ◌∷◌, min, Option, Some, None, slice_get}
+use Rattle.std.specs.Prelude.{◌≡◌, ◌<◌, ◌≤◌, ℕ, All, IsTrue, ⊤, List, [], ◌∷◌, min, Option, Some, None, slice_get}
 use Rattle.sink_journal.specs.declared.journal.Entry.{Entry}
 use Rattle.sink_journal.specs.declared.journal.Entry.TheVariants as entry
 use Rattle.tuple_trace.specs.declared.tuple.Tuple.{Tuple}
@@ -7,9 +7,10 @@ use Rattle.versions.specs.declared.request.Request.{Request}
 use Rattle.flow_model.specs.Outline.{Outline, Post}
 use Rattle.flow_model.specs.Law.{Progress, after_entry, initial, next_due}
 use Rattle.flow_model.specs.Requests.{request_at}
-use Rattle.flow_model.specs.Covers.{is_head}
+use Rattle.flow_model.specs.Covers.{covers, is_head}
 use Rattle.flow_model.specs.Run.{Ran}
 use Rattle.flow_model.specs.Station.{station}
+use Rattle.flow_model.specs.Whole.{before_turn, met_tuples}
 use Rattle.flow_model.specs.Workers.{posts}
 
 -- the row is at most the one after which the request is issued, of so many rows
@@ -39,3 +40,15 @@ abbrev pub IsFresh : ℕ → Ran → Type 0
 IsFresh rows ran =
     (w : ℕ) (post : Post) (journal : List Entry) → slice_get (posts ran.setup.job) w ≡ Some post → slice_get ran.journals w ≡ Some journal →
     AreFreshFrom ran.setup rows post (initial (station ran.setup 0 post)) journal
+
+-- every request before this one that covers the worker covers it as a head
+abbrev pub IsHeadBefore : Outline → ℕ → Post → Type 0
+IsHeadBefore setup request post = (earlier : ℕ) → earlier < request → IsTrue (covers setup earlier post.node) → IsTrue (is_head setup earlier post.node)
+
+-- at a head of a request whose workers were only heads before, each tuple that is met before the turn is of a row up to the one after which the
+-- request is issued
+abbrev pub IsFreshBefore : ℕ → Ran → Type 0
+IsFreshBefore rows ran =
+    (w request : ℕ) (post : Post) (journal : List Entry) → slice_get (posts ran.setup.job) w ≡ Some post → slice_get ran.journals w ≡ Some journal →
+    IsTrue (is_head ran.setup request post.node) → IsHeadBefore ran.setup request post →
+    All (λ (tuple : Tuple). IsUpTo rows (request_at ran.setup request) tuple.row) (met_tuples (before_turn request journal))

@@ -14,8 +14,12 @@ pub mod Feeding
 pub mod Run
 pub mod Record
 pub mod Whole
+pub mod Agreement
 pub mod Fresh
 pub mod Alone
+pub mod Consistent
+pub mod OneTable
 pub mod FourPayments
+pub mod SplitAbove
 pub mod TwoLanes
 pub mod SteadyLanes

@@ -4,7 +4,7 @@ use Rattle.cover_planner.specs.declared.cover.Plan.{Plan}
 use Rattle.cover_planner.specs.Plan.{IsPlan}
 use Rattle.flow_dag.specs.declared.edge.Edge.{Edge}
 use Rattle.flow_dag.specs.Masks.{Has}
-use Rattle.jobs.specs.Nodes.{may_emit}
+use Rattle.jobs.specs.Nodes.{IsSourceOf, may_emit}
 use Rattle.jobs.specs.declared.func.NodeDef.{NodeDef}
 use Rattle.versions.specs.Book.{is_named}
 use Rattle.versions.specs.declared.request.Request.{Request}
@@ -23,13 +23,14 @@ pub record IsPlanFor (edges : List Edge) (many : ℕ) (request : Request) (plan 
   pub planned : IsPlan edges many plan.asked plan
   pub asked : (node : ℕ) → IsTrue (is_named request.changes node) → Has plan.asked node
 
--- the mask holds every node that may make several tuples of one, and each request has its plan
+-- the mask holds every node that may make several tuples of one, each request has its plan, and no plan has a source for a member
 pub record IsPlanned (setup : Outline) : Type 0 where
   pub many : (node : ℕ) → IsTrue (is_many_at setup.job.nodes node) → Has (many_of setup) node
   pub one_each : length setup.plans ≡ length setup.requests
   pub plans :
       (r : ℕ) (request : Request) (plan : Plan) → slice_get setup.requests r ≡ Some request → slice_get setup.plans r ≡ Some plan →
       IsPlanFor setup.job.edges (many_of setup) request plan
+  pub no_source : (r node : ℕ) (plan : Plan) → slice_get setup.plans r ≡ Some plan → IsSourceOf setup.job node → ¬ Has plan.members node
 
 -- the plan is the planner's for exactly the nodes that the request changes
 pub record IsPlanOf (edges : List Edge) (many : ℕ) (request : Request) (plan : Plan) : Type 0 where

@@ -6,6 +6,7 @@ use Rattle.sink_journal.specs.declared.journal.Entry.{Entry}
 use Rattle.sink_journal.specs.declared.journal.Entry.TheVariants as entry
 use Rattle.tuple_trace.specs.declared.tuple.Tuple.{Tuple}
 use Rattle.flow_model.specs.Outline.{Outline, Post}
+use Rattle.flow_model.specs.Covers.{asks}
 use Rattle.flow_model.specs.Requests.{changes}
 use Rattle.flow_model.specs.Run.{Ran}
 use Rattle.flow_model.specs.Workers.{posts, posts_of}
@@ -52,6 +53,10 @@ IsOneSided ran request row workers =
 -- the workers of the nodes that a request changes
 abbrev pub changed_workers : Outline → ℕ → List Post
 changed_workers setup request = filter (λ (post : Post). changes setup request post.node) (posts setup.job)
+
+-- the workers of the nodes that the plan of a request asks: those that it changes are among them
+abbrev pub asked_workers : Outline → ℕ → List Post
+asked_workers setup request = filter (λ (post : Post). asks setup request post.node) (posts setup.job)
 
 -- the row is whole at the request: its nodes met the row with their old functions alone, or with their new ones alone
 abbrev pub IsWhole : Ran → ℕ → ℕ → Type 0

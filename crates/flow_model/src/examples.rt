@@ -1,16 +1,24 @@
 // Worked runs. Each function proves what its clauses say of one, and does nothing.
-ghost use Rattle.std.specs.Prelude.{◌≡◌, ◌∷◌, [], false, true, pos};
+ghost use Rattle.std.specs.Prelude.{◌≡◌, ℕ, ◌∷◌, [], false, true, pos};
+ghost use Rattle.std.specs.List.{flat_map};
+ghost use Rattle.jobs.specs.Law.{IsLawful as IsLawfulJob};
+ghost use Rattle.jobs.specs.Nodes.{AreFromSources};
 ghost use Rattle.sink_journal.specs.declared.journal.Feed.TheVariants as feed;
 ghost use Rattle.lane_core.specs.Steady.{IsSteady};
+ghost use Rattle.tuple_trace.specs.Rows.{AreRows};
 ghost use Rattle.tuple_trace.specs.declared.tuple.Item.TheVariants as item;
 ghost use Rattle.tuple_trace.specs.declared.value.Value.TheVariants as value;
+ghost use Rattle.versions.specs.Judged.{AreAccepted};
 ghost use Rattle.flow_model.specs.Alone.{alone, table};
 ghost use Rattle.flow_model.specs.Begin.{at_first};
 ghost use Rattle.flow_model.specs.Feeding.{feed_from};
 ghost use Rattle.flow_model.specs.FourPayments.{chain, filter_post, four_payments, four_ran, four_setup, late_big, row_of, short_ran};
-ghost use Rattle.flow_model.specs.Fresh.{IsFresh};
+ghost use Rattle.flow_model.specs.Fresh.{IsFresh, IsFreshBefore};
 ghost use Rattle.flow_model.specs.Law.{IsFinished, IsLawful};
+ghost use Rattle.flow_model.specs.OneTable.{HasNoCounts, IsOneTable};
+ghost use Rattle.flow_model.specs.Planned.{IsPlanned};
 ghost use Rattle.flow_model.specs.Run.{IsLawfulFrom, IsRun};
+ghost use Rattle.flow_model.specs.SplitAbove.{exchanged_ran, split_landings, split_ran, split_setup, two_rows, two_ways};
 ghost use Rattle.flow_model.specs.SteadyLanes.{mark, new_tuple, old_tuple, out_of_filter, stray_tuple};
 ghost use Rattle.flow_model.specs.TwoLanes.{joined, joining, parted, unmarked, unturned};
 ghost use Rattle.flow_model.specs.Whole.{IsMetOnce, IsWhole, is_new, is_old};
@@ -69,4 +77,36 @@ pub fn markers_part_old_from_new()
     ensures old_behind { IsSteady out_of_filter (mark ∷ old_tuple ∷ []) → ⊥ }
     ensures new_before { IsSteady out_of_filter (new_tuple ∷ mark ∷ []) → ⊥ }
     ensures stray { IsSteady out_of_filter (stray_tuple ∷ []) → ⊥ }
+{}
+
+/// Two rows of two pieces each, which a filter sends two ways and a changed filter meets again, are a run: the split is the head, and the
+/// markers of both ways are awaited where they meet. Both pieces of the second row met the new function.
+pub fn two_ways_are_a_run()
+    ensures run { IsRun split_setup two_rows split_ran }
+    ensures fresh { IsFresh 2 split_ran }
+    ensures old { is_old split_ran 1 1 ≡ true }
+    ensures new { is_new split_ran 1 2 ≡ true }
+    ensures whole { IsWhole split_ran 1 2 }
+    ensures once { IsMetOnce split_ran 5 }
+    ensures alone { flat_map (λ row. alone two_ways (table split_ran row.tuple.row) row) two_rows ≡ split_landings }
+{}
+
+/// It is no run where one item of a lane is exchanged: a piece that the new function holds back, in place of the one that it lets pass.
+pub fn an_exchanged_item_is_no_run()
+    ensures { IsRun split_setup two_rows exchanged_ran → ⊥ }
+{}
+
+/// The four payments meet every premise of the laws of runs: their job is lawful and counts nothing, their request is accepted, its plan is the
+/// planner's, their rows are numbered and enter by the source. So the laws hold of their run.
+pub fn four_payments_keep_the_laws()
+    ensures lawful { IsLawfulJob chain }
+    ensures no_counts { HasNoCounts chain }
+    ensures accepted { AreAccepted chain four_setup.requests }
+    ensures planned { IsPlanned four_setup }
+    ensures rows { AreRows four_payments }
+    ensures sources { AreFromSources chain four_payments }
+    ensures whole { (request row : ℕ) → IsWhole four_ran request row }
+    ensures once { (node : ℕ) → IsMetOnce four_ran node }
+    ensures fresh { IsFreshBefore 4 four_ran }
+    ensures one_table { IsOneTable four_payments four_ran }
 {}

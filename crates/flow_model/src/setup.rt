@@ -9,7 +9,7 @@ use cover_planner::Plan;
 use operators::Job;
 use std::alloc::Global;
 use tuple_trace::{Items, NoMemory};
-use versions::{Judged, accepted_requests_name_nodes};
+use versions::{Judged, accepted_requests_keep_kinds, accepted_requests_name_nodes};
 
 /// The plans of the accepted requests, in their order.
 pub type Plans = Items<Plan>;
@@ -40,6 +40,7 @@ impl Setup {
         ensures exact { IfOk result (λ setup. IsExact (outline setup)) }
     {
         accepted_requests_name_nodes();
+        accepted_requests_keep_kinds();
         let many = masks::many(job.nodes.as_slice());
         let plans = plans::plans_of(alloc, &job.dag, many, judged.accepted.as_slice())?;
         Ok(Setup {

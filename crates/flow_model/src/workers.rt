@@ -57,7 +57,8 @@ impl Setup {
         }
     }
 
-    fn plan_of(&self, request: u64) -> Option<&Plan>
+    /// The plan of a request, if there is such a request. Takes no memory.
+    pub fn plan_of(&self, request: u64) -> Option<&Plan>
         ensures { option_copied result ≡ plan_of (outline self.now) request }
     {
         let place = request.checked_sub(1)?;

@@ -8,5 +8,6 @@ plans_of-requires-clause-inside c = rw (c.as_slice-2.ensures, c.args.job.drawn) 
 pub invariant_of-result : goal.invariant_of-result
 invariant_of-result c = record {
   accepted = c.requires;
-  planned = ∣ IsPlanned-exact (written c.args.job) c.args.judged.accepted c.in_ok-plans.plans c.many-many.result (rw c.as_slice.ensures at c.many-many.ensures.has) (rw c.as_slice-2.ensures at c.in_ok-plans.ensures) ∣₁;
+  planned = ∣ IsPlanned-exact (written c.args.job) c.args.judged.accepted c.in_ok-plans.plans c.many-many.result (rw c.as_slice.ensures at c.many-many.ensures.has)
+      (c.accepted_requests_keep_kinds.ensures (written c.args.job) c.args.judged.accepted c.requires) (rw c.as_slice-2.ensures at c.in_ok-plans.ensures) ∣₁;
 }

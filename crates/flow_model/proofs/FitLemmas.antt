@@ -1,0 +1,179 @@
+-- Every port that a function puts out on has an edge, and every tuple a lane there.
+use Rattle.std.proofs.Common.{◌≡◌, ◌∙◌, ◌≢◌, ◌<◌, ◌+◌, ◌==◌, ◌&&◌, ◌||◌, ℕ, zero, suc, List, [], ◌∷◌, refl, sym, subst, ap, arith, true, false, Bool, length, filter, Some, Option, slice_get, option_map, length-append}
+use Rattle.std.specs.List.{enumerate_from}
+use Rattle.std.proofs.lemmas.Bool.{and_parts, eq-eqb, eqb-true}
+use Rattle.std.proofs.lemmas.Bool.Decides.{nat_tests}
+use Rattle.std.proofs.lemmas.List.Elements.{filter-append}
+use Rattle.flow_dag.specs.declared.edge.Edge.{Edge}
+use Rattle.jobs.specs.Nodes.{is_source, is_source_node, workers_of}
+use Rattle.jobs.specs.Ports.{are_ports, has_port, has_ports, out_count}
+use Rattle.jobs.specs.Written.{Written}
+use Rattle.jobs.specs.declared.func.Func.{Func}
+use Rattle.jobs.specs.declared.func.Func.TheVariants as func
+use Rattle.jobs.specs.declared.func.NodeDef.{NodeDef}
+use Rattle.jobs.proofs.PortLemmas.{has_ports-lacks}
+use Rattle.operators.specs.Lanes.{worker_among}
+use Rattle.tuple_trace.specs.declared.tuple.Tuple.{Tuple}
+use Rattle.flow_model.specs.Lanes.{first_on, lane_along, lane_of, lanes, receiver_of, senders}
+use Rattle.flow_model.specs.Outline.{Lane, Post}
+use Rattle.flow_model.specs.Workers.{posts_at, posts_from, posts_of}
+use Rattle.flow_model.proofs.ElementLemmas.{IsIn, in_of_place}
+use Rattle.flow_model.proofs.JobLemmas.{IsWired, ports_by_kind}
+use Rattle.flow_model.proofs.LaneLemmas.{lane_of_edge}
+use Rattle.flow_model.proofs.WorkerLemmas.{all_workers, item_at}
+
+-- ---- the edge of a port
+
+-- an edge leaves the node on the port, and it is the first that does
+pub record HasPortEdge (edges : List Edge) (node port : ℕ) (first : ℕ) : Type 0 where
+  pub number : ℕ
+  pub edge : Edge
+  pub found : first_on node port (enumerate_from first edges) ≡ Some (number, edge)
+  pub at : ℕ
+  pub number_is : number ≡ first + at
+  pub edge_is : slice_get edges at ≡ Some edge
+  pub from : edge.from ≡ node
+
+pub port_edge : (edges : List Edge) (node port first : ℕ) → has_port edges node port ≡ true → HasPortEdge edges node port first
+port_edge [] node port first h = absurd (cc)
+port_edge (e ∷ more) node port first h = go (e.from == node && e.port == port) refl (port_edge more node port (first + 1)) h
+  where
+    go : (b : Bool) → (e.from == node && e.port == port) ≡ b → (has_port more node port ≡ true → HasPortEdge more node port (first + 1)) → b || has_port more node port ≡ true
+        → HasPortEdge (e ∷ more) node port first
+    go true is f h =
+        record { number = first; edge = e; found = rw is refl; at = 0; number_is = omega arith; edge_is = refl; from = eqb-true e.from node (and_parts (e.from == node) (e.port == port) is).0 }
+    go false is f h =
+        let r : HasPortEdge more node port (first + 1) = f h in
+        record { number = r.number; edge = r.edge; found = rw is r.found; at = suc r.at; number_is = omega (arith, r.number_is); edge_is = r.edge_is; from = r.from }
+
+-- ---- the ports of a source
+
+one_leaves : (n : ℕ) → (n == 1) ≡ true → 0 < n
+one_leaves n e = grind (arith, nat_tests)
+
+pub source_port : (edges : List Edge) (node : ℕ) (f : Func) → is_source f ≡ true → are_ports edges node f ≡ true → has_port edges node 0 ≡ true
+source_port edges node func.Source s all =
+    let k = ports_by_kind edges node func.Source all in
+    go (has_port edges node 0) refl (one_leaves (out_count edges node) k.1) k.2
+  where
+    go : (b : Bool) → has_port edges node 0 ≡ b → 0 < out_count edges node → has_ports edges node (out_count edges node) ≡ true → has_port edges node 0 ≡ true
+    go true e lt p = e
+    go false e lt p = let lacks : has_ports edges node (out_count edges node) ≡ false = has_ports-lacks edges node 0 (out_count edges node) lt e in absurd (cc)
+source_port edges node (func.Filter conds) s all = absurd (cc)
+source_port edges node (func.Map steps) s all = absurd (cc)
+source_port edges node (func.Enrich lookup) s all = absurd (cc)
+source_port edges node (func.Count count) s all = absurd (cc)
+source_port edges node (func.Split split) s all = absurd (cc)
+source_port edges node func.Replicate s all = absurd (cc)
+source_port edges node (func.Sink listed) s all = absurd (cc)
+
+-- ---- how many workers a node has
+
+abbrev of_node : ℕ → List Post → List Post
+of_node node ps = filter (λ (post : Post). post.node == node) ps
+
+all_of_it : (number node : ℕ) (f : Func) (place left : ℕ) → length (of_node node (posts_at number node f place left)) ≡ left
+all_of_it number node f place zero = refl
+all_of_it number node f place (suc left) = rw (eq-eqb node node refl) (ap suc (all_of_it (number + 1) node f (place + 1) left))
+
+differ_test : (a b : ℕ) → a ≢ b → (a == b) ≡ false
+differ_test a b d = grind (arith, nat_tests)
+
+none_of_it : (number other node : ℕ) (f : Func) (place left : ℕ) → other ≢ node → length (of_node node (posts_at number other f place left)) ≡ 0
+none_of_it number other node f place zero d = refl
+none_of_it number other node f place (suc left) d = rw (differ_test other node d) (none_of_it (number + 1) other node f (place + 1) left d)
+
+none_behind : (number first node : ℕ) (nodes : List NodeDef) → node < first → length (of_node node (posts_from number first nodes)) ≡ 0
+none_behind number first node [] lt = refl
+none_behind number first node (def ∷ more) lt =
+    let here = posts_at number first def.func 0 (workers_of def) in
+    let later = posts_from (number + workers_of def) (first + 1) more in
+    let a : length (of_node node (posts_at number first def.func 0 (workers_of def))) ≡ 0 = none_of_it number first node def.func 0 (workers_of def) (λ e. omega arith) in
+    let b : length (of_node node (posts_from (number + workers_of def) (first + 1) more)) ≡ 0 = none_behind (number + workers_of def) (first + 1) node more (omega arith) in
+    ap length (filter-append (λ (post : Post). post.node == node) here later) ∙ omega (arith, a, b, length-append (of_node node here) (of_node node later))
+
+count_of_node : (number first i node : ℕ) (nodes : List NodeDef) (def : NodeDef) → slice_get nodes i ≡ Some def → node ≡ first + i → length (of_node node (posts_from number first nodes)) ≡ workers_of def
+count_of_node number first i node [] def g e = absurd (cc)
+count_of_node number first zero node (d ∷ more) def g e =
+    let same : d ≡ def = cc in
+    let at : first ≡ node = omega arith in
+    let here = posts_at number first d.func 0 (workers_of d) in
+    let later = posts_from (number + workers_of d) (first + 1) more in
+    let a : length (of_node node here) ≡ workers_of d = subst (λ v. length (of_node v (posts_at number first d.func 0 (workers_of d))) ≡ workers_of d) at (all_of_it number first d.func 0 (workers_of d)) in
+    let b : length (of_node node later) ≡ 0 = none_behind (number + workers_of d) (first + 1) node more (omega arith) in
+    let c : workers_of d ≡ workers_of def = ap workers_of same in
+    ap length (filter-append (λ (post : Post). post.node == node) here later) ∙ omega (arith, a, b, c, length-append (of_node node here) (of_node node later))
+count_of_node number first (suc i) node (d ∷ more) def g e =
+    let here = posts_at number first d.func 0 (workers_of d) in
+    let later = posts_from (number + workers_of d) (first + 1) more in
+    let a : length (of_node node here) ≡ 0 = none_of_it number first node d.func 0 (workers_of d) (λ s. omega arith) in
+    let b : length (of_node node later) ≡ workers_of def = count_of_node (number + workers_of d) (first + 1) i node more def g (omega arith) in
+    ap length (filter-append (λ (post : Post). post.node == node) here later) ∙ omega (arith, a, b, length-append (of_node node here) (of_node node later))
+
+-- ---- the worker that a tuple reaches
+
+among_within : (job : Written) (f : Func) (workers : ℕ) (t : Tuple) → 0 < workers → worker_among job.columns f workers t < workers
+among_within job func.Source workers t lt = omega arith
+among_within job (func.Filter conds) workers t lt = omega arith
+among_within job (func.Map steps) workers t lt = omega arith
+among_within job (func.Enrich lookup) workers t lt = omega arith
+among_within job (func.Count count) workers t lt = omega arith
+among_within job (func.Split split) workers t lt = omega arith
+among_within job func.Replicate workers t lt = omega arith
+among_within job (func.Sink listed) workers t lt = omega arith
+
+some_in : {A : Type 0} (xs : List A) (x : A) → IsIn x xs → 0 < length xs
+some_in [] x i = absurd i
+some_in (y ∷ ys) x i = omega arith
+
+pub receiver_there : (job : Written) (wired : IsWired job) (i : ℕ) (edge : Edge) (t : Tuple) → slice_get job.edges i ≡ Some edge
+    → (post : Post) × (receiver_of job edge t ≡ Some post) × IsIn post (posts_of job edge.to)
+receiver_there job wired i edge t g =
+    let to = item_at job.nodes edge.to (wired.ends i edge g).1 in
+    let def : NodeDef = to.0 in
+    let into : is_source_node (slice_get job.nodes edge.to) ≡ false = wired.into i edge g in
+    let no_source : is_source def.func ≡ false = rw to.1 at into in
+    let count : length (posts_of job edge.to) ≡ workers_of def = count_of_node 0 0 edge.to edge.to job.nodes def to.1 (omega arith) in
+    let workers : workers_of def ≡ def.workers = all_workers def no_source in
+    let m = wired.manned edge.to def to.1 no_source in
+    let some : 0 < length (posts_of job edge.to) = some_in (posts_of job edge.to) m.0 m.1 in
+    let within : worker_among job.columns def.func def.workers t < def.workers = among_within job def.func def.workers t (omega (arith, count, workers, some)) in
+    let p = item_at (posts_of job edge.to) (worker_among job.columns def.func def.workers t) (omega (arith, count, workers, within)) in
+    (p.0, rw to.1 p.1, in_of_place p.0 (posts_of job edge.to) (worker_among job.columns def.func def.workers t) p.1)
+
+-- ---- the lane of a tuple
+
+-- the lane that a sender's tuple goes on: along the port's edge, to a worker of the node at its end
+pub record GoesOn (job : Written) (sender : Option ℕ) (node port : ℕ) (t : Tuple) : Type 0 where
+  pub lane : Lane
+  pub lane_is : lane_of job sender node port t ≡ Some lane
+  pub n : ℕ
+  pub there : slice_get (lanes job) n ≡ Some lane
+  pub sent_by : lane.sender ≡ sender
+  pub number : ℕ
+  pub edge : Edge
+  pub found : first_on node port (enumerate_from 0 job.edges) ≡ Some (number, edge)
+  pub edge_is : slice_get job.edges number ≡ Some edge
+  pub edge_number : lane.edge ≡ number
+  pub from : edge.from ≡ node
+
+pub goes_on : (job : Written) (wired : IsWired job) (sender : Option ℕ) (node port : ℕ) (t : Tuple) → has_port job.edges node port ≡ true → IsIn sender (senders job node) → GoesOn job sender node port t
+goes_on job wired sender node port t h s =
+    let p : HasPortEdge job.edges node port 0 = port_edge job.edges node port 0 h in
+    let at : p.at ≡ p.number = omega (arith, p.number_is) in
+    let edge_is : slice_get job.edges p.number ≡ Some p.edge = subst (λ k. slice_get job.edges k ≡ Some p.edge) at p.edge_is in
+    let r = receiver_there job wired p.number p.edge t edge_is in
+    let l = lane_of_edge job p.number p.edge sender r.0 edge_is (subst (λ v. IsIn sender (senders job v)) (sym p.from) s) r.2 in
+    record {
+      lane = record { edge = p.number; sender = sender; receiver = r.0.number };
+      lane_is = ap (λ o. lane_along job sender o t) p.found ∙ ap (option_map (λ (post : Post). record { edge = p.number; sender = sender; receiver = post.number })) r.1;
+      n = l.0;
+      there = l.1;
+      sent_by = refl;
+      number = p.number;
+      edge = p.edge;
+      found = p.found;
+      edge_is = edge_is;
+      edge_number = refl;
+      from = p.from;
+    }

@@ -1,0 +1,168 @@
+-- What the type of a job keeps, as the laws of runs use it.
+use Rattle.std.proofs.Common.{◌≡◌, ◌∙◌, ◌<◌, ◌≤◌, ◌+◌, ◌==◌, ℕ, zero, suc, List, [], ◌∷◌, inl, refl, sym, subst, ap, arith, true, false, Bool, cond, length, map, get_or, Some, None, Option, slice_get}
+use Rattle.std.proofs.lemmas.Bool.{and_parts, eq-eqb, eqb-true}
+use Rattle.std.proofs.lemmas.List.Elements.{All-get_or}
+use Rattle.std.proofs.lemmas.List.Folds.{Any-from_list_any, list_any_at}
+use Rattle.std.proofs.lemmas.Option.{get_or_from_slice_get, slice_get-get_or, slice_get_within}
+use Rattle.flow_dag.specs.Dag.{DagView}
+use Rattle.flow_dag.specs.Edges.{HasEdge, IsInside}
+use Rattle.flow_dag.specs.Order.{place_of}
+use Rattle.flow_dag.specs.declared.edge.Edge.{Edge}
+use Rattle.flow_dag.proofs.PlaceLemmas.{place_of-below, place_of-forward}
+use Rattle.jobs.specs.Law.{IsLawful}
+use Rattle.jobs.specs.Nodes.{is_source, is_source_node, most_workers, workers_of}
+use Rattle.jobs.specs.Ports.{are_ports, has_ports, is_entered, may_enter, may_leave, out_count}
+use Rattle.jobs.specs.Written.{Written}
+use Rattle.jobs.specs.declared.func.Func.{Func}
+use Rattle.jobs.specs.declared.func.Func.TheVariants as func
+use Rattle.jobs.specs.declared.func.NodeDef.{NodeDef}
+use Rattle.flow_model.specs.Lanes.{lanes_in, senders}
+use Rattle.flow_model.specs.Outline.{Lane, Post}
+use Rattle.flow_model.specs.Workers.{posts, posts_at, posts_from, posts_of}
+use Rattle.flow_model.proofs.ElementLemmas.{IsIn, in_left, in_of_place, in_right, map_in}
+use Rattle.flow_model.proofs.WorkerLemmas.{IsWorker, all_workers, item_at, posts_of_in}
+use Rattle.flow_model.proofs.LaneLemmas.{edge_leads, lane_of_edge, lanes_that_in}
+
+-- What the laws of runs use of a job: its edges lead from lower ranks to higher ones, none into a source; every other node has a worker, each
+-- worker has a lane in, and the edges of each node are those of its kind.
+pub record IsWired (job : Written) : Type 0 where
+  pub rank : ℕ → ℕ
+  pub below : (node : ℕ) → node < length job.nodes → rank node < length job.nodes
+  pub forward : (i : ℕ) (edge : Edge) → slice_get job.edges i ≡ Some edge → rank edge.from < rank edge.to
+  pub ends : (i : ℕ) (edge : Edge) → slice_get job.edges i ≡ Some edge → IsInside (length job.nodes) edge
+  pub into : (i : ℕ) (edge : Edge) → slice_get job.edges i ≡ Some edge → is_source_node (slice_get job.nodes edge.to) ≡ false
+  pub ports : (node : ℕ) (def : NodeDef) → slice_get job.nodes node ≡ Some def → are_ports job.edges node def.func ≡ true
+  pub manned : (node : ℕ) (def : NodeDef) → slice_get job.nodes node ≡ Some def → is_source def.func ≡ false → (post : Post) × IsIn post (posts_of job node)
+  pub reached : (post : Post) → IsWorker job post → (n : ℕ) × IsIn n (lanes_in job post.number)
+
+inside_edge : (job : Written) → IsLawful job → (i : ℕ) (edge : Edge) → slice_get job.edges i ≡ Some edge → IsInside (length job.nodes) edge
+inside_edge job is i edge g =
+    subst (IsInside (length job.nodes)) (get_or_from_slice_get job.edges i edge edge g)
+    (All-get_or (IsInside (length job.nodes)) job.edges i edge (slice_get_within job.edges i edge g) is.ends)
+
+-- ---- which nodes are entered
+
+-- a node whose edges are those of its function's kind is entered as that kind is, left by as many edges, and has a port for each
+pub ports_by_kind : (edges : List Edge) (node : ℕ) (f : Func) → are_ports edges node f ≡ true
+    → (may_enter f (is_entered edges node) ≡ true) × (may_leave f (out_count edges node) ≡ true) × (has_ports edges node (out_count edges node) ≡ true)
+unfolding are_ports
+ports_by_kind edges node f all =
+    let kinds = and_parts _ _ all in
+    let ports = and_parts _ _ kinds.0 in
+    let enter = and_parts _ _ ports.0 in
+    (enter.0, enter.1, ports.1)
+
+source_unentered : (f : Func) (entered : Bool) → is_source f ≡ true → may_enter f entered ≡ true → entered ≡ false
+source_unentered func.Source true e m = absurd (cc)
+source_unentered func.Source false e m = refl
+source_unentered (func.Filter conds) entered e m = absurd (cc)
+source_unentered (func.Map steps) entered e m = absurd (cc)
+source_unentered (func.Enrich lookup) entered e m = absurd (cc)
+source_unentered (func.Count count) entered e m = absurd (cc)
+source_unentered (func.Split split) entered e m = absurd (cc)
+source_unentered func.Replicate entered e m = absurd (cc)
+source_unentered (func.Sink listed) entered e m = absurd (cc)
+
+other_entered : (f : Func) (entered : Bool) → is_source f ≡ false → may_enter f entered ≡ true → entered ≡ true
+other_entered func.Source entered e m = absurd (cc)
+other_entered (func.Filter conds) entered e m = m
+other_entered (func.Map steps) entered e m = m
+other_entered (func.Enrich lookup) entered e m = m
+other_entered (func.Count count) entered e m = m
+other_entered (func.Split split) entered e m = m
+other_entered func.Replicate entered e m = m
+other_entered (func.Sink listed) entered e m = m
+
+edge_enters : (edges : List Edge) (i : ℕ) (edge : Edge) → slice_get edges i ≡ Some edge → is_entered edges edge.to ≡ true
+edge_enters edges i edge g =
+    let here : get_or edges i edge ≡ edge = get_or_from_slice_get edges i edge edge g in
+    list_any_at (λ (e : Edge). e.to == edge.to) edges i edge (slice_get_within edges i edge g) (eq-eqb (get_or edges i edge).to edge.to (ap (λ (e : Edge). e.to) here))
+
+edge_into : (edges : List Edge) (node : ℕ) → is_entered edges node ≡ true → (i : ℕ) × (edge : Edge) × (slice_get edges i ≡ Some edge) × (edge.to ≡ node)
+edge_into edges node h =
+    let (i, edge, lt, at, e) = Any-from_list_any (λ (e : Edge). e.to == node) edges h in
+    (i, edge, slice_get-get_or edges i edge lt ∙ ap Some at, eqb-true edge.to node e)
+
+-- ---- each node but a source has a worker
+
+manned_at : (number node : ℕ) (f : Func) (place left : ℕ) → 0 < left → (post : Post) × IsIn post (posts_at number node f place left) × (post.node ≡ node)
+manned_at number node f place zero lt = absurd (omega arith)
+manned_at number node f place (suc left) lt = (record { number = number; node = node; place = place; func = f }, inl refl, refl)
+
+manned_from : (number node : ℕ) (nodes : List NodeDef) (k : ℕ) (def : NodeDef) → slice_get nodes k ≡ Some def → 0 < workers_of def
+    → (post : Post) × IsIn post (posts_from number node nodes) × (post.node ≡ node + k)
+manned_from number node [] k def g lt = absurd (cc)
+manned_from number node (d ∷ more) zero def g lt =
+    let e : d ≡ def = cc in
+    let lt' : 0 < workers_of d = subst (λ (x : NodeDef). 0 < workers_of x) (sym e) lt in
+    let r = manned_at number node d.func 0 (workers_of d) lt' in
+    (r.0, in_left r.0 (posts_at number node d.func 0 (workers_of d)) (posts_from (number + workers_of d) (node + 1) more) r.1, omega (arith, r.2))
+manned_from number node (d ∷ more) (suc k) def g lt =
+    let r = manned_from (number + workers_of d) (node + 1) more k def g lt in
+    (r.0, in_right r.0 (posts_at number node d.func 0 (workers_of d)) (posts_from (number + workers_of d) (node + 1) more) r.1, omega (arith, r.2))
+
+some_workers : (def : NodeDef) → is_source def.func ≡ false → 1 ≤ def.workers → 0 < workers_of def
+some_workers def e le = let n : workers_of def ≡ def.workers = all_workers def e in omega arith
+
+manned_node : (job : Written) → IsLawful job → (node : ℕ) (def : NodeDef) → slice_get job.nodes node ≡ Some def → is_source def.func ≡ false → (post : Post) × IsIn post (posts_of job node)
+manned_node job is node def g e =
+    let within : node < length job.nodes = slice_get_within job.nodes node def g in
+    let limits = All-get_or (λ (n : NodeDef). (1 ≤ n.workers) × (n.workers ≤ most_workers n.func)) job.nodes node def within is.limits.workers in
+    let here : get_or job.nodes node def ≡ def = get_or_from_slice_get job.nodes node def def g in
+    let some : 1 ≤ def.workers = subst (λ (n : NodeDef). 1 ≤ n.workers) here limits.0 in
+    let r = manned_from 0 0 job.nodes node def g (some_workers def e some) in
+    (r.0, posts_of_in job node r.0 r.1 (omega (arith, r.2)))
+
+-- ---- each worker has a lane in
+
+some_sender : (job : Written) → IsLawful job → (node : ℕ) (def : NodeDef) → slice_get job.nodes node ≡ Some def → (sender : Option ℕ) × IsIn sender (senders job node)
+some_sender job is node def g = rw g (go (is_source def.func) refl)
+  where
+    go : (b : Bool) → is_source def.func ≡ b → (sender : Option ℕ) × IsIn sender (cond b (None ∷ []) (map (λ (post : Post). Some post.number) (posts_of job node)))
+    go true e = (None, inl refl)
+    go false e = let r = manned_node job is node def g e in (Some r.0.number, map_in (λ (post : Post). Some post.number) r.0 (posts_of job node) r.1)
+
+reached_worker : (job : Written) → IsLawful job → (post : Post) → IsWorker job post → IsIn post (posts job) → (n : ℕ) × IsIn n (lanes_in job post.number)
+reached_worker job is post w here =
+    let ports : are_ports job.edges post.node w.def.func ≡ true = is.ports post.node w.def w.node_is in
+    let r = edge_into job.edges post.node (other_entered w.def.func (is_entered job.edges post.node) w.no_source (ports_by_kind job.edges post.node w.def.func ports).0) in
+    let edge : Edge = r.1 in
+    let inside : IsInside (length job.nodes) edge = inside_edge job is r.0 edge r.2 in
+    let from = item_at job.nodes edge.from inside.0 in
+    let s = some_sender job is edge.from from.0 from.1 in
+    let l = lane_of_edge job r.0 edge s.0 post r.2 s.1 (posts_of_in job edge.to post here (sym r.3)) in
+    (l.0, lanes_that_in (λ (lane : Lane). lane.receiver == post.number) job l.0 (record { edge = r.0; sender = s.0; receiver = post.number }) l.1 (eq-eqb post.number post.number refl))
+
+-- ---- what a lawful job keeps
+
+-- no edge leads into a source
+unentered : (job : Written) → IsLawful job → (i : ℕ) (edge : Edge) → slice_get job.edges i ≡ Some edge → is_source_node (slice_get job.nodes edge.to) ≡ false
+unentered job is i edge g =
+    let to = item_at job.nodes edge.to (inside_edge job is i edge g).1 in
+    rw to.1 (go to.0 (is_source to.0.func) refl (ports_by_kind job.edges edge.to to.0.func (is.ports edge.to to.0 to.1)).0)
+  where
+    go : (def : NodeDef) (b : Bool) → is_source def.func ≡ b → may_enter def.func (is_entered job.edges edge.to) ≡ true → is_source def.func ≡ false
+    go def true e may = let none = source_unentered def.func (is_entered job.edges edge.to) e may in let some = edge_enters job.edges i edge g in absurd (cc)
+    go def false e may = e
+
+pub wired_by_rank : (job : Written) (rank : ℕ → ℕ) → IsLawful job → ((node : ℕ) → node < length job.nodes → rank node < length job.nodes)
+    → ((i : ℕ) (edge : Edge) → slice_get job.edges i ≡ Some edge → rank edge.from < rank edge.to) → IsWired job
+wired_by_rank job rank is below forward = record {
+  rank = rank;
+  below = below;
+  forward = forward;
+  ends = inside_edge job is;
+  into = unentered job is;
+  ports = is.ports;
+  manned = manned_node job is;
+  reached = λ post w. reached_worker job is post w (in_of_place post (posts job) post.number w.there);
+}
+
+-- the places in an order of the nodes are ranks
+pub wired : (job : Written) (dag : DagView) → IsLawful job → dag.edges ≡ job.edges → dag.nodes ≡ length job.nodes → IsWired job
+wired job dag is edges nodes =
+    wired_by_rank job (place_of dag.order) is (λ node lt. let k = place_of-below (HasEdge dag.edges) dag.nodes dag.order dag.lawful.ordered node (omega arith) in omega (arith, k))
+    (λ i edge g.
+    let inside : IsInside (length job.nodes) edge = inside_edge job is i edge g in
+    place_of-forward (HasEdge dag.edges) dag.nodes dag.order dag.lawful.ordered edge.from edge.to (omega (arith, inside.0)) (omega (arith, inside.1)) (
+    subst (λ (es : List Edge). HasEdge es edge.from edge.to) (sym edges) (edge_leads job.edges i edge g)))

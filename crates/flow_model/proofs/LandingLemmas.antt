@@ -1,0 +1,192 @@
+-- What a tuple makes at the sinks: whatever its trace is, and however many nodes more than needed are allowed.
+use Rattle.std.proofs.Common.{◌≡◌, ◌∙◌, ◌<◌, ◌≤◌, ◌+◌, ◌++◌, ℕ, zero, suc, List, [], ◌∷◌, inl, inr, refl, sym, ap, ap₂, arith, true, false, Bool, cond, length, map, flat_map, Some, None, Option, slice_get}
+use Rattle.std.specs.FinMap.{empty}
+use Rattle.std.specs.List.{enumerate_from}
+use Rattle.jobs.specs.Ports.{are_ports}
+use Rattle.jobs.specs.Written.{Written}
+use Rattle.jobs.specs.declared.func.Func.{Func}
+use Rattle.jobs.specs.declared.func.Func.TheVariants as func
+use Rattle.jobs.specs.declared.func.NodeDef.{NodeDef}
+use Rattle.keyed_state.specs.Counts.{Counts}
+use Rattle.operators.specs.Laws.{bare, bare_tuple, bare_visit as bare_of, is_count}
+use Rattle.operators.specs.Meaning.{outputs, step}
+use Rattle.operators.specs.declared.output.Output.{Output}
+use Rattle.operators.proofs.EdgeLemmas.{outputs_leave}
+use Rattle.operators.proofs.OutputLemmas.{outputs_bare}
+use Rattle.tuple_trace.specs.declared.row.Row.{Row}
+use Rattle.tuple_trace.specs.declared.tuple.Tuple.{Tuple}
+use Rattle.tuple_trace.specs.declared.tuple.Visit.{Visit}
+use Rattle.versions.specs.declared.request.Change.{Change}
+use Rattle.flow_model.specs.declared.landing.Landing.{Landing}
+use Rattle.flow_model.specs.Alone.{bare_visit, func_for, func_for_node, is_sink, landing, lands, onward, table}
+use Rattle.flow_model.specs.Lanes.{first_on}
+use Rattle.flow_model.specs.OneTable.{HasNoCounts}
+use Rattle.flow_model.specs.Requests.{change_of, func_with}
+use Rattle.flow_model.specs.Run.{Ran}
+use Rattle.flow_model.specs.Whole.{is_new}
+use Rattle.flow_model.proofs.ElementLemmas.{IsIn, at_of_all, in_of_place, place_of_in}
+use Rattle.flow_model.proofs.WorkerLemmas.{item_at}
+use Rattle.flow_model.proofs.FitLemmas.{HasPortEdge, port_edge}
+use Rattle.flow_model.proofs.KindLemmas.{AreAlike, alike_ports, alike_self, changed_alike}
+use Rattle.flow_model.proofs.RunLemmas.{Running}
+use Rattle.flow_model.proofs.SumLemmas.{sum_over}
+
+-- ---- outputs but for what a flow writes on them
+
+-- every function but a count puts out the same whatever the counts are
+pub same_counts : (job : Written) (visit : Visit) (f : Func) (counts other : Counts) (t : Tuple) → is_count f ≡ false → outputs job visit f counts t ≡ outputs job visit f other t
+same_counts job visit func.Source counts other t e = refl
+same_counts job visit (func.Filter conds) counts other t e = refl
+same_counts job visit (func.Map steps) counts other t e = refl
+same_counts job visit (func.Enrich lookup) counts other t e = refl
+same_counts job visit (func.Count count) counts other t e = absurd (cc)
+same_counts job visit (func.Split split) counts other t e = refl
+same_counts job visit func.Replicate counts other t e = refl
+same_counts job visit (func.Sink listed) counts other t e = refl
+
+-- the outputs for a tuple at a worker are those for one alike at its node, but for what a flow writes on them
+pub outputs_alike : (job : Written) (visit : Visit) (node : ℕ) (f : Func) (counts : Counts) (t u : Tuple) → visit.node ≡ node → is_count f ≡ false → bare_tuple t ≡ bare_tuple u
+    → map bare (step job visit f counts t).1 ≡ map bare (step job (bare_visit node) f empty u).1
+outputs_alike job visit node f counts t u at none same =
+    outputs_bare job visit f counts t
+    ∙ (ap (λ (os : List Output). map bare os) (same_counts job (bare_of visit) f counts empty (bare_tuple t) none)
+    ∙ (ap (λ v. map bare (outputs job (bare_visit v) f empty (bare_tuple t))) at
+    ∙ (ap (λ (x : Tuple). map bare (outputs job (bare_visit node) f empty x)) same ∙ sym (outputs_bare job (bare_visit node) f empty u))))
+
+-- a sum, or joined lists, over outputs that are alike
+pub sum_alike : (F H : Output → ℕ) (os ps : List Output) → map bare os ≡ map bare ps → ((o p : Output) → IsIn o os → bare o ≡ bare p → F o ≡ H p) → sum_over F os ≡ sum_over H ps
+sum_alike F H [] [] e h = refl
+sum_alike F H [] (p ∷ ps) e h = absurd (cc)
+sum_alike F H (o ∷ os) [] e h = absurd (cc)
+sum_alike F H (o ∷ os) (p ∷ ps) e h =
+    let a : bare o ≡ bare p = cc in
+    let b : map bare os ≡ map bare ps = cc in
+    omega (arith, h o p (inl refl) a, sum_alike F H os ps b (λ x y i. h x y (inr i)))
+
+pub joined_alike : {A : Type 0} (F H : Output → List A) (os ps : List Output) → map bare os ≡ map bare ps → ((o p : Output) → IsIn o os → bare o ≡ bare p → F o ≡ H p) → flat_map F os ≡ flat_map H ps
+joined_alike F H [] [] e h = refl
+joined_alike F H [] (p ∷ ps) e h = absurd (cc)
+joined_alike F H (o ∷ os) [] e h = absurd (cc)
+joined_alike F H (o ∷ os) (p ∷ ps) e h =
+    let a : bare o ≡ bare p = cc in
+    let b : map bare os ≡ map bare ps = cc in
+    ap₂ (λ x y. x ++ y) (h o p (inl refl) a) (joined_alike F H os ps b (λ x y i. h x y (inr i)))
+
+-- ---- one node on
+
+-- what becomes of an output of a node, over at most so many nodes
+abbrev pub behind : Written → (ℕ → Option Func) → ℕ → ℕ → Output → List Landing
+behind job table nodes node output = onward (lands job table nodes) (first_on node output.port (enumerate_from 0 job.edges)) output.tuple
+
+pub lands-sink : (job : Written) (table : ℕ → Option Func) (nodes node : ℕ) (t : Tuple) (f : Func) → table node ≡ Some f → is_sink f ≡ true → lands job table (suc nodes) node t ≡ landing node t ∷ []
+lands-sink job table nodes node t (func.Sink listed) is sink = rw is refl
+lands-sink job table nodes node t _ is sink = absurd (cc)
+
+pub lands-outputs : (job : Written) (table : ℕ → Option Func) (nodes node : ℕ) (t : Tuple) (f : Func) → table node ≡ Some f → is_sink f ≡ false
+    → lands job table (suc nodes) node t ≡ flat_map (behind job table nodes node) (step job (bare_visit node) f empty t).1
+lands-outputs job table nodes node t func.Source is sink = rw is refl
+lands-outputs job table nodes node t (func.Filter conds) is sink = rw is refl
+lands-outputs job table nodes node t (func.Map steps) is sink = rw is refl
+lands-outputs job table nodes node t (func.Enrich lookup) is sink = rw is refl
+lands-outputs job table nodes node t (func.Count count) is sink = rw is refl
+lands-outputs job table nodes node t (func.Split split) is sink = rw is refl
+lands-outputs job table nodes node t func.Replicate is sink = rw is refl
+lands-outputs job table nodes node t (func.Sink listed) is sink = absurd (cc)
+
+-- ---- the functions of a table
+
+-- the function that a table gives a node: of the node's kind, and no count where none of the job's is
+pub record HasFunc (ran : Ran) (row node : ℕ) : Type 0 where
+  pub def : NodeDef
+  pub node_is : slice_get ran.setup.job.nodes node ≡ Some def
+  pub func_is : table ran row node ≡ Some (func_for ran row node def.func (length ran.setup.requests))
+  pub alike : AreAlike def.func (func_for ran row node def.func (length ran.setup.requests))
+  pub ports : are_ports ran.setup.job.edges node (func_for ran row node def.func (length ran.setup.requests)) ≡ true
+  pub no_count : is_count (func_for ran row node def.func (length ran.setup.requests)) ≡ false
+
+module _ (rows : List Row) (ran : Ran) (g : Running rows ran) (none : HasNoCounts ran.setup.job) where
+  table_alike : (row node : ℕ) (def : NodeDef) (r : ℕ) → slice_get ran.setup.job.nodes node ≡ Some def → AreAlike def.func (func_for ran row node def.func r)
+  table_alike row node def zero there = alike_self def.func
+  table_alike row node def (suc r) there = go (is_new ran (suc r) row) (table_alike row node def r there)
+    where
+      with_change : (o : Option Change) → change_of ran.setup (suc r) node ≡ o → AreAlike def.func (func_for ran row node def.func r) → AreAlike def.func (func_with o (func_for ran row node def.func r))
+      with_change None e a = a
+      with_change (Some change) e a = changed_alike ran.setup (suc r) node def change g.kinds there e
+
+      go : (b : Bool) → AreAlike def.func (func_for ran row node def.func r)
+          → AreAlike def.func (cond b (func_with (change_of ran.setup (suc r) node) (func_for ran row node def.func r)) (func_for ran row node def.func r))
+      go true a = with_change (change_of ran.setup (suc r) node) refl a
+      go false a = a
+
+  pub has_func : (row node : ℕ) → node < length ran.setup.job.nodes → HasFunc ran row node
+  has_func row node lt =
+      let d = item_at ran.setup.job.nodes node lt in
+      let f : Func = func_for ran row node d.0.func (length ran.setup.requests) in
+      let alike : AreAlike d.0.func f = table_alike row node d.0 (length ran.setup.requests) d.1 in
+      record {
+        def = d.0;
+        node_is = d.1;
+        func_is = ap (func_for_node ran row node) d.1;
+        alike = alike;
+        ports = alike_ports ran.setup.job.edges node d.0.func f alike (g.wired.ports node d.0 d.1);
+        no_count = alike.count ∙ at_of_all (λ (def : NodeDef). is_count def.func ≡ false) d.0 ran.setup.job.nodes none (in_of_place d.0 ran.setup.job.nodes node d.1);
+      }
+
+  -- the edge of an output's port
+  pub output_edge : (visit : Visit) (f : Func) (counts : Counts) (t : Tuple) (o : Output) → are_ports ran.setup.job.edges visit.node f ≡ true → IsIn o (step ran.setup.job visit f counts t).1
+      → HasPortEdge ran.setup.job.edges visit.node o.port 0
+  output_edge visit f counts t o ports i =
+      let k = place_of_in o (step ran.setup.job visit f counts t).1 i in
+      port_edge ran.setup.job.edges visit.node o.port 0 (outputs_leave ran.setup.job visit f counts t ports k.0 o k.1)
+
+  -- what an edge leads to is a node of higher rank
+  pub edge_up : (node port : ℕ) (e : HasPortEdge ran.setup.job.edges node port 0) → (g.wired.rank node < g.wired.rank e.edge.to) × (e.edge.to < length ran.setup.job.nodes)
+  edge_up node port e =
+      let lt : g.wired.rank e.edge.from < g.wired.rank e.edge.to = g.wired.forward e.at e.edge e.edge_is in
+      let a : g.wired.rank e.edge.from ≡ g.wired.rank node = ap g.wired.rank e.from in
+      (omega arith, (g.wired.ends e.at e.edge e.edge_is).1)
+
+  -- ---- the same landings
+
+  landing_alike : (node : ℕ) (t u : Tuple) → bare_tuple t ≡ bare_tuple u → landing node t ≡ landing node u
+  landing_alike node t u a =
+      let row : t.row ≡ u.row = ap (λ (x : Tuple). x.row) a in
+      let fields : t.fields ≡ u.fields = ap (λ (x : Tuple). x.fields) a in
+      λ i. record { sink = node; row = row i; fields = fields i }
+
+  pub lands_same : (row k n node : ℕ) (t u : Tuple) → bare_tuple t ≡ bare_tuple u → node < length ran.setup.job.nodes → length ran.setup.job.nodes ≤ k + g.wired.rank node
+      → length ran.setup.job.nodes ≤ n + g.wired.rank node → lands ran.setup.job (table ran row) k node t ≡ lands ran.setup.job (table ran row) n node u
+  lands_same row zero n node t u a lt p q = let l = g.wired.below node lt in absurd (omega arith)
+  lands_same row (suc k) zero node t u a lt p q = let l = g.wired.below node lt in absurd (omega arith)
+  lands_same row (suc k) (suc n) node t u a lt p q =
+      go (has_func row node lt) (λ e o p' up lt' same. lands_same row k n e o p' same lt' (omega arith) (omega arith))
+    where
+      go : HasFunc ran row node
+          → ((to : ℕ) (o p : Tuple) → g.wired.rank node < g.wired.rank to → to < length ran.setup.job.nodes → bare_tuple o ≡ bare_tuple p
+          → lands ran.setup.job (table ran row) k to o ≡ lands ran.setup.job (table ran row) n to p)
+          → lands ran.setup.job (table ran row) (suc k) node t ≡ lands ran.setup.job (table ran row) (suc n) node u
+      go h later = by_kind (is_sink (func_for ran row node h.def.func (length ran.setup.requests))) refl
+        where
+          onward_same : (o p : Output) → IsIn o (step ran.setup.job (bare_visit node) (func_for ran row node h.def.func (length ran.setup.requests)) empty t).1 → bare o ≡ bare p
+              → behind ran.setup.job (table ran row) k node o ≡ behind ran.setup.job (table ran row) n node p
+          onward_same o p i b =
+              let e : HasPortEdge ran.setup.job.edges node o.port 0 = output_edge (bare_visit node) (func_for ran row node h.def.func (length ran.setup.requests)) empty t o h.ports i in
+              let up = edge_up node o.port e in
+              let port : o.port ≡ p.port = ap (λ (x : Output). x.port) b in
+              ap (λ f. onward (lands ran.setup.job (table ran row) k) f o.tuple) e.found
+              ∙ (later e.edge.to o.tuple p.tuple up.0 up.1 (ap (λ (x : Output). x.tuple) b)
+              ∙ ap (λ f. onward (lands ran.setup.job (table ran row) n) f p.tuple) (sym (ap (λ x. first_on node x (enumerate_from 0 ran.setup.job.edges)) (sym port) ∙ e.found)))
+
+          by_kind : (b : Bool) → is_sink (func_for ran row node h.def.func (length ran.setup.requests)) ≡ b
+              → lands ran.setup.job (table ran row) (suc k) node t ≡ lands ran.setup.job (table ran row) (suc n) node u
+          by_kind true s =
+              lands-sink ran.setup.job (table ran row) k node t (func_for ran row node h.def.func (length ran.setup.requests)) h.func_is s
+              ∙ (ap (λ (l : Landing). l ∷ []) (landing_alike node t u a)
+              ∙ sym (lands-sink ran.setup.job (table ran row) n node u (func_for ran row node h.def.func (length ran.setup.requests)) h.func_is s))
+          by_kind false s =
+              lands-outputs ran.setup.job (table ran row) k node t (func_for ran row node h.def.func (length ran.setup.requests)) h.func_is s
+              ∙ (joined_alike (behind ran.setup.job (table ran row) k node) (behind ran.setup.job (table ran row) n node)
+              (step ran.setup.job (bare_visit node) (func_for ran row node h.def.func (length ran.setup.requests)) empty t).1
+              (step ran.setup.job (bare_visit node) (func_for ran row node h.def.func (length ran.setup.requests)) empty u).1
+              (outputs_alike ran.setup.job (bare_visit node) node (func_for ran row node h.def.func (length ran.setup.requests)) empty t u refl h.no_count a) onward_same
+              ∙ sym (lands-outputs ran.setup.job (table ran row) n node u (func_for ran row node h.def.func (length ran.setup.requests)) h.func_is s))

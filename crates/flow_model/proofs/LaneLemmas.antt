@@ -1,0 +1,230 @@
+-- The lanes of a job, by their numbers.
+use Rattle.std.proofs.Common.{◌≡◌, ◌∙◌, ◌+◌, ◌==◌, ◌&&◌, ℕ, zero, suc, List, [], ◌∷◌, inl, inr, refl, sym, subst, ap, arith, true, false, Bool, cond, map, filter, Some, None, Option, slice_get}
+use Rattle.std.specs.List.{enumerate_from}
+use Rattle.std.proofs.lemmas.Bool.{and_parts, eq-eqb, eqb-true}
+use Rattle.std.proofs.lemmas.Option.{get_or_from_slice_get, slice_get_within}
+use Rattle.flow_dag.specs.Edges.{HasEdge}
+use Rattle.flow_dag.specs.declared.edge.Edge.{Edge}
+use Rattle.jobs.specs.Nodes.{is_source_node}
+use Rattle.jobs.specs.Written.{Written}
+use Rattle.flow_model.specs.Covers.{covers_edge}
+use Rattle.flow_model.specs.Lanes.{is_same_lane, is_same_sender, is_sender, lanes, lanes_in, lanes_of, lanes_out, lanes_that, marked_lanes, senders}
+use Rattle.flow_model.specs.Outline.{Lane, Outline, Post}
+use Rattle.flow_model.specs.Workers.{posts, posts_of}
+use Rattle.flow_model.proofs.ElementLemmas.{AreDistinct, IsIn, distinct_by_place, distinct_flat_map, distinct_map, filter_in, flat_map_in, in_filter, in_flat_map, in_map, in_of_place, map_in, place_of_in, same_place}
+use Rattle.flow_model.proofs.WorkerLemmas.{IsWorker, in_posts, in_posts_of, posts_of_distinct, same_post}
+
+-- ---- items with their places
+
+pub enumerate_get : {A : Type 0} (n : ℕ) (xs : List A) (k : ℕ) (p : ℕ × A) → slice_get (enumerate_from n xs) k ≡ Some p → (p.0 ≡ n + k) × (slice_get xs k ≡ Some p.1)
+enumerate_get n [] k p g = absurd (cc)
+enumerate_get {A} n (x ∷ xs) zero p g = let e : ◌≡◌ {A = ℕ × A} (n, x) p = cc in (sym (ap (λ (q : ℕ × A). q.0) e) ∙ omega arith, ap (λ (q : ℕ × A). Some q.1) e)
+enumerate_get n (x ∷ xs) (suc k) p g = let r = enumerate_get (n + 1) xs k p g in (omega (arith, r.0), r.1)
+
+pub in_enumerate : {A : Type 0} (n : ℕ) (xs : List A) (p : ℕ × A) → IsIn p (enumerate_from n xs) → (k : ℕ) × (p.0 ≡ n + k) × (slice_get xs k ≡ Some p.1)
+in_enumerate n xs p i = let r = place_of_in p (enumerate_from n xs) i in let q = enumerate_get n xs r.0 p r.1 in (r.0, q.0, q.1)
+
+pub enumerate_in : {A : Type 0} (n : ℕ) (xs : List A) (k m : ℕ) (x : A) → slice_get xs k ≡ Some x → m ≡ n + k → IsIn (m, x) (enumerate_from n xs)
+enumerate_in n [] k m x g e = absurd (cc)
+enumerate_in {A} n (y ∷ xs) zero m x g e = inl (let p : y ≡ x = cc in let q : m ≡ n = omega arith in λ i. (q i, sym p i))
+enumerate_in n (y ∷ xs) (suc k) m x g e = inr (enumerate_in (n + 1) xs k m x g (omega arith))
+
+pub enumerate_distinct : {A : Type 0} (xs : List A) → AreDistinct (enumerate_from 0 xs)
+enumerate_distinct {A} xs =
+    distinct_by_place (enumerate_from 0 xs) (λ i j (p : ℕ × A) g h.
+    let a = enumerate_get 0 xs i p g in let b = enumerate_get 0 xs j p h in omega (arith, a.0, b.0))
+
+-- ---- edges
+
+pub edge_leads : (edges : List Edge) (i : ℕ) (edge : Edge) → slice_get edges i ≡ Some edge → HasEdge edges edge.from edge.to
+edge_leads edges i edge g = (i, edge, slice_get_within edges i edge g, get_or_from_slice_get edges i edge edge g, (refl, refl))
+
+-- ---- what a lane is
+
+-- a lane is that of an edge, to a worker of the node at its end, from a sender of the node at its beginning
+pub record LaneIs (job : Written) (lane : Lane) : Type 0 where
+  pub edge : Edge
+  pub edge_is : slice_get job.edges lane.edge ≡ Some edge
+  pub to : Post
+  pub receives : IsIn to (posts_of job edge.to)
+  pub receiver : lane.receiver ≡ to.number
+  pub sends : IsIn lane.sender (senders job edge.from)
+
+-- the lanes of an edge from one sender
+abbrev lanes_from : Written → ℕ → Edge → Option ℕ → List Lane
+lanes_from job number edge sender = map (λ (post : Post). record { edge = number; sender = sender; receiver = post.number }) (posts_of job edge.to)
+
+in_lanes_of : (job : Written) (number : ℕ) (edge : Edge) (lane : Lane) → IsIn lane (lanes_of job number edge)
+    → (lane.edge ≡ number) × IsIn lane.sender (senders job edge.from) × ((post : Post) × IsIn post (posts_of job edge.to) × (lane.receiver ≡ post.number))
+in_lanes_of job number edge lane i =
+    let s = in_flat_map (lanes_from job number edge) lane (senders job edge.from) i in
+    let r = in_map {B = Lane} (λ (post : Post). record { edge = number; sender = s.0; receiver = post.number }) lane (posts_of job edge.to) s.2 in (
+      ap (λ (l : Lane). l.edge) r.2,
+      subst (λ x. IsIn x (senders job edge.from)) (sym (ap (λ (l : Lane). l.sender) r.2)) s.1,
+      (r.0, r.1, ap (λ (l : Lane). l.receiver) r.2),
+    )
+
+pub in_lanes : (job : Written) (lane : Lane) → IsIn lane (lanes job) → LaneIs job lane
+in_lanes job lane i =
+    let p = in_flat_map (λ (p : ℕ × Edge). lanes_of job p.0 p.1) lane (enumerate_from 0 job.edges) i in
+    let q = in_enumerate 0 job.edges p.0 p.1 in
+    let r = in_lanes_of job p.0.0 p.0.1 lane p.2 in
+    let number : q.0 ≡ lane.edge = omega (arith, q.1, r.0) in
+    record {
+      edge = p.0.1;
+      edge_is = subst (λ k. slice_get job.edges k ≡ Some p.0.1) number q.2;
+      to = r.2.0;
+      receives = r.2.1;
+      receiver = r.2.2;
+      sends = r.1;
+    }
+
+pub lane_is : (job : Written) (n : ℕ) (lane : Lane) → slice_get (lanes job) n ≡ Some lane → LaneIs job lane
+lane_is job n lane g = in_lanes job lane (in_of_place lane (lanes job) n g)
+
+-- for each edge, each sender and each receiver there is a lane
+pub lane_of_edge : (job : Written) (i : ℕ) (edge : Edge) (sender : Option ℕ) (post : Post) → slice_get job.edges i ≡ Some edge → IsIn sender (senders job edge.from)
+    → IsIn post (posts_of job edge.to) → (n : ℕ) × (slice_get (lanes job) n ≡ Some (record { edge = i; sender = sender; receiver = post.number }))
+lane_of_edge job i edge sender post g s r =
+    place_of_in (record { edge = i; sender = sender; receiver = post.number }) (lanes job) (
+    flat_map_in (λ (p : ℕ × Edge). lanes_of job p.0 p.1) (i, edge) (record { edge = i; sender = sender; receiver = post.number }) (enumerate_from 0 job.edges)
+    (enumerate_in 0 job.edges i i edge g (omega arith)) (
+    flat_map_in (lanes_from job i edge) sender (record { edge = i; sender = sender; receiver = post.number }) (senders job edge.from) s (
+    map_in {B = Lane} (λ (post : Post). record { edge = i; sender = sender; receiver = post.number }) post (posts_of job edge.to) r)))
+
+-- ---- no two lanes are the same
+
+same_of_node : (job : Written) (node : ℕ) (a b : Post) → IsIn a (posts_of job node) → IsIn b (posts_of job node) → a.number ≡ b.number → a ≡ b
+same_of_node job node a b i j e = same_post job a b (in_posts_of job node a i).0 (in_posts_of job node b j).0 e
+
+some_same : (a b : ℕ) → Some a ≡ Some b → a ≡ b
+some_same a b e = cc
+
+senders_distinct : (job : Written) (node : ℕ) → AreDistinct (senders job node)
+senders_distinct job node = go (is_source_node (slice_get job.nodes node))
+  where
+    go : (b : Bool) → AreDistinct (cond b (None ∷ []) (map (λ (post : Post). Some post.number) (posts_of job node)))
+    go true = ((λ i. i), tt)
+    go false = distinct_map (λ (post : Post). Some post.number) (posts_of job node)
+        (λ a b i j e. same_of_node job node a b i j (some_same a.number b.number e)) (posts_of_distinct job node)
+
+lanes_of_distinct : (job : Written) (number : ℕ) (edge : Edge) → AreDistinct (lanes_of job number edge)
+lanes_of_distinct job number edge =
+    distinct_flat_map (lanes_from job number edge) (senders job edge.from) (senders_distinct job edge.from)
+    (λ s i. distinct_map {B = Lane} (λ (post : Post). record { edge = number; sender = s; receiver = post.number }) (posts_of job edge.to)
+    (λ a b i j e. same_of_node job edge.to a b i j (ap (λ (l : Lane). l.receiver) e)) (posts_of_distinct job edge.to))
+    (λ s t lane i j a b.
+    let p = in_map {B = Lane} (λ (post : Post). record { edge = number; sender = s; receiver = post.number }) lane (posts_of job edge.to) a in
+    let q = in_map {B = Lane} (λ (post : Post). record { edge = number; sender = t; receiver = post.number }) lane (posts_of job edge.to) b in
+    sym (ap (λ (l : Lane). l.sender) p.2) ∙ ap (λ (l : Lane). l.sender) q.2)
+
+pub lanes_distinct : (job : Written) → AreDistinct (lanes job)
+lanes_distinct job =
+    distinct_flat_map (λ (p : ℕ × Edge). lanes_of job p.0 p.1) (enumerate_from 0 job.edges) (enumerate_distinct job.edges)
+    (λ p i. lanes_of_distinct job p.0 p.1)
+    (λ p q lane i j a b.
+    let x = in_enumerate 0 job.edges p i in
+    let y = in_enumerate 0 job.edges q j in
+    let e : p.0 ≡ q.0 = sym (in_lanes_of job p.0 p.1 lane a).0 ∙ (in_lanes_of job q.0 q.1 lane b).0 in
+    let k : x.0 ≡ y.0 = omega (arith, x.1, y.1) in
+    let u = x.2 in
+    let v : slice_get job.edges x.0 ≡ Some q.1 = subst (λ n. slice_get job.edges n ≡ Some q.1) (sym k) y.2 in
+    let f : p.1 ≡ q.1 = cc in
+    λ i. (e i, f i))
+
+-- the number of a lane is its own
+pub same_number : (job : Written) (a b : Lane) (n k : ℕ) → slice_get (lanes job) n ≡ Some a → slice_get (lanes job) k ≡ Some b → a ≡ b → n ≡ k
+same_number job a b n k g h e = same_place a n k (lanes job) (lanes_distinct job) g (rw e h)
+
+-- ---- the test of lanes
+
+same_sender : (a b : Option ℕ) → is_same_sender a b ≡ true → a ≡ b
+same_sender None None e = refl
+same_sender (Some a) (Some b) e = ap Some (eqb-true a b e)
+same_sender None (Some b) e = absurd (cc)
+same_sender (Some a) None e = absurd (cc)
+
+pub same_lane : (found : Option Lane) (lane : Lane) → is_same_lane found lane ≡ true → found ≡ Some lane
+same_lane None lane e = absurd (cc)
+same_lane (Some a) b e =
+    let p = and_parts (a.edge == b.edge && is_same_sender a.sender b.sender) (a.receiver == b.receiver) e in
+    let q = and_parts (a.edge == b.edge) (is_same_sender a.sender b.sender) p.0 in
+    ap Some (build (eqb-true a.edge b.edge q.0) (same_sender a.sender b.sender q.1) (eqb-true a.receiver b.receiver p.1))
+  where
+    build : a.edge ≡ b.edge → a.sender ≡ b.sender → a.receiver ≡ b.receiver → a ≡ b
+    build p q r = λ i. record { edge = p i; sender = q i; receiver = r i }
+
+sender_self : (a : Option ℕ) → is_same_sender a a ≡ true
+sender_self None = refl
+sender_self (Some a) = eq-eqb a a refl
+
+pub lane_self : (lane : Lane) → is_same_lane (Some lane) lane ≡ true
+lane_self lane = rw (eq-eqb lane.edge lane.edge refl, sender_self lane.sender, eq-eqb lane.receiver lane.receiver refl) refl
+
+-- ---- lanes by a test
+
+pub in_lanes_that : (test : Lane → Bool) (job : Written) (n : ℕ) → IsIn n (lanes_that test job) → (lane : Lane) × (slice_get (lanes job) n ≡ Some lane) × (test lane ≡ true)
+in_lanes_that test job n i =
+    let p = in_map (λ (p : ℕ × Lane). p.0) n (filter (λ (p : ℕ × Lane). test p.1) (enumerate_from 0 (lanes job))) i in
+    let q = in_filter (λ (p : ℕ × Lane). test p.1) p.0 (enumerate_from 0 (lanes job)) p.1 in
+    let r = in_enumerate 0 (lanes job) p.0 q.0 in
+    let e : r.0 ≡ n = omega (arith, r.1, p.2) in
+    (p.0.1, subst (λ k. slice_get (lanes job) k ≡ Some p.0.1) e r.2, q.1)
+
+pub lanes_that_in : (test : Lane → Bool) (job : Written) (n : ℕ) (lane : Lane) → slice_get (lanes job) n ≡ Some lane → test lane ≡ true → IsIn n (lanes_that test job)
+lanes_that_in test job n lane g t =
+    map_in (λ (p : ℕ × Lane). p.0) (n, lane) (filter (λ (p : ℕ × Lane). test p.1) (enumerate_from 0 (lanes job)))
+    (filter_in (λ (p : ℕ × Lane). test p.1) (n, lane) (enumerate_from 0 (lanes job)) (enumerate_in 0 (lanes job) n n lane g (omega arith)) t)
+
+-- ---- the lanes into a worker
+
+-- a lane into a worker: its number, and its edge, which leads to the worker's node
+pub record LaneIn (job : Written) (post : Post) (n : ℕ) : Type 0 where
+  pub lane : Lane
+  pub numbered : slice_get (lanes job) n ≡ Some lane
+  pub receiver : lane.receiver ≡ post.number
+  pub edge : Edge
+  pub edge_is : slice_get job.edges lane.edge ≡ Some edge
+  pub to : edge.to ≡ post.node
+  pub sends : IsIn lane.sender (senders job edge.from)
+
+pub lane_into : (job : Written) (post : Post) (n : ℕ) (lane : Lane) → IsWorker job post → slice_get (lanes job) n ≡ Some lane → lane.receiver ≡ post.number → LaneIn job post n
+lane_into job post n lane is g r =
+    let k : LaneIs job lane = lane_is job n lane g in
+    let into = in_posts_of job k.edge.to k.to k.receives in
+    let q : IsWorker job k.to = in_posts job k.to into.0 in
+    let number : k.to.number ≡ post.number = sym k.receiver ∙ r in
+    let x = is.there in
+    let y : slice_get (posts job) post.number ≡ Some k.to = subst (λ n. slice_get (posts job) n ≡ Some k.to) number q.there in
+    let same : k.to ≡ post = cc in
+    record {
+      lane = lane;
+      numbered = g;
+      receiver = r;
+      edge = k.edge;
+      edge_is = k.edge_is;
+      to = sym into.1 ∙ ap (λ (p : Post). p.node) same;
+      sends = k.sends;
+    }
+
+pub lane_in : (job : Written) (post : Post) (n : ℕ) → IsWorker job post → IsIn n (lanes_in job post.number) → LaneIn job post n
+lane_in job post n is i =
+    let r = in_lanes_that (λ (lane : Lane). lane.receiver == post.number) job n i in
+    lane_into job post n r.0 is r.1 (eqb-true r.0.receiver post.number r.2)
+
+-- a covered lane brings its worker the marker
+pub marked_lane : (setup : Outline) (post : Post) (n request : ℕ) → (k : LaneIn setup.job post n) → covers_edge setup request k.lane.edge ≡ true → IsIn n (marked_lanes setup post.number request)
+marked_lane setup post n request k c =
+    lanes_that_in (λ (lane : Lane). (lane.receiver == post.number) && covers_edge setup request lane.edge) setup.job n k.lane k.numbered (
+    rw (eq-eqb k.lane.receiver post.number k.receiver) c)
+
+-- ---- the lanes out of a worker
+
+pub sender_is : (worker : ℕ) (o : Option ℕ) → is_sender worker o ≡ true → o ≡ Some worker
+sender_is worker None e = absurd (cc)
+sender_is worker (Some s) e = ap Some (eqb-true s worker e)
+
+pub lane_out : (job : Written) (worker : ℕ) (lane : Lane) → IsIn lane (lanes_out job worker) → IsIn lane (lanes job) × (lane.sender ≡ Some worker)
+lane_out job worker lane i =
+    let r = in_filter (λ (lane : Lane). is_sender worker lane.sender) lane (lanes job) i in
+    (r.0, sender_is worker lane.sender r.1)

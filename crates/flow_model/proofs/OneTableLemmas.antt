@@ -1,0 +1,429 @@
+-- What came to the sinks of a run is what its rows make by themselves, each with the functions of its table.
+use Rattle.std.proofs.Common.{◌≡◌, ◌∙◌, ◌<◌, ◌≤◌, ◌+◌, ◌-◌, ◌++◌, ◌==◌, ℕ, zero, suc, List, [], ◌∷◌, inl, refl, sym, subst, ap, arith, true, false, Bool, cond, is_none, length, map, flat_map, count_by, nat_le, Some, None, Option, slice_get, append_assoc}
+use Rattle.std.specs.FinMap.{empty}
+use Rattle.std.specs.List.{cons_option, enumerate_from}
+use Rattle.std.proofs.lemmas.Bool.{eq-eqb}
+use Rattle.std.proofs.lemmas.Option.{slice_get_within}
+use Rattle.jobs.specs.Nodes.{AreFromSources, IsSourceOf, is_source_node}
+use Rattle.jobs.specs.Ports.{are_ports}
+use Rattle.jobs.specs.Written.{Written}
+use Rattle.jobs.specs.declared.func.Func.{Func}
+use Rattle.jobs.specs.declared.func.Func.TheVariants as func
+use Rattle.jobs.specs.declared.func.NodeDef.{NodeDef}
+use Rattle.operators.specs.Laws.{IsMadeOf, bare, bare_tuple}
+use Rattle.operators.specs.Meaning.{outputs, step}
+use Rattle.operators.specs.declared.output.Output.{Output}
+use Rattle.operators.proofs.EdgeLemmas.{outputs_leave}
+use Rattle.operators.proofs.OutputLemmas.{outputs_made}
+use Rattle.sink_journal.specs.Alerts.{met}
+use Rattle.sink_journal.specs.declared.journal.Entry.{Entry}
+use Rattle.sink_journal.specs.declared.journal.Entry.TheVariants as entry
+use Rattle.sink_journal.specs.declared.journal.Feed.{Feed}
+use Rattle.tuple_trace.specs.declared.row.Row.{Row}
+use Rattle.tuple_trace.specs.declared.tuple.Item.{Item}
+use Rattle.tuple_trace.specs.declared.tuple.Item.TheVariants as item
+use Rattle.tuple_trace.specs.declared.tuple.Tuple.{Tuple}
+use Rattle.flow_model.specs.declared.landing.Landing.{Landing}
+use Rattle.flow_model.specs.Alone.{alone, bare_visit, func_for, is_sink, landing, lands, onward, table}
+use Rattle.flow_model.specs.Feeding.{fed_put, fed_puts, fed_tuple, feed_after, issued_after, issued_at_first, row_at}
+use Rattle.flow_model.specs.Lanes.{first_on, is_sender, lane_of, lanes, senders}
+use Rattle.flow_model.specs.OneTable.{HasNoCounts, IsOneTable, landings, landings_alone, landings_by}
+use Rattle.flow_model.specs.Outline.{Lane, Outline, Post}
+use Rattle.flow_model.specs.Replay.{Local, Put, after, put_out, puts, visit_at}
+use Rattle.flow_model.specs.Requests.{afters}
+use Rattle.flow_model.specs.Run.{Ran}
+use Rattle.flow_model.specs.Whole.{journals_at, met_tuples}
+use Rattle.flow_model.specs.Workers.{posts, posts_of}
+use Rattle.flow_model.proofs.ElementLemmas.{IsIn, at_of_all, in_flat_map, in_map, in_of_place, map_in, place_of_in}
+use Rattle.flow_model.proofs.WorkerLemmas.{IsWorker, begun, in_posts, journal_of, post_is, post_of, posts_of_in, worker_is}
+use Rattle.flow_model.proofs.StoryLemmas.{Moment, story, story_get}
+use Rattle.flow_model.proofs.SendingLemmas.{ComesOf, made, puts_come}
+use Rattle.flow_model.proofs.KindLemmas.{AreAlike, alike_ports, alike_self, alike_then}
+use Rattle.flow_model.proofs.RunLemmas.{HasWorker, Running, in_fed_puts, journal_here}
+use Rattle.flow_model.proofs.KinLemmas.{puts_of, story_of}
+use Rattle.flow_model.proofs.FreshLemmas.{past_issued}
+use Rattle.flow_model.proofs.SumLemmas.{count_append, count_flat_map, count_one, count_sum, of_some, sum_add, sum_append, sum_filter_map, sum_flat_map, sum_map, sum_none, sum_over, sum_same}
+use Rattle.flow_model.proofs.FitLemmas.{GoesOn, goes_on, source_port}
+use Rattle.flow_model.proofs.FlowLemmas.{PutsFit, all_puts, entry_weight, flow, lane_to, node_to, put_weight, weigh}
+use Rattle.flow_model.proofs.LandingLemmas.{HasFunc, behind, has_func, lands-outputs, lands-sink, lands_same, outputs_alike, sum_alike}
+use Rattle.flow_model.proofs.TableLemmas.{by_table}
+
+sinks_make_none : (job : Written) (post : Post) (local : Local) (t : Tuple) → is_sink local.func ≡ true → (step job (visit_at post local) local.func local.counts t).1 ≡ []
+sinks_make_none job post local t s = go local.func s
+  where
+    go : (f : Func) → is_sink f ≡ true → outputs job (visit_at post local) f local.counts t ≡ []
+    go func.Source s = refl
+    go (func.Filter conds) s = absurd (cc)
+    go (func.Map steps) s = absurd (cc)
+    go (func.Enrich lookup) s = absurd (cc)
+    go (func.Count count) s = absurd (cc)
+    go (func.Split split) s = absurd (cc)
+    go func.Replicate s = absurd (cc)
+    go (func.Sink listed) s = refl
+
+-- what goes on a lane weighs what its item weighs at the node to which the lane leads
+weight_on : (V : ℕ → Tuple → ℕ) (job : Written) (sender : Option ℕ) (node port : ℕ) (t u : Tuple) → (k : GoesOn job sender node port t)
+    → put_weight V job (record { lane = lane_of job sender node port t; item = item.Carry u }) ≡ V k.edge.to u
+weight_on V job sender node port t u k =
+    let to : lane_to job k.lane ≡ k.edge.to = ap node_to (ap (slice_get job.edges) k.edge_number ∙ k.edge_is) in
+    ap (of_some (λ (lane : Lane). V (lane_to job lane) u)) k.lane_is ∙ ap (λ v. V v u) to
+
+module _ (rows : List Row) (ran : Ran) (g : Running rows ran) (none : HasNoCounts ran.setup.job) (sources : AreFromSources ran.setup.job rows) (test : Landing → Bool) where
+  -- how many nodes a way from this one on has at most
+  abbrev left_at : ℕ → ℕ
+  left_at node = length ran.setup.job.nodes - g.wired.rank node
+
+  -- how many landings of a tuple at a node pass the test
+  abbrev V : ℕ → Tuple → ℕ
+  V node t = count_by test (lands ran.setup.job (table ran t.row) (left_at node) node t)
+
+  -- as many as an alike tuple makes, over no fewer nodes
+  V_is : (row n node : ℕ) (t u : Tuple) → t.row ≡ row → bare_tuple t ≡ bare_tuple u → node < length ran.setup.job.nodes → length ran.setup.job.nodes ≤ n + g.wired.rank node
+      → V node t ≡ count_by test (lands ran.setup.job (table ran row) n node u)
+  V_is row n node t u e a lt le =
+      ap (λ r. count_by test (lands ran.setup.job (table ran r) (left_at node) node t)) e
+      ∙ ap (count_by test) (lands_same rows ran g none row (left_at node) n node t u a lt (omega arith) le)
+
+  -- ---- a worker's moments
+
+  -- a worker of the run, with what is in force at one of its moments
+  record AtWork (w : ℕ) (m : Moment) : Type 0 where
+    is : IsWorker ran.setup.job (post_of ran.setup w)
+    within : HasWorker ran w
+    number : (post_of ran.setup w).number ≡ w
+    i : ℕ
+    there : slice_get (story_of ran w) i ≡ Some m
+    alike : AreAlike (post_of ran.setup w).func m.local.func
+    ports : are_ports ran.setup.job.edges (post_of ran.setup w).node m.local.func ≡ true
+
+  at_work : (w : ℕ) (m : Moment) → HasWorker ran w → IsIn m (story_of ran w) → AtWork w m
+  at_work w m lt h =
+      let is : IsWorker ran.setup.job (post_of ran.setup w) = (worker_is ran.setup w lt).1 in
+      let i = place_of_in m (story_of ran w) h in
+      let alike : AreAlike is.def.func m.local.func =
+      alike_then ran.setup (post_of ran.setup w) is.def (begun ran.setup w) (journal_of ran w) i.0 m g.kinds is.node_is
+      (subst (λ (f : Func). AreAlike is.def.func f) (sym is.func_is) (alike_self is.def.func)) i.1 in
+      record {
+        is = is;
+        within = lt;
+        number = (worker_is ran.setup w lt).0;
+        i = i.0;
+        there = i.1;
+        alike = subst (λ (f : Func). AreAlike f m.local.func) (sym is.func_is) alike;
+        ports = alike_ports ran.setup.job.edges (post_of ran.setup w).node is.def.func m.local.func alike (g.wired.ports (post_of ran.setup w).node is.def is.node_is);
+      }
+
+  sends : (w : ℕ) → IsWorker ran.setup.job (post_of ran.setup w) → IsIn (Some (post_of ran.setup w).number) (senders ran.setup.job (post_of ran.setup w).node)
+  sends w is =
+      let source : is_source_node (slice_get ran.setup.job.nodes (post_of ran.setup w).node) ≡ false = ap is_source_node is.node_is ∙ is.no_source in
+      rw source (map_in (λ (post : Post). Some post.number) (post_of ran.setup w) (posts_of ran.setup.job (post_of ran.setup w).node)
+      (posts_of_in ran.setup.job (post_of ran.setup w).node (post_of ran.setup w) (in_of_place (post_of ran.setup w) (posts ran.setup.job) (post_of ran.setup w).number is.there) refl))
+
+  -- the lane of an output
+  out_goes : (w : ℕ) (m : Moment) (u : Tuple) (o : Output) → AtWork w m → IsIn o (made ran.setup (post_of ran.setup w) m.local u)
+      → GoesOn ran.setup.job (Some (post_of ran.setup w).number) (post_of ran.setup w).node o.port o.tuple
+  out_goes w m u o a i =
+      let k = place_of_in o (made ran.setup (post_of ran.setup w) m.local u) i in
+      goes_on ran.setup.job g.wired (Some (post_of ran.setup w).number) (post_of ran.setup w).node o.port o.tuple
+      (outputs_leave ran.setup.job (visit_at (post_of ran.setup w) m.local) m.local.func m.local.counts u a.ports k.0 o k.1) (sends w a.is)
+
+  -- ---- what is put fits
+
+  moment_fits : (w : ℕ) (m : Moment) (p : Put) (t : Tuple) → AtWork w m → IsIn p (puts_of ran w m) → p.item ≡ item.Carry t
+      → (n : ℕ) × (lane : Lane) × (p.lane ≡ Some lane) × (slice_get (lanes ran.setup.job) n ≡ Some lane) × (is_sender (post_of ran.setup w).number lane.sender ≡ true)
+  moment_fits w m p t a h c = go m.entry h (puts_come ran.setup (post_of ran.setup w) m.local m.entry p h)
+    where
+      go : (e : Entry) → IsIn p (puts ran.setup (post_of ran.setup w) m.local e) → ComesOf ran.setup (post_of ran.setup w) m.local e p.item
+          → (n : ℕ) × (lane : Lane) × (p.lane ≡ Some lane) × (slice_get (lanes ran.setup.job) n ≡ Some lane) × (is_sender (post_of ran.setup w).number lane.sender ≡ true)
+      go (entry.Met l u) h k =
+          let o = in_map (put_out ran.setup.job (post_of ran.setup w)) p (made ran.setup (post_of ran.setup w) m.local u) h in
+          let on : GoesOn ran.setup.job (Some (post_of ran.setup w).number) (post_of ran.setup w).node o.0.port o.0.tuple = out_goes w m u o.0 a o.1 in (
+            on.n,
+            on.lane,
+            ap (λ (p : Put). p.lane) o.2 ∙ on.lane_is,
+            on.there,
+            ap (is_sender (post_of ran.setup w).number) on.sent_by ∙ eq-eqb (post_of ran.setup w).number (post_of ran.setup w).number refl,
+          )
+      go (entry.Marked l r) h k = absurd k
+      go (entry.Turned r) h k = let x = k.2 in absurd (cc)
+      go (entry.Ended l) h k = absurd (cc)
+
+  worker_fits : (post : Post) → IsIn post (posts ran.setup.job) → PutsFit ran.setup.job (λ (lane : Lane). is_sender post.number lane.sender) (all_puts ran post.number)
+  worker_fits post i p t h c =
+      let is : IsWorker ran.setup.job post = in_posts ran.setup.job post i in
+      let lt : HasWorker ran post.number = slice_get_within (posts ran.setup.job) post.number post is.there in
+      let same : post_of ran.setup post.number ≡ post = post_is ran.setup post.number post is.there in
+      let m = in_flat_map (puts_of ran post.number) p (story_of ran post.number) h in
+      let fit = moment_fits post.number m.0 p t (at_work post.number m.0 lt m.1) m.2 c in
+      (fit.0, fit.1, fit.2, fit.3, subst (λ (x : Post). is_sender x.number fit.1.sender ≡ true) same fit.4)
+
+  -- the lane of a row
+  row_goes : (number : ℕ) (row : Row) → row_at rows number ≡ Some row → GoesOn ran.setup.job None row.source 0 row.tuple
+  row_goes zero row e = absurd (cc)
+  row_goes (suc place) row e =
+      let source : is_source_node (slice_get ran.setup.job.nodes row.source) ≡ true = at_of_all (λ (row : Row). IsSourceOf ran.setup.job row.source) row rows sources (in_of_place row rows place e) in
+      go (slice_get ran.setup.job.nodes row.source) refl source
+    where
+      go : (o : Option NodeDef) → slice_get ran.setup.job.nodes row.source ≡ o → is_source_node o ≡ true → GoesOn ran.setup.job None row.source 0 row.tuple
+      go None there s = absurd (cc)
+      go (Some def) there s =
+          let all : is_source_node (slice_get ran.setup.job.nodes row.source) ≡ true = ap is_source_node there ∙ s in
+          goes_on ran.setup.job g.wired None row.source 0 row.tuple (source_port ran.setup.job.edges row.source def.func s (g.wired.ports row.source def there)) (rw all (inl refl))
+
+  feeder_fits : PutsFit ran.setup.job (λ (lane : Lane). is_none lane.sender) (fed_puts ran.setup.job rows 0 ran.feeds)
+  feeder_fits p t h c =
+      let (number, row, count, there, is) = in_fed_puts ran.setup.job rows 0 ran.feeds p h in
+      let on : GoesOn ran.setup.job None row.source 0 row.tuple = row_goes number row there in
+      (on.n, on.lane, ap (λ (p : Put). p.lane) is ∙ on.lane_is, on.there, ap is_none on.sent_by)
+
+  -- ---- a worker that is no sink makes what it met, and a sink makes nothing
+
+  abbrev kept_at : ℕ → Entry → ℕ
+  kept_at w e = cond (is_sink (post_of ran.setup w).func) 0 (entry_weight V (post_of ran.setup w).node e)
+
+  zero_if : (b : Bool) → ◌≡◌ {A = ℕ} 0 (cond b 0 0)
+  zero_if true = refl
+  zero_if false = refl
+
+  -- a put that carries no tuple weighs nothing
+  no_tuple : (ps : List Put) → ((p : Put) → IsIn p ps → (node : ℕ) → weigh V node p.item ≡ 0) → sum_over (put_weight V ran.setup.job) ps ≡ 0
+  no_tuple ps h = sum_none (put_weight V ran.setup.job) ps (λ p i. go p i p.lane)
+    where
+      go : (p : Put) → IsIn p ps → (l : Option Lane) → of_some (λ (lane : Lane). weigh V (lane_to ran.setup.job lane) p.item) l ≡ 0
+      go p i None = refl
+      go p i (Some lane) = h p i (lane_to ran.setup.job lane)
+
+  -- an output weighs what becomes of it
+  out_weighs : (w l : ℕ) (m : Moment) (u : Tuple) (n : ℕ) (o p : Output) → AtWork w m → length ran.setup.job.nodes ≤ suc n + g.wired.rank (post_of ran.setup w).node
+      → IsIn o (made ran.setup (post_of ran.setup w) m.local u) → bare o ≡ bare p
+      → put_weight V ran.setup.job (put_out ran.setup.job (post_of ran.setup w) o) ≡ count_by test (behind ran.setup.job (table ran u.row) n (post_of ran.setup w).node p)
+  out_weighs w l m u n o p a le i b =
+      let on : GoesOn ran.setup.job (Some (post_of ran.setup w).number) (post_of ran.setup w).node o.port o.tuple = out_goes w m u o a i in
+      let k = place_of_in o (made ran.setup (post_of ran.setup w) m.local u) i in
+      let of : IsMadeOf ran.setup.job.edges (visit_at (post_of ran.setup w) m.local) m.local.func u k.0 o =
+      outputs_made ran.setup.job (visit_at (post_of ran.setup w) m.local) m.local.func m.local.counts u k.0 o k.1 in
+      let up : g.wired.rank on.edge.from < g.wired.rank on.edge.to = g.wired.forward on.number on.edge on.edge_is in
+      let from : g.wired.rank on.edge.from ≡ g.wired.rank (post_of ran.setup w).node = ap g.wired.rank on.from in
+      let port : o.port ≡ p.port = ap (λ (x : Output). x.port) b in
+      let found : first_on (post_of ran.setup w).node p.port (enumerate_from 0 ran.setup.job.edges) ≡ Some (on.number, on.edge) =
+      ap (λ x. first_on (post_of ran.setup w).node x (enumerate_from 0 ran.setup.job.edges)) (sym port) ∙ on.found in
+      weight_on V ran.setup.job (Some (post_of ran.setup w).number) (post_of ran.setup w).node o.port o.tuple o.tuple on
+      ∙ (V_is u.row n on.edge.to o.tuple p.tuple of.row (ap (λ (x : Output). x.tuple) b) (g.wired.ends on.number on.edge on.edge_is).1 (omega arith)
+      ∙ ap (λ f. count_by test (onward (lands ran.setup.job (table ran u.row) n) f p.tuple)) (sym found))
+
+  met_keeps : (w l : ℕ) (m : Moment) (u : Tuple) → AtWork w m → m.entry ≡ entry.Met l u
+      → sum_over (put_weight V ran.setup.job) (puts ran.setup (post_of ran.setup w) m.local (entry.Met l u)) ≡ kept_at w (entry.Met l u)
+  met_keeps w l m u a e =
+      sum_map (put_out ran.setup.job (post_of ran.setup w)) (put_weight V ran.setup.job) (made ran.setup (post_of ran.setup w) m.local u)
+      ∙ by_kind (is_sink (post_of ran.setup w).func) refl (left_at (post_of ran.setup w).node) refl
+    where
+      post : Post
+      post = post_of ran.setup w
+
+      inside : (post_of ran.setup w).node < length ran.setup.job.nodes
+      inside = slice_get_within ran.setup.job.nodes (post_of ran.setup w).node a.is.def a.is.node_is
+
+      has : HasFunc ran u.row (post_of ran.setup w).node
+      has = has_func rows ran g none u.row (post_of ran.setup w).node inside
+
+      table_func : m.local.func ≡ func_for ran u.row (post_of ran.setup w).node has.def.func (length ran.setup.requests)
+      table_func =
+          let x = has.node_is in
+          let y = a.is.node_is in
+          let same : a.is.def ≡ has.def = cc in
+          by_table rows ran g w a.within a.i l u m a.there (story_get ran.setup (post_of ran.setup w) (begun ran.setup w) (journal_of ran w) a.i m a.there ∙ ap Some e)
+          ∙ ap (λ (f : Func). func_for ran u.row (post_of ran.setup w).node f (length ran.setup.requests)) (a.is.func_is ∙ ap (λ (d : NodeDef). d.func) same)
+
+      by_kind : (b : Bool) → is_sink (post_of ran.setup w).func ≡ b → (n : ℕ) → left_at (post_of ran.setup w).node ≡ n
+          → sum_over (λ (o : Output). put_weight V ran.setup.job (put_out ran.setup.job (post_of ran.setup w) o)) (made ran.setup (post_of ran.setup w) m.local u)
+          ≡ cond b 0 (V (post_of ran.setup w).node u)
+      by_kind true s n d =
+          ap (sum_over (λ (o : Output). put_weight V ran.setup.job (put_out ran.setup.job (post_of ran.setup w) o))) (sinks_make_none ran.setup.job (post_of ran.setup w) m.local u (a.alike.sink ∙ s))
+      by_kind false s zero d = let low = g.wired.below (post_of ran.setup w).node inside in absurd (omega arith)
+      by_kind false s (suc n) d =
+          let f : Func = func_for ran u.row (post_of ran.setup w).node has.def.func (length ran.setup.requests) in
+          let no_sink : is_sink f ≡ false = ap is_sink (sym table_func) ∙ (a.alike.sink ∙ s) in
+          let these : map bare (made ran.setup (post_of ran.setup w) m.local u) ≡ map bare (step ran.setup.job (bare_visit (post_of ran.setup w).node) f empty u).1 =
+          subst (λ (h : Func). map bare (step ran.setup.job (visit_at (post_of ran.setup w) m.local) h m.local.counts u).1 ≡ map bare (step ran.setup.job (bare_visit (post_of ran.setup w).node) f empty u).1) (sym table_func)
+          (outputs_alike ran.setup.job (visit_at (post_of ran.setup w) m.local) (post_of ran.setup w).node f m.local.counts u u refl has.no_count refl) in
+          let below = g.wired.below (post_of ran.setup w).node inside in
+          let enough : length ran.setup.job.nodes ≤ suc n + g.wired.rank (post_of ran.setup w).node = omega arith in
+          sum_alike (λ (o : Output). put_weight V ran.setup.job (put_out ran.setup.job (post_of ran.setup w) o))
+          (λ (p : Output). count_by test (behind ran.setup.job (table ran u.row) n (post_of ran.setup w).node p))
+          (made ran.setup (post_of ran.setup w) m.local u) (step ran.setup.job (bare_visit (post_of ran.setup w).node) f empty u).1 these
+          (λ o p i b. out_weighs w l m u n o p a enough i b)
+          ∙ (sym (count_flat_map test (behind ran.setup.job (table ran u.row) n (post_of ran.setup w).node) (step ran.setup.job (bare_visit (post_of ran.setup w).node) f empty u).1)
+          ∙ (ap (count_by test) (sym (lands-outputs ran.setup.job (table ran u.row) n (post_of ran.setup w).node u f has.func_is no_sink))
+          ∙ ap (λ k. count_by test (lands ran.setup.job (table ran u.row) k (post_of ran.setup w).node u)) (sym d)))
+
+  no_mark : (r cover node : ℕ) (x : Item) → x ≡ item.Mark r cover → weigh V node x ≡ 0
+  no_mark r cover node x e = ap (weigh V node) e
+
+  no_last : (node : ℕ) (x : Item) → x ≡ item.Last → weigh V node x ≡ 0
+  no_last node x e = ap (weigh V node) e
+
+  keeps : (w : ℕ) (m : Moment) → AtWork w m → sum_over (put_weight V ran.setup.job) (puts_of ran w m) ≡ kept_at w m.entry
+  keeps w m a = go m.entry refl
+    where
+      go : (e : Entry) → m.entry ≡ e → sum_over (put_weight V ran.setup.job) (puts ran.setup (post_of ran.setup w) m.local e) ≡ kept_at w e
+      go (entry.Met l u) e = met_keeps w l m u a e
+      go (entry.Marked l r) e = zero_if (is_sink (post_of ran.setup w).func)
+      go (entry.Turned r) e =
+          no_tuple (puts ran.setup (post_of ran.setup w) m.local (entry.Turned r))
+          (λ p i node. let c = puts_come ran.setup (post_of ran.setup w) m.local (entry.Turned r) p i in no_mark r c.0.nodes node p.item c.2)
+          ∙ zero_if (is_sink (post_of ran.setup w).func)
+      go (entry.Ended l) e =
+          no_tuple (puts ran.setup (post_of ran.setup w) m.local (entry.Ended l)) (λ p i node. no_last node p.item (puts_come ran.setup (post_of ran.setup w) m.local (entry.Ended l) p i))
+          ∙ zero_if (is_sink (post_of ran.setup w).func)
+
+  sum_entries : (setup : Outline) (post : Post) (local : Local) (journal : List Entry) (F : Entry → ℕ) → sum_over (λ (m : Moment). F m.entry) (story setup post local journal) ≡ sum_over F journal
+  sum_entries setup post local [] F = refl
+  sum_entries setup post local (x ∷ journal) F = omega (arith, sum_entries setup post (after setup post local x) journal F)
+
+  if_sum_zero : (b : Bool) (F : Entry → ℕ) (journal : List Entry) → sum_over (λ (x : Entry). cond b 0 (F x)) journal ≡ cond b 0 (sum_over F journal)
+  if_sum_zero true F journal = sum_none (λ (x : Entry). 0) journal (λ x i. refl)
+  if_sum_zero false F journal = refl
+
+  worker_keeps : (post : Post) → IsIn post (posts ran.setup.job)
+      → sum_over (put_weight V ran.setup.job) (all_puts ran post.number) ≡ cond (is_sink post.func) 0 (sum_over (entry_weight V post.node) (journal_of ran post.number))
+  worker_keeps post i =
+      let is : IsWorker ran.setup.job post = in_posts ran.setup.job post i in
+      let lt : HasWorker ran post.number = slice_get_within (posts ran.setup.job) post.number post is.there in
+      let same : post_of ran.setup post.number ≡ post = post_is ran.setup post.number post is.there in
+      sum_flat_map (puts_of ran post.number) (put_weight V ran.setup.job) (story_of ran post.number)
+      ∙ (sum_same (λ (m : Moment). sum_over (put_weight V ran.setup.job) (puts_of ran post.number m)) (λ (m : Moment). kept_at post.number m.entry) (story_of ran post.number)
+      (λ m h. keeps post.number m (at_work post.number m lt h))
+      ∙ (sum_entries ran.setup (post_of ran.setup post.number) (begun ran.setup post.number) (journal_of ran post.number) (kept_at post.number)
+      ∙ (if_sum_zero (is_sink (post_of ran.setup post.number).func) (entry_weight V (post_of ran.setup post.number).node) (journal_of ran post.number)
+      ∙ ap (λ (p : Post). cond (is_sink p.func) 0 (sum_over (entry_weight V p.node) (journal_of ran post.number))) same)))
+
+  -- ---- what is fed weighs what the rows make by themselves
+
+  abbrev row_weight : Row → ℕ
+  row_weight row = count_by test (alone ran.setup.job (table ran row.tuple.row) row)
+
+  fed_weighs : (number issued : ℕ) (row : Row) → row_at rows number ≡ Some row → sum_over (put_weight V ran.setup.job) (fed_put ran.setup.job issued (Some row)) ≡ row_weight row
+  fed_weighs number issued row e =
+      let on : GoesOn ran.setup.job None row.source 0 row.tuple = row_goes number row e in
+      let a : put_weight V ran.setup.job (record { lane = lane_of ran.setup.job None row.source 0 row.tuple; item = item.Carry (fed_tuple issued row) }) ≡ row_weight row =
+      weight_on V ran.setup.job None row.source 0 row.tuple (fed_tuple issued row) on
+      ∙ (V_is row.tuple.row (length ran.setup.job.nodes) on.edge.to (fed_tuple issued row) row.tuple refl refl (g.wired.ends on.number on.edge on.edge_is).1 (omega arith)
+      ∙ ap (λ f. count_by test (onward (lands ran.setup.job (table ran row.tuple.row) (length ran.setup.job.nodes)) f row.tuple)) (sym on.found)) in
+      omega arith
+
+  get_behind : (front more : List Row) (row : Row) → slice_get (front ++ row ∷ more) (length front) ≡ Some row
+  get_behind [] more row = refl
+  get_behind (x ∷ front) more row = get_behind front more row
+
+  length_push : (xs : List Row) (x : Row) → length (xs ++ x ∷ []) ≡ length xs + 1
+  length_push [] x = omega arith
+  length_push (y ∷ xs) x = omega (arith, length_push xs x)
+
+  row_behind : (front more : List Row) (row : Row) → rows ≡ front ++ row ∷ more → row_at rows (length front + 1) ≡ Some row
+  row_behind front more row e =
+      let n : length front + 1 ≡ suc (length front) = omega arith in
+      rw n (ap (λ (l : List Row). slice_get l (length front)) e ∙ get_behind front more row)
+
+  after_weighs : (waits : List ℕ) (r issued : ℕ) (front more : List Row) → rows ≡ front ++ more
+      → sum_over (put_weight V ran.setup.job) (fed_puts ran.setup.job rows issued (feed_after waits r (length front) (length rows) (length more))) ≡ sum_over row_weight more
+  after_weighs waits r issued front [] e = refl
+  after_weighs waits r issued front (row ∷ more) e =
+      sum_append (put_weight V ran.setup.job) (fed_put ran.setup.job issued (row_at rows (length front + 1)))
+      (fed_puts ran.setup.job rows issued (issued_after (length front + 1) (length rows) r waits ++ feed_after waits r (length front + 1) (length rows) (length more)))
+      ∙ omega (arith, here, later (λ n. after_weighs waits r n (front ++ row ∷ []) more (e ∙ sym (append_assoc front (row ∷ []) more))))
+    where
+      there : row_at rows (length front + 1) ≡ Some row
+      there = row_behind front more row e
+
+      here : sum_over (put_weight V ran.setup.job) (fed_put ran.setup.job issued (row_at rows (length front + 1))) ≡ row_weight row
+      here = ap (λ o. sum_over (put_weight V ran.setup.job) (fed_put ran.setup.job issued o)) there ∙ fed_weighs (length front + 1) issued row there
+
+      later : ((n : ℕ) → sum_over (put_weight V ran.setup.job) (fed_puts ran.setup.job rows n (feed_after waits r (length (front ++ row ∷ [])) (length rows) (length more))) ≡ sum_over row_weight more)
+          → sum_over (put_weight V ran.setup.job) (fed_puts ran.setup.job rows issued (issued_after (length front + 1) (length rows) r waits ++ feed_after waits r (length front + 1) (length rows) (length more)))
+          ≡ sum_over row_weight more
+      later rest =
+          let count : ℕ = issued + length (issued_after (length front + 1) (length rows) r waits) in
+          ap (sum_over (put_weight V ran.setup.job))
+          (past_issued ran.setup.job rows (λ after. after == length front + 1) (length rows) r issued waits (feed_after waits r (length front + 1) (length rows) (length more)))
+          ∙ subst (λ n. sum_over (put_weight V ran.setup.job) (fed_puts ran.setup.job rows count (feed_after waits r n (length rows) (length more))) ≡ sum_over row_weight more) (length_push front row)
+          (rest count)
+
+  feed_weighs : sum_over (put_weight V ran.setup.job) (fed_puts ran.setup.job rows 0 ran.feeds) ≡ sum_over row_weight rows
+  feed_weighs =
+      let waits : List ℕ = afters ran.setup.requests in
+      let all : length rows - 0 ≡ length rows = omega arith in
+      ap (λ (f : List Feed). sum_over (put_weight V ran.setup.job) (fed_puts ran.setup.job rows 0 f)) g.run.feed
+      ∙ (ap (sum_over (put_weight V ran.setup.job)) (past_issued ran.setup.job rows (λ after. nat_le after 0) (length rows) 1 0 waits (feed_after waits 1 0 (length rows) (length rows - 0)))
+      ∙ (ap (λ n. sum_over (put_weight V ran.setup.job) (fed_puts ran.setup.job rows (0 + length (issued_at_first 0 (length rows) 1 waits)) (feed_after waits 1 0 (length rows) n))) all
+      ∙ after_weighs waits 1 (0 + length (issued_at_first 0 (length rows) 1 waits)) [] rows refl))
+
+  -- ---- what came to the sinks
+
+  sink_weighs : (row_sink : Post) → IsWorker ran.setup.job row_sink → (t : Tuple) → is_sink row_sink.func ≡ true → V row_sink.node t ≡ cond (test (landing row_sink.node t)) 1 0
+  sink_weighs post is t s = go (has_func rows ran g none t.row post.node inside) (left_at post.node) refl
+    where
+      inside : post.node < length ran.setup.job.nodes
+      inside = slice_get_within ran.setup.job.nodes post.node is.def is.node_is
+
+      go : HasFunc ran t.row post.node → (n : ℕ) → left_at post.node ≡ n → count_by test (lands ran.setup.job (table ran t.row) (left_at post.node) post.node t) ≡ cond (test (landing post.node t)) 1 0
+      go h zero e = let low = g.wired.below post.node inside in absurd (omega arith)
+      go h (suc n) e =
+          let x = h.node_is in
+          let y = is.node_is in
+          let same : is.def ≡ h.def = cc in
+          let sink : is_sink (func_for ran t.row post.node h.def.func (length ran.setup.requests)) ≡ true =
+          h.alike.sink ∙ (ap (λ (d : NodeDef). is_sink d.func) (sym same) ∙ (ap is_sink (sym is.func_is) ∙ s)) in
+          ap (λ k. count_by test (lands ran.setup.job (table ran t.row) k post.node t)) e
+          ∙ (ap (count_by test) (lands-sink ran.setup.job (table ran t.row) n post.node t (func_for ran t.row post.node h.def.func (length ran.setup.requests)) h.func_is sink)
+          ∙ count_one test (landing post.node t))
+
+  sink_counts : (post : Post) → IsWorker ran.setup.job post → (journal : List Entry) → is_sink post.func ≡ true
+      → count_by test (map (landing post.node) (met_tuples journal)) ≡ sum_over (entry_weight V post.node) journal
+  sink_counts post is journal s =
+      count_sum test (map (landing post.node) (met_tuples journal))
+      ∙ (sum_map (landing post.node) (λ (x : Landing). cond (test x) 1 0) (met_tuples journal)
+      ∙ (sum_filter_map met (λ (t : Tuple). cond (test (landing post.node t)) 1 0) journal
+      ∙ sum_same (λ (x : Entry). of_some (λ (t : Tuple). cond (test (landing post.node t)) 1 0) (met x)) (entry_weight V post.node) journal (λ x i. one x)))
+    where
+      one : (x : Entry) → of_some (λ (t : Tuple). cond (test (landing post.node t)) 1 0) (met x) ≡ entry_weight V post.node x
+      one (entry.Met l t) = sym (sink_weighs post is t s)
+      one (entry.Marked l r) = refl
+      one (entry.Turned r) = refl
+      one (entry.Ended l) = refl
+
+  worker_lands : (post : Post) → IsIn post (posts ran.setup.job)
+      → count_by test (flat_map (landings_by post) (journals_at ran.journals (post ∷ []))) ≡ cond (is_sink post.func) (sum_over (entry_weight V post.node) (journal_of ran post.number)) 0
+  worker_lands post i =
+      let is : IsWorker ran.setup.job post = in_posts ran.setup.job post i in
+      let lt : HasWorker ran post.number = slice_get_within (posts ran.setup.job) post.number post is.there in
+      ap (λ o. count_by test (flat_map (landings_by post) (cons_option o []))) (journal_here rows ran g post.number lt)
+      ∙ (count_append test (landings_by post (journal_of ran post.number)) [] ∙ by_kind is (is_sink post.func) refl)
+    where
+      by_kind : IsWorker ran.setup.job post → (b : Bool) → is_sink post.func ≡ b
+          → count_by test (cond b (map (landing post.node) (met_tuples (journal_of ran post.number))) []) + 0 ≡ cond b (sum_over (entry_weight V post.node) (journal_of ran post.number)) 0
+      by_kind is true s = omega (arith, sink_counts post is (journal_of ran post.number) s)
+      by_kind is false s = refl
+
+  halves : (b : Bool) (x : ℕ) → x ≡ cond b x 0 + cond b 0 x
+  halves true x = omega arith
+  halves false x = omega arith
+
+  same_count : count_by test (landings ran) ≡ count_by test (landings_alone ran rows)
+  same_count =
+      let met_at : Post → ℕ = λ (post : Post). sum_over (entry_weight V post.node) (journal_of ran post.number) in
+      let at_sink : Post → ℕ = λ (post : Post). cond (is_sink post.func) (sum_over (entry_weight V post.node) (journal_of ran post.number)) 0 in
+      let elsewhere : Post → ℕ = λ (post : Post). cond (is_sink post.func) 0 (sum_over (entry_weight V post.node) (journal_of ran post.number)) in
+      let all : List Post = posts ran.setup.job in
+      let flows = flow rows ran g V feeder_fits worker_fits in
+      let made_is : sum_over (λ (post : Post). sum_over (put_weight V ran.setup.job) (all_puts ran post.number)) all ≡ sum_over elsewhere all =
+      sum_same (λ (post : Post). sum_over (put_weight V ran.setup.job) (all_puts ran post.number)) elsewhere all worker_keeps in
+      let parts : sum_over met_at all ≡ sum_over at_sink all + sum_over elsewhere all =
+      sum_same met_at (λ (post : Post). at_sink post + elsewhere post) all (λ post i. halves (is_sink post.func) (met_at post)) ∙ sum_add at_sink elsewhere all in
+      let lands_is : count_by test (landings ran) ≡ sum_over at_sink all =
+      count_flat_map test (λ (post : Post). flat_map (landings_by post) (journals_at ran.journals (post ∷ []))) all
+      ∙ sum_same (λ (post : Post). count_by test (flat_map (landings_by post) (journals_at ran.journals (post ∷ [])))) at_sink all worker_lands in
+      let alone_is : count_by test (landings_alone ran rows) ≡ sum_over row_weight rows = count_flat_map test (λ (row : Row). alone ran.setup.job (table ran row.tuple.row) row) rows in
+      omega (arith, flows, made_is, parts, lands_is, alone_is, feed_weighs)
+
+pub one_table : (rows : List Row) (ran : Ran) (g : Running rows ran) → HasNoCounts ran.setup.job → AreFromSources ran.setup.job rows → IsOneTable rows ran
+one_table rows ran g none sources test = same_count rows ran g none sources test

@@ -1,0 +1,243 @@
+-- In a run each row is whole at each request.
+use Rattle.std.proofs.Common.{◌≡◌, ◌∙◌, ◌≢◌, ◌<◌, ◌≤◌, ℕ, List, [], ◌∷◌, inl, inr, refl, sym, subst, ap, arith, true, false, Bool, Some, slice_get}
+use Rattle.std.specs.List.{list_any}
+use Rattle.flow_dag.specs.Edges.{HasEdge}
+use Rattle.flow_dag.specs.Paths.{IsOrReaches, Reaches}
+use Rattle.flow_dag.proofs.PathLemmas.{IsOrReaches-edge, IsOrReaches-here, IsOrReaches-trans, Reaches-from_steps}
+use Rattle.jobs.specs.declared.func.Func.{Func}
+use Rattle.sink_journal.specs.declared.journal.Entry.{Entry}
+use Rattle.sink_journal.specs.declared.journal.Entry.TheVariants as entry
+use Rattle.tuple_trace.specs.declared.row.Row.{Row}
+use Rattle.tuple_trace.specs.declared.tuple.Tuple.{Tuple}
+use Rattle.flow_model.specs.Covers.{asks, covers}
+use Rattle.flow_model.specs.Outline.{Outline, Post}
+use Rattle.flow_model.specs.Planned.{is_many_at}
+use Rattle.flow_model.specs.Replay.{visit_at}
+use Rattle.flow_model.specs.Requests.{changes}
+use Rattle.flow_model.specs.Run.{Ran}
+use Rattle.flow_model.specs.Whole.{IsOneSided, IsWhole, after_turn, any_after, any_before, asked_workers, before_turn, changed_workers, journals_at, meets_row}
+use Rattle.flow_model.specs.Workers.{posts}
+use Rattle.flow_model.proofs.ElementLemmas.{IsIn, any_in, filter_in, filter_map_in, in_any, in_filter, in_filter_map}
+use Rattle.flow_model.proofs.WorkerLemmas.{IsWorker, begun, in_posts, journal_is, journal_of, post_is, post_of, worker_is}
+use Rattle.flow_model.proofs.PlannedLemmas.{due_of_cover, dues_rise}
+use Rattle.flow_model.proofs.SendingLemmas.{made}
+use Rattle.flow_model.proofs.StoryLemmas.{Moment}
+use Rattle.flow_model.proofs.AgreementLemmas.{HasAgreed, IsNew, IsOld}
+use Rattle.flow_model.proofs.KindLemmas.{AreAlike, ArePieces, alike_ports, alike_self, alike_then, many_by_job, pieces_of}
+use Rattle.flow_model.proofs.RunLemmas.{HasWorker, Running, all_agree, execution, finished, start_of, station_of}
+use Rattle.flow_model.proofs.KinLemmas.{Address, AreKin, Born, Child, IsChain, Meets, Parted, Passed, born, kin, meets_one, parted, passed, story_of, visit_of}
+use Rattle.flow_model.proofs.RootLemmas.{Rooted, one_root, rooted}
+use Rattle.flow_model.proofs.TurnLemmas.{Early, Late, found_early, found_late, turns}
+use Rattle.std.proofs.lemmas.Option.{slice_get_within}
+
+-- ---- chains lead along edges
+
+pub chain_reaches : (ran : Ran) (p c : Address) (chain : List Address) → IsChain ran p chain c
+    → IsOrReaches (HasEdge ran.setup.job.edges) (post_of ran.setup p.worker).node (post_of ran.setup c.worker).node
+chain_reaches ran p c [] h =
+    IsOrReaches-here (HasEdge ran.setup.job.edges) (post_of ran.setup p.worker).node (post_of ran.setup c.worker).node (ap (λ (x : Address). (post_of ran.setup x.worker).node) h)
+chain_reaches ran p c (a ∷ chain) h =
+    IsOrReaches-trans (HasEdge ran.setup.job.edges) (post_of ran.setup p.worker).node (post_of ran.setup a.worker).node (post_of ran.setup c.worker).node
+    (IsOrReaches-edge (HasEdge ran.setup.job.edges) (post_of ran.setup p.worker).node (post_of ran.setup a.worker).node h.0.edge) (chain_reaches ran a c chain h.1)
+
+-- ---- where two entries parted
+
+-- An entry that meets a tuple of a row, with what was in force.
+pub record Meeting (ran : Ran) (row : ℕ) (c : Address) : Type 0 where
+  pub tuple : Tuple
+  pub meets : Meets ran c tuple
+  pub is_row : tuple.row ≡ row
+  pub moment : Moment
+  pub there : slice_get (story_of ran c.worker) c.entry ≡ Some moment
+  pub within : HasWorker ran c.worker
+
+-- two children of an entry are pieces that its function made
+pub record HasParted (ran : Ran) (p a b : Address) (k : Parted ran p a b) : Type 0 where
+  pub tuple : Tuple
+  pub func : Func
+  pub pieces : ArePieces func tuple.birth k.first.tuple.birth k.second.tuple.birth
+  pub many : is_many_at ran.setup.job.nodes (post_of ran.setup p.worker).node ≡ true
+
+pub has_parted : (rows : List Row) (ran : Ran) (g : Running rows ran) (p a b : Address) (k : Parted ran p a b) → HasParted ran p a b k
+has_parted rows ran g p a b k =
+    let setup : Outline = ran.setup in
+    let post : Post = post_of ran.setup p.worker in
+    let is : IsWorker setup.job post = (worker_is setup p.worker k.first.within).1 in
+    let m : Moment = k.first.moment in
+    let x : Born ran p a k.first = born ran p a k.first in
+    let y : Born ran p b k.second = born ran p b k.second in
+    let same : y.tuple ≡ x.tuple = meets_one ran p y.tuple x.tuple y.meets x.meets in
+    let alike : AreAlike is.def.func m.local.func =
+    alike_then setup post is.def (begun setup p.worker) (journal_of ran p.worker) p.entry m g.kinds is.node_is
+    (subst (λ (f : Func). AreAlike is.def.func f) (sym is.func_is) (alike_self is.def.func)) k.first.there in
+    let second : slice_get (made setup post m.local x.tuple) k.second.k ≡ Some y.out =
+    subst (λ (n : Moment). slice_get (made setup post n.local x.tuple) k.second.k ≡ Some y.out) (sym k.same_moment)
+    (subst (λ (t : Tuple). slice_get (made setup post k.second.moment.local t) k.second.k ≡ Some y.out) same y.made_so) in
+    let pieces : ArePieces m.local.func x.tuple.birth x.out.tuple.birth y.out.tuple.birth =
+    pieces_of setup.job (visit_at post m.local) m.local.func m.local.counts x.tuple k.first.k k.second.k x.out y.out
+    (alike_ports setup.job.edges post.node is.def.func m.local.func alike (g.wired.ports post.node is.def is.node_is)) x.made_so second k.other_output in
+    record {
+      tuple = x.tuple;
+      func = m.local.func;
+      pieces = subst (λ (l : List ℕ). ArePieces m.local.func x.tuple.birth l k.second.tuple.birth) (sym (ap (λ (t : Tuple). t.birth) x.is))
+          (subst (λ (l : List ℕ). ArePieces m.local.func x.tuple.birth x.out.tuple.birth l) (sym (ap (λ (t : Tuple). t.birth) y.is)) pieces);
+      many = many_by_job setup.job.nodes post.node is.def m.local.func is.node_is alike pieces.emits;
+    }
+
+-- ---- two entries of a row at asked nodes
+
+pub kin_of_row : (rows : List Row) (ran : Ran) (g : Running rows ran) (row : ℕ) (c d : Address) → Meeting ran row c → Meeting ran row d → AreKin ran c d
+kin_of_row rows ran g row c d m n =
+    let p : Rooted rows ran c = rooted rows ran g c m.tuple m.within m.meets in
+    let q : Rooted rows ran d = rooted rows ran g d n.tuple n.within n.meets in
+    let a : Passed p.root.tuple m.tuple = passed ran p.at c p.chain p.root.tuple m.tuple p.down (p.root.n, p.root.met) m.meets in
+    let b : Passed q.root.tuple n.tuple = passed ran q.at d q.chain q.root.tuple n.tuple q.down (q.root.n, q.root.met) n.meets in
+    let one : p.at ≡ q.at = one_root rows ran p.at q.at g p.root q.root (sym a.row ∙ (m.is_row ∙ (sym n.is_row ∙ b.row))) in
+    kin ran p.at c d p.chain q.chain p.down (subst (λ x. IsChain ran x q.chain d) (sym one) q.down)
+
+same_last : (ran : Ran) (p : Address) (m n : Moment) → slice_get (story_of ran p.worker) p.entry ≡ Some m → slice_get (story_of ran p.worker) p.entry ≡ Some n → m.local.last ≡ n.local.last
+same_last ran p m n x y = let z : m ≡ n = cc in ap (λ (m : Moment). m.local.last) z
+
+module _ (rows : List Row) (ran : Ran) (g : Running rows ran) (row r : ℕ) (c d : Address)
+    (ac : asks ran.setup r (post_of ran.setup c.worker).node ≡ true) (ad : asks ran.setup r (post_of ran.setup d.worker).node ≡ true)
+    (m : Meeting ran row c) (n : Meeting ran row d)
+    (late : r ≤ m.moment.local.last) (new : IsNew ran.setup r m.tuple) (early : n.moment.local.last < r) (old : IsOld ran.setup r n.tuple)
+  where
+    same_entry : c ≡ d → ⊥
+    same_entry e =
+        let k = same_last ran c m.moment n.moment m.there (subst (λ (a : Address). slice_get (story_of ran a.worker) a.entry ≡ Some n.moment) (sym e) n.there) in
+        absurd (omega arith)
+
+    below : (a : Address) (chain : List Address) → Child ran c a → IsChain ran a chain d → ⊥
+    below a chain k h =
+        let lt : k.moment.local.last < r = old (visit_at (post_of ran.setup c.worker) k.moment.local) (visit_of ran c a d chain n.tuple k h n.meets) (g.kept.asked r (post_of ran.setup c.worker).node ac) in
+        let last = same_last ran c k.moment m.moment k.there m.there in
+        absurd (omega arith)
+
+    above : (a : Address) (chain : List Address) → Child ran d a → IsChain ran a chain c → ⊥
+    above a chain k h =
+        let le : r ≤ k.moment.local.last = new (visit_at (post_of ran.setup d.worker) k.moment.local) (visit_of ran d a c chain m.tuple k h m.meets) (g.kept.asked r (post_of ran.setup d.worker).node ad) in
+        let last = same_last ran d k.moment n.moment k.there n.there in
+        absurd (omega arith)
+
+    -- where they parted is a node of many, and so a covered one, whose visit both must judge
+    between : (p a b : Address) → Child ran p a → Child ran p b → a ≢ b → (s t : List Address) → IsChain ran a s c → IsChain ran b t d → ⊥
+    between p a b x y differ s t u v =
+        let k : Parted ran p a b = parted ran p a b x y differ in
+        let h : HasParted ran p a b k = has_parted rows ran g p a b k in
+        let post : Post = post_of ran.setup p.worker in
+        let leads : Reaches (HasEdge ran.setup.job.edges) post.node (post_of ran.setup c.worker).node =
+        Reaches-from_steps (HasEdge ran.setup.job.edges) post.node (post_of ran.setup a.worker).node (post_of ran.setup c.worker).node k.first.edge (chain_reaches ran a c s u) in
+        let cov : covers ran.setup r post.node ≡ true = g.kept.many r post.node (post_of ran.setup c.worker).node h.many leads ac in
+        let le : r ≤ k.first.moment.local.last = new (visit_at post k.first.moment.local) (visit_of ran p a c s m.tuple k.first u m.meets) cov in
+        let lt : k.second.moment.local.last < r = old (visit_at post k.second.moment.local) (visit_of ran p b d t n.tuple k.second v n.meets) cov in
+        let last : k.first.moment.local.last ≡ k.second.moment.local.last = ap (λ (m : Moment). m.local.last) k.same_moment in
+        absurd (omega arith)
+
+    torn : AreKin ran c d → ⊥
+    torn (inl h) = down h.0 h.1
+      where
+        down : (chain : List Address) → IsChain ran c chain d → ⊥
+        down [] e = same_entry e
+        down (a ∷ chain) h = below a chain h.0 h.1
+    torn (inr (inl h)) = up h.0 h.1
+      where
+        up : (chain : List Address) → IsChain ran d chain c → ⊥
+        up [] e = same_entry (sym e)
+        up (a ∷ chain) h = above a chain h.0 h.1
+    torn (inr (inr h)) = between h.0 h.1 h.2 h.3 h.4 h.5 h.6.0 h.7.0 h.6.1 h.7.1
+
+    -- one stands after its turn and the other before its turn: that can't be
+    pub never_torn : ⊥
+    never_torn = torn (kin_of_row rows ran g row c d m n)
+
+-- ---- the theorem
+
+-- the journal of a worker of an asked node
+record IsAsked (ran : Ran) (r : ℕ) (journal : List Entry) : Type 0 where
+  w : ℕ
+  within : HasWorker ran w
+  asked : asks ran.setup r (post_of ran.setup w).node ≡ true
+  journal_there : journal_of ran w ≡ journal
+
+asked_journal : (ran : Ran) (r : ℕ) (journal : List Entry) → IsIn journal (journals_at ran.journals (asked_workers ran.setup r)) → IsAsked ran r journal
+asked_journal ran r journal h =
+    let p = in_filter_map (λ (post : Post). slice_get ran.journals post.number) journal (asked_workers ran.setup r) h in
+    let q = in_filter (λ (post : Post). asks ran.setup r post.node) p.0 (posts ran.setup.job) p.1 in
+    let is : IsWorker ran.setup.job p.0 = in_posts ran.setup.job p.0 q.0 in
+    let e : post_of ran.setup p.0.number ≡ p.0 = post_is ran.setup p.0.number p.0 is.there in
+    record {
+      w = p.0.number;
+      within = slice_get_within (posts ran.setup.job) p.0.number p.0 is.there;
+      asked = rw e q.1;
+      journal_there = journal_is ran p.0.number journal p.2;
+    }
+
+-- a covering request is turned by every worker
+pub covered_turns : (rows : List Row) (ran : Ran) (g : Running rows ran) (w r : ℕ) → HasWorker ran w → covers ran.setup r (post_of ran.setup w).node ≡ true → IsIn (entry.Turned r) (journal_of ran w)
+covered_turns rows ran g w r lt c =
+    let lane = g.wired.reached (post_of ran.setup w) (worker_is ran.setup w lt).1 in
+    turns (station_of ran w) (journal_of ran w) lane.0 r (finished rows ran g w lt) lane.1 (due_of_cover ran.setup (post_of ran.setup w).node r c)
+
+late_of : (rows : List Row) (ran : Ran) (g : Running rows ran) (w row r : ℕ) → HasWorker ran w → meets_row row (after_turn r (journal_of ran w)) ≡ true
+    → Late ran.setup (post_of ran.setup w) (begun ran.setup w) (journal_of ran w) row r
+late_of rows ran g w row r lt h =
+    found_late ran.setup (station_of ran w) (post_of ran.setup w) (start_of ran w) (begun ran.setup w) (journal_of ran w) row r
+    (execution rows ran g w lt) (dues_rise ran.setup 0 (post_of ran.setup w).node 0 (omega arith)) h
+
+early_of : (rows : List Row) (ran : Ran) (g : Running rows ran) (w row r : ℕ) → HasWorker ran w → covers ran.setup r (post_of ran.setup w).node ≡ true → meets_row row (before_turn r (journal_of ran w)) ≡ true
+    → Early ran.setup (post_of ran.setup w) (begun ran.setup w) (journal_of ran w) row r
+early_of rows ran g w row r lt c h =
+    found_early ran.setup (station_of ran w) (post_of ran.setup w) (start_of ran w) (begun ran.setup w) (journal_of ran w) row r
+    (execution rows ran g w lt) (dues_rise ran.setup 0 (post_of ran.setup w).node 0 (omega arith)) (covered_turns rows ran g w r lt c) h
+
+-- the row is met after the turn by one and before it by another: that can't be
+both_sides : (rows : List Row) (ran : Ran) (g : Running rows ran) (r row : ℕ) (a b : List Entry) → IsAsked ran r a → IsAsked ran r b
+    → meets_row row (after_turn r a) ≡ true → meets_row row (before_turn r b) ≡ true → ⊥
+both_sides rows ran g r row a b x y h k =
+    let late = late_of rows ran g x.w row r x.within (rw x.journal_there h) in
+    let early = early_of rows ran g y.w row r y.within (g.kept.asked r (post_of ran.setup y.w).node y.asked) (rw y.journal_there k) in
+    let p : HasAgreed ran.setup (journal_of ran x.w) = all_agree rows ran g x.w x.within in
+    let q : HasAgreed ran.setup (journal_of ran y.w) = all_agree rows ran g y.w y.within in
+    never_torn rows ran g row r (record { worker = x.w; entry = late.found.i }) (record { worker = y.w; entry = early.found.i }) x.asked y.asked
+    (record { tuple = late.found.tuple; meets = (late.found.lane, late.found.met); is_row = late.found.is_row; moment = late.found.moment; there = late.found.there; within = x.within })
+    (record { tuple = early.found.tuple; meets = (early.found.lane, early.found.met); is_row = early.found.is_row; moment = early.found.moment; there = early.found.there; within = y.within })
+    late.later (p.new late.found.lane late.found.tuple r late.behind) early.earlier (q.old early.found.lane early.found.tuple r early.ahead)
+
+-- the workers of the nodes that the plan asks meet the row on one side alone
+pub one_sided : (rows : List Row) (ran : Ran) (g : Running rows ran) (r row : ℕ) → IsOneSided ran r row (asked_workers ran.setup r)
+one_sided rows ran g r row =
+    go (any_after r row (journals_at ran.journals (asked_workers ran.setup r))) refl (any_before r row (journals_at ran.journals (asked_workers ran.setup r))) refl
+  where
+    go : (a : Bool) → any_after r row (journals_at ran.journals (asked_workers ran.setup r)) ≡ a → (b : Bool) → any_before r row (journals_at ran.journals (asked_workers ran.setup r)) ≡ b
+        → IsOneSided ran r row (asked_workers ran.setup r)
+    go false e b f = inl e
+    go true e false f = inr f
+    go true e true f =
+        let a = any_in (λ (journal : List Entry). meets_row row (after_turn r journal)) (journals_at ran.journals (asked_workers ran.setup r)) e in
+        let b = any_in (λ (journal : List Entry). meets_row row (before_turn r journal)) (journals_at ran.journals (asked_workers ran.setup r)) f in
+        absurd (both_sides rows ran g r row a.0 b.0 (asked_journal ran r a.0 a.1) (asked_journal ran r b.0 b.1) a.2 b.2)
+
+-- what no list of a longer list passes, none of a shorter one does
+fewer_pass : {A : Type 0} (test : A → Bool) (few many : List A) → ((x : A) → IsIn x few → IsIn x many) → list_any test many ≡ false → list_any test few ≡ false
+fewer_pass test few many f e = go (list_any test few) refl
+  where
+    go : (b : Bool) → list_any test few ≡ b → list_any test few ≡ false
+    go true h = let (x, i, t) = any_in test few h in let k : list_any test many ≡ true = in_any test x many (f x i) t in absurd (cc)
+    go false h = h
+
+changed_asked : (rows : List Row) (ran : Ran) (g : Running rows ran) (r : ℕ) (journal : List Entry) → IsIn journal (journals_at ran.journals (changed_workers ran.setup r))
+    → IsIn journal (journals_at ran.journals (asked_workers ran.setup r))
+changed_asked rows ran g r journal h =
+    let p = in_filter_map (λ (post : Post). slice_get ran.journals post.number) journal (changed_workers ran.setup r) h in
+    let q = in_filter (λ (post : Post). changes ran.setup r post.node) p.0 (posts ran.setup.job) p.1 in
+    filter_map_in (λ (post : Post). slice_get ran.journals post.number) p.0 journal (asked_workers ran.setup r)
+    (filter_in (λ (post : Post). asks ran.setup r post.node) p.0 (posts ran.setup.job) q.0 (g.kept.changed r p.0.node q.1)) p.2
+
+-- so do those of the nodes that the request changes
+pub whole : (rows : List Row) (ran : Ran) (g : Running rows ran) (r row : ℕ) → IsWhole ran r row
+whole rows ran g r row =
+    elim (one_sided rows ran g r row) [
+      | inl after ↦ inl (fewer_pass (λ (journal : List Entry). meets_row row (after_turn r journal)) (journals_at ran.journals (changed_workers ran.setup r)) (journals_at ran.journals (asked_workers ran.setup r)) (changed_asked rows ran g r) after)
+      | inr before ↦ inr (fewer_pass (λ (journal : List Entry). meets_row row (before_turn r journal)) (journals_at ran.journals (changed_workers ran.setup r)) (journals_at ran.journals (asked_workers ran.setup r)) (changed_asked rows ran g r) before)
+    ]
