@@ -1,0 +1,181 @@
+-- Lists that gain what is put on their lanes.
+use Rattle.std.proofs.Common.{◌≡◌, ◌<◌, ◌+◌, ◌==◌, ℕ, suc, Bool, true, false, List, [], ◌∷◌, ◌++◌, length, map, drop, take, set, get_or, filter, inl, inr, Option, Some, None, refl, sym, ap, subst, ◌∙◌, arith, append_assoc}
+use Rattle.std.specs.Prelude.{All, slice_get, if◌then◌else◌}
+use Rattle.std.specs.List.{flat_map}
+use Rattle.std.proofs.lemmas.Bool.{eqb-false, eqb-true}
+use Rattle.std.proofs.lemmas.List.Elements.{All-cons, All-nil, filter_map-append}
+use Rattle.std.proofs.lemmas.Option.{same_Some, slice_get_within}
+use Rattle.std.proofs.lemmas.List.{append-nil, drop-set-lt, drop_more, take_more_set}
+use Rattle.jobs.specs.Law.{IsLawful}
+use Rattle.jobs.specs.Written.{Written}
+use Rattle.tuple_trace.specs.declared.tuple.Item.{Item}
+use Rattle.tuple_trace.specs.declared.tuple.Item.TheVariants as item
+use Rattle.cover_planner.specs.declared.cover.Plan.{Plan}
+use Rattle.flow_model.specs.Covers.{covers_edge, plan_of}
+use Rattle.flow_model.specs.Lanes.{is_same_lane, is_sender, lanes, lanes_out}
+use Rattle.flow_model.specs.Outline.{Lane, Outline}
+use Rattle.flow_model.specs.Replay.{Put, item_on, items_on, marker, marker_by, put_on_each}
+use Rattle.flow_model.proofs.ElementLemmas.{AreDistinct, IsIn, distinct_filter}
+use Rattle.flow_model.proofs.LaneLemmas.{lanes_distinct}
+use Rattle.flow_replay.specs.declared.folds.Onto.TheVariants as onto
+use Rattle.flow_replay.specs.declared.folds.Outlet.{Outlet}
+use Rattle.flow_replay.specs.Folds.{AreOutlets, item_if, reaches, with_item, with_marker_of, with_markers, with_puts}
+use Rattle.flow_replay.proofs.LaneLemmas.{is_lane, same_lane, same_lane_self, same_number}
+
+-- ---- one list on
+
+-- one more of the lists has what it gains
+pub with_item-more : (test : Outlet → Bool) (item : Item) (outlets : List Outlet) (lists : List (List Item)) (i : ℕ) (d : Outlet) (e new : List Item)
+    → i < length outlets → i < length lists → new ≡ item_if (test (get_or outlets i d)) item (get_or lists i e)
+    → take (i + 1) (set lists i new) ++ with_item test item (drop (i + 1) outlets) (drop (i + 1) (set lists i new)) ≡ take i lists ++ with_item test item (drop i outlets) (drop i lists)
+with_item-more test item outlets lists i d e new lt lt' is =
+    let here = drop_more outlets i d lt in
+    let there = drop_more lists i e lt' in
+    let taken : take (i + 1) (set lists i new) ≡ take i lists ++ new ∷ [] = take_more_set lists i new lt' in
+    let left : drop (i + 1) (set lists i new) ≡ drop (i + 1) lists = drop-set-lt (i + 1) lists i new (omega arith) in
+    rw (taken, left, here, there, ← is) (append_assoc (take i lists) (new ∷ []) (with_item test item (drop (i + 1) outlets) (drop (i + 1) lists)))
+
+-- ---- items on lanes
+
+-- a list for each lane, of what it is told of the lane
+pub with_puts-map : (f : Lane → List Item) (puts : List Put) (lanes' : List Lane) → with_puts lanes' puts (map f lanes') ≡ map (λ (lane : Lane). f lane ++ items_on lane puts) lanes'
+with_puts-map f puts [] = refl
+with_puts-map f puts (lane ∷ lanes') = ap (λ (x : List (List Item)). (f lane ++ items_on lane puts) ∷ x) (with_puts-map f puts lanes')
+
+items_on-append : (lane : Lane) (xs ys : List Put) → items_on lane (xs ++ ys) ≡ items_on lane xs ++ items_on lane ys
+items_on-append lane xs ys = filter_map-append (item_on lane) xs ys
+
+-- what is put first, and then more
+pub with_puts-append : (lanes' : List Lane) (xs ys : List Put) (lists : List (List Item)) → with_puts lanes' (xs ++ ys) lists ≡ with_puts lanes' ys (with_puts lanes' xs lists)
+with_puts-append [] xs ys lists = refl
+with_puts-append (lane ∷ lanes') xs ys [] = refl
+with_puts-append (lane ∷ lanes') xs ys (list ∷ lists) =
+    let here : list ++ items_on lane (xs ++ ys) ≡ (list ++ items_on lane xs) ++ items_on lane ys = ap (λ (x : List Item). list ++ x) (items_on-append lane xs ys) ∙ sym (append_assoc list (items_on lane xs) (items_on lane ys)) in
+    rw (here, with_puts-append lanes' xs ys lists) refl
+
+-- where nothing is put on any of the lanes, the lists stay
+pub with_puts-same : (lanes' : List Lane) (puts : List Put) (lists : List (List Item)) → length lists ≡ length lanes' → ((lane : Lane) → items_on lane puts ≡ []) → with_puts lanes' puts lists ≡ lists
+with_puts-same [] puts [] e none = refl
+with_puts-same [] puts (list ∷ lists) e none = absurd (omega (arith, e))
+with_puts-same (lane ∷ lanes') puts [] e none = absurd (omega (arith, e))
+with_puts-same (lane ∷ lanes') puts (list ∷ lists) e none = rw (none lane, append-nil list, with_puts-same lanes' puts lists (omega (arith, e)) none) refl
+
+pub length-with_puts : (lanes' : List Lane) (puts : List Put) (lists : List (List Item)) → length lists ≡ length lanes' → length (with_puts lanes' puts lists) ≡ length lanes'
+length-with_puts [] puts lists e = refl
+length-with_puts (lane ∷ lanes') puts [] e = absurd (omega (arith, e))
+length-with_puts (lane ∷ lanes') puts (list ∷ lists) e = ap suc (length-with_puts lanes' puts lists (omega (arith, e)))
+
+pub length-outlets : (job : Written) (lanes' : List Lane) (outlets : List Outlet) → AreOutlets job lanes' outlets → length outlets ≡ length lanes'
+length-outlets job [] [] are = refl
+length-outlets job [] (outlet ∷ outlets) are = absurd are
+length-outlets job (lane ∷ lanes') [] are = absurd are
+length-outlets job (lane ∷ lanes') (outlet ∷ outlets) are = ap suc (length-outlets job lanes' outlets are.2)
+
+-- where the outlets that pass a test are those of the lanes that the puts put one item on, the lists gain the same
+pub with_item-puts : (job : Written) (test : Outlet → Bool) (item : Item) (puts : List Put) (lanes' : List Lane) (outlets : List Outlet) (lists : List (List Item)) → AreOutlets job lanes' outlets
+    → ((lane : Lane) (outlet : Outlet) → IsIn lane lanes' → slice_get (lanes job) outlet.lane ≡ Some lane → outlet.edge ≡ lane.edge → items_on lane puts ≡ item_if (test outlet) item [])
+    → with_item test item outlets lists ≡ with_puts lanes' puts lists
+with_item-puts job test item puts [] [] lists are same = refl
+with_item-puts job test item puts [] (outlet ∷ outlets) lists are same = absurd are
+with_item-puts job test item puts (lane ∷ lanes') [] lists are same = absurd are
+with_item-puts job test item puts (lane ∷ lanes') (outlet ∷ outlets) [] are same = refl
+with_item-puts job test item puts (lane ∷ lanes') (outlet ∷ outlets) (list ∷ lists) are same =
+    rw (same lane outlet (inl refl) are.0 are.1, with_item-puts job test item puts lanes' outlets lists are.2 (λ l o i. same l o (inr i))) (go (test outlet))
+  where
+    go : (b : Bool) → (item_if b item list ∷ with_puts lanes' puts lists) ≡ ((list ++ item_if b item []) ∷ with_puts lanes' puts lists)
+    go true = refl
+    go false = rw (append-nil list) refl
+
+-- one tuple on its lane
+pub items_on-lane : (job : Written) (to lane : Lane) (n : ℕ) (outlet : Outlet) (item : Item) → slice_get (lanes job) n ≡ Some to → slice_get (lanes job) outlet.lane ≡ Some lane
+    → items_on lane (record { lane = Some to; item = item } ∷ []) ≡ item_if (outlet.lane == n) item []
+items_on-lane job to lane n outlet item at there = go (is_same_lane (Some to) lane) refl (outlet.lane == n) refl
+  where
+    go : (a : Bool) → is_same_lane (Some to) lane ≡ a → (b : Bool) → (outlet.lane == n) ≡ b → items_on lane (record { lane = Some to; item = item } ∷ []) ≡ item_if b item []
+    go true same true number = rw same refl
+    go false other false number = rw other refl
+    go true same false number =
+        let equal : to ≡ lane = same_lane to lane same in
+        let numbers : outlet.lane ≡ n = same_number job outlet.lane n lane there (at ∙ ap Some equal) in
+        absurd (eqb-false outlet.lane n number numbers)
+    go false other true number =
+        let numbers : outlet.lane ≡ n = eqb-true outlet.lane n number in
+        let equal : to ≡ lane = same_Some to lane (sym at ∙ ap (slice_get (lanes job)) (sym numbers) ∙ there) in
+        let same : is_same_lane (Some to) lane ≡ true = rw equal (same_lane_self lane) in
+        absurd (cc)
+
+-- one output, on its lane
+pub put_on : (job : Written) (lanes' : List Lane) (outlets : List Outlet) (lists : List (List Item)) (found : Option Lane) (item : Item) (n : ℕ) (to : Lane) → AreOutlets job lanes' outlets
+    → found ≡ Some to → slice_get (lanes job) n ≡ Some to
+    → with_item (λ (outlet : Outlet). outlet.lane == n) item outlets lists ≡ with_puts lanes' (record { lane = found; item = item } ∷ []) lists
+put_on job lanes' outlets lists found item n to are is at =
+    rw is (with_item-puts job (λ (outlet : Outlet). outlet.lane == n) item (record { lane = Some to; item = item } ∷ []) lanes' outlets lists are (λ lane outlet i there edge. items_on-lane job to lane n outlet item at there))
+
+-- the edges of outlets are edges of the job
+pub outlets-small : (job : Written) (lanes' : List Lane) (outlets : List Outlet) → IsLawful job → AreOutlets job lanes' outlets → All (λ (outlet : Outlet). outlet.edge < 128) outlets
+outlets-small job [] [] law are = All-nil (λ (outlet : Outlet). outlet.edge < 128)
+outlets-small job [] (outlet ∷ outlets) law are = absurd are
+outlets-small job (lane ∷ lanes') [] law are = absurd are
+outlets-small job (lane ∷ lanes') (outlet ∷ outlets) law are =
+    let is = is_lane job outlet.lane lane are.0 in
+    let within = slice_get_within job.edges lane.edge is.edge is.edge_is in
+    All-cons (λ (outlet : Outlet). outlet.edge < 128) outlet outlets (omega (arith, within, are.1, law.limits.edges)) (outlets-small job lanes' outlets law are.2)
+
+-- ---- an item on each of some lanes
+
+none_on : (test : Lane → Bool) (item : Item) (lane : Lane) (xs : List Lane) → ¬ IsIn lane xs → items_on lane (put_on_each item (filter test xs)) ≡ []
+none_on test item lane [] out = refl
+none_on test item lane (x ∷ xs) out = go (test x) (is_same_lane (Some x) lane) refl (none_on test item lane xs (λ i. out (inr i)))
+  where
+    go : (a b : Bool) → is_same_lane (Some x) lane ≡ b → items_on lane (put_on_each item (filter test xs)) ≡ []
+        → items_on lane (put_on_each item (if a then x ∷ filter test xs else filter test xs)) ≡ []
+    go true true same rest = absurd (out (inl (sym (same_lane x lane same))))
+    go true false other rest = rw (other, rest) refl
+    go false b same rest = rest
+
+-- of distinct lanes, each that passes a test gets the item once
+pub one_on : (test : Lane → Bool) (item : Item) (lane : Lane) (xs : List Lane) → AreDistinct xs → IsIn lane xs → items_on lane (put_on_each item (filter test xs)) ≡ item_if (test lane) item []
+one_on test item lane [] distinct there = absurd there
+one_on test item lane (x ∷ xs) distinct (inl same) =
+    subst (λ (l : Lane). items_on l (put_on_each item (filter test (x ∷ xs))) ≡ item_if (test l) item []) (sym same) (go (test x) (none_on test item x xs distinct.0))
+  where
+    go : (b : Bool) → items_on x (put_on_each item (filter test xs)) ≡ [] → items_on x (put_on_each item (if b then x ∷ filter test xs else filter test xs)) ≡ item_if b item []
+    go true rest = rw (same_lane_self x, rest) refl
+    go false rest = rest
+one_on test item lane (x ∷ xs) distinct (inr there) = go (test x) (is_same_lane (Some x) lane) refl (one_on test item lane xs distinct.1 there)
+  where
+    go : (a b : Bool) → is_same_lane (Some x) lane ≡ b → items_on lane (put_on_each item (filter test xs)) ≡ item_if (test lane) item []
+        → items_on lane (put_on_each item (if a then x ∷ filter test xs else filter test xs)) ≡ item_if (test lane) item []
+    go true true same rest = absurd (distinct.0 (subst (λ (l : Lane). IsIn l xs) (sym (same_lane x lane same)) there))
+    go true false other rest = rw other rest
+    go false b same rest = rest
+
+out_distinct : (job : Written) (w : ℕ) → AreDistinct (lanes_out job w)
+out_distinct job w = distinct_filter (λ (lane : Lane). is_sender w lane.sender) (lanes job) (lanes_distinct job)
+
+-- the marker of a request on the lanes out that it covers
+pub markers_on : (setup : Outline) (w r : ℕ) (outlets : List Outlet) (lists : List (List Item)) → AreOutlets setup.job (lanes_out setup.job w) outlets → length lists ≡ length (lanes_out setup.job w)
+    → with_markers setup r outlets lists
+    ≡ with_puts (lanes_out setup.job w) (flat_map (λ mark. put_on_each mark (filter (λ (lane : Lane). covers_edge setup r lane.edge) (lanes_out setup.job w))) (marker setup r)) lists
+markers_on setup w r outlets lists are long = go (plan_of setup r)
+  where
+    go : (o : Option Plan) → with_marker_of setup r o outlets lists
+        ≡ with_puts (lanes_out setup.job w) (flat_map (λ mark. put_on_each mark (filter (λ (lane : Lane). covers_edge setup r lane.edge) (lanes_out setup.job w))) (marker_by r o)) lists
+    go None = sym (with_puts-same (lanes_out setup.job w) [] lists long (λ lane. refl))
+    go (Some plan) =
+        rw (append-nil (put_on_each (item.Mark r plan.nodes) (filter (λ (lane : Lane). covers_edge setup r lane.edge) (lanes_out setup.job w))))
+        (with_item-puts setup.job (reaches setup (onto.Covered r)) (item.Mark r plan.nodes) _ (lanes_out setup.job w) outlets lists are (λ lane outlet i there edge.
+        one_on (λ (l : Lane). covers_edge setup r l.edge) (item.Mark r plan.nodes) lane (lanes_out setup.job w) (out_distinct setup.job w) i
+        ∙ ap (λ (e : ℕ). item_if (covers_edge setup r e) (item.Mark r plan.nodes) []) (sym edge)))
+
+all_pass : (xs : List Lane) → filter (λ (lane : Lane). true) xs ≡ xs
+all_pass [] = refl
+all_pass (x ∷ xs) = ap (λ rest. x ∷ rest) (all_pass xs)
+
+-- an end on each lane out
+pub ends_on : (setup : Outline) (w : ℕ) (outlets : List Outlet) (lists : List (List Item)) → AreOutlets setup.job (lanes_out setup.job w) outlets
+    → with_item (reaches setup onto.All) item.Last outlets lists ≡ with_puts (lanes_out setup.job w) (put_on_each item.Last (lanes_out setup.job w)) lists
+ends_on setup w outlets lists are =
+    with_item-puts setup.job (reaches setup onto.All) item.Last (put_on_each item.Last (lanes_out setup.job w)) (lanes_out setup.job w) outlets lists are (λ lane outlet i there edge.
+    ap (λ (x : List Lane). items_on lane (put_on_each item.Last x)) (sym (all_pass (lanes_out setup.job w)))
+    ∙ one_on (λ (l : Lane). true) item.Last lane (lanes_out setup.job w) (out_distinct setup.job w) i)

@@ -1,0 +1,23 @@
+-- What the type of a setup keeps, in the words of a run.
+use Rattle.std.proofs.Common.{refl, arith}
+use Rattle.jobs.specs.Job.{written}
+use Rattle.flow_model.specs.declared.setup.Setup.{Setup}
+use Rattle.flow_replay.specs.Ways.{rank_in}
+use Rattle.flow_replay.proofs.JobLemmas.{rank-below, rank-forward}
+use Rattle.flow_replay.proofs.WayLemmas.{IsRanked}
+use Rattle.flow_replay.proofs.CoverLemmas.{AreCovering, covering}
+use Rattle.flow_model.specs.Setup.{outline}
+use Rattle.versions.specs.Kept.{AreInOrder}
+use Rattle.versions.proofs.KeptLemmas.{accepted-order}
+
+pub ranked : (setup : Setup) → IsRanked (written setup.job) (rank_in setup)
+ranked setup = record {
+  forward = rank-forward setup.job.dag setup.job.dag.edges refl;
+  below = λ node lt. rank-below setup.job.dag node (omega (arith, lt, setup.job.drawn));
+}
+
+pub covered : (setup : Setup) → AreCovering (outline setup)
+covered setup = covering (outline setup) setup.job.lawful setup.planned
+
+pub in_order : (setup : Setup) → AreInOrder 0 (outline setup).requests
+in_order setup = accepted-order (written setup.job) setup.judged.accepted setup.accepted

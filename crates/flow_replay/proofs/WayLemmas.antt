@@ -1,0 +1,255 @@
+-- The way of a tuple through the job: how it begins, goes on and ends.
+use Rattle.std.proofs.Common.{◌≡◌, ◌<◌, ◌+◌, ◌-◌, ◌==◌, ◌⊎◌, ℕ, zero, suc, List, [], ◌∷◌, ◌++◌, inl, inr, Bool, true, false, cond, length, map, Option, Some, None, refl, sym, ap, subst, ◌∙◌, arith, append_assoc}
+use Rattle.std.specs.Prelude.{Contains, filter, slice_get}
+use Rattle.std.specs.List.{AllByRecursion, cons_option, enumerate_from}
+use Rattle.std.proofs.lemmas.Bool.{eq-eqb, eqb-false, eqb-true}
+use Rattle.std.proofs.lemmas.List.{append-nil}
+use Rattle.std.proofs.lemmas.Option.{get_or_from_slice_get, same_Some, slice_get_within}
+use Rattle.flow_dag.specs.declared.edge.Edge.{Edge}
+use Rattle.jobs.specs.Law.{IsLawful}
+use Rattle.jobs.specs.Written.{Written}
+use Rattle.operators.specs.declared.output.Output.{Output}
+use Rattle.operators.proofs.OutputLemmas.{outputs_made}
+use Rattle.sink_journal.specs.declared.journal.Entry.{Entry}
+use Rattle.sink_journal.specs.declared.journal.Entry.TheVariants as entry
+use Rattle.tuple_trace.specs.declared.tuple.Item.{Item}
+use Rattle.tuple_trace.specs.declared.tuple.Item.TheVariants as item
+use Rattle.tuple_trace.specs.declared.tuple.Tuple.{Tuple}
+use Rattle.flow_model.specs.Lanes.{is_same_lane, lane_of, lanes, lanes_in, lanes_that}
+use Rattle.flow_model.specs.Outline.{Lane, Outline, Post}
+use Rattle.flow_model.specs.Replay.{items_on, shown, visit_at}
+use Rattle.flow_model.specs.Workers.{posts}
+use Rattle.flow_replay.specs.declared.wiring.Hop.{Hop}
+use Rattle.flow_replay.specs.declared.worker.Desk.{Desk}
+use Rattle.flow_replay.specs.Desks.{AreTied, IsQuiet, IsStep, desk_at, from_node, journal_at, local_of, made_at, post_at, with_item}
+use Rattle.flow_replay.specs.Tables.{IsHop, IsHopAlong}
+use Rattle.flow_replay.specs.Ways.{IsBrought, IsMeeting, IsOfRow, IsUnderWay, Meets, lane_at, no_lane, rank_behind}
+use Rattle.flow_replay.proofs.LaneLemmas.{is_lane, is_lane_of, receiver_node, receiver_there}
+use Rattle.flow_replay.proofs.SeatLemmas.{is_post, post_at-get}
+use Rattle.flow_replay.proofs.TieLemmas.{in_force_step, meet_tied, mine, out_puts}
+
+-- each edge leads to a higher rank, and ranks are below 64
+pub record IsRanked (job : Written) (rank : ℕ → ℕ) : Type 0 where
+  pub forward : (i : ℕ) (edge : Edge) → slice_get job.edges i ≡ Some edge → rank edge.from < rank edge.to
+  pub below : (node : ℕ) → node < length job.nodes → rank node < 64
+
+-- ---- what is known of a lane's receiver
+
+pub lane_there : (job : Written) (n : ℕ) (lane : Lane) → slice_get (lanes job) n ≡ Some lane → lane_at job n ≡ lane
+lane_there job n lane e = get_or_from_slice_get (lanes job) n lane no_lane e
+
+pub receiver_below : (job : Written) (n : ℕ) (lane : Lane) → slice_get (lanes job) n ≡ Some lane → lane.receiver < length (posts job)
+receiver_below job n lane e = let is = is_lane job n lane e in slice_get_within (posts job) lane.receiver is.post (receiver_there job n lane is)
+
+pub receiver_number : (job : Written) (n : ℕ) (lane : Lane) → slice_get (lanes job) n ≡ Some lane → (post_at job lane.receiver).number ≡ lane.receiver
+receiver_number job n lane e =
+    let is = is_lane job n lane e in
+    let there = receiver_there job n lane is in
+    ap (λ (p : Post). p.number) (post_at-get job lane.receiver is.post there) ∙ (is_post job lane.receiver is.post there).number_is
+
+-- numbered elements that pass a test have their numbers among those
+numbers_hold : (test : Lane → Bool) (i n k : ℕ) (l : Lane) (ls : List Lane) → slice_get ls k ≡ Some l → test l ≡ true → n ≡ i + k
+    → Contains (map (λ (p : ℕ × Lane). p.0) (filter (λ (p : ℕ × Lane). test p.1) (enumerate_from i ls))) n
+numbers_hold test i n k l [] e t q = absurd (cc)
+numbers_hold test i n zero l (x ∷ ls) e t q =
+    let same : x ≡ l = cc in
+    go (test x) (subst (λ (y : Lane). test y ≡ true) (sym same) t)
+  where
+    go : (b : Bool) → b ≡ true → Contains (map (λ (p : ℕ × Lane). p.0) (cond b ((i, x) ∷ filter (λ (p : ℕ × Lane). test p.1) (enumerate_from (i + 1) ls)) (filter (λ (p : ℕ × Lane). test p.1) (enumerate_from (i + 1) ls)))) n
+    go true h = (0, omega arith, let z : i ≡ n = omega arith in z)
+    go false h = absurd (cc)
+numbers_hold test i n (suc k) l (x ∷ ls) e t q = go (test x) (numbers_hold test (i + 1) n k l ls e t (omega arith))
+  where
+    go : (b : Bool) → Contains (map (λ (p : ℕ × Lane). p.0) (filter (λ (p : ℕ × Lane). test p.1) (enumerate_from (i + 1) ls))) n
+        → Contains (map (λ (p : ℕ × Lane). p.0) (cond b ((i, x) ∷ filter (λ (p : ℕ × Lane). test p.1) (enumerate_from (i + 1) ls)) (filter (λ (p : ℕ × Lane). test p.1) (enumerate_from (i + 1) ls)))) n
+    go true (j, lt, is) = (suc j, omega (arith, lt), is)
+    go false h = h
+
+pub lanes_that_hold : (test : Lane → Bool) (job : Written) (n : ℕ) (l : Lane) → slice_get (lanes job) n ≡ Some l → test l ≡ true → Contains (lanes_that test job) n
+lanes_that_hold test job n l e t = numbers_hold test 0 n n l (lanes job) e t (omega arith)
+
+pub comes_in : (job : Written) (n : ℕ) (lane : Lane) → slice_get (lanes job) n ≡ Some lane → Contains (lanes_in job lane.receiver) n
+comes_in job n lane e = lanes_that_hold (λ (l : Lane). l.receiver == lane.receiver) job n lane e (eq-eqb lane.receiver lane.receiver refl)
+
+-- a tuple's lane leads to a node of higher rank
+rises : (job : Written) (rank : ℕ → ℕ) (post : Post) (n : ℕ) (out : Output) → IsRanked job rank → slice_get (lanes job) n ≡ Some (lane_at job n)
+    → lane_of job (Some post.number) post.node out.port out.tuple ≡ Some (lane_at job n) → rank post.node < rank_behind job rank n
+rises job rank post n out ranked g along =
+    let l : Lane = lane_at job n in
+    let is = is_lane job n l g in
+    let of = is_lane_of job (Some post.number) post.node out.port out.tuple l along in
+    let same : of.edge ≡ is.edge = same_Some of.edge is.edge (sym of.edge_is ∙ is.edge_is) in
+    let from : is.edge.from ≡ post.node = ap (λ (e : Edge). e.from) (sym same) ∙ of.from_is in
+    let to : (post_at job l.receiver).node ≡ is.edge.to = receiver_node job n l is in
+    let up : rank is.edge.from < rank is.edge.to = ranked.forward l.edge is.edge is.edge_is in
+    subst (λ (v : ℕ). rank v < rank (post_at job l.receiver).node) from (subst (λ (v : ℕ). rank is.edge.from < rank v) (sym to) up)
+
+-- ---- a tuple under way
+
+rows_of : (t : Tuple) (outs : List Output) → ((k : ℕ) (out : Output) → slice_get outs k ≡ Some out → IsOfRow t.row t.issued out) → AllByRecursion (IsOfRow t.row t.issued) outs
+rows_of t [] h = tt
+rows_of t (out ∷ outs) h = (h 0 out refl, rows_of t outs (λ k x e. h (suc k) x e))
+
+made_rows : (setup : Outline) (post : Post) (desk : Desk) (t : Tuple) → AllByRecursion (IsOfRow t.row t.issued) (made_at setup post desk t)
+made_rows setup post desk t =
+    rows_of t (made_at setup post desk t)
+    (λ k out e. let is = outputs_made setup.job (visit_at post (local_of setup post desk)) (local_of setup post desk).func desk.counts t k out e in (is.row, is.issued))
+
+-- a meeting begins the way
+way_begins : (setup : Outline) (rank : ℕ → ℕ) (n : ℕ) (t : Tuple) (old new : List Desk) → slice_get (lanes setup.job) n ≡ Some (lane_at setup.job n)
+    → (lane_at setup.job n).receiver < length old → IsStep setup (lane_at setup.job n).receiver (entry.Met n t) old new
+    → (outs : List Output) → outs ≡ made_at setup (post_at setup.job (lane_at setup.job n).receiver) (desk_at old (lane_at setup.job n).receiver) t
+    → IsUnderWay setup rank n t outs old new
+way_begins setup rank n t old new g below step outs are = record {
+  long = step.long;
+  in_force = in_force_step setup w (entry.Met n t) old new step;
+  tied = λ f fed under_way quiet tied.
+      subst (λ (xs : List Output). AreTied setup fed new (λ (lane : Lane). items_on lane (out_puts setup.job (post_at setup.job w) xs) ++ under_way lane)) (sym are)
+      (meet_tied setup rank n (lane_at setup.job n) t old new g (receiver_number setup.job n (lane_at setup.job n) g) step (f w below) fed under_way quiet tied);
+  met = λ v. gain v (v == w) refl;
+  of_row = subst (AllByRecursion (IsOfRow t.row t.issued)) (sym are) (made_rows setup (post_at setup.job w) (desk_at old w) t);
+}
+  where
+    w : ℕ
+    w = (lane_at setup.job n).receiver
+
+    gain : (v : ℕ) (b : Bool) → (v == w) ≡ b → Meets setup.job v t.row t.issued (journal_at old v) (journal_at new v)
+    gain v true e =
+        let s = eqb-true v w e in
+        subst (λ (x : ℕ). Meets setup.job x t.row t.issued (journal_at old x) (journal_at new x)) (sym s)
+        (record { more = entry.Met n t ∷ []; is = step.journal; meetings = ((comes_in setup.job n (lane_at setup.job n) g, refl, refl), tt) })
+    gain v false e = record { more = []; is = ap (λ (d : Desk). d.journal) (step.others v (eqb-false v w e)) ∙ sym (append-nil (journal_at old v)); meetings = tt }
+
+push_item : (b : Bool) (x : Item) (xs ys : List Item) → cons_option (cond b (Some x) None) xs ++ ys ≡ cond b (x ∷ (xs ++ ys)) (xs ++ ys)
+push_item true x xs ys = refl
+push_item false x xs ys = refl
+
+each_append : {A : Type 0} (P : A → Type 0) (xs ys : List A) → AllByRecursion P xs → AllByRecursion P ys → AllByRecursion P (xs ++ ys)
+each_append P [] ys a b = b
+each_append P (x ∷ xs) ys a b = (a.0, each_append P xs ys a.1 b)
+
+meets_both : (job : Written) (w row issued : ℕ) (xs ys zs : List Entry) → Meets job w row issued xs ys → Meets job w row issued ys zs → Meets job w row issued xs zs
+meets_both job w row issued xs ys zs a b = record {
+  more = a.more ++ b.more;
+  is = b.is ∙ (ap (λ (js : List Entry). js ++ b.more) a.is ∙ append_assoc xs a.more b.more);
+  meetings = each_append (IsMeeting job w row issued) a.more b.more a.meetings b.meetings;
+}
+
+-- an output is brought to its end
+way_goes : (setup : Outline) (rank : ℕ → ℕ) (n : ℕ) (t : Tuple) (out : Output) (outs : List Output) (next : ℕ) (old now new : List Desk) → IsRanked setup.job rank
+    → (post_at setup.job (lane_at setup.job n).receiver).number ≡ (lane_at setup.job n).receiver
+    → IsUnderWay setup rank n t (out ∷ outs) old now → slice_get (lanes setup.job) next ≡ Some (lane_at setup.job next)
+    → lane_of setup.job (Some (post_at setup.job (lane_at setup.job n).receiver).number) (post_at setup.job (lane_at setup.job n).receiver).node out.port out.tuple ≡ Some (lane_at setup.job next)
+    → IsBrought setup rank next out.tuple now new → IsUnderWay setup rank n t outs old new
+way_goes setup rank n t out outs next old now new ranked num way g along brought = record {
+  long = brought.long ∙ way.long;
+  in_force = λ f. brought.in_force (way.in_force f);
+  tied = λ f fed under_way quiet tied.
+      brought.tied (way.in_force f) fed (λ (l : Lane). items_on l (out_puts setup.job post outs) ++ under_way l) (still under_way quiet)
+      (λ m l h. way.tied f fed under_way quiet tied m l h ∙ ap (λ (xs : List Item). shown setup m (journal_at now l.receiver) ++ xs) (placed under_way l));
+  met = λ v. meets_both setup.job v t.row t.issued (journal_at old v) (journal_at now v) (journal_at new v) (way.met v)
+      (subst (λ (r : ℕ). Meets setup.job v r t.issued (journal_at now v) (journal_at new v)) way.of_row.0.0
+      (subst (λ (i : ℕ). Meets setup.job v out.tuple.row i (journal_at now v) (journal_at new v)) way.of_row.0.1 (brought.met v)));
+  of_row = way.of_row.1;
+}
+  where
+    post : Post
+    post = post_at setup.job (lane_at setup.job n).receiver
+
+    placed : (under_way : Lane → List Item) (l : Lane)
+        → cons_option (cond (is_same_lane (lane_of setup.job (Some post.number) post.node out.port out.tuple) l) (Some (item.Carry out.tuple)) None) (items_on l (out_puts setup.job post outs)) ++ under_way l
+        ≡ with_item (lane_at setup.job next) (item.Carry out.tuple) (λ (x : Lane). items_on x (out_puts setup.job post outs) ++ under_way x) l
+    placed under_way l =
+        push_item (is_same_lane (lane_of setup.job (Some post.number) post.node out.port out.tuple) l) (item.Carry out.tuple) (items_on l (out_puts setup.job post outs)) (under_way l)
+        ∙ ap (λ (o : Option Lane). cond (is_same_lane o l) (item.Carry out.tuple ∷ (items_on l (out_puts setup.job post outs) ++ under_way l)) (items_on l (out_puts setup.job post outs) ++ under_way l)) along
+
+    up : rank post.node < rank_behind setup.job rank next
+    up = rises setup.job rank post next out ranked g along
+
+    still : (under_way : Lane → List Item) → IsQuiet setup.job rank (rank_behind setup.job rank n) under_way
+        → IsQuiet setup.job rank (rank_behind setup.job rank next) (λ (l : Lane). items_on l (out_puts setup.job post outs) ++ under_way l)
+    still under_way quiet m l h high = go (mine setup.job post outs l)
+      where
+        go : (items_on l (out_puts setup.job post outs) ≡ []) ⊎ ((l.sender ≡ Some post.number) × (from_node setup.job l ≡ post.node)) → items_on l (out_puts setup.job post outs) ++ under_way l ≡ []
+        go (inl p) = ap (λ (xs : List Item). xs ++ under_way l) p ∙ quiet m l h (omega (arith, up, high))
+        go (inr p) = absurd (let same : rank (from_node setup.job l) ≡ rank post.node = ap rank p.1 in omega (arith, up, high, same))
+
+-- an output for which there is no lane is nowhere under way
+way_skips : (setup : Outline) (rank : ℕ → ℕ) (n : ℕ) (t : Tuple) (out : Output) (outs : List Output) (old now : List Desk) → IsUnderWay setup rank n t (out ∷ outs) old now
+    → lane_of setup.job (Some (post_at setup.job (lane_at setup.job n).receiver).number) (post_at setup.job (lane_at setup.job n).receiver).node out.port out.tuple ≡ None
+    → IsUnderWay setup rank n t outs old now
+way_skips setup rank n t out outs old now way none = record {
+  long = way.long;
+  in_force = way.in_force;
+  tied = λ f fed under_way quiet tied m l h.
+      way.tied f fed under_way quiet tied m l h
+      ∙ ap (λ (o : Option Lane). shown setup m (journal_at now l.receiver) ++ (cons_option (cond (is_same_lane o l) (Some (item.Carry out.tuple)) None) (items_on l (out_puts setup.job (post_at setup.job (lane_at setup.job n).receiver) outs)) ++ under_way l)) none;
+  met = way.met;
+  of_row = way.of_row.1;
+}
+
+-- ---- the same, by what the code knows
+
+pub way_at : (setup : Outline) (rank : ℕ → ℕ) (hop : Hop) (t : Tuple) (old new : List Desk) (outs : List Output) → IsHop setup.job (lane_at setup.job hop.lane) hop → length old ≡ length (posts setup.job)
+    → IsStep setup hop.worker (entry.Met hop.lane t) old new → outs ≡ made_at setup (post_at setup.job hop.worker) (desk_at old hop.worker) t → IsUnderWay setup rank hop.lane t outs old new
+way_at setup rank hop t old new outs is long step are =
+    let w : ℕ = (lane_at setup.job hop.lane).receiver in
+    let below = receiver_below setup.job hop.lane (lane_at setup.job hop.lane) is.numbered in
+    way_begins setup rank hop.lane t old new is.numbered (omega (arith, below, long))
+    (subst (λ (x : ℕ). IsStep setup x (entry.Met hop.lane t) old new) (sym is.received) step) outs
+    (are ∙ ap (λ (x : ℕ). made_at setup (post_at setup.job x) (desk_at old x) t) (sym is.received))
+
+-- the lane of a hop, as the lane with its number
+pub hop_at : (job : Written) (lane : Lane) (hop : Hop) → IsHop job lane hop → IsHop job (lane_at job hop.lane) hop
+hop_at job lane hop is = subst (λ (l : Lane). IsHop job l hop) (sym (lane_there job hop.lane lane is.numbered)) is
+
+pub falls_at : (job : Written) (rank : ℕ → ℕ) (hop next : Hop) (node : ℕ) (out : Output) → IsRanked job rank → IsLawful job → IsHop job (lane_at job hop.lane) hop
+    → node ≡ (post_at job hop.worker).node → IsHopAlong job (lane_of job (Some hop.worker) node out.port out.tuple) next
+    → 64 - rank_behind job rank next.lane < 64 - rank_behind job rank hop.lane
+falls_at job rank hop next node out ranked law is node_is (lane, along, is_next) =
+    let at = lane_there job next.lane lane is_next.numbered in
+    let g : slice_get (lanes job) next.lane ≡ Some (lane_at job next.lane) = is_next.numbered ∙ ap Some (sym at) in
+    let post : Post = post_at job (lane_at job hop.lane).receiver in
+    let same : post_at job hop.worker ≡ post = ap (post_at job) (sym is.received) in
+    let number : post.number ≡ hop.worker = receiver_number job hop.lane (lane_at job hop.lane) is.numbered ∙ is.received in
+    let way : lane_of job (Some post.number) post.node out.port out.tuple ≡ Some (lane_at job next.lane) =
+    ap (λ (k : ℕ). lane_of job (Some k) post.node out.port out.tuple) number
+    ∙ (ap (λ (v : ℕ). lane_of job (Some hop.worker) v out.port out.tuple) (ap (λ (p : Post). p.node) (sym same) ∙ sym node_is) ∙ (along ∙ ap Some (sym at))) in
+    let up = rises job rank post next.lane out ranked g way in
+    let to = is_lane job next.lane (lane_at job next.lane) g in
+    let there = receiver_there job next.lane (lane_at job next.lane) to in
+    let p = is_post job (lane_at job next.lane).receiver to.post there in
+    let within = slice_get_within job.nodes to.post.node p.def p.node_is in
+    let at_post : (post_at job (lane_at job next.lane).receiver).node ≡ to.post.node = ap (λ (x : Post). x.node) (post_at-get job (lane_at job next.lane).receiver to.post there) in
+    let b : rank (post_at job (lane_at job next.lane).receiver).node < 64 = ranked.below (post_at job (lane_at job next.lane).receiver).node (omega (arith, within, at_post)) in
+    omega (arith, up, b)
+
+pub goes_at : (setup : Outline) (rank : ℕ → ℕ) (hop next : Hop) (t : Tuple) (all : List Output) (out : Output) (outs : List Output) (node : ℕ) (old now new : List Desk) → IsRanked setup.job rank
+    → IsHop setup.job (lane_at setup.job hop.lane) hop → node ≡ (post_at setup.job hop.worker).node → all ≡ out ∷ outs → IsUnderWay setup rank hop.lane t all old now
+    → IsHopAlong setup.job (lane_of setup.job (Some hop.worker) node out.port out.tuple) next → IsBrought setup rank next.lane out.tuple now new → IsUnderWay setup rank hop.lane t outs old new
+goes_at setup rank hop next t all out outs node old now new ranked is node_is a way (lane, along, is_next) brought =
+    let at = lane_there setup.job next.lane lane is_next.numbered in
+    let g : slice_get (lanes setup.job) next.lane ≡ Some (lane_at setup.job next.lane) = is_next.numbered ∙ ap Some (sym at) in
+    let post : Post = post_at setup.job (lane_at setup.job hop.lane).receiver in
+    let same : post_at setup.job hop.worker ≡ post = ap (post_at setup.job) (sym is.received) in
+    let num = receiver_number setup.job hop.lane (lane_at setup.job hop.lane) is.numbered in
+    let goes : lane_of setup.job (Some post.number) post.node out.port out.tuple ≡ Some (lane_at setup.job next.lane) =
+    ap (λ (k : ℕ). lane_of setup.job (Some k) post.node out.port out.tuple) (num ∙ is.received)
+    ∙ (ap (λ (v : ℕ). lane_of setup.job (Some hop.worker) v out.port out.tuple) (ap (λ (p : Post). p.node) (sym same) ∙ sym node_is) ∙ (along ∙ ap Some (sym at))) in
+    way_goes setup rank hop.lane t out outs next.lane old now new ranked num (subst (λ (xs : List Output). IsUnderWay setup rank hop.lane t xs old now) a way) g goes brought
+
+pub skips_at : (setup : Outline) (rank : ℕ → ℕ) (hop : Hop) (t : Tuple) (all : List Output) (out : Output) (outs : List Output) (node : ℕ) (old now : List Desk)
+    → IsHop setup.job (lane_at setup.job hop.lane) hop → node ≡ (post_at setup.job hop.worker).node → all ≡ out ∷ outs → IsUnderWay setup rank hop.lane t all old now
+    → lane_of setup.job (Some hop.worker) node out.port out.tuple ≡ None → IsUnderWay setup rank hop.lane t outs old now
+skips_at setup rank hop t all out outs node old now is node_is a way none =
+    let post : Post = post_at setup.job (lane_at setup.job hop.lane).receiver in
+    let same : post_at setup.job hop.worker ≡ post = ap (post_at setup.job) (sym is.received) in
+    let num = receiver_number setup.job hop.lane (lane_at setup.job hop.lane) is.numbered in
+    way_skips setup rank hop.lane t out outs old now (subst (λ (xs : List Output). IsUnderWay setup rank hop.lane t xs old now) a way)
+    (ap (λ (k : ℕ). lane_of setup.job (Some k) post.node out.port out.tuple) (num ∙ is.received)
+    ∙ (ap (λ (v : ℕ). lane_of setup.job (Some hop.worker) v out.port out.tuple) (ap (λ (p : Post). p.node) (sym same) ∙ sym node_is) ∙ none))
+
+pub ends_at : (setup : Outline) (rank : ℕ → ℕ) (n : ℕ) (t : Tuple) (all : List Output) (old new : List Desk) → all ≡ [] → IsUnderWay setup rank n t all old new → IsBrought setup rank n t old new
+ends_at setup rank n t all old new a way =
+    let done : IsUnderWay setup rank n t [] old new = subst (λ (xs : List Output). IsUnderWay setup rank n t xs old new) a way in
+    record { long = done.long; in_force = done.in_force; tied = λ f fed under_way quiet tied. done.tied f fed under_way quiet tied; met = done.met }

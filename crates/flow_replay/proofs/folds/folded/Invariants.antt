@@ -1,0 +1,11 @@
+use Rattle.std.proofs.Common.{◌≤◌, take}
+use Rattle.flow_model.specs.Setup.{outline}
+use Rattle.flow_replay.specs.Desks.{post_at}
+use Rattle.flow_replay.specs.Folds.{IsFolded}
+use Rattle.flow_replay.proofs.folds.folded.Given as goal
+
+abbrev pub invariant-loop-entry : goal.invariant-loop-entry
+invariant-loop-entry l = record {
+  folded : IsFolded (outline l.setup) (post_at (outline l.setup).job l.worker) (take l.entry-index l.entry-items) l.fold;
+  ended : l.fold.ended ≤ l.entry-index;
+}
