@@ -1,5 +1,5 @@
-pub mod FeedFacts
-pub mod MeetFacts
-pub mod RunFacts
-pub mod ReadFacts
-pub mod JobFacts
+pub mod PrintLemmas
+pub mod ListLemmas
+pub mod EndLemmas
+pub mod FollowLemmas
+pub mod FirstLemmas

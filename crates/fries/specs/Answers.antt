@@ -1,25 +1,36 @@
 -- What a call of the program answers, and what it leaves.
-use Rattle.std.specs.Prelude.{◌≡◌, ℕ, Option, None, Some}
-use Rattle.fries.specs.Asked.{Asked, Check, First}
-use Rattle.fries.specs.Check.{AnswersCheck, FollowsJob}
-use Rattle.fries.specs.First.{AnswersFirst, FollowsPayments}
+use Rattle.std.specs.Prelude.{◌≡◌, Option}
+use Rattle.fries.specs.Asked.{Asked, Check, First, Plan, Run}
+use Rattle.fries.specs.Check.{AnswersCheck, FollowsCheck}
+use Rattle.fries.specs.Ends.{stopped}
+use Rattle.fries.specs.First.{AnswersFirst, FollowsFirst}
 use Rattle.fries.specs.Outside.{Outside, PrintsFault}
-use Rattle.fries.specs.declared.executor.RunRecord.{RunRecord}
+use Rattle.fries.specs.Plan.{AnswersPlan, FollowsPlan}
+use Rattle.fries.specs.Run.{AnswersRun, FollowsRun}
+use Rattle.fries.specs.declared.answer.Answer.{Answer}
 use Rattle.fries.specs.declared.fault.Fault.{Fault}
 use Rattle.fries.specs.declared.fault.Fault.TheVariants as fault
+use Rattle.fries.specs.declared.top.Outcome.{Outcome}
+
+-- what a call came to, but for its status
+abbrev pub answer_of : Outcome → Answer
+answer_of outcome = record { fault = outcome.fault; refused = outcome.refused; ran = outcome.ran }
 
 -- what a call answers, leaves and prints that was asked this
-abbrev pub Answers : Asked → Outside → Outside → Option Fault → Option RunRecord → Type 0
-Answers (First asked) old new answer ran = AnswersFirst asked old new answer ran
-Answers (Check name) old new answer ran = AnswersCheck name old new answer ran
+abbrev pub Answers : Asked → Outside → Outside → Answer → Type 0
+Answers (First asked) old new answer = AnswersFirst asked old new answer
+Answers (Check name) old new answer = AnswersCheck name old new answer
+Answers (Plan asked) old new answer = AnswersPlan asked old new answer
+Answers (Run asked) old new answer = AnswersRun asked old new answer
 
 -- what a call answers, leaves and prints whose words have no form that the program knows
-pub record AnswersUsage (old new : Outside) (answer : Option Fault) (ran : Option RunRecord) : Type 0 where
-  pub usage : answer ≡ Some fault.Usage
-  pub none : ran ≡ None
-  pub prints : PrintsFault (Some fault.Usage) old new
+pub record AnswersUsage (old new : Outside) (answer : Answer) : Type 0 where
+  pub usage : answer ≡ stopped fault.Usage
+  pub prints : PrintsFault answer.fault old new
 
--- what the first file that a call reads is answered by, where it is told and is faulty, and what it comes to where no file is
+-- what a call answers, seen from the files that it reads
 abbrev pub Follows : Asked → Outside → Outside → Option Fault → Type 0
-Follows (First asked) old new answer = FollowsPayments asked old new answer
-Follows (Check name) old new answer = FollowsJob name old new answer
+Follows (First asked) old new answer = FollowsFirst asked old new answer
+Follows (Check name) old new answer = FollowsCheck name old new answer
+Follows (Plan asked) old new answer = FollowsPlan asked old new answer
+Follows (Run asked) old new answer = FollowsRun asked old new answer

@@ -8,6 +8,8 @@ use Rattle.job_file.specs.declared.fault.JobFault.{JobFault}
 use Rattle.job_file.specs.declared.fault.JobFault.TheVariants as job
 use Rattle.job_file.specs.declared.fault.Part.{Part}
 use Rattle.job_file.specs.declared.fault.Part.TheVariants as part
+use Rattle.job_file.specs.declared.fault.ReqFileFault.{ReqFileFault}
+use Rattle.job_file.specs.declared.fault.ReqFileFault.TheVariants as requests
 use Rattle.payments.specs.declared.read.PFault.{PFault}
 use Rattle.payments.specs.declared.read.PFault.TheVariants as rows
 use Rattle.fries.specs.Faults.{status_of}
@@ -18,6 +20,7 @@ use Rattle.fries.specs.declared.fault.FileIs.TheVariants as file
 
 abbrev pub file_words : FileIs → List ℕ
 file_words file.Job = codes "job"
+file_words file.Requests = codes "requests"
 file_words file.Payments = codes "payments"
 file_words file.Alerts = codes "alerts"
 file_words file.Out = codes "out"
@@ -79,6 +82,13 @@ job_words (job.NoTable node) = codes "J9 node " ++ decimal node
 job_words (job.Weight weight) = codes "J10 weight " ++ decimal weight
 job_words job.NoMemory = codes "memory"
 
+-- a fault of the request file: its code, and what it names
+abbrev pub requests_words : ReqFileFault → List ℕ
+requests_words requests.NotToml = codes "F1"
+requests_words (requests.Shape part) = codes "F2 " ++ part_words part
+requests_words (requests.Limit which number) = codes "F3 " ++ which_words which ++ codes " " ++ signed_decimal number
+requests_words requests.NoMemory = codes "memory"
+
 -- a fault of the payments: its code, and its row and column where it has them
 abbrev pub payments_words : PFault → List ℕ
 payments_words rows.NoHeader = codes "P1"
@@ -93,6 +103,7 @@ payments_words rows.NoMemory = codes "memory"
 abbrev pub fault_words : Fault → List ℕ
 fault_words fault.Usage = codes "usage"
 fault_words (fault.Job code) = job_words code
+fault_words (fault.Requests code) = requests_words code
 fault_words (fault.Payments code) = payments_words code
 fault_words (fault.Read file) = file_words file
 fault_words (fault.Write file) = file_words file

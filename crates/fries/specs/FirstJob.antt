@@ -1,5 +1,7 @@
--- The job of `first`.
+-- The job of `first`, and its request.
 use Rattle.std.specs.Prelude.{ℕ, ℤ, List, [], ◌∷◌, false, codes}
+use Rattle.keyed_state.specs.declared.carry.Carry.TheVariants as carry
+use Rattle.versions.specs.declared.request.Request.{Request}
 use Rattle.flow_dag.specs.declared.edge.Edge.{Edge}
 use Rattle.jobs.specs.Written.{Written}
 use Rattle.jobs.specs.declared.column.Column.{Column}
@@ -39,3 +41,7 @@ first_job least = record {
   edges = first_edges;
   tables = [];
 }
+
+-- the request that the amounts of `big` begin at another one from a row on
+abbrev pub first_request : ℕ → ℤ → Request
+first_request after least = record { after = after; changes = record { node = 1; from = 0; func = at_least least; carry = carry.Keep } ∷ [] }

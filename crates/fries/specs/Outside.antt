@@ -24,16 +24,9 @@ outside files shelf target written out = record { files = files; shelf = shelf; 
 abbrev pub HasFailed : Outside → Outside → Type 0
 HasFailed old new = Rose old.shelf.reads new.shelf.reads ⊎ (Rose old.shelf.writes new.shelf.writes ⊎ Rose old.out new.out)
 
--- ---- files that are read
-
--- the bytes are those of the file, where it is told, and aren't more than are read
-pub record IsRead (files : Option Files) (name : List ℕ) (most : ℕ) (bytes : List ℕ) : Type 0 where
-  pub told : IfSome (told_bytes files name) (λ told. bytes ≡ told)
-  pub short : length bytes ≤ most
-
--- the file has more bytes than are read, where it is told
-abbrev pub IsLong : Option Files → List ℕ → ℕ → Type 0
-IsLong files name most = IfSome (told_bytes files name) (λ bytes. most < length bytes)
+-- nothing is promised of the answer: a fault was counted, or memory ran out
+abbrev pub IsExcused : Outside → Outside → Option Fault → Type 0
+IsExcused old new answer = HasFailed old new ⊎ (answer ≡ Some fault.NoMemory)
 
 -- ---- files that are written
 
@@ -63,14 +56,13 @@ pub record PrintsNothing (old new : Outside) : Type 0 where
   pub written : new.written ≡ old.written
   pub out : new.out ≡ old.out
 
--- the line is printed whole
-pub record PrintsWhole (line : List ℕ) (old new : Outside) : Type 0 where
-  pub written : new.written ≡ option_map (λ written. written ++ line) old.written
-  pub out : new.out ≡ old.out
-
--- why a line wasn't printed
-abbrev pub PrintsNot : ℕ → ℕ → Fault → Type 0
-PrintsNot old new why = ((why ≡ fault.Write file.Out) × Rose old new) ⊎ ((why ≡ fault.NoMemory) × (new ≡ old))
+-- What printing a text comes to: it is written whole, or what stopped it left a prefix of it. This speaks of what was written and of the
+-- faults that the output has counted, before and after.
+abbrev pub Prints : List ℕ → Option (List ℕ) → Option (List ℕ) → ℕ → ℕ → Option Fault → Type 0
+Prints text old new out later None = (new ≡ option_map (λ written. written ++ text) old) × (later ≡ out)
+Prints text old new out later (Some (fault.Write file.Out)) = GainsPrefix old new text × Rose out later
+Prints text old new out later (Some fault.NoMemory) = GainsPrefix old new text × (later ≡ out)
+Prints text old new out later (Some _) = ⊥
 
 -- what is printed of a fault, and what it counts: its line, whole or cut, but nothing once the output has refused
 abbrev pub PrintsReport : Option Fault → Option (List ℕ) → Option (List ℕ) → ℕ → ℕ → Type 0

@@ -1,47 +1,54 @@
--- What a run of `first` is. The filter `big` is node 1 with worker 0, the sink `alerts` is node 2 with worker 1. Lane 0 leads from the source
--- to `big`, lane 1 from `big` to `alerts`. The one request asks `big`, which is all that it covers, and no lane brings a marker.
-use Rattle.std.specs.Prelude.{◌≡◌, ◌==◌, ℕ, false, List, [], ◌∷◌, ◌++◌, length}
-use Rattle.jobs.specs.declared.func.Func.{Func}
+-- What a call of `run` answers, why, and what it leaves.
+use Rattle.std.specs.Prelude.{◌≡◌, ◌⊎◌, List, Option, None}
 use Rattle.jobs.specs.Written.{Written}
-use Rattle.sink_journal.specs.declared.journal.Entry.{Entry}
-use Rattle.sink_journal.specs.declared.journal.Feed.{Feed}
+use Rattle.payments.specs.Causes.{Faults}
+use Rattle.payments.specs.Files.{Files}
 use Rattle.tuple_trace.specs.declared.row.Row.{Row}
-use Rattle.tuple_trace.specs.declared.tuple.Item.TheVariants as item
-use Rattle.fries.specs.Feeding.{feed_of, fed}
-use Rattle.fries.specs.Law.{Station, IsFinished}
-use Rattle.fries.specs.Replay.{sent, shown}
-use Rattle.fries.specs.Whole.{IsMetOnce, IsOneSided, TurnsAfterRow, journal_of}
+use Rattle.versions.specs.declared.request.Request.{Request}
+use Rattle.fries.specs.Asked.{RunAsked}
+use Rattle.fries.specs.Ends.{Stops}
+use Rattle.fries.specs.Outside.{IsExcused, Outside, PrintsFault}
+use Rattle.fries.specs.Plan.{IsNoSetup}
+use Rattle.fries.specs.Reading.{AreNoRows, AreRequestsOf, AreRowsOf, FollowsJob, FollowsRequests, FollowsRows, IsJobOf, TellsJob, TellsRequests, TellsRows}
+use Rattle.fries.specs.Running.{IsRunOf, Runs}
+use Rattle.fries.specs.declared.answer.Answer.{Answer}
+use Rattle.fries.specs.declared.fault.Fault.{Fault}
+use Rattle.fries.specs.declared.running.Done.{Done}
 
-abbrev pub big_station : Station
-big_station = record { lanes = 0 ∷ []; dues = 1 ∷ []; is_head = λ request. request == 1; marked_lanes = λ request. [] }
+-- what was run is what the files hold
+pub record IsRunOfFiles (asked : RunAsked) (files : Option Files) (done : Done) : Type 0 where
+  pub job : Written
+  pub requests : List Request
+  pub rows : List Row
+  pub of_job : IsJobOf files asked.plan.job job
+  pub of_requests : AreRequestsOf files asked.plan.requests job requests
+  pub of_rows : AreRowsOf files asked.payments job rows
+  pub run : IsRunOf job requests rows done
 
-abbrev pub alerts_station : Station
-alerts_station = record { lanes = 1 ∷ []; dues = []; is_head = λ request. false; marked_lanes = λ request. [] }
+-- why there is no run: no job or no requests were read, or else no rows
+abbrev pub IsNoRun : RunAsked → Option Files → Faults → Faults → Fault → Type 0
+IsNoRun asked files old new why =
+    IsNoSetup asked.plan files old new why
+    ⊎ ((job : Written) × (requests : List Request) × IsJobOf files asked.plan.job job × AreRequestsOf files asked.plan.requests job requests
+    × AreNoRows files asked.payments job old new why)
 
--- the mask of the nodes that a request covers: `big` alone
-abbrev pub cover : ℕ → ℕ
-cover request = 2
+-- ---- the answer
 
--- The feeds and journals are a run of these rows by a job whose filter has one function at first, and another from the request after row `after` on.
-pub record IsRun (job : Written) (func next : Func) (after : ℕ) (rows : List Row) (feeds : List Feed) (journals : List (List Entry)) : Type 0 where
-  pub big : List Entry
-  pub alerts : List Entry
-  -- each worker has one journal, which is finished
-  pub workers : journals ≡ big ∷ alerts ∷ []
-  pub big_finished : IsFinished big_station big
-  pub alerts_finished : IsFinished alerts_station alerts
-  -- the feeder fed each row and issued the request after its row
-  pub feed : feeds ≡ feed_of (after ∷ []) (length rows)
-  -- each lane shows, in order, what was put on it
-  pub into_big : shown cover 0 big ≡ fed rows 0 feeds ++ item.Last ∷ []
-  pub into_alerts : shown cover 1 alerts ≡ sent job 1 next (record { func = func; last = 0 }) big
+-- how a call of `run` ends, before the line of its fault is printed
+abbrev pub EndsRun : RunAsked → Outside → Outside → Answer → Type 0
+EndsRun asked old new answer = Stops (IsNoRun asked old.files) old new answer ⊎ Runs (IsRunOfFiles asked old.files) asked.alerts old new answer
 
--- what such a run means for its rows
-pub record IsRunOfWholeRows (after : ℕ) (rows : List Row) (journals : List (List Entry)) : Type 0 where
-  -- at the asked node each row met the old function alone or the new alone
-  pub whole : (row : ℕ) → IsOneSided journals 1 row (0 ∷ [])
-  -- the rows up to `after` met the old one, all others the new one
-  pub order : TurnsAfterRow (journal_of journals 0) 1 after (length rows)
-  -- no identity came to a node twice
-  pub once_at_big : IsMetOnce journals (0 ∷ [])
-  pub once_at_alerts : IsMetOnce journals (1 ∷ [])
+-- what a call of `run` answers, leaves and prints
+pub record AnswersRun (asked : RunAsked) (old new : Outside) (answer : Answer) : Type 0 where
+  pub between : Outside
+  pub ends : EndsRun asked old between answer
+  pub prints : PrintsFault answer.fault between new
+
+-- the answer, seen from the files: each is looked at where those before it hold what they should
+pub record FollowsRun (asked : RunAsked) (old new : Outside) (answer : Option Fault) : Type 0 where
+  pub job : FollowsJob asked.plan.job old new answer
+  pub requests : (job : Written) → TellsJob old.files asked.plan.job job → FollowsRequests job asked.plan.requests old new answer
+  pub payments : (job : Written) (requests : List Request) → TellsJob old.files asked.plan.job job → TellsRequests old.files asked.plan.requests job requests →
+      FollowsRows job asked.payments old new answer
+  pub done : (job : Written) (requests : List Request) (rows : List Row) → TellsJob old.files asked.plan.job job →
+      TellsRequests old.files asked.plan.requests job requests → TellsRows old.files asked.payments job rows → (answer ≡ None) ⊎ IsExcused old new answer

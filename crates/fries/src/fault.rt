@@ -1,8 +1,9 @@
 ghost use Rattle.std.specs.Prelude.{◌≡◌};
-ghost use Rattle.fries.specs.Faults.{job_fault, payments_fault, status_of as status_of_fault};
+ghost use Rattle.fries.specs.Faults.{job_fault, payments_fault, requests_fault, status_of as status_of_fault};
+ghost use Rattle.fries.specs.Reading.{limit_of};
 ghost use Rattle.fries.specs.declared.fault.Fault.TheVariants.{NoMemory as OutOfMemory};
 
-use job_file::JobFault;
+use job_file::{JobFault, ReqFileFault};
 use payments::PFault;
 use std::alloc::AllocError;
 use tuple_trace::NoMemory;
@@ -11,10 +12,24 @@ use tuple_trace::NoMemory;
 #[derive(Clone, Copy, Debug, PartialEq, Eq)]
 pub enum FileIs {
     Job,
+    Requests,
     Payments,
     Alerts,
     /// The standard output.
     Out,
+}
+
+impl FileIs {
+    /// How many bytes of the file are read at most: none of one that is only written.
+    pub fn limit(self) -> u64
+        ensures { result ≡ limit_of self }
+    {
+        match self {
+            FileIs::Job | FileIs::Requests => 1_048_576,
+            FileIs::Payments => 67_108_864,
+            FileIs::Alerts | FileIs::Out => 0,
+        }
+    }
 }
 
 /// Why a command wasn't done to its end.
@@ -24,6 +39,8 @@ pub enum Fault {
     Usage,
     /// The job file was read and is refused.
     Job(JobFault),
+    /// The request file was read and is refused.
+    Requests(ReqFileFault),
     /// The payments were read and are refused.
     Payments(PFault),
     /// A file couldn't be read.
@@ -43,6 +60,7 @@ impl Fault {
         match self {
             Fault::Usage => 1,
             Fault::Job(_) => 2,
+            Fault::Requests(_) => 3,
             Fault::Payments(_) => 4,
             Fault::Read(_) => 5,
             Fault::Write(_) => 6,
@@ -75,6 +93,17 @@ impl From<JobFault> for Fault {
         match fault {
             JobFault::NoMemory => Fault::NoMemory,
             refused => Fault::Job(refused),
+        }
+    }
+}
+
+impl From<ReqFileFault> for Fault {
+    ghost from_gives = { λ p e. e ≡ requests_fault p };
+
+    fn from(fault: ReqFileFault) -> Self {
+        match fault {
+            ReqFileFault::NoMemory => Fault::NoMemory,
+            refused => Fault::Requests(refused),
         }
     }
 }

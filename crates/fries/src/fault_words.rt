@@ -1,9 +1,9 @@
 // What is printed of a fault.
 ghost use Rattle.std.specs.Prelude.{Some};
-ghost use Rattle.fries.specs.FaultWords.{fault_words, file_words, job_words, part_words, payments_words, which_words};
+ghost use Rattle.fries.specs.FaultWords.{fault_words, file_words, job_words, part_words, payments_words, requests_words, which_words};
 
 use crate::fault::{Fault, FileIs};
-use job_file::{JobFault, Named, Part, Which};
+use job_file::{JobFault, Named, Part, ReqFileFault, Which};
 use payments::PFault;
 use std::fmt;
 
@@ -14,6 +14,7 @@ impl fmt::Display for Fault {
         match self {
             Fault::Usage => write!(f, "usage"),
             Fault::Job(fault) => JobWords(*fault).fmt(f),
+            Fault::Requests(fault) => RequestsWords(*fault).fmt(f),
             Fault::Payments(fault) => PaymentsWords(*fault).fmt(f),
             Fault::Read(file) | Fault::Write(file) | Fault::Long(file) => file.fmt(f),
             Fault::NoMemory => write!(f, "memory"),
@@ -27,6 +28,7 @@ impl fmt::Display for FileIs {
     fn fmt<W: fmt::Write>(&self, f: &mut fmt::Formatter<W>) -> fmt::Result {
         match self {
             FileIs::Job => write!(f, "job"),
+            FileIs::Requests => write!(f, "requests"),
             FileIs::Payments => write!(f, "payments"),
             FileIs::Alerts => write!(f, "alerts"),
             FileIs::Out => write!(f, "out"),
@@ -123,6 +125,29 @@ impl fmt::Display for WhichWords {
             Which::Requests => write!(f, "requests"),
             Which::Changes => write!(f, "changes"),
             Which::After => write!(f, "after"),
+        }
+    }
+}
+
+/// Writes a fault of the request file as its code, and what it names.
+#[derive(Drop)]
+struct RequestsWords(ReqFileFault);
+
+impl fmt::Display for RequestsWords {
+    ghost output = { λ fault. Some (requests_words fault.0) };
+
+    fn fmt<W: fmt::Write>(&self, f: &mut fmt::Formatter<W>) -> fmt::Result {
+        match self.0 {
+            ReqFileFault::NotToml => write!(f, "F1"),
+            ReqFileFault::Shape(part) => {
+                let part = PartWords(part);
+                write!(f, "F2 {part}")
+            }
+            ReqFileFault::Limit(which, number) => {
+                let which = WhichWords(which);
+                write!(f, "F3 {which} {number}")
+            }
+            ReqFileFault::NoMemory => write!(f, "memory"),
         }
     }
 }

@@ -1,14 +1,20 @@
-ghost use Rattle.std.specs.Prelude.{◌≡◌, IfOk};
+ghost use Rattle.std.specs.Prelude.{◌≡◌, ◌∷◌, [], IfOk};
 ghost use Rattle.jobs.specs.Job.{written};
-ghost use Rattle.fries.specs.FirstJob.{at_least as at_least_of, column_of, first_columns, first_job as first_job_of, node_of};
+ghost use Rattle.fries.specs.FirstJob.{at_least as at_least_of, column_of, first_columns, first_job as first_job_of, first_request, node_of};
 
+use crate::command::First;
 use flow_dag::Edge;
 use jobs::{
     Column, ColumnDefs, ColumnKind, Columns, Cond, Conds, Func, Job, NodeDef, NodeDefs, Tables,
     Test,
 };
+use keyed_state::Carry;
 use std::alloc::Global;
 use tuple_trace::{NoMemory, Txt, Value};
+use versions::{Change, Changes, Request, Requests};
+
+/// The place of the node `big`.
+const BIG: u32 = 1;
 
 /// The place of the column `amount`.
 const AMOUNT: u32 = 2;
@@ -39,8 +45,25 @@ pub fn first_job(alloc: Global, least: i64) -> Result<Job, NoMemory>
     Job::check(alloc, columns, nodes, &edges, Tables::new(alloc)).map_err(|_| NoMemory)
 }
 
-/// The function of `big` that lets amounts from so many cents on pass.
-pub fn at_least(alloc: Global, least: i64) -> Result<Func, NoMemory>
+/// The one request of the command `first`: `big` has another threshold from a row on.
+pub fn first_requests(alloc: Global, first: First<'_>) -> Result<Requests, NoMemory>
+    ensures { IfOk result (λ requests. requests ≡ first_request first.entry.after first.entry.least_after ∷ []) }
+{
+    let change = Change {
+        node: BIG,
+        from: 0,
+        func: at_least(alloc, first.least_after)?,
+        carry: Carry::Keep,
+    };
+    let request = Request {
+        after: first.after,
+        changes: Changes::from_vec(Vec::from_array(alloc, [change])?),
+    };
+    Ok(Requests::from_vec(Vec::from_array(alloc, [request])?))
+}
+
+// The function of `big` that lets amounts from so many cents on pass.
+fn at_least(alloc: Global, least: i64) -> Result<Func, NoMemory>
     ensures { IfOk result (λ func. func ≡ at_least_of least) }
 {
     let cond = Cond {

@@ -1,25 +1,20 @@
 ghost use Rattle.std.specs.Prelude.{◌≡◌, Some, IfOk, string_bytes};
 ghost use Rattle.jobs.specs.Job.{written};
 ghost use Rattle.fries.specs.FaultWords.{fault_line as fault_line_of};
-ghost use Rattle.fries.specs.Lines.{alert_count as alert_count_of, row_count as row_count_of, sizes_line as sizes_line_of, sizes_of as sizes_of_job, summary_line as summary_line_of};
+ghost use Rattle.fries.specs.Lines.{sizes_line as sizes_line_of, sizes_of as sizes_of_job, summary_line as summary_line_of};
 
-use crate::executor::RunRecord;
 use crate::fault::Fault;
 use jobs::{Job, weight, worker_count};
-use sink_journal::{Entry, Feed};
 use std::alloc::Global;
 use std::fmt;
 use tuple_trace::NoMemory;
-
-/// The place of the sink's journal.
-const ALERTS: usize = 1;
 
 /// What a run is counted by.
 #[derive(Clone, Copy, Debug, PartialEq, Eq)]
 pub struct Summary {
     /// The rows that were fed.
     pub rows: usize,
-    /// The tuples that reached a sink.
+    /// The tuples that reached the sinks.
     pub alerts: usize,
     pub requests: usize,
     /// How many of the requests were refused.
@@ -45,40 +40,11 @@ impl fmt::Display for Summary {
     }
 }
 
-/// The line that ends a run of `first`.
-pub fn summary_line(alloc: Global, done: &RunRecord) -> Result<String, NoMemory>
-    ensures { IfOk result (λ line. string_bytes line ≡ summary_line_of done.now) }
+/// The line that ends a run.
+pub fn summary_line(alloc: Global, summary: Summary) -> Result<String, NoMemory>
+    ensures { IfOk result (λ line. string_bytes line ≡ summary_line_of summary) }
 {
-    let summary = Summary {
-        rows: row_count(done),
-        alerts: alert_count(done),
-        requests: 1,
-        refused: 0,
-    };
     Ok(format!(in alloc; "{summary}\n")?)
-}
-
-fn row_count(done: &RunRecord) -> usize
-    ensures { result ≡ row_count_of done.now }
-{
-    done.feeds
-        .as_slice()
-        .iter()
-        .filter(|feed| matches!(feed, Feed::Fed(_)))
-        .count()
-}
-
-fn alert_count(done: &RunRecord) -> usize
-    ensures { result ≡ alert_count_of done.now }
-{
-    let Some(journal) = done.journals.as_slice().get(ALERTS) else {
-        return 0;
-    };
-    journal
-        .as_slice()
-        .iter()
-        .filter(|entry| matches!(entry, Entry::Met { .. }))
-        .count()
 }
 
 /// The line of a fault.

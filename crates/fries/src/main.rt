@@ -4,18 +4,26 @@
 //! `main` makes; its contract is what the program promises.
 #![tactic(auto)]
 
+mod answer;
 mod check;
 mod command;
-mod executor;
+mod counts;
 mod fault;
 mod fault_words;
 mod first;
 mod job;
 mod lines;
+mod plan;
+mod plan_lines;
 mod printing;
+mod reading;
+mod refused_lines;
+mod run;
+mod running;
 #[cfg(test)]
 mod tests;
 mod top;
+mod writing;
 
 use payments::{HostShelf, StdOut};
 use std::alloc::{AllocError, Global};

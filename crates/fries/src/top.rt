@@ -1,44 +1,42 @@
-ghost use Rattle.std.specs.Prelude.{◌≡◌, ◌++◌, [], None, Some, IfErr, IfNone, IfSome, OnOk, option_map};
-ghost use Rattle.payments.specs.Causes.{GainsPrefix};
-ghost use Rattle.fries.specs.Answers.{Answers, AnswersUsage, Follows};
-ghost use Rattle.fries.specs.Asked.{asked_by, asked_of, first_asked};
-ghost use Rattle.fries.specs.Check.{AnswersCheck, FollowsJob};
+ghost use Rattle.std.specs.Prelude.{◌≡◌, IfNone, IfSome};
+ghost use Rattle.std.specs.Result.{result_err};
+ghost use Rattle.fries.specs.Answers.{answer_of, Answers, AnswersUsage, Follows};
+ghost use Rattle.fries.specs.Asked.{asked_by, asked_of, first_asked, plan_asked, run_asked};
+ghost use Rattle.fries.specs.Check.{AnswersCheck, FollowsCheck};
+ghost use Rattle.fries.specs.Ends.{stopped};
 ghost use Rattle.fries.specs.FaultWords.{fault_line as fault_line_of};
 ghost use Rattle.fries.specs.Faults.{status_for};
-ghost use Rattle.fries.specs.First.{AnswersFirst, FollowsPayments};
-ghost use Rattle.fries.specs.Outside.{outside, PrintsNot, PrintsReport};
+ghost use Rattle.fries.specs.First.{AnswersFirst, FollowsFirst};
+ghost use Rattle.fries.specs.Outside.{outside, Prints, PrintsReport};
+ghost use Rattle.fries.specs.Plan.{AnswersPlan, FollowsPlan};
+ghost use Rattle.fries.specs.Run.{AnswersRun, FollowsRun};
 
+use crate::answer::Answer;
 use crate::check::check_command;
-use crate::command::{Command, First, command_of};
-use crate::executor::RunRecord;
+use crate::command::{Command, First, PlanFiles, RunFiles, command_of};
 use crate::fault::{Fault, FileIs};
-use crate::first::{Answer, first_command};
+use crate::first::first_command;
 use crate::lines::fault_line;
+use crate::plan::plan_command;
 use crate::printing::print;
+use crate::run::run_command;
+use flow_model::RunRecord;
 use job_file::faulty_is_no_job;
 use payments::{Shelf, Sink};
 use std::alloc::Global;
 use std::sync::Wait;
 use std::thread::Threads;
-use tuple_trace::{Gate, Items, Word};
-
-/// A request that was refused, by its place in the request file, counted from 1.
-#[derive(Clone, Copy, Debug, PartialEq, Eq)]
-pub struct Refused {
-    pub place: u32,
-}
-
-/// The refused requests in the order of the file.
-pub type Refusals = Items<Refused>;
+use tuple_trace::{Gate, Word};
+use versions::Refusals;
 
 /// What a call of the program came to.
-#[derive(Debug, Drop)]
+#[derive(Drop)]
 pub struct Outcome {
-    /// The status that the program ends with: that of the fault, and 0 where there is none.
+    /// The status that the program ends with: that of the fault; without one 0, and 8 where a request was refused.
     pub status: u8,
     /// What ended the call early, if anything did.
     pub fault: Option<Fault>,
-    /// The requests that were refused: none, since the one request of `first` is always accepted.
+    /// The requests that judging refused, in the order of their file; none where the call came to no judging.
     pub refused: Refusals,
     /// What the run did, where one was completed.
     pub ran: Option<RunRecord>,
@@ -65,28 +63,45 @@ where
     ensures usage { IfNone (asked_of words.now) (AnswersUsage
         (outside (S.files shelf.old) (S.faults shelf.old) (S.target shelf.old) (O.written out.old) (O.faults out.old))
         (outside (S.files shelf.new) (S.faults shelf.new) (S.target shelf.new) (O.written out.new) (O.faults out.new))
-        result.fault result.ran) }
+        (answer_of result)) }
     ensures answers { IfSome (asked_of words.now) (λ asked. Answers asked
         (outside (S.files shelf.old) (S.faults shelf.old) (S.target shelf.old) (O.written out.old) (O.faults out.old))
         (outside (S.files shelf.new) (S.faults shelf.new) (S.target shelf.new) (O.written out.new) (O.faults out.new))
-        result.fault result.ran) }
+        (answer_of result)) }
     ensures file { IfSome (asked_of words.now) (λ asked. Follows asked
         (outside (S.files shelf.old) (S.faults shelf.old) (S.target shelf.old) (O.written out.old) (O.faults out.old))
         (outside (S.files shelf.new) (S.faults shelf.new) (S.target shelf.new) (O.written out.new) (O.faults out.new))
         result.fault) }
-    ensures status { result.status ≡ status_for result.fault }
-    ensures refused { result.refused ≡ [] }
+    ensures status { result.status ≡ status_for result.fault result.refused }
 {
     let answer = match command_of(words) {
         Some(Command::First(first)) => answer_first(alloc, first, shelf, out),
         Some(Command::Check(job)) => answer_check(alloc, job, shelf, out),
+        Some(Command::Plan(files)) => answer_plan(alloc, files, shelf, out),
+        Some(Command::Run(files)) => answer_run(alloc, files, shelf, out),
         None => answer_usage(alloc, out),
     };
+    let status = status_of(&answer);
+    let Answer {
+        fault,
+        refused,
+        ran,
+    } = answer;
     Outcome {
-        status: answer.fault.map_or(0, Fault::status),
-        fault: answer.fault,
-        refused: Refusals::new(alloc),
-        ran: answer.ran,
+        status,
+        fault,
+        refused,
+        ran,
+    }
+}
+
+fn status_of(answer: &Answer) -> u8
+    ensures { result ≡ status_for answer.now.fault answer.now.refused }
+{
+    match answer.fault {
+        Some(fault) => fault.status(),
+        None if answer.refused.is_empty() => 0,
+        None => 8,
     }
 }
 
@@ -96,11 +111,11 @@ fn answer_first<S: Shelf, O: Sink>(
     shelf: &mut S,
     out: &mut O,
 ) -> Answer
-    ensures first { AnswersFirst (first_asked first.entry)
+    ensures answers { AnswersFirst (first_asked first.entry)
         (outside (S.files shelf.old) (S.faults shelf.old) (S.target shelf.old) (O.written out.old) (O.faults out.old))
         (outside (S.files shelf.new) (S.faults shelf.new) (S.target shelf.new) (O.written out.new) (O.faults out.new))
-        result.fault result.ran }
-    ensures file { FollowsPayments (first_asked first.entry)
+        result }
+    ensures file { FollowsFirst (first_asked first.entry)
         (outside (S.files shelf.old) (S.faults shelf.old) (S.target shelf.old) (O.written out.old) (O.faults out.old))
         (outside (S.files shelf.new) (S.faults shelf.new) (S.target shelf.new) (O.written out.new) (O.faults out.new))
         result.fault }
@@ -111,32 +126,73 @@ fn answer_first<S: Shelf, O: Sink>(
 }
 
 fn answer_check<S: Shelf, O: Sink>(alloc: Global, job: &Word, shelf: &mut S, out: &mut O) -> Answer
-    ensures check { AnswersCheck job.now
+    ensures answers { AnswersCheck job.now
         (outside (S.files shelf.old) (S.faults shelf.old) (S.target shelf.old) (O.written out.old) (O.faults out.old))
         (outside (S.files shelf.new) (S.faults shelf.new) (S.target shelf.new) (O.written out.new) (O.faults out.new))
-        result.fault result.ran }
-    ensures file { FollowsJob job.now
+        result }
+    ensures file { FollowsCheck job.now
         (outside (S.files shelf.old) (S.faults shelf.old) (S.target shelf.old) (O.written out.old) (O.faults out.old))
         (outside (S.files shelf.new) (S.faults shelf.new) (S.target shelf.new) (O.written out.new) (O.faults out.new))
         result.fault }
 {
     faulty_is_no_job();
-    let fault = check_command(alloc, job, shelf, out).err();
-    report(alloc, fault, out);
-    Answer { fault, ran: None }
+    let answer = check_command(alloc, job, shelf, out);
+    report(alloc, answer.fault, out);
+    answer
+}
+
+fn answer_plan<S: Shelf, O: Sink>(
+    alloc: Global,
+    files: PlanFiles<'_>,
+    shelf: &mut S,
+    out: &mut O,
+) -> Answer
+    ensures answers { AnswersPlan (plan_asked files.entry)
+        (outside (S.files shelf.old) (S.faults shelf.old) (S.target shelf.old) (O.written out.old) (O.faults out.old))
+        (outside (S.files shelf.new) (S.faults shelf.new) (S.target shelf.new) (O.written out.new) (O.faults out.new))
+        result }
+    ensures file { FollowsPlan (plan_asked files.entry)
+        (outside (S.files shelf.old) (S.faults shelf.old) (S.target shelf.old) (O.written out.old) (O.faults out.old))
+        (outside (S.files shelf.new) (S.faults shelf.new) (S.target shelf.new) (O.written out.new) (O.faults out.new))
+        result.fault }
+{
+    faulty_is_no_job();
+    let answer = plan_command(alloc, files, shelf, out);
+    report(alloc, answer.fault, out);
+    answer
+}
+
+fn answer_run<S: Shelf, O: Sink>(
+    alloc: Global,
+    files: RunFiles<'_>,
+    shelf: &mut S,
+    out: &mut O,
+) -> Answer
+    ensures answers { AnswersRun (run_asked files.entry)
+        (outside (S.files shelf.old) (S.faults shelf.old) (S.target shelf.old) (O.written out.old) (O.faults out.old))
+        (outside (S.files shelf.new) (S.faults shelf.new) (S.target shelf.new) (O.written out.new) (O.faults out.new))
+        result }
+    ensures file { FollowsRun (run_asked files.entry)
+        (outside (S.files shelf.old) (S.faults shelf.old) (S.target shelf.old) (O.written out.old) (O.faults out.old))
+        (outside (S.files shelf.new) (S.faults shelf.new) (S.target shelf.new) (O.written out.new) (O.faults out.new))
+        result.fault }
+{
+    faulty_is_no_job();
+    let answer = run_command(alloc, files, shelf, out);
+    report(alloc, answer.fault, out);
+    answer
 }
 
 fn answer_usage<O: Sink>(alloc: Global, out: &mut O) -> Answer
-    ensures fault { result.fault ≡ Some Fault.Usage }
-    ensures ran { result.ran ≡ None }
+    ensures answer { result ≡ stopped Fault.Usage }
     ensures prints { PrintsReport (Some Fault.Usage) (O.written out.old) (O.written out.new) (O.faults out.old) (O.faults out.new) }
 {
-    let fault = Some(Fault::Usage);
-    report(alloc, fault, out);
-    Answer { fault, ran: None }
+    report(alloc, Some(Fault::Usage), out);
+    Answer::stopped(alloc, Fault::Usage)
 }
 
 // Prints the line of a fault, unless it is the output that failed. What printing it comes to changes no answer.
+#[tactic(auto, using(crate::proofs::PrintLemmas::reports))]
 fn report<O: Sink>(alloc: Global, fault: Option<Fault>, out: &mut O)
     ensures { PrintsReport fault (O.written out.old) (O.written out.new) (O.faults out.old) (O.faults out.new) }
 {
@@ -148,11 +204,9 @@ fn report<O: Sink>(alloc: Global, fault: Option<Fault>, out: &mut O)
     }
 }
 
+#[tactic(auto, using(crate::proofs::PrintLemmas::prints_nothing))]
 fn print_fault<O: Sink>(alloc: Global, fault: Fault, out: &mut O) -> Result<(), Fault>
-    ensures ok { OnOk result (O.written out.new ≡ option_map (λ written. written ++ fault_line_of fault) (O.written out.old)) }
-    ensures part { GainsPrefix (O.written out.old) (O.written out.new) (fault_line_of fault) }
-    ensures same { OnOk result (O.faults out.new ≡ O.faults out.old) }
-    ensures cause { IfErr result (PrintsNot (O.faults out.old) (O.faults out.new)) }
+    ensures { Prints (fault_line_of fault) (O.written out.old) (O.written out.new) (O.faults out.old) (O.faults out.new) (result_err result) }
 {
     let line = fault_line(alloc, fault)?;
     print(out, line.as_bytes())

@@ -1,0 +1,13 @@
+use Rattle.std.proofs.Common.{inr, refl}
+use Rattle.jobs.specs.Job.{written}
+use Rattle.fries.proofs.check.check_command.Goals as goal
+
+pub returns-in-Ok : goal.returns-in-Ok
+returns-in-Ok g c = inr (record {
+  job = written c.in-Ok.job;
+  of_file = c.in-Ok.ensures.job;
+  stores = record { files = c.in-Ok.ensures.files; shelf = c.in-Ok.ensures.counts };
+  prints = rw c.err.ensures.value c.print_sizes.ensures;
+  refused = c.new.ensures;
+  ran = refl;
+})
