@@ -1,70 +1,129 @@
-use crate::fault::{Fault, FileIs};
-use crate::lines::fault_line;
-use job_file::{JobFault, Named, Part, ReqFileFault, Which};
-use payments::PFault;
-use std::test::Fail;
+mod alone;
+mod check;
+mod first;
+mod lines;
+mod plan;
+mod run;
+mod texts;
 
-#[test]
-fn lines_of_job_faults(rt: HostRuntime) -> Result<(), Fail> {
-    let cases = [
-        (JobFault::NotToml, "fault 2 J1\n"),
-        (JobFault::Shape(Part::Unknown), "fault 2 J2 unknown\n"),
-        (
-            JobFault::Limit(Which::AllWorkers, 65),
-            "fault 2 J3 allworkers 65\n",
-        ),
-        (JobFault::Limit(Which::Most, -1), "fault 2 J3 most -1\n"),
-        (JobFault::NameTwice(Named::Node, 3), "fault 2 J4 node 3\n"),
-        (
-            JobFault::NameTwice(Named::Column, 1),
-            "fault 2 J4 column 1\n",
-        ),
-        (JobFault::NoSuchEnd(0), "fault 2 J5 edge 0\n"),
-        (JobFault::Ports(7), "fault 2 J6 node 7\n"),
-        (JobFault::Cycle(2), "fault 2 J7 node 2\n"),
-        (JobFault::Column(4), "fault 2 J8 node 4\n"),
-        (JobFault::NoTable(5), "fault 2 J9 node 5\n"),
-        (JobFault::Weight(4369), "fault 2 J10 weight 4369\n"),
-    ];
-    for (fault, line) in cases {
-        assert_eq!(rt; fault_line(rt.alloc(), Fault::Job(fault))?.as_str(), line);
-    }
-    Ok(())
+use crate::fault::Fault;
+use crate::top::fries;
+use flow_model::RunRecord;
+use payments::{Calls, MemoryShelf, MemorySink};
+use std::alloc::Global;
+use std::sync::Wait;
+use std::thread::Threads;
+use tuple_trace::{Bytes, NoMemory, OpenGate, Word};
+
+/// What a call finds outside: files by their names, and the numbers of the calls of the shelf and of the output that fail.
+#[derive(Clone, Copy)]
+pub struct Around<'a> {
+    pub files: &'a [(&'a str, &'a [u8])],
+    pub failing: &'a [u64],
+    pub refusing: &'a [u64],
 }
 
-#[test]
-fn lines_of_request_faults(rt: HostRuntime) -> Result<(), Fail> {
-    let cases = [
-        (Fault::Requests(ReqFileFault::NotToml), "fault 3 F1\n"),
-        (
-            Fault::Requests(ReqFileFault::Shape(Part::Carry)),
-            "fault 3 F2 carry\n",
-        ),
-        (
-            Fault::Requests(ReqFileFault::Limit(Which::Requests, 65)),
-            "fault 3 F3 requests 65\n",
-        ),
-        (Fault::Read(FileIs::Requests), "fault 5 requests\n"),
-    ];
-    for (fault, line) in cases {
-        assert_eq!(rt; fault_line(rt.alloc(), fault)?.as_str(), line);
+impl<'a> Around<'a> {
+    /// These files, and no call that fails.
+    pub fn of(files: &'a [(&'a str, &'a [u8])]) -> Self {
+        Around {
+            files,
+            failing: &[],
+            refusing: &[],
+        }
     }
-    Ok(())
 }
 
-#[test]
-fn lines_of_faults(rt: HostRuntime) -> Result<(), Fail> {
-    let cases = [
-        (Fault::Long(FileIs::Payments), "fault 9 payments\n"),
-        (Fault::NoMemory, "fault 7 memory\n"),
-        (Fault::Write(FileIs::Out), "fault 6 out\n"),
-        (
-            Fault::Payments(PFault::TooMuch(524_289)),
-            "fault 4 P7 row 524289\n",
-        ),
-    ];
-    for (fault, line) in cases {
-        assert_eq!(rt; fault_line(rt.alloc(), fault)?.as_str(), line);
+/// What a call came to, and what it left under `alerts.csv` and on the output.
+#[derive(Drop)]
+pub struct Seen {
+    pub status: u8,
+    pub fault: Option<Fault>,
+    pub ran: Option<RunRecord>,
+    pub alerts: Option<Bytes>,
+    pub out: Bytes,
+}
+
+impl Seen {
+    /// Whether the call left this status, these alerts and this output.
+    pub fn left(&self, status: u8, alerts: Option<&str>, out: &str) -> bool {
+        let same = match (&self.alerts, alerts) {
+            (Some(bytes), Some(text)) => bytes.as_slice() == text.as_bytes(),
+            (None, None) => true,
+            _ => false,
+        };
+        self.status == status && same && self.out.as_slice() == out.as_bytes()
     }
-    Ok(())
+}
+
+/// What a call with these words comes to. An append takes at most 16 bytes.
+pub fn answer_to<R>(
+    rt: &R,
+    alloc: Global,
+    around: Around<'_>,
+    words: &[&str],
+) -> Result<Seen, NoMemory>
+where
+    R: Threads + Wait + Copy + Send + Sync + 'static,
+{
+    let words = words_of(alloc, words)?;
+    let mut shelf = shelf_of(alloc, around.files, around.failing)?;
+    let mut out = MemorySink::new(alloc, Calls::from_slice(alloc, around.refusing)?);
+    let (status, fault, ran) = outcome(rt, alloc, &words, &mut shelf, &mut out);
+    Ok(Seen {
+        status,
+        fault,
+        ran,
+        alerts: alerts_on(alloc, &shelf)?,
+        out: Bytes::from_slice(alloc, out.written())?,
+    })
+}
+
+pub fn words_of(alloc: Global, texts: &[&str]) -> Result<Vec<Word>, NoMemory> {
+    let mut words = Vec::new(alloc);
+    for text in texts {
+        words.push(word(alloc, text)?)?;
+    }
+    Ok(words)
+}
+
+fn word(alloc: Global, text: &str) -> Result<Word, NoMemory> {
+    Ok(Word::from_string(text.to_string(alloc)?))
+}
+
+fn shelf_of(
+    alloc: Global,
+    files: &[(&str, &[u8])],
+    failing: &[u64],
+) -> Result<MemoryShelf, NoMemory> {
+    let mut shelf = MemoryShelf::new(alloc, 16, Calls::from_slice(alloc, failing)?);
+    for (name, bytes) in files {
+        let name = word(alloc, name)?;
+        if shelf.put(name, Bytes::from_slice(alloc, bytes)?).is_err() {
+            return Err(NoMemory);
+        }
+    }
+    Ok(shelf)
+}
+
+fn outcome<R>(
+    rt: &R,
+    alloc: Global,
+    words: &[Word],
+    shelf: &mut MemoryShelf,
+    out: &mut MemorySink,
+) -> (u8, Option<Fault>, Option<RunRecord>)
+where
+    R: Threads + Wait + Copy + Send + Sync + 'static,
+{
+    let outcome = fries(rt, alloc, words, shelf, out, &OpenGate);
+    (outcome.status, outcome.fault, outcome.ran)
+}
+
+fn alerts_on(alloc: Global, shelf: &MemoryShelf) -> Result<Option<Bytes>, NoMemory> {
+    let name = word(alloc, "alerts.csv")?;
+    match shelf.get(&name) {
+        Some(bytes) => Ok(Some(Bytes::from_slice(alloc, bytes.as_slice())?)),
+        None => Ok(None),
+    }
 }
