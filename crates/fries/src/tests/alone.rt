@@ -1,17 +1,19 @@
 use crate::tests::run::run_over;
 use crate::tests::texts::{CHAIN, FOUR_PAYMENTS, TWO_ALERTS};
-use crate::tests::{Around, answer_to};
+use crate::tests::{Around, Seen, answer_to};
 use flow_replay::{FuncTable, alone};
 use job_file::read_job;
 use jobs::Job;
 use payments::read_rows;
 use sink_journal::{Entry, Journal};
 use std::alloc::Global;
+use std::ops::Range;
 use std::test::Fail;
 use tuple_trace::{NoMemory, Row, Txt, Value};
 
-/// Two sources, a split into as many pieces as there may be, `counted` with eight workers, and a replicate whose eight ways meet in a sink.
-fn wide(alloc: Global, counted: &str) -> Result<String, NoMemory> {
+/// Two sources, a split into as many pieces as there may be, `counted` with eight workers, and a replicate whose eight ways meet in a sink. The
+/// map on the first way has these steps.
+fn wide(alloc: Global, counted: &str, steps: &str) -> Result<String, NoMemory> {
     Ok(format!(in alloc;
         r#"
 columns = ["tags:text", "seen:number:own"]
@@ -21,6 +23,7 @@ node = [
   {{ name = "s", kind = "split", on = "tags", by = ";", most = 16 }},
   {{ name = "c", workers = 8, {counted} }},
   {{ name = "r", kind = "replicate" }},
+  {{ name = "m0", kind = "map", steps = [{steps}] }},
 {MAPS}  {{ name = "out", kind = "sink", columns = ["tags", "seen"] }},
 ]
 edge = [
@@ -33,8 +36,7 @@ edge = [
     )?)
 }
 
-const MAPS: &str = r#"  { name = "m0", kind = "map", steps = [] },
-  { name = "m1", kind = "map", steps = [] },
+const MAPS: &str = r#"  { name = "m1", kind = "map", steps = [] },
   { name = "m2", kind = "map", steps = [] },
   { name = "m3", kind = "map", steps = [] },
   { name = "m4", kind = "map", steps = [] },
@@ -77,7 +79,7 @@ const WIDE_SUMMARY: &str = "rows 4 alerts 176 requests 0 refused 0\n";
 
 #[test]
 fn counts_over_eight_workers(rt: HostRuntime) -> Result<(), Fail> {
-    let job = wide(rt.alloc(), COUNT)?;
+    let job = wide(rt.alloc(), COUNT, "")?;
     let seen = run_over(&rt, rt.alloc(), &job, "", PIECES)?;
     assert_eq!(rt; seen.status, 0);
     assert_eq!(rt; seen.out.as_slice(), WIDE_SUMMARY.as_bytes());
@@ -149,27 +151,56 @@ fn same_lines(some: &[Txt], others: &[Txt]) -> bool {
             .all(|line| times(some, line) == times(others, line))
 }
 
-/// What comes to the sinks where the rows of these payments are each sent through this job by themselves.
-fn sent_alone(alloc: Global, job: &str, payments: &str) -> Result<Lines, Fail> {
+/// What comes to the sinks where these rows of the payments, counted from 0, are each sent through this job by themselves.
+fn sent_alone(alloc: Global, job: &str, payments: &str, rows: Range<usize>) -> Result<Lines, Fail> {
     let job = read_job(alloc, job.as_bytes())?;
-    let rows = read_rows(alloc, &job, payments.as_bytes())?;
-    Ok(by_themselves(alloc, &job, rows.as_slice())?)
+    let all = read_rows(alloc, &job, payments.as_bytes())?;
+    Ok(by_themselves(alloc, &job, &all.as_slice()[rows])?)
+}
+
+/// What the last worker met in a run, which is that of the sink.
+fn at_the_sink(alloc: Global, seen: &Seen) -> Result<Lines, NoMemory> {
+    match &seen.ran {
+        Some(ran) => match ran.journals.as_slice().last() {
+            Some(journal) => met(alloc, journal),
+            None => Ok(Vec::new(alloc)),
+        },
+        None => Ok(Vec::new(alloc)),
+    }
 }
 
 #[test]
 fn rows_by_themselves(rt: HostRuntime) -> Result<(), Fail> {
-    let job = wide(rt.alloc(), MAP)?;
+    let job = wide(rt.alloc(), MAP, "")?;
     let seen = run_over(&rt, rt.alloc(), &job, "", PIECES)?;
     assert_eq!(rt; seen.out.as_slice(), WIDE_SUMMARY.as_bytes());
-    let Some(ran) = &seen.ran else {
-        return Ok(assert!(rt; false));
-    };
-    let Some(sink) = ran.journals.as_slice().last() else {
-        return Ok(assert!(rt; false));
-    };
-    let wanted = sent_alone(rt.alloc(), &job, PIECES)?;
+    let wanted = sent_alone(rt.alloc(), &job, PIECES, 0..4)?;
     assert_eq!(rt; wanted.len(), 176);
-    assert!(rt; same_lines(&met(rt.alloc(), sink)?, &wanted));
+    assert!(rt; same_lines(&at_the_sink(rt.alloc(), &seen)?, &wanted));
+    Ok(())
+}
+
+/// Gives the map on the first way a step, after row 2.
+const ADD_SEVEN: &str = r#"
+[[request]]
+after = 2
+change = [{ node = "m0", from = 0, kind = "map", steps = [["seen", "add", "seen", 7]] }]
+"#;
+
+#[test]
+fn each_row_by_one_table(rt: HostRuntime) -> Result<(), Fail> {
+    let old = wide(rt.alloc(), MAP, "")?;
+    let new = wide(rt.alloc(), MAP, r#"["seen", "add", "seen", 7]"#)?;
+    let seen = run_over(&rt, rt.alloc(), &old, ADD_SEVEN, PIECES)?;
+    assert_eq!(rt;
+        seen.out.as_slice(),
+        b"rows 4 alerts 176 requests 1 refused 0\n".as_slice()
+    );
+    let mut wanted = sent_alone(rt.alloc(), &old, PIECES, 0..2)?;
+    for line in sent_alone(rt.alloc(), &new, PIECES, 2..4)? {
+        wanted.push(line)?;
+    }
+    assert!(rt; same_lines(&at_the_sink(rt.alloc(), &seen)?, &wanted));
     Ok(())
 }
 
@@ -185,14 +216,8 @@ fn four_payments_by_themselves(rt: HostRuntime) -> Result<(), Fail> {
             "rows 4 alerts 2 requests 1 refused 0\n"
         )
     );
-    let Some(ran) = &seen.ran else {
-        return Ok(assert!(rt; false));
-    };
-    let [_, alerts] = ran.journals.as_slice() else {
-        return Ok(assert!(rt; false));
-    };
-    let wanted = sent_alone(rt.alloc(), CHAIN, FOUR_PAYMENTS)?;
+    let wanted = sent_alone(rt.alloc(), CHAIN, FOUR_PAYMENTS, 0..4)?;
     assert_eq!(rt; wanted.len(), 2);
-    assert!(rt; same_lines(&met(rt.alloc(), alerts)?, &wanted));
+    assert!(rt; same_lines(&at_the_sink(rt.alloc(), &seen)?, &wanted));
     Ok(())
 }
