@@ -43,7 +43,7 @@ leads_twice-apart (e ∷ edges) v (suc i) (suc j) d apart lt within fi fj to =
     let (first, rest) = or_parts (leaves v e && has_edge edges v e.to) (leads_twice edges v) apart in
     leads_twice-apart edges v i j d rest (omega (arith, lt)) (omega (arith, within)) fi fj to
 
-get_or-take : {A : Type 0} (xs : List A) (i k : ℕ) (d : A) → k < i → get_or (take i xs) k d ≡ get_or xs k d
+pub get_or-take : {A : Type 0} (xs : List A) (i k : ℕ) (d : A) → k < i → get_or (take i xs) k d ≡ get_or xs k d
 get_or-take xs i k d lt = grind (arith, common_steps)
 
 IsRepeated-twice : (edges : List Edge) (i : ℕ) (e : Edge) → slice_get edges i ≡ Some e → HasEdge (take i edges) e.from e.to → leads_twice edges e.from ≡ false → ⊥

@@ -4,4 +4,5 @@ pub mod LimitLemmas
 pub mod EdgeLemmas
 pub mod ShapeLemmas
 pub mod UnlawfulLemmas
+pub mod OneFaultLemmas
 pub mod SettleLemmas

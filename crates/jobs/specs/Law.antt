@@ -108,3 +108,7 @@ IsRefused fault.NoMemory job = ⊤
 -- no job is both lawful and refused, but for want of memory
 abbrev pub Excludes : Type 0
 Excludes = (f : LawFault) (job : Written) → f ≢ fault.NoMemory → IsLawful job → IsRefused f job → ⊥
+
+-- no job is refused for two faults, but for want of memory
+abbrev pub HaveOneFault : Type 0
+HaveOneFault = (f g : LawFault) (job : Written) → f ≢ fault.NoMemory → g ≢ fault.NoMemory → IsRefused f job → IsRefused g job → f ≡ g

@@ -30,7 +30,7 @@ pub use func::{
     Steps, Test,
 };
 pub use job::Job;
-pub use laws::{functions_fit, refused_is_unlawful, weights_settle};
+pub use laws::{functions_fit, jobs_have_one_fault, refused_is_unlawful, weights_settle};
 pub use limits::{outside, size_fault};
 pub use node::{is_source, may_emit_many};
 pub use ports::has_port;
