@@ -1,6 +1,6 @@
 ghost use Rattle.std.specs.Prelude.{◌≡◌, ◌≢◌, Ok, Err, IfOk, IfErr};
 ghost use Rattle.jobs.specs.Job.{written};
-ghost use Rattle.job_file.specs.Job.{Excludes, IsFaultIn, IsJobIn};
+ghost use Rattle.job_file.specs.Job.{Excludes, HaveOneFault, IsFaultIn, IsJobIn};
 ghost use Rattle.job_file.specs.RequestFile.{requests_of};
 ghost use Rattle.job_file.specs.RequestSizes.{AreFew};
 
@@ -42,6 +42,11 @@ pub fn read_job(alloc: Global, bytes: &[u8]) -> Result<Job, JobFault>
 /// No file both has a fault and is that of a job.
 pub fn faulty_is_no_job()
     ensures { Excludes }
+{}
+
+/// A file has one first fault alone, but for want of memory.
+pub fn files_have_one_fault()
+    ensures { HaveOneFault }
 {}
 
 /// The requests that a file makes of a job, in the order of the file.

@@ -2,7 +2,9 @@ mod files;
 mod job_cases;
 mod request_cases;
 
-use crate::{JobFault, ReqFileFault, Which, faulty_is_no_job, read_job, read_requests};
+use crate::{
+    JobFault, ReqFileFault, Which, faulty_is_no_job, files_have_one_fault, read_job, read_requests,
+};
 use files::{CHAIN, PAYMENTS, REQUESTS};
 use jobs::{Func, Job};
 use keyed_state::Carry;
@@ -117,6 +119,7 @@ fn answer_with_equal_edges(alloc: Global, count: u32) -> Result<Answer, AllocErr
 #[test]
 fn jobs_of_the_examples(rt: HostRuntime) {
     faulty_is_no_job();
+    files_have_one_fault();
     let cases: [(&str, usize, u32, u64); 2] = [(CHAIN, 3, 2, 2), (PAYMENTS, 9, 8, 14)];
     for (text, nodes, edges, weight) in cases {
         match read_job(rt.alloc(), text.as_bytes()) {
