@@ -6,9 +6,7 @@ use Rattle.std.proofs.lemmas.Bool.{cases_eq, cases_lt}
 use Rattle.std.proofs.lemmas.Nat.{or_lt}
 use Rattle.std.proofs.Math.Pow.{pow-lt}
 use Rattle.std.proofs.lemmas.Bool.Decides.{Decides-eqb}
-use Rattle.std.specs.Prelude.{IsTrue, slice_index}
-use Rattle.flow_dag.specs.declared.graph.Graph.{Graph}
-use Rattle.flow_dag.specs.Graph.{IsEdge, is_edge}
+use Rattle.std.specs.Prelude.{IsTrue}
 use Rattle.flow_dag.specs.Masks.{Has, has}
 
 -- one number, as the greater of two bits
@@ -65,9 +63,6 @@ Has-positive m i h = elim (cases_eq m 0) [ inl is ↦ absurd (Has-none i (rw is 
 pub bit_or-below : (m p i n : ℕ) → p ≤ 2 ^ i → i < n → m < 2 ^ n → bit_or m p < 2 ^ n
 bit_or-below m p i n le lt fits = or_lt n m p fits (omega (arith, pow-lt lt))
 
--- the tests of a bit and of an edge
+-- the test of a bit
 pub has-Has : (m i : ℕ) → IsTrue (has m i) ↔ Has m i
 has-Has m i = Decides-eqb (bit_at m i) 1
-
-pub is_edge-IsEdge : (graph : Graph) (a b : ℕ) → IsTrue (is_edge graph a b) ↔ IsEdge graph a b
-is_edge-IsEdge graph a b = has-Has (slice_index graph.child a) b

@@ -1,22 +1,13 @@
--- Entries that are inserted in turn, and what holds of all entries of a map.
-use Rattle.std.proofs.Common.{◌≡◌, ◌∙◌, ℕ, sym, refl, List, [], ◌∷◌, ◌++◌, Bool, true, false, Some}
+-- What holds of all entries of a map.
+use Rattle.std.proofs.Common.{◌≡◌, ◌∙◌, ℕ, sym, refl, List, [], ◌∷◌, Bool, true, false, Some}
 use Rattle.std.specs.List.{list_all}
 use Rattle.std.specs.Ordering.{nat_cmp, is_eq}
 use Rattle.std.specs.Cmp.Lexicographic.{slice_cmp}
-use Rattle.std.specs.FinMap.{get, insert, entries, find, get-entries, slice_cmp-IsAntisymmetric, nat_cmp-IsAntisymmetric}
-use Rattle.keyed_state.specs.TextMap.{TextMapOf, with_entries}
+use Rattle.std.specs.FinMap.{get, entries, find, get-entries, slice_cmp-IsAntisymmetric, nat_cmp-IsAntisymmetric}
+use Rattle.keyed_state.specs.TextMap.{TextMapOf}
 use Rattle.keyed_state.proofs.EntryLemmas.{is_eq_true}
 
 module _ {V : Type 0} where
-  -- one entry more is inserted last
-  pub with_entries-push : (map : TextMapOf V) (es : List (List ℕ × V)) (e : List ℕ × V) → with_entries map (es ++ e ∷ []) ≡ insert (with_entries map es) e.0 e.1
-  with_entries-push map [] e = refl
-  with_entries-push map (f ∷ es) e = with_entries-push (insert map f.0 f.1) es e
-
-  pub with_entries-append : (map : TextMapOf V) (es fs : List (List ℕ × V)) → with_entries map (es ++ fs) ≡ with_entries (with_entries map es) fs
-  with_entries-append map [] fs = refl
-  with_entries-append map (e ∷ es) fs = with_entries-append (insert map e.0 e.1) es fs
-
   list_all-find : (p : List ℕ × V → Bool) (es : List (List ℕ × V)) (key : List ℕ) (value : V) → list_all p es ≡ true → find (slice_cmp nat_cmp) key es ≡ Some value → p (key, value) ≡ true
   list_all-find p [] key value all found = cc
   list_all-find p (e ∷ es) key value all found = go (p e) (is_eq (slice_cmp nat_cmp key e.0)) refl refl (λ a f. list_all-find p es key value a f)

@@ -1,19 +1,14 @@
 -- Finite maps from texts.
-use Rattle.std.specs.Prelude.{ℕ, List, [], ◌∷◌, map, Vec}
+use Rattle.std.specs.Prelude.{ℕ, List, map, Vec}
 use Rattle.std.specs.Global.{Global}
 use Rattle.std.specs.Ordering.{nat_cmp}
 use Rattle.std.specs.declared.cmp.Ordering.{Ordering}
 use Rattle.std.specs.Cmp.Lexicographic.{slice_cmp}
-use Rattle.std.specs.FinMap.{FinMap, from_entries, insert}
+use Rattle.std.specs.FinMap.{FinMap, from_entries}
 
 -- a finite map from texts, which are ordered by their bytes
 abbrev pub TextMapOf : Type 0 → Type 0
 TextMapOf V = FinMap (slice_cmp nat_cmp) V
-
--- a map with these entries inserted in turn, so that a later one takes the place of an earlier one
-abbrev pub with_entries : {V : Type 0} → TextMapOf V → List (List ℕ × V) → TextMapOf V
-with_entries map [] = map
-with_entries map (e ∷ es) = with_entries (insert map e.0 e.1) es
 
 -- an entry as it is stored, its text as the list of its bytes
 abbrev pub shown : {V : Type 0} → Vec ℕ Global × V → List ℕ × V
