@@ -3,14 +3,14 @@ use Rattle.std.proofs.Common.{◌≡◌, ◌∙◌, ◌≢◌, ◌<◌, ◌++◌
 use Rattle.std.proofs.lemmas.Bool.{eqb-true}
 use Rattle.std.proofs.lemmas.List.{append-nil, append_cancel_left}
 use Rattle.flow_dag.specs.declared.edge.Edge.{Edge}
-use Rattle.jobs.specs.Nodes.{may_emit}
+use Rattle.jobs.specs.Nodes.{is_count, may_emit}
 use Rattle.jobs.specs.Ports.{are_ports, is_entered, may_enter, may_leave, out_count}
 use Rattle.jobs.specs.Written.{Written}
 use Rattle.jobs.specs.declared.func.Func.{Func}
 use Rattle.jobs.specs.declared.func.Func.TheVariants as func
 use Rattle.jobs.specs.declared.func.NodeDef.{NodeDef}
 use Rattle.keyed_state.specs.Counts.{Counts}
-use Rattle.operators.specs.Laws.{IsMadeOf, births_of, is_count}
+use Rattle.operators.specs.Laws.{IsMadeOf, births_of}
 use Rattle.operators.specs.Meaning.{step}
 use Rattle.operators.specs.declared.output.Output.{Output}
 use Rattle.operators.proofs.EdgeLemmas.{outputs_differ}

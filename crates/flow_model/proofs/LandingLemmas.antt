@@ -2,13 +2,14 @@
 use Rattle.std.proofs.Common.{◌≡◌, ◌∙◌, ◌<◌, ◌≤◌, ◌+◌, ◌++◌, ℕ, zero, suc, List, [], ◌∷◌, inl, inr, refl, sym, ap, ap₂, arith, true, false, Bool, cond, length, map, flat_map, Some, None, Option, slice_get}
 use Rattle.std.specs.FinMap.{empty}
 use Rattle.std.specs.List.{enumerate_from}
+use Rattle.jobs.specs.Nodes.{is_count}
 use Rattle.jobs.specs.Ports.{are_ports}
 use Rattle.jobs.specs.Written.{Written}
 use Rattle.jobs.specs.declared.func.Func.{Func}
 use Rattle.jobs.specs.declared.func.Func.TheVariants as func
 use Rattle.jobs.specs.declared.func.NodeDef.{NodeDef}
 use Rattle.keyed_state.specs.Counts.{Counts}
-use Rattle.operators.specs.Laws.{bare, bare_tuple, bare_visit as bare_of, is_count}
+use Rattle.operators.specs.Laws.{bare, bare_tuple, bare_visit as bare_of}
 use Rattle.operators.specs.Meaning.{outputs, step}
 use Rattle.operators.specs.declared.output.Output.{Output}
 use Rattle.operators.proofs.EdgeLemmas.{outputs_leave}

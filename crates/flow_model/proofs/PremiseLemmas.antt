@@ -16,13 +16,12 @@ use Rattle.flow_dag.proofs.PathLemmas.{Reaches-steps}
 use Rattle.jobs.specs.Law.{IsLawful, has_columns_of, has_ports_of, has_table_of}
 use Rattle.jobs.specs.Limits.{HasLimits, oversize, table_oversize}
 use Rattle.jobs.specs.Names.{is_new_column, is_new_node}
-use Rattle.jobs.specs.Nodes.{AreFromSources, IsSourceOf, is_source_node, most_workers}
+use Rattle.jobs.specs.Nodes.{AreFromSources, IsSourceOf, is_count, is_source_node, most_workers}
 use Rattle.jobs.specs.Places.{EachPasses}
 use Rattle.jobs.specs.Ports.{are_ports, has_ports}
 use Rattle.jobs.specs.Weights.{weight_after}
 use Rattle.jobs.specs.declared.func.NodeDef.{NodeDef}
 use Rattle.jobs.specs.declared.table.Table.{Table}
-use Rattle.operators.specs.Laws.{is_count}
 use Rattle.tuple_trace.specs.Rows.{AreRows, IsRow}
 use Rattle.tuple_trace.specs.declared.row.Row.{Row}
 use Rattle.versions.specs.Book.{accepted, is_named}

@@ -1,9 +1,9 @@
 -- What came to the sinks of a run, against what its rows make by themselves.
 use Rattle.std.specs.Prelude.{◌≡◌, Bool, false, List, [], ◌∷◌, All, map, count_by, if◌then◌else◌}
 use Rattle.std.specs.List.{flat_map}
+use Rattle.jobs.specs.Nodes.{is_count}
 use Rattle.jobs.specs.Written.{Written}
 use Rattle.jobs.specs.declared.func.NodeDef.{NodeDef}
-use Rattle.operators.specs.Laws.{is_count}
 use Rattle.sink_journal.specs.declared.journal.Entry.{Entry}
 use Rattle.tuple_trace.specs.declared.row.Row.{Row}
 use Rattle.flow_model.specs.declared.landing.Landing.{Landing}

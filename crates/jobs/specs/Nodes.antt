@@ -17,6 +17,17 @@ is_source (func.Split split) = false
 is_source func.Replicate = false
 is_source (func.Sink listed) = false
 
+-- the function is a count
+abbrev pub is_count : Func → Bool
+is_count func.Source = false
+is_count (func.Filter conds) = false
+is_count (func.Map steps) = false
+is_count (func.Enrich lookup) = false
+is_count (func.Count count) = true
+is_count (func.Split split) = false
+is_count func.Replicate = false
+is_count (func.Sink listed) = false
+
 -- the function may make several tuples of one
 abbrev pub may_emit : Func → Bool
 may_emit func.Source = false

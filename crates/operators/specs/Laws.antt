@@ -6,6 +6,7 @@ use Rattle.tuple_trace.specs.declared.tuple.Visit.{Visit}
 use Rattle.keyed_state.specs.Counts.{Counts}
 use Rattle.jobs.specs.declared.func.Func.{Func}
 use Rattle.jobs.specs.declared.func.Func.TheVariants as func
+use Rattle.jobs.specs.Nodes.{is_count}
 use Rattle.jobs.specs.Places.{Each}
 use Rattle.jobs.specs.Ports.{are_ports, has_port, leaves}
 use Rattle.jobs.specs.Written.{Written}
@@ -53,17 +54,6 @@ abbrev pub OutputsAreMadeOf : Type 0
 OutputsAreMadeOf =
     (job : Written) (visit : Visit) (func : Func) (counts : Counts) (tuple : Tuple)
     → Each (IsMadeOf job.edges visit func tuple) (step job visit func counts tuple).1
-
--- the function is a count
-abbrev pub is_count : Func → Bool
-is_count func.Source = false
-is_count (func.Filter conds) = false
-is_count (func.Map steps) = false
-is_count (func.Enrich lookup) = false
-is_count (func.Count count) = true
-is_count (func.Split split) = false
-is_count func.Replicate = false
-is_count (func.Sink listed) = false
 
 -- every function but a count leaves the counts as they are, and puts out the same whatever they are
 abbrev pub CountsServeCounts : Type 0

@@ -3,6 +3,7 @@ use Rattle.std.specs.Prelude.{ℕ, pos, ◌+◌, Bool, true, false, not, ◌||�
 use Rattle.keyed_state.specs.declared.carry.Carry.{Carry}
 use Rattle.keyed_state.specs.declared.carry.Carry.TheVariants as carry
 use Rattle.jobs.specs.Fits.{fits}
+use Rattle.jobs.specs.Nodes.{is_count}
 use Rattle.jobs.specs.Written.{Written}
 use Rattle.jobs.specs.declared.func.Func.{Func}
 use Rattle.jobs.specs.declared.func.Func.TheVariants as func
@@ -32,10 +33,6 @@ is_fixed (func.Sink listed) = true
 abbrev pub is_fixed_at : Option NodeDef → Bool
 is_fixed_at None = false
 is_fixed_at (Some node) = is_fixed node.func
-
-abbrev pub is_count : Func → Bool
-is_count (func.Count count) = true
-is_count _ = false
 
 abbrev pub is_count_at : Option NodeDef → Bool
 is_count_at None = false
