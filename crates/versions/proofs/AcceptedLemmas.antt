@@ -4,6 +4,7 @@ use Rattle.std.specs.Prelude.{All, nat_le, if◌then◌else◌}
 use Rattle.std.proofs.lemmas.Bool.{leb-false}
 use Rattle.std.proofs.lemmas.List.Elements.{All-cons}
 use Rattle.jobs.specs.Written.{Written}
+use Rattle.jobs.proofs.LimitLemmas.{option_or-none}
 use Rattle.versions.specs.declared.book.Current.{Current}
 use Rattle.versions.specs.declared.judging.Code.TheVariants as code
 use Rattle.versions.specs.declared.fault.QFault.{QFault}
@@ -12,7 +13,7 @@ use Rattle.versions.specs.declared.request.Change.{Change}
 use Rattle.versions.specs.declared.request.Request.{Request}
 use Rattle.versions.specs.Book.{accepted, first_book}
 use Rattle.versions.specs.Judging.{fault_of, first_with}
-use Rattle.versions.proofs.FirstLemmas.{named-none, or_else-none}
+use Rattle.versions.proofs.FirstLemmas.{named-none}
 use Rattle.versions.specs.Judged.{AreAccepted, NameNodes, accepting, by_fault, judged, judged_from, refusing}
 
 -- the change names one of so many nodes
@@ -31,7 +32,7 @@ none-inside book job before (c ∷ changes) e = go (nat_le (length job.nodes) c.
     go false is f later = All-cons (IsInside (length job.nodes)) c changes (leb-false (length job.nodes) c.node is) (later f)
 
 free-inside : (book : List Current) (job : Written) (request : Request) (last : ℕ) → fault_of book job request last ≡ None → All (IsInside (length job.nodes)) request.changes
-free-inside book job request last free = none-inside book job [] request.changes (named-none fault.NoNode (first_with code.NoNode book job [] request.changes) (or_else-none _ _ free).0)
+free-inside book job request last free = none-inside book job [] request.changes (named-none fault.NoNode (first_with code.NoNode book job [] request.changes) (option_or-none _ _ free).0)
 
 judged-inside : (job : Written) (book : List Current) (last place : ℕ) (requests : List Request) → (judged_from job book last place requests).refused ≡ []
     → NameNodes job requests

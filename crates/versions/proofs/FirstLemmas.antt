@@ -6,7 +6,7 @@ use Rattle.versions.specs.declared.book.Current.{Current}
 use Rattle.versions.specs.declared.judging.Code.{Code}
 use Rattle.versions.specs.declared.request.Change.{Change}
 use Rattle.versions.specs.declared.fault.QFault.{QFault}
-use Rattle.versions.specs.Judging.{first_with, has_fault, named, or_else}
+use Rattle.versions.specs.Judging.{first_with, has_fault, named}
 
 pub one_more : (k : Code) (book : List Current) (job : Written) (before : List Change) (c : Change) (rest : List Change) → has_fault k book job before c ≡ false
     → first_with k book job before (c ∷ rest) ≡ first_with k book job (before ++ c ∷ []) rest
@@ -38,11 +38,6 @@ first_here k book job cs i c lt same found =
 
 pub first_end : (k : Code) (book : List Current) (job : Written) (cs : List Change) (i : ℕ) → length cs ≤ i → first_with k book job (take i cs) (drop i cs) ≡ None
 first_end k book job cs i end = rw (drop_all i cs end) (no_more k book job (take i cs))
-
--- the first of several faults is none where each is
-pub or_else-none : (a b : Option QFault) → or_else a b ≡ None → (a ≡ None) × (b ≡ None)
-or_else-none (Some f) b e = absurd cc
-or_else-none None b e = (refl, e)
 
 pub named-none : (f : ℕ → QFault) (o : Option ℕ) → named f o ≡ None → o ≡ None
 named-none f None e = refl

@@ -1,5 +1,6 @@
 -- What accepted requests keep of a job.
 use Rattle.std.proofs.Common.{get_or, ◌≡◌, ◌≤◌, ◌+◌, ℕ, Bool, true, false, List, [], ◌∷◌, ◌⊎◌, inl, inr, ◌==◌, length, Option, Some, None, refl, sym, ap, subst, ◌∙◌, arith}
+use Rattle.std.specs.Option.{option_or}
 use Rattle.std.specs.Prelude.{option_map, All, IsTrue, nat_lt, not, slice_get, slice_set, if◌then◌else◌}
 use Rattle.std.proofs.lemmas.Bool.{cases_eq, eq-eqb, eqb-true}
 use Rattle.std.proofs.lemmas.Bool.Decides.{nat_tests}
@@ -19,7 +20,7 @@ use Rattle.versions.specs.declared.request.Change.{Change}
 use Rattle.versions.specs.declared.request.Request.{Request}
 use Rattle.versions.specs.Book.{accepted, current_version, first_book, with_change}
 use Rattle.versions.specs.Judged.{AreAccepted, accepting, by_fault, judged_from, refusing}
-use Rattle.versions.specs.Judging.{fault_of, first_with, is_empty, may_replace, may_replace_at, most_at, most_of, named, or_else, stale, whole_fault}
+use Rattle.versions.specs.Judging.{fault_of, first_with, is_empty, may_replace, may_replace_at, most_at, most_of, named, stale, whole_fault}
 use Rattle.versions.specs.Kept.{AreInOrder, KeepKinds, KeepsKind}
 use Rattle.versions.proofs.BookLemmas.{long_still, other_place}
 use Rattle.versions.proofs.FirstLemmas.{named-none}
@@ -56,7 +57,7 @@ not_not true e = refl
 not_not false e = absurd (cc)
 
 -- where the first of eight faults is none, so are the last three
-last_three : (a b c d e f g h : Option QFault) → or_else a (or_else b (or_else c (or_else d (or_else e (or_else f (or_else g h)))))) ≡ None
+last_three : (a b c d e f g h : Option QFault) → option_or a (option_or b (option_or c (option_or d (option_or e (option_or f (option_or g h)))))) ≡ None
     → (f ≡ None) × (g ≡ None) × (h ≡ None)
 last_three None None None None None None None h none = (refl, refl, none)
 last_three _ _ _ _ _ _ _ h none = absurd (cc)

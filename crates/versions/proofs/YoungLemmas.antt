@@ -9,6 +9,7 @@ use Rattle.std.specs.List.{slice_get}
 use Rattle.std.specs.Prelude.{nat_le}
 use Rattle.jobs.specs.Written.{Written}
 use Rattle.jobs.specs.declared.func.NodeDef.{NodeDef}
+use Rattle.jobs.proofs.LimitLemmas.{option_or-none}
 use Rattle.versions.specs.declared.book.Current.{Current}
 use Rattle.versions.specs.declared.judging.Code.{Code}
 use Rattle.versions.specs.declared.judging.Code.TheVariants as code
@@ -19,7 +20,7 @@ use Rattle.versions.specs.Book.{CanAccept, accepted, current_version, first_book
 use Rattle.versions.specs.Judging.{fault_of, first_with, has_fault, named}
 use Rattle.versions.specs.Young.{IsBelow, IsYoung}
 use Rattle.versions.proofs.BookLemmas.{long_still, other_place}
-use Rattle.versions.proofs.FirstLemmas.{named-none, one_found, one_more, or_else-none}
+use Rattle.versions.proofs.FirstLemmas.{named-none, one_found, one_more}
 
 pub same_place : (book : List Current) (i : ℕ) (v : Current) → i < length book → slice_get (slice_set book i v) i ≡ Some v
 same_place book i v lt = grind (arith, common_steps, gets)
@@ -79,9 +80,9 @@ not_above a b e = grind (arith, nat_tests)
 -- a request without a fault can be accepted
 pub CanAccept-fault_of : (job : Written) (book : List Current) (r : Request) (last bound : ℕ) → IsYoung job book bound → bound < 2 ^ 64 - 1 → fault_of book job r last ≡ None → CanAccept book r.changes
 CanAccept-fault_of job book r last bound young room free =
-    let one = or_else-none (named fault.NoNode (first_with code.NoNode book job [] r.changes)) _ free in
-    let two = or_else-none (named fault.Fixed (first_with code.Fixed book job [] r.changes)) _ one.1 in
-    let three = or_else-none (named fault.NodeTwice (first_with code.NodeTwice book job [] r.changes)) _ two.1 in
+    let one = option_or-none (named fault.NoNode (first_with code.NoNode book job [] r.changes)) _ free in
+    let two = option_or-none (named fault.Fixed (first_with code.Fixed book job [] r.changes)) _ one.1 in
+    let three = option_or-none (named fault.NodeTwice (first_with code.NodeTwice book job [] r.changes)) _ two.1 in
     let there = none_each code.NoNode book job [] r.changes (named-none fault.NoNode (first_with code.NoNode book job [] r.changes) one.0) in
     let apart = none_each code.NodeTwice book job [] r.changes (named-none fault.NodeTwice (first_with code.NodeTwice book job [] r.changes) three.0) in
     record {

@@ -1,5 +1,6 @@
 -- Which requests are accepted, and why another isn't.
 use Rattle.std.specs.Prelude.{ℕ, pos, ◌+◌, Bool, true, false, not, ◌||◌, List, [], ◌∷◌, ◌++◌, length, Option, Some, None, slice_get, nat_lt, nat_le, int_lt, ◌==◌, if◌then◌else◌}
+use Rattle.std.specs.Option.{option_or}
 use Rattle.keyed_state.specs.declared.carry.Carry.{Carry}
 use Rattle.keyed_state.specs.declared.carry.Carry.TheVariants as carry
 use Rattle.jobs.specs.Fits.{fits}
@@ -109,10 +110,6 @@ abbrev pub is_empty : List Change → Bool
 is_empty [] = true
 is_empty (change ∷ rest) = false
 
-abbrev pub or_else : Option QFault → Option QFault → Option QFault
-or_else (Some fault) later = Some fault
-or_else None later = later
-
 -- a request as a whole: it has a change, and isn't for an earlier row than the latest accepted one
 abbrev pub whole_fault : Request → ℕ → Option QFault
 whole_fault request last_after =
@@ -122,11 +119,11 @@ whole_fault request last_after =
 -- the first fault that a request has, in the order of the codes
 abbrev pub fault_of : List Current → Written → Request → ℕ → Option QFault
 fault_of book job request last_after =
-    or_else (named fault.NoNode (first_with code.NoNode book job [] request.changes)) (
-    or_else (named fault.Fixed (first_with code.Fixed book job [] request.changes)) (
-    or_else (named fault.NodeTwice (first_with code.NodeTwice book job [] request.changes)) (
-    or_else (stale book request.changes (first_with code.Stale book job [] request.changes)) (
-    or_else (named fault.IllTyped (first_with code.IllTyped book job [] request.changes)) (
-    or_else (named fault.KindOrKey (first_with code.KindOrKey book job [] request.changes)) (
-    or_else (named fault.BadCarry (first_with code.BadCarry book job [] request.changes)) (
+    option_or (named fault.NoNode (first_with code.NoNode book job [] request.changes)) (
+    option_or (named fault.Fixed (first_with code.Fixed book job [] request.changes)) (
+    option_or (named fault.NodeTwice (first_with code.NodeTwice book job [] request.changes)) (
+    option_or (stale book request.changes (first_with code.Stale book job [] request.changes)) (
+    option_or (named fault.IllTyped (first_with code.IllTyped book job [] request.changes)) (
+    option_or (named fault.KindOrKey (first_with code.KindOrKey book job [] request.changes)) (
+    option_or (named fault.BadCarry (first_with code.BadCarry book job [] request.changes)) (
     whole_fault request last_after)))))))
