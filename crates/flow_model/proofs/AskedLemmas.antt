@@ -3,15 +3,12 @@ use Rattle.std.proofs.Common.{◌≡◌, ◌<◌, ◌≤◌, ℕ, zero, suc, Lis
 use Rattle.std.specs.Prelude.{slice_get, IsTrue}
 use Rattle.std.proofs.lemmas.Option.{slice_get_within}
 use Rattle.cover_planner.specs.declared.cover.Plan.{Plan}
-use Rattle.flow_dag.specs.Masks.{Has, has}
+use Rattle.flow_dag.proofs.MaskLemmas.{has-Has}
 use Rattle.versions.specs.declared.request.Request.{Request}
 use Rattle.flow_model.specs.Outline.{Outline}
 use Rattle.flow_model.specs.Covers.{asks, holds_asked}
 use Rattle.flow_model.specs.Planned.{IsPlanned}
 use Rattle.flow_model.specs.Requests.{changes, names}
-
-has_true : (mask i : ℕ) → Has mask i → IsTrue (has mask i)
-has_true mask i h = rw h refl
 
 past : {A : Type 0} (xs : List A) (i : ℕ) → slice_get xs i ≡ None → length xs ≤ i
 past [] i e = omega arith
@@ -28,4 +25,4 @@ asked-changed setup is (suc r) node h = go (slice_get setup.requests r) refl (sl
         let within : r < length setup.requests = slice_get_within setup.requests r q e in
         let none : length setup.plans ≤ r = past setup.plans r ep in
         absurd (omega (arith, is.one_each))
-    go (Some q) e (Some p) ep h = has_true p.asked node ((is.plans r q p e ep).asked node h)
+    go (Some q) e (Some p) ep h = (has-Has p.asked node).1 ((is.plans r q p e ep).asked node h)

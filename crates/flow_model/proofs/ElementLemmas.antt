@@ -1,6 +1,7 @@
 -- Elements of lists, which of them stand before which, and lists without repetition.
 use Rattle.std.proofs.Common.{◌≡◌, ◌<◌, ℕ, zero, suc, List, [], ◌∷◌, ◌++◌, ◌⊎◌, inl, inr, refl, sym, subst, ap, ◌∙◌, arith, true, false, Bool, cond, ◌||◌, length, get_or, map, filter, flat_map, filter_map, Some, None, Option, slice_get, All, AllPairs, Contains}
 use Rattle.std.specs.List.{AllByRecursion, cons_option, list_any}
+use Rattle.std.proofs.lemmas.Bool.{or_right}
 use Rattle.std.proofs.lemmas.List.Elements.{All-from_recursion, recursion_from_All}
 
 -- x is an element
@@ -105,11 +106,7 @@ any_in {A} test (x ∷ xs) h = go (test x) refl (any_in test xs) h
 pub in_any : {A : Type 0} (test : A → Bool) (x : A) (xs : List A) → IsIn x xs → test x ≡ true → list_any test xs ≡ true
 in_any test x [] i e = absurd i
 in_any test x (y ∷ ys) (inl p) e = let q : test y ≡ true = ap test (sym p) ∙ e in rw q refl
-in_any test x (y ∷ ys) (inr i) e = either (test y) (list_any test ys) (in_any test x ys i e)
-  where
-    either : (a b : Bool) → b ≡ true → a || b ≡ true
-    either true b e = refl
-    either false b e = e
+in_any test x (y ∷ ys) (inr i) e = or_right (test y) (list_any test ys) (in_any test x ys i e)
 
 -- ---- elements by their places
 
@@ -168,11 +165,6 @@ before_cases x y (z ∷ xs) ys (inl h) =
     elim (in_cases y xs ys h.1) [ inl a ↦ inl (inl (h.0, a)) | inr c ↦ inr (inr (inl h.0, c)) ]
 before_cases x y (z ∷ xs) ys (inr b) =
     elim (before_cases x y xs ys b) [ inl a ↦ inl (inr a) | inr (inl c) ↦ inr (inl c) | inr (inr d) ↦ inr (inr (inr d.0, d.1)) ]
-
-pub before_left : {A : Type 0} (x y : A) (xs ys : List A) → Before x y xs → Before x y (xs ++ ys)
-before_left x y [] ys b = absurd b
-before_left x y (z ∷ xs) ys (inl h) = inl (h.0, in_left y xs ys h.1)
-before_left x y (z ∷ xs) ys (inr b) = inr (before_left x y xs ys b)
 
 pub before_right : {A : Type 0} (x y : A) (xs ys : List A) → Before x y ys → Before x y (xs ++ ys)
 before_right x y [] ys b = b

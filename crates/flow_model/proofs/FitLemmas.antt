@@ -1,8 +1,7 @@
 -- Every port that a function puts out on has an edge, and every tuple a lane there.
 use Rattle.std.proofs.Common.{◌≡◌, ◌∙◌, ◌≢◌, ◌<◌, ◌+◌, ◌==◌, ◌&&◌, ◌||◌, ℕ, zero, suc, List, [], ◌∷◌, refl, sym, subst, ap, arith, true, false, Bool, length, filter, Some, Option, slice_get, option_map, length-append}
 use Rattle.std.specs.List.{enumerate_from}
-use Rattle.std.proofs.lemmas.Bool.{and_parts, eq-eqb, eqb-true}
-use Rattle.std.proofs.lemmas.Bool.Decides.{nat_tests}
+use Rattle.std.proofs.lemmas.Bool.{and_parts, eq-eqb, eqb-true, ne_eqb}
 use Rattle.std.proofs.lemmas.List.Elements.{filter-append}
 use Rattle.flow_dag.specs.declared.edge.Edge.{Edge}
 use Rattle.jobs.specs.Nodes.{is_source, is_source_node, workers_of}
@@ -48,13 +47,10 @@ port_edge (e ∷ more) node port first h = go (e.from == node && e.port == port)
 
 -- ---- the ports of a source
 
-one_leaves : (n : ℕ) → (n == 1) ≡ true → 0 < n
-one_leaves n e = grind (arith, nat_tests)
-
 pub source_port : (edges : List Edge) (node : ℕ) (f : Func) → is_source f ≡ true → are_ports edges node f ≡ true → has_port edges node 0 ≡ true
 source_port edges node func.Source s all =
     let k = ports_by_kind edges node func.Source all in
-    go (has_port edges node 0) refl (one_leaves (out_count edges node) k.1) k.2
+    go (has_port edges node 0) refl (omega (arith, eqb-true (out_count edges node) 1 k.1)) k.2
   where
     go : (b : Bool) → has_port edges node 0 ≡ b → 0 < out_count edges node → has_ports edges node (out_count edges node) ≡ true → has_port edges node 0 ≡ true
     go true e lt p = e
@@ -76,12 +72,9 @@ all_of_it : (number node : ℕ) (f : Func) (place left : ℕ) → length (of_nod
 all_of_it number node f place zero = refl
 all_of_it number node f place (suc left) = rw (eq-eqb node node refl) (ap suc (all_of_it (number + 1) node f (place + 1) left))
 
-differ_test : (a b : ℕ) → a ≢ b → (a == b) ≡ false
-differ_test a b d = grind (arith, nat_tests)
-
 none_of_it : (number other node : ℕ) (f : Func) (place left : ℕ) → other ≢ node → length (of_node node (posts_at number other f place left)) ≡ 0
 none_of_it number other node f place zero d = refl
-none_of_it number other node f place (suc left) d = rw (differ_test other node d) (none_of_it (number + 1) other node f (place + 1) left d)
+none_of_it number other node f place (suc left) d = rw (ne_eqb other node d) (none_of_it (number + 1) other node f (place + 1) left d)
 
 none_behind : (number first node : ℕ) (nodes : List NodeDef) → node < first → length (of_node node (posts_from number first nodes)) ≡ 0
 none_behind number first node [] lt = refl
@@ -112,7 +105,7 @@ count_of_node number first (suc i) node (d ∷ more) def g e =
 
 -- ---- the worker that a tuple reaches
 
-among_within : (job : Written) (f : Func) (workers : ℕ) (t : Tuple) → 0 < workers → worker_among job.columns f workers t < workers
+pub among_within : (job : Written) (f : Func) (workers : ℕ) (t : Tuple) → 0 < workers → worker_among job.columns f workers t < workers
 among_within job func.Source workers t lt = omega arith
 among_within job (func.Filter conds) workers t lt = omega arith
 among_within job (func.Map steps) workers t lt = omega arith

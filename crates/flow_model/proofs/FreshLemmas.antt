@@ -138,7 +138,7 @@ order_le row zero request (q ∷ later) o g = let e : q ≡ request = cc in subs
 order_le row (suc i) request (q ∷ later) o g = let le : q.after ≤ request.after = order_le q.after i request later o.1 g in let h = o.0 in omega arith
 
 -- a later request waits for no earlier row
-order_rises : (row i j : ℕ) (a b : Request) (requests : List Request) → AreInOrder row requests → i ≤ j → slice_get requests i ≡ Some a → slice_get requests j ≡ Some b → a.after ≤ b.after
+pub order_rises : (row i j : ℕ) (a b : Request) (requests : List Request) → AreInOrder row requests → i ≤ j → slice_get requests i ≡ Some a → slice_get requests j ≡ Some b → a.after ≤ b.after
 order_rises row i j a b [] o le g h = absurd (cc)
 order_rises row zero zero a b (q ∷ later) o le g h = let e : a ≡ b = cc in let f : a.after ≡ b.after = ap (λ (x : Request). x.after) e in omega arith
 order_rises row zero (suc j) a b (q ∷ later) o le g h = let e : q ≡ a = cc in subst (λ (x : Request). x.after ≤ b.after) e (order_le q.after j b later o.1 h)

@@ -8,6 +8,7 @@ use Rattle.flow_dag.specs.Dag.{DagView}
 use Rattle.flow_dag.specs.Edges.{HasEdge, IsInside}
 use Rattle.flow_dag.specs.Order.{place_of}
 use Rattle.flow_dag.specs.declared.edge.Edge.{Edge}
+use Rattle.flow_dag.proofs.EdgeLemmas.{HasEdge-at}
 use Rattle.flow_dag.proofs.PlaceLemmas.{place_of-below, place_of-forward}
 use Rattle.jobs.specs.Law.{IsLawful}
 use Rattle.jobs.specs.Nodes.{is_source, is_source_node, most_workers, workers_of}
@@ -21,7 +22,7 @@ use Rattle.flow_model.specs.Outline.{Lane, Post}
 use Rattle.flow_model.specs.Workers.{posts, posts_at, posts_from, posts_of}
 use Rattle.flow_model.proofs.ElementLemmas.{IsIn, in_left, in_of_place, in_right, map_in}
 use Rattle.flow_model.proofs.WorkerLemmas.{IsWorker, all_workers, item_at, posts_of_in}
-use Rattle.flow_model.proofs.LaneLemmas.{edge_leads, lane_of_edge, lanes_that_in}
+use Rattle.flow_model.proofs.LaneLemmas.{lane_of_edge, lanes_that_in}
 
 -- What the laws of runs use of a job: its edges lead from lower ranks to higher ones, none into a source; every other node has a worker, each
 -- worker has a lane in, and the edges of each node are those of its kind.
@@ -35,7 +36,7 @@ pub record IsWired (job : Written) : Type 0 where
   pub manned : (node : ℕ) (def : NodeDef) → slice_get job.nodes node ≡ Some def → is_source def.func ≡ false → (post : Post) × IsIn post (posts_of job node)
   pub reached : (post : Post) → IsWorker job post → (n : ℕ) × IsIn n (lanes_in job post.number)
 
-inside_edge : (job : Written) → IsLawful job → (i : ℕ) (edge : Edge) → slice_get job.edges i ≡ Some edge → IsInside (length job.nodes) edge
+pub inside_edge : (job : Written) → IsLawful job → (i : ℕ) (edge : Edge) → slice_get job.edges i ≡ Some edge → IsInside (length job.nodes) edge
 inside_edge job is i edge g =
     subst (IsInside (length job.nodes)) (get_or_from_slice_get job.edges i edge edge g)
     (All-get_or (IsInside (length job.nodes)) job.edges i edge (slice_get_within job.edges i edge g) is.ends)
@@ -122,7 +123,7 @@ some_sender job is node def g = rw g (go (is_source def.func) refl)
     go true e = (None, inl refl)
     go false e = let r = manned_node job is node def g e in (Some r.0.number, map_in (λ (post : Post). Some post.number) r.0 (posts_of job node) r.1)
 
-reached_worker : (job : Written) → IsLawful job → (post : Post) → IsWorker job post → IsIn post (posts job) → (n : ℕ) × IsIn n (lanes_in job post.number)
+pub reached_worker : (job : Written) → IsLawful job → (post : Post) → IsWorker job post → IsIn post (posts job) → (n : ℕ) × IsIn n (lanes_in job post.number)
 reached_worker job is post w here =
     let ports : are_ports job.edges post.node w.def.func ≡ true = is.ports post.node w.def w.node_is in
     let r = edge_into job.edges post.node (other_entered w.def.func (is_entered job.edges post.node) w.no_source (ports_by_kind job.edges post.node w.def.func ports).0) in
@@ -136,7 +137,7 @@ reached_worker job is post w here =
 -- ---- what a lawful job keeps
 
 -- no edge leads into a source
-unentered : (job : Written) → IsLawful job → (i : ℕ) (edge : Edge) → slice_get job.edges i ≡ Some edge → is_source_node (slice_get job.nodes edge.to) ≡ false
+pub unentered : (job : Written) → IsLawful job → (i : ℕ) (edge : Edge) → slice_get job.edges i ≡ Some edge → is_source_node (slice_get job.nodes edge.to) ≡ false
 unentered job is i edge g =
     let to = item_at job.nodes edge.to (inside_edge job is i edge g).1 in
     rw to.1 (go to.0 (is_source to.0.func) refl (ports_by_kind job.edges edge.to to.0.func (is.ports edge.to to.0 to.1)).0)
@@ -165,4 +166,4 @@ wired job dag is edges nodes =
     (λ i edge g.
     let inside : IsInside (length job.nodes) edge = inside_edge job is i edge g in
     place_of-forward (HasEdge dag.edges) dag.nodes dag.order dag.lawful.ordered edge.from edge.to (omega (arith, inside.0)) (omega (arith, inside.1)) (
-    subst (λ (es : List Edge). HasEdge es edge.from edge.to) (sym edges) (edge_leads job.edges i edge g)))
+    subst (λ (es : List Edge). HasEdge es edge.from edge.to) (sym edges) (HasEdge-at job.edges i edge g)))

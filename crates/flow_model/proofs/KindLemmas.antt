@@ -70,7 +70,7 @@ change_found (c ∷ more) node change h = go (c.node == node) refl (change_found
     go false e f h = let r = f h in (inr r.0, r.1)
 
 -- the change is one of a request
-change_there : (setup : Outline) (r node : ℕ) (change : Change) → change_of setup r node ≡ Some change
+pub change_there : (setup : Outline) (r node : ℕ) (change : Change) → change_of setup r node ≡ Some change
     → (request : Request) × IsIn request setup.requests × IsIn change request.changes × (change.node ≡ node)
 change_there setup zero node change h = absurd (cc)
 change_there setup (suc r) node change h = go (slice_get setup.requests r) refl h

@@ -2,13 +2,12 @@
 use Rattle.std.proofs.Common.{◌≡◌, ◌∙◌, ◌+◌, ◌==◌, ◌&&◌, ℕ, zero, suc, List, [], ◌∷◌, inl, inr, refl, sym, subst, ap, arith, true, false, Bool, cond, map, filter, Some, None, Option, slice_get}
 use Rattle.std.specs.List.{enumerate_from}
 use Rattle.std.proofs.lemmas.Bool.{and_parts, eq-eqb, eqb-true}
-use Rattle.std.proofs.lemmas.Option.{get_or_from_slice_get, slice_get_within}
-use Rattle.flow_dag.specs.Edges.{HasEdge}
+use Rattle.std.proofs.lemmas.Option.{same_Some}
 use Rattle.flow_dag.specs.declared.edge.Edge.{Edge}
 use Rattle.jobs.specs.Nodes.{is_source_node}
 use Rattle.jobs.specs.Written.{Written}
 use Rattle.flow_model.specs.Covers.{covers_edge}
-use Rattle.flow_model.specs.Lanes.{is_same_lane, is_same_sender, is_sender, lanes, lanes_in, lanes_of, lanes_out, lanes_that, marked_lanes, senders}
+use Rattle.flow_model.specs.Lanes.{is_same_lane, is_same_sender, is_sender, lanes, lanes_in, lanes_of, lanes_that, marked_lanes, senders}
 use Rattle.flow_model.specs.Outline.{Lane, Outline, Post}
 use Rattle.flow_model.specs.Workers.{posts, posts_of}
 use Rattle.flow_model.proofs.ElementLemmas.{AreDistinct, IsIn, distinct_by_place, distinct_flat_map, distinct_map, filter_in, flat_map_in, in_filter, in_flat_map, in_map, in_of_place, map_in, place_of_in, same_place}
@@ -34,11 +33,6 @@ enumerate_distinct {A} xs =
     distinct_by_place (enumerate_from 0 xs) (λ i j (p : ℕ × A) g h.
     let a = enumerate_get 0 xs i p g in let b = enumerate_get 0 xs j p h in omega (arith, a.0, b.0))
 
--- ---- edges
-
-pub edge_leads : (edges : List Edge) (i : ℕ) (edge : Edge) → slice_get edges i ≡ Some edge → HasEdge edges edge.from edge.to
-edge_leads edges i edge g = (i, edge, slice_get_within edges i edge g, get_or_from_slice_get edges i edge edge g, (refl, refl))
-
 -- ---- what a lane is
 
 -- a lane is that of an edge, to a worker of the node at its end, from a sender of the node at its beginning
@@ -51,7 +45,7 @@ pub record LaneIs (job : Written) (lane : Lane) : Type 0 where
   pub sends : IsIn lane.sender (senders job edge.from)
 
 -- the lanes of an edge from one sender
-abbrev lanes_from : Written → ℕ → Edge → Option ℕ → List Lane
+abbrev pub lanes_from : Written → ℕ → Edge → Option ℕ → List Lane
 lanes_from job number edge sender = map (λ (post : Post). record { edge = number; sender = sender; receiver = post.number }) (posts_of job edge.to)
 
 in_lanes_of : (job : Written) (number : ℕ) (edge : Edge) (lane : Lane) → IsIn lane (lanes_of job number edge)
@@ -97,16 +91,13 @@ lane_of_edge job i edge sender post g s r =
 same_of_node : (job : Written) (node : ℕ) (a b : Post) → IsIn a (posts_of job node) → IsIn b (posts_of job node) → a.number ≡ b.number → a ≡ b
 same_of_node job node a b i j e = same_post job a b (in_posts_of job node a i).0 (in_posts_of job node b j).0 e
 
-some_same : (a b : ℕ) → Some a ≡ Some b → a ≡ b
-some_same a b e = cc
-
-senders_distinct : (job : Written) (node : ℕ) → AreDistinct (senders job node)
+pub senders_distinct : (job : Written) (node : ℕ) → AreDistinct (senders job node)
 senders_distinct job node = go (is_source_node (slice_get job.nodes node))
   where
     go : (b : Bool) → AreDistinct (cond b (None ∷ []) (map (λ (post : Post). Some post.number) (posts_of job node)))
     go true = ((λ i. i), tt)
     go false = distinct_map (λ (post : Post). Some post.number) (posts_of job node)
-        (λ a b i j e. same_of_node job node a b i j (some_same a.number b.number e)) (posts_of_distinct job node)
+        (λ a b i j e. same_of_node job node a b i j (same_Some a.number b.number e)) (posts_of_distinct job node)
 
 lanes_of_distinct : (job : Written) (number : ℕ) (edge : Edge) → AreDistinct (lanes_of job number edge)
 lanes_of_distinct job number edge =
@@ -223,8 +214,3 @@ marked_lane setup post n request k c =
 pub sender_is : (worker : ℕ) (o : Option ℕ) → is_sender worker o ≡ true → o ≡ Some worker
 sender_is worker None e = absurd (cc)
 sender_is worker (Some s) e = ap Some (eqb-true s worker e)
-
-pub lane_out : (job : Written) (worker : ℕ) (lane : Lane) → IsIn lane (lanes_out job worker) → IsIn lane (lanes job) × (lane.sender ≡ Some worker)
-lane_out job worker lane i =
-    let r = in_filter (λ (lane : Lane). is_sender worker lane.sender) lane (lanes job) i in
-    (r.0, sender_is worker lane.sender r.1)

@@ -2,7 +2,7 @@
 use Rattle.std.proofs.Common.{◌≡◌, ◌<◌, ℕ, Bool, true, false, List, [], ◌∷◌, ◌&&◌, ◌||◌, ◌==◌, Option, Some, None, refl, ap, arith}
 use Rattle.std.specs.Prelude.{All, Contains, nat_lt, not}
 use Rattle.std.specs.List.{list_any}
-use Rattle.std.proofs.lemmas.Bool.{eqb-true}
+use Rattle.std.proofs.lemmas.Bool.{and_parts, eqb-true}
 use Rattle.std.proofs.lemmas.Bool.Decides.{nat_tests}
 use Rattle.std.proofs.lemmas.List.Elements.{All-cons, All-nil}
 use Rattle.flow_dag.proofs.OrderLemmas.{Contains-from_any, any-from_Contains}
@@ -50,10 +50,6 @@ is_finished station journal =
     may_all_come station (initial station) journal
     && (is_none (progress_after (initial station) journal).marked && are_in (progress_after (initial station) journal).ended station.lanes)
 
-both : (a b : Bool) → (a && b) ≡ true → (a ≡ true) × (b ≡ true)
-both true b is = (refl, is)
-both false b is = absurd (cc)
-
 none : (numbers : List ℕ) → is_none numbers ≡ true → numbers ≡ []
 none [] is = refl
 none (number ∷ more) is = absurd (cc)
@@ -68,7 +64,7 @@ not_in numbers number is there = go (is_in numbers number) (any-from_Contains nu
 all_in : (numbers these : List ℕ) → are_in numbers these ≡ true → All (Contains numbers) these
 all_in numbers [] is = All-nil (Contains numbers)
 all_in numbers (number ∷ more) is =
-    let parts = both (is_in numbers number) (are_in numbers more) is in
+    let parts = and_parts (is_in numbers number) (are_in numbers more) is in
     All-cons (Contains numbers) number more (Contains-from_any numbers number parts.0) (all_in numbers more parts.1)
 
 next : (dues : List ℕ) (request : ℕ) → is_next dues request ≡ true → next_due dues ≡ Some request
@@ -88,35 +84,35 @@ in_time station tuple (Some due) is = λ head. go (station.is_head due) head is
 
 enabled : (station : Station) (progress : Progress) (entry : Entry) → may_come station progress entry ≡ true → IsEnabled station progress entry
 enabled station progress (entry.Met lane tuple) is =
-    let a = both _ _ is in
-    let b = both _ _ a.1 in
-    let c = both _ _ b.1 in
+    let a = and_parts _ _ is in
+    let b = and_parts _ _ a.1 in
+    let c = and_parts _ _ b.1 in
     (Contains-from_any station.lanes lane a.0, none progress.marked b.0, none progress.ended c.0, in_time station tuple (next_due progress.dues) c.1)
 enabled station progress (entry.Marked lane request) is =
-    let a = both _ _ is in
-    let b = both _ _ a.1 in
-    let c = both _ _ b.1 in
+    let a = and_parts _ _ is in
+    let b = and_parts _ _ a.1 in
+    let c = and_parts _ _ b.1 in
     (next progress.dues request a.0, Contains-from_any (station.marked_lanes request) lane b.0, not_in progress.marked lane c.0, none progress.ended c.1)
 enabled station progress (entry.Turned request) is =
-    let a = both _ _ is in
-    let b = both _ _ a.1 in
+    let a = and_parts _ _ is in
+    let b = and_parts _ _ a.1 in
     (next progress.dues request a.0, all_in progress.marked (station.marked_lanes request) b.0, none progress.ended b.1)
 enabled station progress (entry.Ended lane) is =
-    let a = both _ _ is in
-    let b = both _ _ a.1 in
-    let c = both _ _ b.1 in
+    let a = and_parts _ _ is in
+    let b = and_parts _ _ a.1 in
+    let c = and_parts _ _ b.1 in
     (Contains-from_any station.lanes lane a.0, not_in progress.ended lane b.0, none progress.dues c.0, none progress.marked c.1)
 
 execution : (station : Station) (progress : Progress) (journal : List Entry) → may_all_come station progress journal ≡ true → IsExecution station progress journal
 execution station progress [] is = tt
 execution station progress (entry ∷ more) is =
-    let parts = both (may_come station progress entry) (may_all_come station (after_entry progress entry) more) is in
+    let parts = and_parts (may_come station progress entry) (may_all_come station (after_entry progress entry) more) is in
     (enabled station progress entry parts.0, execution station (after_entry progress entry) more parts.1)
 
 pub finished-by_check : (station : Station) (journal : List Entry) → is_finished station journal ≡ true → IsFinished station journal
 finished-by_check station journal is =
-    let a = both _ _ is in
-    let b = both _ _ a.1 in
+    let a = and_parts _ _ is in
+    let b = and_parts _ _ a.1 in
     record {
       lawful = record { execution = execution station (initial station) journal a.0; no_open_turn = none (progress_after (initial station) journal).marked b.0 };
       ended = all_in (progress_after (initial station) journal).ended station.lanes b.1;

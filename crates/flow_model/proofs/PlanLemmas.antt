@@ -1,5 +1,5 @@
 -- Plans, one more at a time.
-use Rattle.std.proofs.Common.{◌≡◌, ◌<◌, ◌++◌, ◌==◌, ℕ, zero, suc, inl, inr, true, List, [], ◌∷◌, length, Option, Some, None, refl, sym, ap, subst, ◌∙◌, arith}
+use Rattle.std.proofs.Common.{◌≡◌, ◌<◌, ◌+◌, ◌++◌, ◌==◌, ℕ, inl, inr, true, List, [], ◌∷◌, length, Option, Some, None, refl, sym, ap, subst, ◌∙◌, arith}
 use Rattle.std.specs.Prelude.{All, slice_get, IsTrue, ◌↔◌}
 use Rattle.std.proofs.lemmas.List.Folds.{Any-from_list_any}
 use Rattle.std.proofs.lemmas.Bool.{cases_lt, eqb-true}
@@ -22,18 +22,17 @@ use Rattle.cover_planner.specs.Plan.{IsPlan}
 use Rattle.jobs.specs.Written.{Written}
 use Rattle.versions.specs.Book.{is_named}
 use Rattle.flow_model.specs.Outline.{outline_of}
+use Rattle.flow_model.proofs.PlaceLemmas.{append_get, get_left}
+use Rattle.flow_model.proofs.WorkerLemmas.{item_at}
 use Rattle.flow_model.specs.Planned.{ArePlansOf, IsPlanOf, IsPlanned, is_many, is_many_at}
 
 pushed-before : {A : Type 0} (xs : List A) (x : A) (k : ℕ) → k < length xs → slice_get (xs ++ x ∷ []) k ≡ slice_get xs k
-pushed-before [] x k lt = absurd (omega arith)
-pushed-before (y ∷ ys) x zero lt = refl
-pushed-before (y ∷ ys) x (suc k) lt = pushed-before ys x k (omega arith)
+pushed-before xs x k lt = let r = item_at xs k lt in get_left xs (x ∷ []) k r.0 r.1 ∙ sym r.1
 
 pushed-last : {A : Type 0} (xs : List A) (x : A) (k : ℕ) → k ≡ length xs → slice_get (xs ++ x ∷ []) k ≡ Some x
-pushed-last [] x zero e = refl
-pushed-last [] x (suc k) e = absurd (omega arith)
-pushed-last (y ∷ ys) x zero e = absurd (omega arith)
-pushed-last (y ∷ ys) x (suc k) e = pushed-last ys x k (omega arith)
+pushed-last xs x k e =
+    let z : length xs + 0 ≡ k = omega (arith, e) in
+    subst (λ (m : ℕ). slice_get (xs ++ x ∷ []) m ≡ Some x) z (append_get xs (x ∷ []) 0 x refl)
 
 pub ArePlansOf-push : (edges : List Edge) (many : ℕ) (requests : List Request) (plans : List Plan) (request : Request) (plan : Plan)
     → ArePlansOf edges many requests plans → IsPlanOf edges many request plan → ArePlansOf edges many (requests ++ request ∷ []) (plans ++ plan ∷ [])

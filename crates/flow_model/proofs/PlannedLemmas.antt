@@ -12,6 +12,7 @@ use Rattle.flow_dag.specs.Edges.{HasEdge}
 use Rattle.flow_dag.specs.Masks.{Has}
 use Rattle.flow_dag.specs.Paths.{IsOrReaches, Reaches}
 use Rattle.flow_dag.specs.declared.edge.Edge.{Edge}
+use Rattle.flow_dag.proofs.EdgeLemmas.{HasEdge-at}
 use Rattle.flow_dag.proofs.MaskLemmas.{has-Has}
 use Rattle.flow_dag.proofs.PathLemmas.{IsOrReaches-here}
 use Rattle.versions.specs.declared.request.Request.{Request}
@@ -22,7 +23,6 @@ use Rattle.flow_model.specs.Requests.{changes}
 use Rattle.flow_model.specs.Station.{dues_after, numbers_from}
 use Rattle.flow_model.proofs.AskedLemmas.{asked-changed}
 use Rattle.flow_model.proofs.ElementLemmas.{IsIn, filter_in, in_filter}
-use Rattle.flow_model.proofs.LaneLemmas.{edge_leads}
 use Rattle.flow_model.proofs.WorkerLemmas.{item_at}
 use Rattle.flow_model.proofs.StoryLemmas.{IsRising}
 
@@ -59,7 +59,7 @@ edges_covered setup is (suc r) a i edge g c w d = go (slice_get setup.plans r) r
         let cover = p.planned.cover in
         let between : IsCoveredEdge (HasEdge setup.job.edges) (Has plan.members) edge.from edge.to =
         IsCoveredEdge-between (HasEdge setup.job.edges) (Has plan.members) a edge.to edge.from edge.to ((cover.nodes a).0 ((has-Has plan.nodes a).0 c))
-        ((cover.nodes edge.to).0 ((has-Has plan.nodes edge.to).0 d)) w (edge_leads setup.job.edges i edge g) (IsOrReaches-here (HasEdge setup.job.edges) edge.to edge.to refl) in
+        ((cover.nodes edge.to).0 ((has-Has plan.nodes edge.to).0 d)) w (HasEdge-at setup.job.edges i edge g) (IsOrReaches-here (HasEdge setup.job.edges) edge.to edge.to refl) in
         (has-Has plan.edges i).1 ((cover.covered i).1 (edge, g, between))
 
 asked_covered : (setup : Outline) → IsPlanned setup → (r node : ℕ) → asks setup r node ≡ true → covers setup r node ≡ true
@@ -106,11 +106,6 @@ has_covers setup planned = record {
 
 -- ---- the requests that cover a node
 
-in_numbers : (first count r : ℕ) → IsIn r (numbers_from first count) → (first ≤ r) × (r < first + count)
-in_numbers first zero r h = absurd h
-in_numbers first (suc count) r (inl e) = (omega arith, omega arith)
-in_numbers first (suc count) r (inr h) = let q = in_numbers (first + 1) count r h in (omega (arith, q.0), omega (arith, q.1))
-
 numbers_in : (first count r : ℕ) → first ≤ r → r < first + count → IsIn r (numbers_from first count)
 numbers_in first zero r le lt = absurd (omega arith)
 numbers_in first (suc count) r le lt =
@@ -134,7 +129,7 @@ dues_rise setup turned node k le = filter_rises (λ r. covers setup r node) k (t
 pub due_covers : (setup : Outline) (turned node r : ℕ) → IsIn r (dues_after setup turned node) → covers setup r node ≡ true
 due_covers setup turned node r h = (in_filter (λ r. covers setup r node) r (numbers_from (turned + 1) (length setup.plans - turned)) h).1
 
-covers_within : (setup : Outline) (r node : ℕ) → covers setup r node ≡ true → (1 ≤ r) × (r ≤ length setup.plans)
+pub covers_within : (setup : Outline) (r node : ℕ) → covers setup r node ≡ true → (1 ≤ r) × (r ≤ length setup.plans)
 covers_within setup zero node h = absurd (cc)
 covers_within setup (suc r) node h = go (slice_get setup.plans r) refl h
   where

@@ -1,8 +1,8 @@
 -- From the points of a journal back to its law.
 use Rattle.std.proofs.Common.{◌≡◌, ◌∙◌, ◌⊎◌, ℕ, List, [], ◌∷◌, ◌++◌, Some, inl, inr, refl, sym, ap, subst, arith, append_assoc}
 use Rattle.std.specs.Prelude.{◌↔◌, All, Contains}
-use Rattle.std.proofs.lemmas.List.{append-nil, append_cancel_left, get_or_append_left, length-append}
-use Rattle.std.proofs.lemmas.List.Elements.{filter_map-append}
+use Rattle.std.proofs.lemmas.List.{append-nil, append_cancel_left}
+use Rattle.std.proofs.lemmas.List.Elements.{Contains-append_left, filter_map-append}
 use Rattle.sink_journal.specs.declared.journal.Entry.{Entry}
 use Rattle.sink_journal.specs.declared.journal.Entry.TheVariants as entry
 use Rattle.flow_model.specs.Law.{IsExecution, IsLawful, Progress, Station, after_entry, initial, later_dues, next_due, progress_after}
@@ -18,9 +18,6 @@ record Going (station : Station) (progress : Progress) (before rest : List Entry
 
 none_in : (x : ℕ) → Contains [] x → ⊥
 none_in x (k, lt, is) = absurd (omega (arith, lt))
-
-contains-append : (xs ys : List ℕ) (x : ℕ) → Contains xs x → Contains (xs ++ ys) x
-contains-append xs ys x (k, lt, is) = (k, omega (arith, lt, length-append xs ys), get_or_append_left xs ys x k lt ∙ is)
 
 leads_turned : (seen : List ℕ) (request : ℕ) (later : List Entry) → LeadsToTurn seen request later → (more : List ℕ) × (turned later ≡ request ∷ more)
 leads_turned seen request [] h = absurd h
@@ -45,7 +42,7 @@ all_marked station progress before earlier request lanes wanted at is all =
     at ∙ (ap (progress_after (initial station)) is ∙ progress_after-append (initial station) earlier (markers request lanes)) in
     let marked : progress.marked ≡ lanes ++ (progress_after (initial station) earlier).marked =
     ap (λ (p : Progress). p.marked) there ∙ marked_by (progress_after (initial station) earlier) request lanes in
-    subst (λ (l : List ℕ). All (Contains l) wanted) (sym marked) (λ k d lt. contains-append lanes (progress_after (initial station) earlier).marked _ (all k d lt))
+    subst (λ (l : List ℕ). All (Contains l) wanted) (sym marked) (λ k d lt. Contains-append_left lanes (progress_after (initial station) earlier).marked _ (all k d lt))
 
 pushed : (before : List Entry) (x : Entry) → turned (before ++ x ∷ []) ≡ turned before ++ turned (x ∷ [])
 pushed before x = filter_map-append turn_in before (x ∷ [])

@@ -1,7 +1,8 @@
 -- Every entry that meets a tuple came of the entry that first met its row, and that one is alone.
-use Rattle.std.proofs.Common.{◌≡◌, ◌∙◌, ◌<◌, ◌≤◌, ◌+◌, ◌-◌, ◌++◌, ◌==◌, ℕ, zero, suc, List, [], ◌∷◌, ◌⊎◌, inl, inr, refl, sym, subst, ap, arith, true, false, Bool, cond, length, min, flat_map, drop, take, nat_le, Some, None, Option, slice_get}
+use Rattle.std.proofs.Common.{◌≡◌, ◌∙◌, ◌<◌, ◌+◌, ◌-◌, ◌++◌, ◌==◌, ℕ, zero, suc, List, [], ◌∷◌, ◌⊎◌, inl, inr, refl, sym, subst, ap, arith, true, false, Bool, cond, length, min, flat_map, drop, take, nat_le, Some, None, Option, slice_get}
 use Rattle.std.proofs.lemmas.Bool.{eq-eqb}
 use Rattle.flow_dag.specs.Edges.{HasEdge}
+use Rattle.flow_dag.proofs.EdgeLemmas.{HasEdge-at}
 use Rattle.jobs.specs.Written.{Written}
 use Rattle.sink_journal.specs.declared.journal.Entry.{Entry}
 use Rattle.sink_journal.specs.declared.journal.Entry.TheVariants as entry
@@ -19,7 +20,7 @@ use Rattle.flow_model.specs.Replay.{Put, came_in, item_on, shown}
 use Rattle.flow_model.specs.Requests.{afters}
 use Rattle.flow_model.specs.Run.{Ran}
 use Rattle.flow_model.proofs.ElementLemmas.{IsIn, in_of_place}
-use Rattle.flow_model.proofs.LaneLemmas.{LaneIn, edge_leads, lane_in, same_number}
+use Rattle.flow_model.proofs.LaneLemmas.{LaneIn, lane_in, same_number}
 use Rattle.flow_model.proofs.MarkerLemmas.{met_on_lane}
 use Rattle.flow_model.proofs.SendingLemmas.{on_lane}
 use Rattle.flow_model.proofs.StoryLemmas.{put_then, sent-story}
@@ -36,12 +37,6 @@ FeedsRise k [] = Unit {0}
 FeedsRise k (feed.Fed n ∷ more) = (k < n) × FeedsRise n more
 FeedsRise k (feed.Issued r ∷ more) = FeedsRise k more
 FeedsRise k (feed.Stopped ∷ more) = FeedsRise k more
-
-rises_less : (j k : ℕ) (feeds : List Feed) → j ≤ k → FeedsRise k feeds → FeedsRise j feeds
-rises_less j k [] le f = tt
-rises_less j k (feed.Fed n ∷ more) le f = let h = f.0 in (omega arith, f.1)
-rises_less j k (feed.Issued r ∷ more) le f = rises_less j k more le f
-rises_less j k (feed.Stopped ∷ more) le f = rises_less j k more le f
 
 -- every put of a rising feed carries a tuple of a row above the bound
 puts_above : (job : Written) (rows : List Row) (k issued : ℕ) (feeds : List Feed) (p : Put) (t : Tuple) → AreRows rows → FeedsRise k feeds
@@ -218,7 +213,7 @@ module _ (rows : List Row) (ran : Ran) (g : Running rows ran) where
       let o = on_lane k.lane r.x (item.Carry t) r.is in
       let edge : HasEdge ran.setup.job.edges (post_of ran.setup s).node (post_of ran.setup c.worker).node =
       subst (λ v. HasEdge ran.setup.job.edges v (post_of ran.setup c.worker).node) (sym there.node_is)
-      (subst (λ v. HasEdge ran.setup.job.edges k.edge.from v) k.to (edge_leads ran.setup.job.edges k.lane.edge k.edge k.edge_is)) in
+      (subst (λ v. HasEdge ran.setup.job.edges k.edge.from v) k.to (HasEdge-at ran.setup.job.edges k.lane.edge k.edge k.edge_is)) in
       let sent : ℕ = sent_before ran k.lane (record { worker = s; entry = f.i }) in
       let place : brought_before ran n c ≡ sent + put_before k.lane r.i (puts_of ran s f.x) = omega (arith, f.place, r.place) in
       record {

@@ -1,7 +1,9 @@
 -- The law of one worker, second half: what it sends is steady.
 use Rattle.std.proofs.Common.{◌≡◌, ◌∙◌, ◌<◌, ◌≤◌, ◌+◌, ◌==◌, ◌++◌, ℕ, List, [], ◌∷◌, inl, inr, refl, sym, subst, ap, true, false, Bool, cond, length, map, filter, flat_map, Some, None, Option}
+use Rattle.std.proofs.lemmas.List.{map-append}
 use Rattle.std.proofs.lemmas.Option.{cond_some}
 use Rattle.flow_dag.specs.Edges.{HasEdge}
+use Rattle.flow_dag.proofs.EdgeLemmas.{HasEdge-at}
 use Rattle.cover_planner.specs.declared.cover.Plan.{Plan}
 use Rattle.lane_core.specs.Steady.{Agrees}
 use Rattle.operators.specs.Laws.{IsMadeOf}
@@ -21,7 +23,7 @@ use Rattle.flow_model.specs.Outline.{Lane, Outline, Post}
 use Rattle.flow_model.specs.Replay.{Local, Put, came_in, item_on, items_on, marker, marker_by, put_on_each, put_out, puts, sent, visit_at}
 use Rattle.flow_model.specs.Station.{dues_after, station}
 use Rattle.flow_model.proofs.ElementLemmas.{Before, IsIn, before_first, before_second, flat_map_before, flat_map_in, in_cases, in_filter_map, in_flat_map, in_map, place_of_in}
-use Rattle.flow_model.proofs.LaneLemmas.{LaneIn, edge_leads, lane_in, same_lane}
+use Rattle.flow_model.proofs.LaneLemmas.{LaneIn, lane_in, same_lane}
 use Rattle.flow_model.proofs.MarkerLemmas.{met_on_lane}
 use Rattle.flow_model.proofs.StoryLemmas.{IsRising, after_turned, before_turned, entry_before, entry_in, put_then, sent-story, story}
 use Rattle.flow_model.proofs.AgreementLemmas.{BringSteadily, ComesAlong, HasAgreed, IsNew, IsOld, IsSteadyList, at_of_new, at_of_old, met_shown, nodes_of, way_further}
@@ -131,10 +133,6 @@ apart setup post journal a f g (entry.Ended l) (entry.Ended k) x y b p q c d = r
 
 -- ---- the law
 
-nodes_append : (xs ys : List Visit) → map (λ (v : Visit). v.node) (xs ++ ys) ≡ map (λ (v : Visit). v.node) xs ++ map (λ (v : Visit). v.node) ys
-nodes_append [] ys = refl
-nodes_append (x ∷ xs) ys = ap (λ (ns : List ℕ). x.node ∷ ns) (nodes_append xs ys)
-
 module _ (setup : Outline) (turned : ℕ) (post : Post) (is : IsWorker setup.job post) (local : Local) (journal : List Entry)
     (law : IsExecution (station setup turned post) (initial (station setup turned post)) journal)
     (rises : IsRising local.last (dues_after setup turned post.node))
@@ -145,10 +143,10 @@ module _ (setup : Outline) (turned : ℕ) (post : Post) (is : IsWorker setup.job
     on_the_way here (entry.Met l u) t i c =
         let k : LaneIn setup.job post l = lane_in setup.job post l is (met_on_lane (station setup turned post) (initial (station setup turned post)) journal l u law i) in
         let way : ComesAlong (HasEdge setup.job.edges) k.edge.from (nodes_of u) = (steady l k).come u (flat_map_in (came_in setup l) (entry.Met l u) (item.Carry u) journal i (met_shown setup l u)) in
-        let e : HasEdge setup.job.edges k.edge.from post.node = subst (λ v. HasEdge setup.job.edges k.edge.from v) k.to (edge_leads setup.job.edges k.lane.edge k.edge k.edge_is) in
+        let e : HasEdge setup.job.edges k.edge.from post.node = subst (λ v. HasEdge setup.job.edges k.edge.from v) k.to (HasEdge-at setup.job.edges k.lane.edge k.edge k.edge_is) in
         let same : t ≡ c.0 = let x = c.1 in cc in
         subst (λ (ns : List ℕ). ComesAlong (HasEdge setup.job.edges) post.node ns)
-        (sym (ap nodes_of same ∙ (ap (λ (vs : List Visit). map (λ (v : Visit). v.node) vs) c.2 ∙ nodes_append u.trace (visit_at post here ∷ []))))
+        (sym (ap nodes_of same ∙ (ap (λ (vs : List Visit). map (λ (v : Visit). v.node) vs) c.2 ∙ map-append (λ (v : Visit). v.node) u.trace (visit_at post here ∷ []))))
         (way_further (HasEdge setup.job.edges) k.edge.from post.node (nodes_of u) way e)
     on_the_way here (entry.Marked l r) t i c = absurd c
     on_the_way here (entry.Turned r) t i c = let x = c.2 in absurd (cc)

@@ -1,36 +1,32 @@
 -- What the plans of a setup cover: covered edges have covered ends, and none leaves a source.
-use Rattle.std.proofs.Common.{◌≡◌, ◌<◌, ◌+◌, ◌*◌, ◌⊎◌, ℕ, zero, suc, List, [], ◌∷◌, inl, inr, Bool, true, false, cond, get_or, length, map, Option, Some, None, refl, sym, ap, subst, ◌∙◌, arith}
-use Rattle.std.specs.Prelude.{Contains, option_map, slice_get}
+use Rattle.std.proofs.Common.{◌≡◌, ◌<◌, ◌⊎◌, ℕ, zero, suc, List, [], ◌∷◌, inl, inr, true, false, get_or, length, Option, Some, None, refl, sym, ap, subst, ◌∙◌, arith}
+use Rattle.std.specs.Prelude.{slice_get}
 use Rattle.std.proofs.Math.Bool.{Bool-set}
 use Rattle.std.proofs.Math.Logic.{∥∥₁_elim}
 use Rattle.std.proofs.Math.Nat.{ℕ_set}
 use Rattle.std.proofs.lemmas.Bool.{false_from_ne_true}
-use Rattle.std.proofs.lemmas.Option.{same_Some, slice_get-get_or, slice_get-map, slice_get_within}
+use Rattle.std.proofs.lemmas.Option.{same_Some, slice_get-get_or, slice_get_within}
 use Rattle.flow_dag.specs.declared.edge.Edge.{Edge}
 use Rattle.flow_dag.specs.Edges.{HasEdge}
-use Rattle.flow_dag.specs.Masks.{Has, has}
+use Rattle.flow_dag.specs.Masks.{Has}
 use Rattle.flow_dag.specs.Paths.{IsWalk, Leads}
 use Rattle.flow_dag.proofs.EdgeLemmas.{HasEdge-place}
 use Rattle.flow_dag.proofs.MaskLemmas.{has-Has}
 use Rattle.cover_planner.specs.declared.cover.Plan.{Plan}
 use Rattle.cover_planner.specs.Cover.{IsCoveredEdge, LiesOn, StandNext}
 use Rattle.jobs.specs.Law.{IsLawful}
-use Rattle.jobs.specs.Nodes.{is_source, is_source_node, workers_of}
-use Rattle.jobs.specs.declared.func.Func.TheVariants as func
-use Rattle.jobs.specs.declared.func.NodeDef.{NodeDef}
+use Rattle.jobs.specs.Nodes.{is_source_node}
 use Rattle.jobs.specs.Written.{Written}
 use Rattle.versions.specs.declared.request.Request.{Request}
 use Rattle.flow_model.specs.Covers.{covers, covers_edge, holds_edge, holds_node}
-use Rattle.flow_model.specs.Lanes.{lanes_in, senders}
-use Rattle.flow_model.specs.Outline.{Outline, Post}
+use Rattle.flow_model.specs.Lanes.{lanes_in}
+use Rattle.flow_model.specs.Outline.{Outline}
 use Rattle.flow_model.specs.Planned.{IsPlanFor, IsPlanned}
-use Rattle.flow_model.specs.Workers.{posts, posts_of}
+use Rattle.flow_model.specs.Workers.{posts}
+use Rattle.flow_model.proofs.ElementLemmas.{IsIn, in_of_place}
+use Rattle.flow_model.proofs.JobLemmas.{reached_worker, unentered}
 use Rattle.flow_replay.specs.Desks.{post_at}
-use Rattle.flow_replay.specs.Tables.{first_lane, first_worker}
-use Rattle.flow_replay.proofs.JobLemmas.{edge_into, ends_of, entered, has_workers}
-use Rattle.flow_replay.proofs.LaneLemmas.{get-lane}
-use Rattle.flow_replay.proofs.SeatLemmas.{IsPost, get-post_at, get-post_place, get-posts_of, is_post, no_source}
-use Rattle.flow_replay.proofs.WayLemmas.{comes_in}
+use Rattle.flow_replay.proofs.SeatLemmas.{get-post_at, worker_at}
 
 -- ---- paths
 
@@ -52,9 +48,6 @@ path_start E a b from to (x ∷ y ∷ rest) leads lies = elim (walk_start E a b 
 ]
 
 -- ---- covered edges
-
-has_true : (mask i : ℕ) → Has mask i → has mask i ≡ true
-has_true mask i h = (has-Has mask i).1 h
 
 -- the plan of a request that covers an edge
 pub record IsCoveredBy (setup : Outline) (r i : ℕ) (edge : Edge) : Type 0 where
@@ -90,7 +83,7 @@ covered_by setup (suc p) i edge is e h = go (slice_get setup.plans p) refl h
         }
 
 covers_by : (setup : Outline) (p node : ℕ) (plan : Plan) → slice_get setup.plans p ≡ Some plan → Has plan.nodes node → covers setup (suc p) node ≡ true
-covers_by setup p node plan g h = ap (λ (o : Option Plan). holds_node o node) g ∙ has_true plan.nodes node h
+covers_by setup p node plan g h = ap (λ (o : Option Plan). holds_node o node) g ∙ (has-Has plan.nodes node).1 h
 
 covers_from : (setup : Outline) (r i : ℕ) (edge : Edge) → IsPlanned setup → slice_get setup.job.edges i ≡ Some edge → covers_edge setup r i ≡ true → covers setup r edge.from ≡ true
 covers_from setup r i edge is e h =
@@ -108,8 +101,7 @@ covers_to setup r i edge is e h =
 entered_node : (job : Written) (c a : ℕ) → IsLawful job → HasEdge job.edges c a → is_source_node (slice_get job.nodes a) ≡ false
 entered_node job c a law h =
     let (i, edge, e, joins) = HasEdge-place job.edges c a h in
-    let to = entered job i edge law e in
-    ap (λ (n : ℕ). is_source_node (slice_get job.nodes n)) (sym joins.1) ∙ (ap is_source_node to.node_is ∙ to.no_source)
+    ap (λ (n : ℕ). is_source_node (slice_get job.nodes n)) (sym joins.1) ∙ unentered job law i edge e
 
 source_uncovered : (setup : Outline) (r i : ℕ) (edge : Edge) → IsLawful setup.job → IsPlanned setup → slice_get setup.job.edges i ≡ Some edge → is_source_node (slice_get setup.job.nodes edge.from) ≡ true
     → covers_edge setup r i ≡ false
@@ -130,54 +122,15 @@ pub record AreCovering (setup : Outline) : Type 0 where
   pub from : (r i : ℕ) (edge : Edge) → slice_get setup.job.edges i ≡ Some edge → covers_edge setup r i ≡ true → covers setup r edge.from ≡ true
   pub to : (r i : ℕ) (edge : Edge) → slice_get setup.job.edges i ≡ Some edge → covers_edge setup r i ≡ true → covers setup r edge.to ≡ true
   pub no_source : (r i : ℕ) (edge : Edge) → slice_get setup.job.edges i ≡ Some edge → is_source_node (slice_get setup.job.nodes edge.from) ≡ true → covers_edge setup r i ≡ false
-  pub reached : (w : ℕ) → w < length (posts setup.job) → (n : ℕ) × Contains (lanes_in setup.job w) n
+  pub reached : (w : ℕ) → w < length (posts setup.job) → (n : ℕ) × IsIn n (lanes_in setup.job w)
   pub plan_each : length setup.plans ≡ length setup.requests
 
--- some sender stands first at each node
-first_sender : (job : Written) (node : ℕ) (def : NodeDef) → IsLawful job → slice_get job.nodes node ≡ Some def → (sender : Option ℕ) × (slice_get (senders job node) 0 ≡ Some sender)
-first_sender job node def law g = go (is_source def.func) refl
-  where
-    go : (b : Bool) → is_source def.func ≡ b → (sender : Option ℕ) × (slice_get (senders job node) 0 ≡ Some sender)
-    go true t =
-        let is : is_source_node (slice_get job.nodes node) ≡ true = rw g t in
-        (None, ap (λ (b : Bool). slice_get (cond b (None ∷ []) (map (λ (post : Post). Some post.number) (posts_of job node))) 0) is)
-    go false t =
-        let is : is_source_node (slice_get job.nodes node) ≡ false = rw g t in
-        let all = has_workers job node def law g t in
-        let same : all.def ≡ def = same_Some all.def def (sym all.node_is ∙ g) in
-        let many : workers_of all.def ≡ workers_of def = ap workers_of same in
-        let some : 0 < workers_of def = omega (arith, all.all, all.some, many) in (
-          Some (first_worker job node + 0),
-          ap (λ (b : Bool). slice_get (cond b (None ∷ []) (map (λ (post : Post). Some post.number) (posts_of job node))) 0) is
-              ∙ (slice_get-map (λ (post : Post). Some post.number) (posts_of job node) 0 ∙ ap (option_map (λ (post : Post). Some post.number)) (get-posts_of job node def 0 g some)),
-        )
-
 -- a lane leads into every worker
-lane_into : (job : Written) (w : ℕ) → IsLawful job → w < length (posts job) → (n : ℕ) × Contains (lanes_in job w) n
-lane_into job w law lt = by_edge (edge_into job post.node is.def law is.node_is (no_source is.def post.place is.placed))
-  where
-    post : Post
-    post = post_at job w
-
-    there : slice_get (posts job) w ≡ Some (post_at job w)
-    there = get-post_at job w lt
-
-    is : IsPost job w (post_at job w)
-    is = is_post job w (post_at job w) there
-
-    by_sender : (i : ℕ) (edge : Edge) → slice_get job.edges i ≡ Some edge → edge.to ≡ post.node → (sender : Option ℕ) → slice_get (senders job edge.from) 0 ≡ Some sender → (n : ℕ) × Contains (lanes_in job w) n
-    by_sender i edge e to sender sends =
-        let n : ℕ = first_lane job i + 0 * length (posts_of job edge.to) + post.place in
-        let place : slice_get (posts_of job edge.to) post.place ≡ Some post = ap (λ (v : ℕ). slice_get (posts_of job v) post.place) to ∙ get-post_place job w post there in
-        let g = get-lane job i edge 0 post.place sender post n e sends place refl in
-        (n, subst (λ (v : ℕ). Contains (lanes_in job v) n) is.number_is (comes_in job n (record { edge = i; sender = sender; receiver = post.number }) g))
-
-    by_edge : (i : ℕ) × (edge : Edge) × (slice_get job.edges i ≡ Some edge) × (edge.to ≡ post.node) → (n : ℕ) × Contains (lanes_in job w) n
-    by_edge (i, edge, e, to) = by_def (slice_get job.nodes edge.from) refl
-      where
-        by_def : (o : Option NodeDef) → slice_get job.nodes edge.from ≡ o → (n : ℕ) × Contains (lanes_in job w) n
-        by_def None g = absurd (let h = slice_get-get_or job.nodes edge.from (record { name = []; func = func.Source; workers = 0 }) (ends_of job i edge law e).0 in cc)
-        by_def (Some def) g = let s = first_sender job edge.from def law g in by_sender i edge e to s.0 s.1
+lane_into : (job : Written) (w : ℕ) → IsLawful job → w < length (posts job) → (n : ℕ) × IsIn n (lanes_in job w)
+lane_into job w law lt =
+    let (number, is) = worker_at job w lt in
+    let (n, among) = reached_worker job law (post_at job w) is (in_of_place (post_at job w) (posts job) w (get-post_at job w lt)) in
+    (n, subst (λ (v : ℕ). IsIn n (lanes_in job v)) number among)
 
 pub covering : (setup : Outline) → IsLawful setup.job → ∥ IsPlanned setup ∥₁ → AreCovering setup
 covering setup law planned = record {

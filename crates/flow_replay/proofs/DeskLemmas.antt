@@ -1,9 +1,10 @@
 -- What a worker does at its desk, in the words of the replay.
-use Rattle.std.proofs.Common.{◌≡◌, ◌<◌, ◌≤◌, ◌+◌, ◌==◌, ◌&&◌, ℕ, zero, suc, List, [], ◌∷◌, ◌++◌, Bool, true, false, cond, length, map, drop, get_or, Option, Some, None, refl, sym, ap, subst, ◌∙◌, arith, append_assoc}
+use Rattle.std.proofs.Common.{◌≡◌, ◌<◌, ◌≤◌, ◌+◌, ◌==◌, ◌&&◌, ℕ, List, [], ◌∷◌, ◌++◌, Bool, true, false, cond, length, map, drop, get_or, Option, Some, None, refl, sym, ap, subst, ◌∙◌, arith, append_assoc}
 use Rattle.std.specs.Prelude.{filter, option_map, slice_get, slice_index_or}
 use Rattle.std.specs.List.{enumerate_from}
-use Rattle.std.proofs.lemmas.List.{append-nil, length-map}
-use Rattle.std.proofs.lemmas.Option.{same_Some, slice_get-get_or, slice_get-map, slice_get_within}
+use Rattle.std.proofs.lemmas.List.{append-nil, drop_all, drop_more, length-map}
+use Rattle.std.proofs.lemmas.Simd.{map-map}
+use Rattle.std.proofs.lemmas.Option.{get_or_from_slice_get, same_Some, slice_get-get_or, slice_get-map, slice_get_within}
 use Rattle.keyed_state.specs.Counts.{Counts}
 use Rattle.jobs.specs.Law.{IsLawful}
 use Rattle.jobs.specs.declared.func.Func.{Func}
@@ -20,40 +21,38 @@ use Rattle.flow_model.specs.Lanes.{lanes, lanes_in, marked_lanes, senders}
 use Rattle.flow_model.specs.Outline.{Lane, Outline, Post}
 use Rattle.flow_model.specs.Replay.{Local, after, after_all, visit_at}
 use Rattle.flow_model.specs.Requests.{change_of, func_with}
-use Rattle.flow_model.specs.Workers.{posts, posts_of}
-use Rattle.jobs.specs.Nodes.{is_source_node}
+use Rattle.flow_model.specs.Workers.{posts}
 use Rattle.flow_replay.specs.declared.wiring.Inlet.{Inlet}
 use Rattle.flow_replay.specs.declared.wiring.Seat.{Seat}
 use Rattle.flow_replay.specs.declared.wiring.Wiring.{Wiring}
 use Rattle.flow_replay.specs.declared.worker.Desk.{Desk}
 use Rattle.flow_replay.specs.Desks.{IsGain, IsTurned, end_block, ends, local_of, made_at, marks, post_at, turn_block, turn_entries}
 use Rattle.flow_replay.specs.Tables.{IsWired, inlet_of, inlets_of, seat_of}
-use Rattle.flow_replay.proofs.LaneLemmas.{is_lane}
-use Rattle.flow_replay.proofs.PieceLemmas.{enumerate-get}
-use Rattle.flow_replay.proofs.SeatLemmas.{IsPost, get-post_at, get-post_place, is_post, no_source}
-use Rattle.flow_replay.proofs.TableLemmas.{drop-at, drop-end, item_of}
+use Rattle.flow_model.proofs.ElementLemmas.{in_filter, in_of_place}
+use Rattle.flow_model.proofs.LaneLemmas.{in_enumerate, lane_is}
+use Rattle.flow_replay.proofs.LaneLemmas.{sends}
+use Rattle.flow_replay.proofs.SeatLemmas.{get-post_at, node_below, worker_at}
+use Rattle.flow_replay.proofs.TableLemmas.{item_at}
 
 -- ---- a worker's seat
 
 -- a seat that the code reads
-pub seat_at : (job : Written) (wiring : Wiring) (all : List Seat) (seat : Seat) (w : ℕ) → IsWired job wiring → all ≡ wiring.seats → w < length (posts job) → slice_get all w ≡ Some seat
-    → seat ≡ seat_of (post_at job w)
-seat_at job wiring all seat w wired same lt e =
-    let there : slice_get all w ≡ Some (seat_of (post_at job w)) =
-    ap (λ (l : List Seat). slice_get l w) (same ∙ wired.seats) ∙ (slice_get-map seat_of (posts job) w ∙ ap (option_map seat_of) (get-post_at job w lt)) in
-    same_Some seat (seat_of (post_at job w)) (sym e ∙ there)
+abbrev pub seat_read : List Seat → ℕ → Seat
+seat_read all w = get_or all w (record { node = 0; place = 0 })
+
+pub seat_is : (job : Written) (wiring : Wiring) (all : List Seat) (w : ℕ) → IsWired job wiring → all ≡ wiring.seats → w < length (posts job) → seat_read all w ≡ seat_of (post_at job w)
+seat_is job wiring all w wired same lt =
+    get_or_from_slice_get all w (seat_of (post_at job w)) (record { node = 0; place = 0 })
+    (ap (λ (l : List Seat). slice_get l w) (same ∙ wired.seats) ∙ (slice_get-map seat_of (posts job) w ∙ ap (option_map seat_of) (get-post_at job w lt)))
 
 pub seats-long : (job : Written) (wiring : Wiring) → IsWired job wiring → length wiring.seats ≡ length (posts job)
 seats-long job wiring wired = ap (length {A = Seat}) wired.seats ∙ length-map (posts job) seat_of
 
-pub is_post_at : (job : Written) (w : ℕ) → w < length (posts job) → IsPost job w (post_at job w)
-is_post_at job w lt = is_post job w (post_at job w) (get-post_at job w lt)
-
 pub seat_node : (job : Written) (w : ℕ) (seat : Seat) → w < length (posts job) → seat ≡ seat_of (post_at job w) → seat.node < length job.nodes
-seat_node job w seat lt e =
-    let is = is_post_at job w lt in
-    let within = slice_get_within job.nodes (post_at job w).node is.def is.node_is in
-    omega (arith, within, ap (λ (s : Seat). s.node) e)
+seat_node job w seat lt e = subst (λ (s : Seat). s.node < length job.nodes) (sym e) (node_below job w lt)
+
+pub seat_sends : (job : Written) (w : ℕ) (seat : Seat) → w < length (posts job) → seat ≡ seat_of (post_at job w) → slice_get (senders job seat.node) seat.place ≡ Some (Some w)
+seat_sends job w seat lt is = subst (λ (s : Seat). slice_get (senders job s.node) s.place ≡ Some (Some w)) (sym is) (sends job w (post_at job w) (get-post_at job w lt))
 
 -- ---- a meeting
 
@@ -67,7 +66,7 @@ pub func_at : (setup : Outline) (w : ℕ) (desk : Desk) (seat : Seat) (f : Func)
     → ((def : NodeDef) → slice_get setup.job.nodes seat.node ≡ Some def → f ≡ func_with (change_of setup desk.changed_by seat.node) def.func)
     → f ≡ (local_of setup (post_at setup.job w) desk).func
 func_at setup w desk seat f lt e is =
-    let p = is_post_at setup.job w lt in
+    let (number, p) = worker_at setup.job w lt in
     let node : seat.node ≡ (post_at setup.job w).node = ap (λ (s : Seat). s.node) e in
     is p.def (ap (slice_get setup.job.nodes) node ∙ p.node_is)
     ∙ (ap (λ (n : ℕ). func_with (change_of setup desk.changed_by n) p.def.func) node ∙ ap (func_with (change_of setup desk.changed_by (post_at setup.job w).node)) (sym p.func_is))
@@ -91,15 +90,6 @@ met_outs setup post desk visit f tuple outs v is e =
 
 -- ---- lanes in
 
-in_filter_get : {A : Type 0} (test : A → Bool) (xs : List A) (k : ℕ) (x : A) → slice_get (filter test xs) k ≡ Some x → (i : ℕ) × (slice_get xs i ≡ Some x)
-in_filter_get test [] k x e = absurd (cc)
-in_filter_get test (y ∷ ys) k x e = go (test y) k e (λ j. in_filter_get test ys j x)
-  where
-    go : (b : Bool) (k : ℕ) → slice_get (cond b (y ∷ filter test ys) (filter test ys)) k ≡ Some x → ((j : ℕ) → slice_get (filter test ys) j ≡ Some x → (i : ℕ) × (slice_get ys i ≡ Some x)) → (i : ℕ) × (slice_get (y ∷ ys) i ≡ Some x)
-    go true zero h later = (zero, h)
-    go true (suc k) h later = let r = later k h in (suc r.0, r.1)
-    go false k h later = let r = later k h in (suc r.0, r.1)
-
 -- the edge of a lane in is an edge of the job
 pub inlet_edge : (job : Written) (w k : ℕ) (inlet : Inlet) → IsLawful job → slice_get (inlets_of job w) k ≡ Some inlet → inlet.edge < 128
 inlet_edge job w k inlet law e = go (slice_get (filter (λ (lane : ℕ × Lane). lane.1.receiver == w) (enumerate_from 0 (lanes job))) k) refl
@@ -108,30 +98,16 @@ inlet_edge job w k inlet law e = go (slice_get (filter (λ (lane : ℕ × Lane).
     go : (o : Option (ℕ × Lane)) → slice_get (filter (λ (lane : ℕ × Lane). lane.1.receiver == w) (enumerate_from 0 (lanes job))) k ≡ o → option_map inlet_of o ≡ Some inlet → inlet.edge < 128
     go None g h = absurd (cc)
     go (Some p) g h =
-        let at = in_filter_get (λ (lane : ℕ × Lane). lane.1.receiver == w) (enumerate_from 0 (lanes job)) k p g in
-        let there = enumerate-get 0 (lanes job) at.0 p at.1 in
-        let is = is_lane job at.0 p.1 there.1 in
+        let among = in_of_place p (filter (λ (lane : ℕ × Lane). lane.1.receiver == w) (enumerate_from 0 (lanes job))) k g in
+        let (n, at, there) = in_enumerate 0 (lanes job) p (in_filter (λ (lane : ℕ × Lane). lane.1.receiver == w) p (enumerate_from 0 (lanes job)) among).0 in
+        let is = lane_is job n p.1 there in
         let within = slice_get_within job.edges p.1.edge is.edge is.edge_is in
         let same : p.1.edge ≡ inlet.edge = ap (λ (i : Inlet). i.edge) (same_Some (inlet_of p) inlet h) in
         omega (arith, within, same, law.limits.edges)
 
 -- the numbers of the lanes in
-ins-numbered : (ls : List Lane) (n w : ℕ)
-    → map (λ (i : Inlet). i.lane) (map inlet_of (filter (λ (p : ℕ × Lane). p.1.receiver == w) (enumerate_from n ls))) ≡ map (λ (p : ℕ × Lane). p.0) (filter (λ (p : ℕ × Lane). p.1.receiver == w) (enumerate_from n ls))
-ins-numbered [] n w = refl
-ins-numbered (l ∷ ls) n w = go (l.receiver == w) (ins-numbered ls (n + 1) w)
-  where
-    rest : List (ℕ × Lane)
-    rest = filter (λ (p : ℕ × Lane). p.1.receiver == w) (enumerate_from (n + 1) ls)
-
-    go : (b : Bool) → map (λ (i : Inlet). i.lane) (map inlet_of (filter (λ (p : ℕ × Lane). p.1.receiver == w) (enumerate_from (n + 1) ls))) ≡ map (λ (p : ℕ × Lane). p.0) (filter (λ (p : ℕ × Lane). p.1.receiver == w) (enumerate_from (n + 1) ls))
-        → map (λ (i : Inlet). i.lane) (map inlet_of (cond b ((n, l) ∷ filter (λ (p : ℕ × Lane). p.1.receiver == w) (enumerate_from (n + 1) ls)) (filter (λ (p : ℕ × Lane). p.1.receiver == w) (enumerate_from (n + 1) ls))))
-        ≡ map (λ (p : ℕ × Lane). p.0) (cond b ((n, l) ∷ filter (λ (p : ℕ × Lane). p.1.receiver == w) (enumerate_from (n + 1) ls)) (filter (λ (p : ℕ × Lane). p.1.receiver == w) (enumerate_from (n + 1) ls)))
-    go true h = ap (λ (r : List ℕ). n ∷ r) h
-    go false h = h
-
 pub inlets-lanes : (job : Written) (w : ℕ) → map (λ (i : Inlet). i.lane) (inlets_of job w) ≡ lanes_in job w
-inlets-lanes job w = ins-numbered (lanes job) 0 w
+inlets-lanes job w = map-map (λ (i : Inlet). i.lane) inlet_of (filter (λ (p : ℕ × Lane). p.1.receiver == w) (enumerate_from 0 (lanes job)))
 
 marked-numbered : (setup : Outline) (r : ℕ) (ls : List Lane) (n w : ℕ)
     → map (λ (i : Inlet). i.lane) (filter (λ (i : Inlet). covers_edge setup r i.edge) (map inlet_of (filter (λ (p : ℕ × Lane). p.1.receiver == w) (enumerate_from n ls))))
@@ -165,18 +141,12 @@ no_inlet = record { lane = 0; edge = 0 }
 pub inlets_read : (job : Written) (wiring : Wiring) (all : List (List Inlet)) (row result : List Inlet) (w : ℕ) → IsWired job wiring → all ≡ wiring.inlets → w < length (posts job)
     → row ≡ get_or all w row → result ≡ row → result ≡ inlets_of job w
 inlets_read job wiring all row result w wired same lt is made =
-    made ∙ wired.inlets w row (item_of all wiring.inlets w row same (let l = wired.each_worker in let m = ap (length {A = List Inlet}) same in omega (arith, lt, l, m)) is)
+    made ∙ wired.inlets w row (item_at all wiring.inlets w row same (omega (arith, lt, wired.each_worker)) is)
 
 -- ---- the markers, one after another
 
 abbrev pub marks_of : Outline → ℕ → List Inlet → List Entry
 marks_of setup r inlets = marks r (map (λ (i : Inlet). i.lane) (filter (λ (i : Inlet). covers_edge setup r i.edge) inlets))
-
-pub marks-skip : (setup : Outline) (r i : ℕ) (inlets : List Inlet) (done all : List Entry) → i < length inlets → covers_edge setup r (get_or inlets i no_inlet).edge ≡ false
-    → done ++ marks_of setup r (drop i inlets) ≡ all → done ++ marks_of setup r (drop (i + 1) inlets) ≡ all
-marks-skip setup r i inlets done all lt t h =
-    ap (λ (b : Bool). done ++ marks r (map (λ (i : Inlet). i.lane) (cond b (get_or inlets i no_inlet ∷ filter (λ (i : Inlet). covers_edge setup r i.edge) (drop (i + 1) inlets)) (filter (λ (i : Inlet). covers_edge setup r i.edge) (drop (i + 1) inlets))))) (sym t)
-    ∙ (ap (λ (l : List Inlet). done ++ marks_of setup r l) (sym (drop-at inlets i (get_or inlets i no_inlet) (slice_get-get_or inlets i no_inlet lt))) ∙ h)
 
 pub marks-take : (setup : Outline) (r i : ℕ) (inlets : List Inlet) (done more all : List Entry) → i < length inlets → covers_edge setup r (get_or inlets i no_inlet).edge ≡ true
     → more ≡ done ++ entry.Marked (get_or inlets i no_inlet).lane r ∷ []
@@ -185,13 +155,13 @@ marks-take setup r i inlets done more all lt t grown h =
     ap (λ (l : List Entry). l ++ marks_of setup r (drop (i + 1) inlets)) grown
     ∙ (append_assoc done (entry.Marked (get_or inlets i no_inlet).lane r ∷ []) (marks_of setup r (drop (i + 1) inlets))
     ∙ (ap (λ (b : Bool). done ++ marks r (map (λ (i : Inlet). i.lane) (cond b (get_or inlets i no_inlet ∷ filter (λ (i : Inlet). covers_edge setup r i.edge) (drop (i + 1) inlets)) (filter (λ (i : Inlet). covers_edge setup r i.edge) (drop (i + 1) inlets))))) (sym t)
-    ∙ (ap (λ (l : List Inlet). done ++ marks_of setup r l) (sym (drop-at inlets i (get_or inlets i no_inlet) (slice_get-get_or inlets i no_inlet lt))) ∙ h)))
+    ∙ (ap (λ (l : List Inlet). done ++ marks_of setup r l) (sym (drop_more inlets i no_inlet lt)) ∙ h)))
 
 pub marks-end : (setup : Outline) (w r i : ℕ) (inlets : List Inlet) (old done : List Entry) → length inlets ≤ i → inlets ≡ inlets_of setup.job w
     → done ++ marks_of setup r (drop i inlets) ≡ old ++ marks_of setup r inlets → done ≡ old ++ marks r (marked_lanes setup w r)
 marks-end setup w r i inlets old done le is h =
     sym (append-nil done)
-    ∙ (ap (λ (l : List Inlet). done ++ marks_of setup r l) (sym (drop-end inlets i le))
+    ∙ (ap (λ (l : List Inlet). done ++ marks_of setup r l) (sym (drop_all i inlets le))
     ∙ (h ∙ (ap (λ (l : List Inlet). old ++ marks_of setup r l) is ∙ ap (λ (l : List ℕ). old ++ marks r l) (inlets-marked setup w r))))
 
 -- ---- the ends
@@ -201,21 +171,17 @@ pub ends-next : (i : ℕ) (inlets : List Inlet) (done more all : List Entry) →
 ends-next i inlets done more all lt grown h =
     ap (λ (l : List Entry). l ++ ends (drop (i + 1) inlets)) grown
     ∙ (append_assoc done (entry.Ended (get_or inlets i no_inlet).lane ∷ []) (ends (drop (i + 1) inlets))
-    ∙ (ap (λ (l : List Inlet). done ++ ends l) (sym (drop-at inlets i (get_or inlets i no_inlet) (slice_get-get_or inlets i no_inlet lt))) ∙ h))
+    ∙ (ap (λ (l : List Inlet). done ++ ends l) (sym (drop_more inlets i no_inlet lt)) ∙ h))
 
 pub ends-end : (i : ℕ) (inlets : List Inlet) (old done : List Entry) → length inlets ≤ i → done ++ ends (drop i inlets) ≡ old ++ ends inlets → done ≡ old ++ ends inlets
-ends-end i inlets old done le h = sym (append-nil done) ∙ (ap (λ (l : List Inlet). done ++ ends l) (sym (drop-end inlets i le)) ∙ h)
-
-ends_lanes : (inlets : List Inlet) → ends inlets ≡ map (λ (lane : ℕ). entry.Ended lane) (map (λ (i : Inlet). i.lane) inlets)
-ends_lanes [] = refl
-ends_lanes (x ∷ xs) = ap (λ (l : List Entry). entry.Ended x.lane ∷ l) (ends_lanes xs)
+ends-end i inlets old done le h = sym (append-nil done) ∙ (ap (λ (l : List Inlet). done ++ ends l) (sym (drop_all i inlets le)) ∙ h)
 
 -- the ends of a worker's lanes, by the tables
 pub ends-block : (job : Written) (wiring : Wiring) (w : ℕ) → IsWired job wiring → w < length (posts job) → ends (slice_index_or wiring.inlets w []) ≡ end_block job w
 ends-block job wiring w wired lt =
     let row : List Inlet = slice_index_or wiring.inlets w [] in
     let is : row ≡ inlets_of job w = wired.inlets w row (slice_get-get_or wiring.inlets w [] (omega (arith, lt, wired.each_worker))) in
-    ap ends is ∙ (ends_lanes (inlets_of job w) ∙ ap (map (λ (lane : ℕ). entry.Ended lane)) (inlets-lanes job w))
+    ap ends is ∙ (sym (map-map (λ (lane : ℕ). entry.Ended lane) (λ (i : Inlet). i.lane) (inlets_of job w)) ∙ ap (map (λ (lane : ℕ). entry.Ended lane)) (inlets-lanes job w))
 
 -- ---- a turn
 
@@ -239,10 +205,6 @@ turned setup w r old mid new marked m j c l b same is = record {
         ap (λ (k : ℕ). local_with (func_with (change_of setup k (post_at setup.job w).node) (post_at setup.job w).func) mid.counts mid.last) b
         ∙ (ap (λ (k : Counts). local_with (local_of setup (post_at setup.job w) old).func k mid.last) c ∙ ap (local_with (local_of setup (post_at setup.job w) old).func old.counts) l)
 
-pub covered_gain : (setup : Outline) (w r : ℕ) (old new : Desk) → covers setup r (post_at setup.job w).node ≡ true → IsGain setup (post_at setup.job w) (turn_entries setup r w) old new
-    → IsGain setup (post_at setup.job w) (turn_block setup r w) old new
-covered_gain setup w r old new t gain = subst (λ (b : Bool). IsGain setup (post_at setup.job w) (cond b (turn_entries setup r w) []) old new) (sym t) gain
-
 pub uncovered_gain : (setup : Outline) (w r : ℕ) (desk : Desk) → covers setup r (post_at setup.job w).node ≡ false → IsGain setup (post_at setup.job w) (turn_block setup r w) desk desk
 uncovered_gain setup w r desk t =
     subst (λ (b : Bool). IsGain setup (post_at setup.job w) (cond b (turn_entries setup r w) []) desk desk) (sym t) (record { journal = sym (append-nil desk.journal); local = refl })
@@ -252,26 +214,6 @@ pub cover_answer : (setup : Outline) (w r : ℕ) (b : Bool) → w < length (post
 cover_answer setup w r b lt e =
     same_Some (covers setup r (post_at setup.job w).node) b (sym (ap (option_map (λ (post : Post). covers setup r post.node)) (get-post_at setup.job w lt)) ∙ e)
 
-abbrev pub seat_read : List Seat → ℕ → Seat
-seat_read all w = get_or all w (record { node = 0; place = 0 })
-
-pub seat_is : (job : Written) (wiring : Wiring) (all : List Seat) (w : ℕ) → IsWired job wiring → all ≡ wiring.seats → w < length (posts job) → seat_read all w ≡ seat_of (post_at job w)
-seat_is job wiring all w wired same lt =
-    seat_at job wiring all (seat_read all w) w wired same lt
-    (slice_get-get_or all w (record { node = 0; place = 0 }) (let l = seats-long job wiring wired in let m = ap (length {A = Seat}) same in omega (arith, lt, l, m)))
-
 pub inlet_read : (job : Written) (w i : ℕ) (inlets : List Inlet) → IsLawful job → inlets ≡ inlets_of job w → i < length inlets → (get_or inlets i no_inlet).edge < 128
 inlet_read job w i inlets law is lt =
     inlet_edge job w i (get_or inlets i no_inlet) law (ap (λ (l : List Inlet). slice_get l i) (sym is) ∙ slice_get-get_or inlets i no_inlet lt)
-
--- a worker is the sender at its place
-pub sender_at : (job : Written) (w : ℕ) → w < length (posts job) → slice_get (senders job (post_at job w).node) (post_at job w).place ≡ Some (Some w)
-sender_at job w lt =
-    let is = is_post_at job w lt in
-    let none : is_source_node (slice_get job.nodes (post_at job w).node) ≡ false = rw is.node_is (no_source is.def (post_at job w).place is.placed) in
-    ap (λ (b : Bool). slice_get (cond b (None ∷ []) (map (λ (post : Post). Some post.number) (posts_of job (post_at job w).node))) (post_at job w).place) none
-    ∙ (slice_get-map (λ (post : Post). Some post.number) (posts_of job (post_at job w).node) (post_at job w).place
-    ∙ (ap (option_map (λ (post : Post). Some post.number)) (get-post_place job w (post_at job w) (get-post_at job w lt)) ∙ ap (λ (n : ℕ). Some (Some n)) is.number_is))
-
-pub seat_sends : (job : Written) (w : ℕ) (seat : Seat) → w < length (posts job) → seat ≡ seat_of (post_at job w) → slice_get (senders job seat.node) seat.place ≡ Some (Some w)
-seat_sends job w seat lt is = subst (λ (s : Seat). slice_get (senders job s.node) s.place ≡ Some (Some w)) (sym is) (sender_at job w lt)

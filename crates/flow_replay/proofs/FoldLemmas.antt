@@ -1,7 +1,7 @@
 -- Lists that gain what is put on their lanes.
-use Rattle.std.proofs.Common.{◌≡◌, ◌<◌, ◌+◌, ◌==◌, ℕ, suc, Bool, true, false, List, [], ◌∷◌, ◌++◌, length, map, drop, take, set, get_or, filter, inl, inr, Option, Some, None, refl, sym, ap, subst, ◌∙◌, arith, append_assoc}
-use Rattle.std.specs.Prelude.{All, slice_get, if◌then◌else◌}
-use Rattle.std.specs.List.{flat_map}
+use Rattle.std.proofs.Common.{◌≡◌, ◌<◌, ◌+◌, ◌==◌, ℕ, suc, Bool, true, false, List, [], ◌∷◌, ◌++◌, length, map, cond, drop, take, set, get_or, filter, inl, inr, Option, Some, None, refl, sym, ap, subst, ◌∙◌, arith, append_assoc}
+use Rattle.std.specs.Prelude.{All, slice_get}
+use Rattle.std.specs.List.{cons_option, flat_map}
 use Rattle.std.proofs.lemmas.Bool.{eqb-false, eqb-true}
 use Rattle.std.proofs.lemmas.List.Elements.{All-cons, All-nil, filter_map-append}
 use Rattle.std.proofs.lemmas.Option.{same_Some, slice_get_within}
@@ -15,12 +15,11 @@ use Rattle.flow_model.specs.Covers.{covers_edge, plan_of}
 use Rattle.flow_model.specs.Lanes.{is_same_lane, is_sender, lanes, lanes_out}
 use Rattle.flow_model.specs.Outline.{Lane, Outline}
 use Rattle.flow_model.specs.Replay.{Put, item_on, items_on, marker, marker_by, put_on_each}
-use Rattle.flow_model.proofs.ElementLemmas.{AreDistinct, IsIn, distinct_filter}
-use Rattle.flow_model.proofs.LaneLemmas.{lanes_distinct}
+use Rattle.flow_model.proofs.ElementLemmas.{AreDistinct, IsIn, distinct_filter, filter_in, in_filter}
+use Rattle.flow_model.proofs.LaneLemmas.{lane_is, lane_self, lanes_distinct, same_lane, same_number}
 use Rattle.flow_replay.specs.declared.folds.Onto.TheVariants as onto
 use Rattle.flow_replay.specs.declared.folds.Outlet.{Outlet}
 use Rattle.flow_replay.specs.Folds.{AreOutlets, item_if, reaches, with_item, with_marker_of, with_markers, with_puts}
-use Rattle.flow_replay.proofs.LaneLemmas.{is_lane, same_lane, same_lane_self, same_number}
 
 -- ---- one list on
 
@@ -42,15 +41,12 @@ pub with_puts-map : (f : Lane → List Item) (puts : List Put) (lanes' : List La
 with_puts-map f puts [] = refl
 with_puts-map f puts (lane ∷ lanes') = ap (λ (x : List (List Item)). (f lane ++ items_on lane puts) ∷ x) (with_puts-map f puts lanes')
 
-items_on-append : (lane : Lane) (xs ys : List Put) → items_on lane (xs ++ ys) ≡ items_on lane xs ++ items_on lane ys
-items_on-append lane xs ys = filter_map-append (item_on lane) xs ys
-
 -- what is put first, and then more
 pub with_puts-append : (lanes' : List Lane) (xs ys : List Put) (lists : List (List Item)) → with_puts lanes' (xs ++ ys) lists ≡ with_puts lanes' ys (with_puts lanes' xs lists)
 with_puts-append [] xs ys lists = refl
 with_puts-append (lane ∷ lanes') xs ys [] = refl
 with_puts-append (lane ∷ lanes') xs ys (list ∷ lists) =
-    let here : list ++ items_on lane (xs ++ ys) ≡ (list ++ items_on lane xs) ++ items_on lane ys = ap (λ (x : List Item). list ++ x) (items_on-append lane xs ys) ∙ sym (append_assoc list (items_on lane xs) (items_on lane ys)) in
+    let here : list ++ items_on lane (xs ++ ys) ≡ (list ++ items_on lane xs) ++ items_on lane ys = ap (λ (x : List Item). list ++ x) (filter_map-append (item_on lane) xs ys) ∙ sym (append_assoc list (items_on lane xs) (items_on lane ys)) in
     rw (here, with_puts-append lanes' xs ys lists) refl
 
 -- where nothing is put on any of the lanes, the lists stay
@@ -95,13 +91,13 @@ items_on-lane job to lane n outlet item at there = go (is_same_lane (Some to) la
     go true same true number = rw same refl
     go false other false number = rw other refl
     go true same false number =
-        let equal : to ≡ lane = same_lane to lane same in
-        let numbers : outlet.lane ≡ n = same_number job outlet.lane n lane there (at ∙ ap Some equal) in
+        let equal : to ≡ lane = same_Some to lane (same_lane (Some to) lane same) in
+        let numbers : outlet.lane ≡ n = same_number job lane to outlet.lane n there at (sym equal) in
         absurd (eqb-false outlet.lane n number numbers)
     go false other true number =
         let numbers : outlet.lane ≡ n = eqb-true outlet.lane n number in
         let equal : to ≡ lane = same_Some to lane (sym at ∙ ap (slice_get (lanes job)) (sym numbers) ∙ there) in
-        let same : is_same_lane (Some to) lane ≡ true = rw equal (same_lane_self lane) in
+        let same : is_same_lane (Some to) lane ≡ true = rw equal (lane_self lane) in
         absurd (cc)
 
 -- one output, on its lane
@@ -117,40 +113,42 @@ outlets-small job [] [] law are = All-nil (λ (outlet : Outlet). outlet.edge < 1
 outlets-small job [] (outlet ∷ outlets) law are = absurd are
 outlets-small job (lane ∷ lanes') [] law are = absurd are
 outlets-small job (lane ∷ lanes') (outlet ∷ outlets) law are =
-    let is = is_lane job outlet.lane lane are.0 in
+    let is = lane_is job outlet.lane lane are.0 in
     let within = slice_get_within job.edges lane.edge is.edge is.edge_is in
     All-cons (λ (outlet : Outlet). outlet.edge < 128) outlet outlets (omega (arith, within, are.1, law.limits.edges)) (outlets-small job lanes' outlets law are.2)
 
 -- ---- an item on each of some lanes
 
-none_on : (test : Lane → Bool) (item : Item) (lane : Lane) (xs : List Lane) → ¬ IsIn lane xs → items_on lane (put_on_each item (filter test xs)) ≡ []
-none_on test item lane [] out = refl
-none_on test item lane (x ∷ xs) out = go (test x) (is_same_lane (Some x) lane) refl (none_on test item lane xs (λ i. out (inr i)))
+pub none_on : (item : Item) (lane : Lane) (xs : List Lane) → ¬ IsIn lane xs → items_on lane (put_on_each item xs) ≡ []
+none_on item lane [] out = refl
+none_on item lane (x ∷ xs) out = go (is_same_lane (Some x) lane) refl (none_on item lane xs (λ i. out (inr i)))
   where
-    go : (a b : Bool) → is_same_lane (Some x) lane ≡ b → items_on lane (put_on_each item (filter test xs)) ≡ []
-        → items_on lane (put_on_each item (if a then x ∷ filter test xs else filter test xs)) ≡ []
-    go true true same rest = absurd (out (inl (sym (same_lane x lane same))))
-    go true false other rest = rw (other, rest) refl
-    go false b same rest = rest
+    go : (b : Bool) → is_same_lane (Some x) lane ≡ b → items_on lane (put_on_each item xs) ≡ [] → cons_option (cond b (Some item) None) (items_on lane (put_on_each item xs)) ≡ []
+    go true same rest = absurd (out (inl (sym (same_Some x lane (same_lane (Some x) lane same)))))
+    go false other rest = rest
 
--- of distinct lanes, each that passes a test gets the item once
-pub one_on : (test : Lane → Bool) (item : Item) (lane : Lane) (xs : List Lane) → AreDistinct xs → IsIn lane xs → items_on lane (put_on_each item (filter test xs)) ≡ item_if (test lane) item []
-one_on test item lane [] distinct there = absurd there
-one_on test item lane (x ∷ xs) distinct (inl same) =
-    subst (λ (l : Lane). items_on l (put_on_each item (filter test (x ∷ xs))) ≡ item_if (test l) item []) (sym same) (go (test x) (none_on test item x xs distinct.0))
+-- of distinct lanes, each gets the item once
+pub one_on : (item : Item) (lane : Lane) (xs : List Lane) → AreDistinct xs → IsIn lane xs → items_on lane (put_on_each item xs) ≡ item ∷ []
+one_on item lane [] distinct there = absurd there
+one_on item lane (x ∷ xs) distinct there = go (is_same_lane (Some x) lane) refl there (one_on item lane xs distinct.1)
   where
-    go : (b : Bool) → items_on x (put_on_each item (filter test xs)) ≡ [] → items_on x (put_on_each item (if b then x ∷ filter test xs else filter test xs)) ≡ item_if b item []
-    go true rest = rw (same_lane_self x, rest) refl
-    go false rest = rest
-one_on test item lane (x ∷ xs) distinct (inr there) = go (test x) (is_same_lane (Some x) lane) refl (one_on test item lane xs distinct.1 there)
-  where
-    go : (a b : Bool) → is_same_lane (Some x) lane ≡ b → items_on lane (put_on_each item (filter test xs)) ≡ item_if (test lane) item []
-        → items_on lane (put_on_each item (if a then x ∷ filter test xs else filter test xs)) ≡ item_if (test lane) item []
-    go true true same rest = absurd (distinct.0 (subst (λ (l : Lane). IsIn l xs) (sym (same_lane x lane same)) there))
-    go true false other rest = rw other rest
-    go false b same rest = rest
+    go : (b : Bool) → is_same_lane (Some x) lane ≡ b → IsIn lane (x ∷ xs) → (IsIn lane xs → items_on lane (put_on_each item xs) ≡ item ∷ [])
+        → cons_option (cond b (Some item) None) (items_on lane (put_on_each item xs)) ≡ item ∷ []
+    go true same i rest =
+        let equal : x ≡ lane = same_Some x lane (same_lane (Some x) lane same) in
+        ap (λ (later : List Item). item ∷ later) (none_on item lane xs (subst (λ (l : Lane). ¬ IsIn l xs) equal distinct.0))
+    go false other (inl equal) rest = absurd (let same : is_same_lane (Some x) lane ≡ true = subst (λ (l : Lane). is_same_lane (Some l) lane ≡ true) equal (lane_self lane) in cc)
+    go false other (inr i) rest = rest i
 
-out_distinct : (job : Written) (w : ℕ) → AreDistinct (lanes_out job w)
+-- and where the item is put on those that pass a test, each of these gets it
+on_passing : (test : Lane → Bool) (item : Item) (lane : Lane) (xs : List Lane) → AreDistinct xs → IsIn lane xs → items_on lane (put_on_each item (filter test xs)) ≡ item_if (test lane) item []
+on_passing test item lane xs distinct there = go (test lane) refl
+  where
+    go : (b : Bool) → test lane ≡ b → items_on lane (put_on_each item (filter test xs)) ≡ item_if b item []
+    go true is = one_on item lane (filter test xs) (distinct_filter test xs distinct) (filter_in test lane xs there is)
+    go false is = none_on item lane (filter test xs) (λ i. let passes = (in_filter test lane xs i).1 in cc)
+
+pub out_distinct : (job : Written) (w : ℕ) → AreDistinct (lanes_out job w)
 out_distinct job w = distinct_filter (λ (lane : Lane). is_sender w lane.sender) (lanes job) (lanes_distinct job)
 
 -- the marker of a request on the lanes out that it covers
@@ -165,17 +163,12 @@ markers_on setup w r outlets lists are long = go (plan_of setup r)
     go (Some plan) =
         rw (append-nil (put_on_each (item.Mark r plan.nodes) (filter (λ (lane : Lane). covers_edge setup r lane.edge) (lanes_out setup.job w))))
         (with_item-puts setup.job (reaches setup (onto.Covered r)) (item.Mark r plan.nodes) _ (lanes_out setup.job w) outlets lists are (λ lane outlet i there edge.
-        one_on (λ (l : Lane). covers_edge setup r l.edge) (item.Mark r plan.nodes) lane (lanes_out setup.job w) (out_distinct setup.job w) i
+        on_passing (λ (l : Lane). covers_edge setup r l.edge) (item.Mark r plan.nodes) lane (lanes_out setup.job w) (out_distinct setup.job w) i
         ∙ ap (λ (e : ℕ). item_if (covers_edge setup r e) (item.Mark r plan.nodes) []) (sym edge)))
-
-all_pass : (xs : List Lane) → filter (λ (lane : Lane). true) xs ≡ xs
-all_pass [] = refl
-all_pass (x ∷ xs) = ap (λ rest. x ∷ rest) (all_pass xs)
 
 -- an end on each lane out
 pub ends_on : (setup : Outline) (w : ℕ) (outlets : List Outlet) (lists : List (List Item)) → AreOutlets setup.job (lanes_out setup.job w) outlets
     → with_item (reaches setup onto.All) item.Last outlets lists ≡ with_puts (lanes_out setup.job w) (put_on_each item.Last (lanes_out setup.job w)) lists
 ends_on setup w outlets lists are =
     with_item-puts setup.job (reaches setup onto.All) item.Last (put_on_each item.Last (lanes_out setup.job w)) (lanes_out setup.job w) outlets lists are (λ lane outlet i there edge.
-    ap (λ (x : List Lane). items_on lane (put_on_each item.Last x)) (sym (all_pass (lanes_out setup.job w)))
-    ∙ one_on (λ (l : Lane). true) item.Last lane (lanes_out setup.job w) (out_distinct setup.job w) i)
+    one_on item.Last lane (lanes_out setup.job w) (out_distinct setup.job w) i)

@@ -1,8 +1,8 @@
 -- What a journal gains keeps the law: meetings, turns and ends.
-use Rattle.std.proofs.Common.{◌≡◌, ◌<◌, ◌≤◌, ◌+◌, ◌-◌, ◌==◌, ◌&&◌, ◌⊎◌, ℕ, zero, suc, List, [], ◌∷◌, ◌++◌, inl, inr, Bool, true, false, cond, length, map, refl, sym, ap, subst, ◌∙◌, arith}
-use Rattle.std.specs.Prelude.{All, Contains, filter, slice_index_or}
+use Rattle.std.proofs.Common.{◌≡◌, ◌<◌, ◌+◌, ◌-◌, ◌==◌, ◌&&◌, ◌⊎◌, ℕ, zero, suc, List, [], ◌∷◌, ◌++◌, inl, inr, Bool, true, false, cond, length, map, Some, refl, sym, ap, subst, ◌∙◌, arith}
+use Rattle.std.specs.Prelude.{Contains, filter, slice_get}
 use Rattle.std.specs.List.{AllByRecursion, enumerate_from}
-use Rattle.std.proofs.lemmas.List.Elements.{All-contains_itself}
+use Rattle.std.proofs.lemmas.Option.{same_Some}
 use Rattle.sink_journal.specs.declared.journal.Entry.{Entry}
 use Rattle.sink_journal.specs.declared.journal.Entry.TheVariants as entry
 use Rattle.tuple_trace.specs.declared.tuple.Tuple.{Tuple}
@@ -12,55 +12,31 @@ use Rattle.flow_model.specs.Lanes.{lanes, lanes_in, lanes_that, marked_lanes}
 use Rattle.flow_model.specs.Law.{IsExecution, IsFinished, IsInTime, Progress, Station, initial, next_due, progress_after}
 use Rattle.flow_model.specs.Outline.{Lane, Outline, Post}
 use Rattle.flow_model.specs.Station.{numbers_from, station}
+use Rattle.flow_model.proofs.ElementLemmas.{AreDistinct, IsIn, all_of_at, contains_of_in, distinct_filter, distinct_map, in_filter, in_of_contains}
 use Rattle.flow_model.proofs.JournalLemmas.{IsExecution-append, progress_after-append}
+use Rattle.flow_model.proofs.LaneLemmas.{enumerate_distinct, in_enumerate}
 use Rattle.flow_replay.specs.Desks.{end_block, marks, post_at, turn_block, turn_entries}
 use Rattle.flow_replay.specs.Rest.{waiting}
 use Rattle.flow_replay.specs.Ways.{IsMeeting}
 
--- ---- membership, by recursion
-
-abbrev pub IsIn : {A : Type 0} → A → List A → Type 0
-IsIn x [] = ⊥
-IsIn x (y ∷ ys) = (y ≡ x) ⊎ IsIn x ys
-
-pub contains-in : {A : Type 0} (x : A) (xs : List A) → Contains xs x → IsIn x xs
-contains-in x [] (k, lt, is) = absurd (omega (arith, lt))
-contains-in x (y ∷ ys) (zero, lt, is) = inl is
-contains-in x (y ∷ ys) (suc k, lt, is) = inr (contains-in x ys (k, omega (arith, lt), is))
-
-pub in-contains : {A : Type 0} (x : A) (xs : List A) → IsIn x xs → Contains xs x
-in-contains x [] h = absurd h
-in-contains x (y ∷ ys) (inl e) = (0, omega arith, e)
-in-contains x (y ∷ ys) (inr h) = let r = in-contains x ys h in (suc r.0, omega (arith, r.1), r.2)
-
-abbrev pub AreDistinct : {A : Type 0} → List A → Type 0
-AreDistinct [] = Unit {0}
-AreDistinct (x ∷ xs) = ¬ IsIn x xs × AreDistinct xs
-
--- the numbers of numbered elements rise
-numbers_rise : (test : ℕ × Lane → Bool) (i n : ℕ) (xs : List Lane) → IsIn n (map (λ (p : ℕ × Lane). p.0) (filter test (enumerate_from i xs))) → i ≤ n
-numbers_rise test i n [] h = absurd h
-numbers_rise test i n (x ∷ xs) h = go (test (i, x)) h (λ later. let r = numbers_rise test (i + 1) n xs later in omega (arith, r))
-  where
-    go : (b : Bool) → IsIn n (map (λ (p : ℕ × Lane). p.0) (cond b ((i, x) ∷ filter test (enumerate_from (i + 1) xs)) (filter test (enumerate_from (i + 1) xs))))
-        → (IsIn n (map (λ (p : ℕ × Lane). p.0) (filter test (enumerate_from (i + 1) xs))) → i ≤ n) → i ≤ n
-    go true (inl e) later = omega (arith, e)
-    go true (inr r) later = later r
-    go false r later = later r
-
-numbers_distinct : (test : ℕ × Lane → Bool) (i : ℕ) (xs : List Lane) → AreDistinct (map (λ (p : ℕ × Lane). p.0) (filter test (enumerate_from i xs)))
-numbers_distinct test i [] = tt
-numbers_distinct test i (x ∷ xs) = go (test (i, x)) (numbers_distinct test (i + 1) xs)
-  where
-    go : (b : Bool) → AreDistinct (map (λ (p : ℕ × Lane). p.0) (filter test (enumerate_from (i + 1) xs))) → AreDistinct (map (λ (p : ℕ × Lane). p.0) (cond b ((i, x) ∷ filter test (enumerate_from (i + 1) xs)) (filter test (enumerate_from (i + 1) xs))))
-    go true r = ((λ h. let k = numbers_rise test (i + 1) i xs h in absurd (omega (arith, k))), r)
-    go false r = r
+-- ---- the numbers of lanes
 
 pub lanes_that-distinct : (test : Lane → Bool) (job : Written) → AreDistinct (lanes_that test job)
-lanes_that-distinct test job = numbers_distinct (λ (p : ℕ × Lane). test p.1) 0 (lanes job)
+lanes_that-distinct test job = distinct_map (λ (p : ℕ × Lane). p.0) passing one (distinct_filter (λ (p : ℕ × Lane). test p.1) (enumerate_from 0 (lanes job)) (enumerate_distinct (lanes job)))
+  where
+    passing : List (ℕ × Lane)
+    passing = filter (λ (p : ℕ × Lane). test p.1) (enumerate_from 0 (lanes job))
 
-all_from_in : (P : ℕ → Type 0) (xs : List ℕ) → ((x : ℕ) → IsIn x xs → P x) → All P xs
-all_from_in P xs h = λ k d lt. h (slice_index_or xs k d) (contains-in (slice_index_or xs k d) xs (All-contains_itself xs k d lt))
+    there : (p : ℕ × Lane) → IsIn p passing → slice_get (lanes job) p.0 ≡ Some p.1
+    there p i =
+        let (k, at, is) = in_enumerate 0 (lanes job) p (in_filter (λ (p : ℕ × Lane). test p.1) p (enumerate_from 0 (lanes job)) i).0 in
+        let number : k ≡ p.0 = omega (arith, at) in
+        subst (λ (n : ℕ). slice_get (lanes job) n ≡ Some p.1) number is
+
+    one : (p q : ℕ × Lane) → IsIn p passing → IsIn q passing → p.0 ≡ q.0 → p ≡ q
+    one p q i j e =
+        let same : p.1 ≡ q.1 = same_Some p.1 q.1 (sym (there p i) ∙ (ap (slice_get (lanes job)) e ∙ there q j)) in
+        λ i. (e i, same i)
 
 -- ---- meetings
 
@@ -93,12 +69,12 @@ marks-follow : (at : Station) (r : ℕ) (dues done ns : List ℕ) → ((n : ℕ)
     → IsExecution at (progress_with (r ∷ dues) done []) (marks r ns ++ entry.Turned r ∷ [])
     × (progress_after (progress_with (r ∷ dues) done []) (marks r ns ++ entry.Turned r ∷ []) ≡ progress_with dues [] [])
 marks-follow at r dues done [] isin d apart all =
-    (((refl, all_from_in (Contains done) (at.marked_lanes r) (λ n i. in-contains n done (elim (all n i) [ inl j ↦ absurd j | inr j ↦ j ])), refl), tt), refl)
+    (((refl, all_of_at (Contains done) (at.marked_lanes r) (λ n i. contains_of_in n done (elim (all n i) [ inl j ↦ absurd j | inr j ↦ j ])), refl), tt), refl)
 marks-follow at r dues done (n ∷ ns) isin d apart all =
     let rest = marks-follow at r dues (n ∷ done) ns (λ k i. isin k (inr i)) d.1
-    (λ k i. λ h. elim h [ inl e ↦ d.0 (subst (λ (z : ℕ). IsIn z ns) (sym e) i) | inr j ↦ apart k (inr i) j ])
+    (λ k i. λ h. elim h [ inl e ↦ d.0 (subst (λ (z : ℕ). IsIn z ns) e i) | inr j ↦ apart k (inr i) j ])
     (λ k i. elim (all k i) [ inl j ↦ elim j [ inl e ↦ inr (inl e) | inr q ↦ inl q ] | inr j ↦ inr (inr j) ]) in
-    (((refl, isin n (inl refl), (λ c. apart n (inl refl) (contains-in n done c)), refl), rest.0), rest.1)
+    (((refl, isin n (inl refl), (λ c. apart n (inl refl) (in_of_contains n done c)), refl), rest.0), rest.1)
 
 pub turn-follows : (setup : Outline) (w m : ℕ) → (post_at setup.job w).number ≡ w → m < length setup.plans
     → IsExecution (station setup 0 (post_at setup.job w)) (waiting setup (post_at setup.job w) m) (turn_block setup (m + 1) w)
@@ -118,7 +94,7 @@ turn-follows setup w m num h =
     count = omega (arith, h)
 
     mine : (n : ℕ) → IsIn n (marked_lanes setup w (m + 1)) → Contains (marked_lanes setup post.number (m + 1)) n
-    mine n i = subst (λ (v : ℕ). Contains (marked_lanes setup v (m + 1)) n) (sym num) (in-contains n (marked_lanes setup w (m + 1)) i)
+    mine n i = subst (λ (v : ℕ). Contains (marked_lanes setup v (m + 1)) n) (sym num) (contains_of_in n (marked_lanes setup w (m + 1)) i)
 
     back : (n : ℕ) → IsIn n (marked_lanes setup post.number (m + 1)) → IsIn n (marked_lanes setup w (m + 1))
     back n i = subst (λ (v : ℕ). IsIn n (marked_lanes setup v (m + 1))) num i
@@ -132,7 +108,7 @@ turn-follows setup w m num h =
 
 -- ---- ends
 
-abbrev ended_all : List ℕ → List Entry
+abbrev pub ended_all : List ℕ → List Entry
 ended_all ns = map (λ (lane : ℕ). entry.Ended lane) ns
 
 ends-follow : (at : Station) (done ns : List ℕ) → ((n : ℕ) → IsIn n ns → Contains at.lanes n) → AreDistinct ns → ((n : ℕ) → IsIn n ns → ¬ IsIn n done)
@@ -141,8 +117,8 @@ ends-follow : (at : Station) (done ns : List ℕ) → ((n : ℕ) → IsIn n ns �
     × ((n : ℕ) → IsIn n ns ⊎ IsIn n done → IsIn n (progress_after (progress_with [] [] done) (ended_all ns)).ended)
 ends-follow at done [] isin d apart = (tt, refl, λ n i. elim i [ inl j ↦ absurd j | inr j ↦ j ])
 ends-follow at done (n ∷ ns) isin d apart =
-    let rest = ends-follow at (n ∷ done) ns (λ k i. isin k (inr i)) d.1 (λ k i. λ h. elim h [ inl e ↦ d.0 (subst (λ (z : ℕ). IsIn z ns) (sym e) i) | inr j ↦ apart k (inr i) j ]) in (
-      ((isin n (inl refl), (λ c. apart n (inl refl) (contains-in n done c)), refl, refl), rest.0),
+    let rest = ends-follow at (n ∷ done) ns (λ k i. isin k (inr i)) d.1 (λ k i. λ h. elim h [ inl e ↦ d.0 (subst (λ (z : ℕ). IsIn z ns) e i) | inr j ↦ apart k (inr i) j ]) in (
+      ((isin n (inl refl), (λ c. apart n (inl refl) (in_of_contains n done c)), refl, refl), rest.0),
       rest.1,
       λ k i. rest.2 k (elim i [ inl j ↦ elim j [ inl e ↦ inr (inl e) | inr q ↦ inl q ] | inr j ↦ inr (inr j) ]),
     )
@@ -157,8 +133,8 @@ finishes setup w journal num f s = record {
     execution = (IsExecution-append at (initial at) journal (end_block setup.job w)).1 (f, subst (λ (x : Progress). IsExecution at x (end_block setup.job w)) (sym done) all.0);
     no_open_turn = ap (λ (x : Progress). x.marked) (progress_after-append (initial at) journal (end_block setup.job w)) ∙ (ap (λ (x : Progress). (progress_after x (end_block setup.job w)).marked) done ∙ all.1);
   };
-  ended = all_from_in (Contains (progress_after (initial at) (journal ++ end_block setup.job w)).ended) at.lanes
-      (λ n i. in-contains n (progress_after (initial at) (journal ++ end_block setup.job w)).ended
+  ended = all_of_at (Contains (progress_after (initial at) (journal ++ end_block setup.job w)).ended) at.lanes
+      (λ n i. contains_of_in n (progress_after (initial at) (journal ++ end_block setup.job w)).ended
       (subst (λ (x : Progress). IsIn n x.ended) (sym (progress_after-append (initial at) journal (end_block setup.job w)))
       (subst (λ (x : Progress). IsIn n (progress_after x (end_block setup.job w)).ended) (sym done) (all.2 n (inl (subst (λ (v : ℕ). IsIn n (lanes_in setup.job v)) num i))))));
 }
@@ -176,5 +152,5 @@ finishes setup w journal num f s = record {
         × ((progress_after (progress_with [] [] []) (ended_all (lanes_in setup.job w))).marked ≡ [])
         × ((n : ℕ) → IsIn n (lanes_in setup.job w) ⊎ IsIn n [] → IsIn n (progress_after (progress_with [] [] []) (ended_all (lanes_in setup.job w))).ended)
     all =
-        ends-follow at [] (lanes_in setup.job w) (λ n i. subst (λ (v : ℕ). Contains (lanes_in setup.job v) n) (sym num) (in-contains n (lanes_in setup.job w) i))
+        ends-follow at [] (lanes_in setup.job w) (λ n i. subst (λ (v : ℕ). Contains (lanes_in setup.job v) n) (sym num) (contains_of_in n (lanes_in setup.job w) i))
         (lanes_that-distinct (λ (lane : Lane). lane.receiver == w) setup.job) (λ n i j. j)

@@ -2,7 +2,7 @@
 use Rattle.std.proofs.Common.{◌≡◌, ◌<◌, ◌≤◌, ◌+◌, ◌-◌, ◌==◌, ℕ, zero, suc, List, [], ◌∷◌, ◌++◌, inl, inr, Bool, false, cond, length, drop, min, Some, refl, sym, ap, ◌∙◌, arith, append_assoc}
 use Rattle.std.specs.Prelude.{nat_le, slice_get}
 use Rattle.std.proofs.lemmas.Bool.{cases_lt, eq-eqb, le-leb, lt-leb, ne_eqb}
-use Rattle.std.proofs.lemmas.List.{append-nil}
+use Rattle.std.proofs.lemmas.List.{append-nil, drop_all}
 use Rattle.std.proofs.lemmas.Option.{same_Some, slice_get-get_or, slice_get_within}
 use Rattle.sink_journal.specs.declared.journal.Feed.{Feed}
 use Rattle.sink_journal.specs.declared.journal.Feed.TheVariants as feed
@@ -11,22 +11,19 @@ use Rattle.versions.specs.Kept.{AreInOrder}
 use Rattle.flow_model.specs.Feeding.{feed_after, feed_from, issued_after, issued_where}
 use Rattle.flow_model.specs.Outline.{Outline}
 use Rattle.flow_model.specs.Requests.{afters}
+use Rattle.flow_model.proofs.FreshLemmas.{order_rises}
+use Rattle.flow_model.proofs.PlaceLemmas.{map_place}
 use Rattle.flow_replay.specs.Rest.{AreIssuedBefore, issues}
-use Rattle.flow_replay.proofs.TableLemmas.{drop-at, drop-end}
+use Rattle.flow_replay.proofs.TableLemmas.{drop-at}
 
 -- ---- the order of requests
 
-rise : (row : ℕ) (requests : List Request) (j after : ℕ) → AreInOrder row requests → slice_get (afters requests) j ≡ Some after → row ≤ after
-rise row [] j after order e = absurd (cc)
-rise row (r ∷ rs) zero after order e = let s : r.after ≡ after = same_Some r.after after e in omega (arith, order.0, s)
-rise row (r ∷ rs) (suc j) after order e = let h = rise r.after rs j after order.1 e in omega (arith, h, order.0)
-
 pub waits-rise : (row : ℕ) (requests : List Request) (i j a b : ℕ) → AreInOrder row requests → i ≤ j → slice_get (afters requests) i ≡ Some a → slice_get (afters requests) j ≡ Some b → a ≤ b
-waits-rise row [] i j a b order le ea eb = absurd (cc)
-waits-rise row (r ∷ rs) zero zero a b order le ea eb = let s : a ≡ b = same_Some a b (sym ea ∙ eb) in omega (arith, s)
-waits-rise row (r ∷ rs) zero (suc j) a b order le ea eb = let h = rise r.after rs j b order.1 eb in let s : r.after ≡ a = same_Some r.after a ea in omega (arith, h, s)
-waits-rise row (r ∷ rs) (suc i) zero a b order le ea eb = absurd (omega (arith, le))
-waits-rise row (r ∷ rs) (suc i) (suc j) a b order le ea eb = waits-rise r.after rs i j a b order.1 (omega (arith, le)) ea eb
+waits-rise row requests i j a b order le ea eb =
+    let p = map_place (λ (request : Request). request.after) requests i a ea in
+    let q = map_place (λ (request : Request). request.after) requests j b eb in
+    let h = order_rises row i j p.0 q.0 requests order le p.1 q.1 in
+    omega (arith, h, p.2, q.2)
 
 -- ---- what is issued
 
@@ -77,9 +74,6 @@ pub record AreDueUpTo (waits : List ℕ) (rows row place : ℕ) : Type 0 where
   pub past : (i after : ℕ) → slice_get waits i ≡ Some after → i < place → min after rows ≤ row
   pub left : (i after : ℕ) → slice_get waits i ≡ Some after → place ≤ i → row ≤ min after rows
 
-pub due_first : (waits : List ℕ) (rows row issued : ℕ) → AreIssuedBefore waits rows row issued → AreDueUpTo waits rows row issued
-due_first waits rows row issued is = record { few = is.few; past = λ i a e lt. let h = is.past i a e lt in omega (arith, h); left = is.left }
-
 pub due_next : (waits : List ℕ) (rows row place after : ℕ) → slice_get waits place ≡ Some after → min after rows ≤ row → AreDueUpTo waits rows row place → AreDueUpTo waits rows row (place + 1)
 due_next waits rows row place after e le is = record {
   few = let w = slice_get_within waits place after e in omega (arith, w);
@@ -129,12 +123,9 @@ issues-stop setup rows row place after done all order e lt h =
 
 pub issues-end : (setup : Outline) (rows row place : ℕ) (done all : List Feed) → length (afters setup.requests) ≤ place → done ++ issues setup rows row place ≡ all → done ≡ all
 issues-end setup rows row place done all end h =
-    sym (append-nil done) ∙ (ap (λ (l : List ℕ). done ++ issued_where (λ (a : ℕ). nat_le a row) rows (place + 1) l) (sym (drop-end (afters setup.requests) place end)) ∙ h)
+    sym (append-nil done) ∙ (ap (λ (l : List ℕ). done ++ issued_where (λ (a : ℕ). nat_le a row) rows (place + 1) l) (sym (drop_all place (afters setup.requests) end)) ∙ h)
 
 -- ---- the whole feed
-
-pub at_first_row : (waits : List ℕ) (rows : ℕ) → AreIssuedBefore waits rows 0 0
-at_first_row waits rows = record { few = omega arith; past = λ i a e lt. absurd (omega (arith, lt)); left = λ i a e ge. omega arith }
 
 -- behind the last row all are issued
 pub all_issued : (waits : List ℕ) (rows issued : ℕ) → AreIssuedBefore waits rows (rows + 1) issued → issued ≡ length waits
@@ -162,9 +153,3 @@ pub feed_last : (setup : Outline) (rows k : ℕ) (old new all : List Feed) → r
 feed_last setup rows k old new all end n h =
     let z : rows - k ≡ 0 = omega (arith, end) in
     n ∙ (ap (λ (x : ℕ). old ++ feed_after (afters setup.requests) 1 k rows x) (sym z) ∙ h)
-
--- the request that waits for a row
-pub request_there : (requests : List Request) (place after : ℕ) → slice_get (afters requests) place ≡ Some after → (request : Request) × (slice_get requests place ≡ Some request) × (request.after ≡ after)
-request_there [] place after e = absurd (cc)
-request_there (r ∷ rs) zero after e = (r, refl, same_Some r.after after e)
-request_there (r ∷ rs) (suc place) after e = request_there rs place after e

@@ -1,13 +1,12 @@
 -- The lanes out of a worker.
-use Rattle.std.proofs.Common.{◌≡◌, ◌≢◌, ◌<◌, ◌+◌, ◌-◌, ◌*◌, ◌^◌, ◌==◌, ℕ, get_or, zero, suc, List, [], ◌∷◌, ◌++◌, Bool, true, false, length, map, filter, Option, Some, None, refl, sym, ap, subst, ◌∙◌, arith}
+use Rattle.std.proofs.Common.{◌≡◌, ◌≢◌, ◌<◌, ◌+◌, ◌-◌, ◌*◌, ◌^◌, ◌==◌, ℕ, zero, suc, List, [], ◌∷◌, ◌++◌, Bool, true, false, length, map, filter, Option, Some, None, refl, sym, ap, subst, ◌∙◌, arith}
 use Rattle.std.specs.Prelude.{option_map, slice_get, if◌then◌else◌}
 use Rattle.std.specs.List.{enumerate_from, flat_map, range_with_len}
 use Rattle.std.proofs.lemmas.Bool.{eq-eqb, eqb-false, eqb-true}
 use Rattle.std.proofs.lemmas.List.Elements.{filter-append}
 use Rattle.std.proofs.lemmas.List.{append-nil}
-use Rattle.std.proofs.lemmas.Option.{get_or_from_slice_get, same_Some, slice_get-map, slice_get_within}
+use Rattle.std.proofs.lemmas.Option.{same_Some, slice_get-map, slice_get_within}
 use Rattle.flow_dag.specs.declared.edge.Edge.{Edge}
-use Rattle.jobs.specs.Nodes.{is_source_node}
 use Rattle.jobs.specs.Written.{Written}
 use Rattle.flow_model.specs.Lanes.{is_sender, lanes, lanes_out, senders}
 use Rattle.flow_model.specs.Outline.{Lane, Post}
@@ -15,15 +14,14 @@ use Rattle.flow_model.specs.Workers.{posts, posts_of}
 use Rattle.flow_replay.specs.declared.folds.Outlet.{Outlet}
 use Rattle.flow_replay.specs.declared.wiring.Exit.{Exit}
 use Rattle.flow_replay.specs.Folds.{AreOutlets, outlets_from}
-use Rattle.flow_replay.specs.Tables.{IsWired, exit_of, exits_of, first_lane, lanes_along, seat_of}
-use Rattle.flow_replay.proofs.LaneLemmas.{get-lane, row, same_sender, sender_worker}
-use Rattle.flow_replay.proofs.PieceLemmas.{enumerate-get}
+use Rattle.flow_replay.specs.Tables.{exit_of, exits_of, first_lane, lanes_along}
 use Rattle.flow_replay.specs.Desks.{post_at}
-use Rattle.flow_replay.specs.declared.wiring.Seat.{Seat}
-use Rattle.flow_replay.specs.declared.wiring.Wiring.{Wiring}
+use Rattle.flow_model.proofs.ElementLemmas.{in_filter, in_of_place, same_place}
+use Rattle.flow_model.proofs.LaneLemmas.{in_enumerate, lanes_from, sender_is, senders_distinct}
 use Rattle.jobs.specs.Law.{IsLawful}
 use Rattle.flow_replay.proofs.JobLemmas.{entered, lanes-few}
-use Rattle.flow_replay.proofs.SeatLemmas.{get-post_at, get-posts_of, length-posts_of, get-post_place, is_post, no_source, post_of}
+use Rattle.flow_replay.proofs.LaneLemmas.{get-lane, sender_worker, sends}
+use Rattle.flow_replay.proofs.SeatLemmas.{get-post_at, get-posts_of, length-posts_of, worker_at}
 
 -- ---- elements that pass a test
 
@@ -52,85 +50,59 @@ one-piece test f (y ∷ xs) (suc k) x there passes fails =
     let first : filter test (f y) ≡ [] = fails 0 y refl (λ e. absurd (omega (arith, e))) in
     filter-append test (f y) (flat_map f xs) ∙ (rw first (one-piece test f xs k x there passes (λ j z at ne. fails (suc j) z at (λ e. ne (omega (arith, e))))))
 
--- an element that passed a test stood in the list
-get-filter : {A : Type 0} (test : A → Bool) (xs : List A) (j : ℕ) (x : A) → slice_get (filter test xs) j ≡ Some x → (i : ℕ) × (slice_get xs i ≡ Some x) × (test x ≡ true)
-get-filter test [] j x at = absurd (cc)
-get-filter test (y ∷ xs) j x at = go (test y) refl j at (λ k. get-filter test xs k x)
-  where
-    go : (b : Bool) → test y ≡ b → (j : ℕ) → slice_get (if b then y ∷ filter test xs else filter test xs) j ≡ Some x
-        → ((k : ℕ) → slice_get (filter test xs) k ≡ Some x → (i : ℕ) × (slice_get xs i ≡ Some x) × (test x ≡ true))
-        → (i : ℕ) × (slice_get (y ∷ xs) i ≡ Some x) × (test x ≡ true)
-    go true passes zero at later = let same : y ≡ x = same_Some y x at in (0, at, subst (λ z. test z ≡ true) same passes)
-    go true passes (suc k) at later = let found = later k at in (suc found.0, found.1, found.2)
-    go false fails k at later = let found = later k at in (suc found.0, found.1, found.2)
-
 -- ---- the lanes of one sender along an edge
 
 abbrev by : ℕ → Lane → Bool
 by worker lane = is_sender worker lane.sender
 
-mine : (job : Written) (number : ℕ) (edge : Edge) (worker : ℕ) → filter (by worker) (row job number edge (Some worker)) ≡ row job number edge (Some worker)
+mine : (job : Written) (number : ℕ) (edge : Edge) (worker : ℕ) → filter (by worker) (lanes_from job number edge (Some worker)) ≡ lanes_from job number edge (Some worker)
 mine job number edge worker =
     all-pass (by worker) (λ (post : Post). record { edge = number; sender = Some worker; receiver = post.number }) (posts_of job edge.to) (λ post. eq-eqb worker worker refl)
 
-others : (job : Written) (number : ℕ) (edge : Edge) (worker : ℕ) (sender : Option ℕ) → is_sender worker sender ≡ false → filter (by worker) (row job number edge sender) ≡ []
+others : (job : Written) (number : ℕ) (edge : Edge) (worker : ℕ) (sender : Option ℕ) → is_sender worker sender ≡ false → filter (by worker) (lanes_from job number edge sender) ≡ []
 others job number edge worker sender isnt = none-passes (by worker) (λ (post : Post). record { edge = number; sender = sender; receiver = post.number }) (posts_of job edge.to) (λ post. isnt)
-
-is_sender-is : (worker : ℕ) (sender : Option ℕ) → is_sender worker sender ≡ true → sender ≡ Some worker
-is_sender-is worker None is = absurd (cc)
-is_sender-is worker (Some sender) is = ap Some (eqb-true sender worker is)
-
--- a worker is a sender of its node, at its place
-sends : (job : Written) (w : ℕ) (post : Post) → slice_get (posts job) w ≡ Some post → slice_get (senders job post.node) post.place ≡ Some (Some w)
-sends job w post there =
-    let is = is_post job w post there in
-    let isnt_source : is_source_node (slice_get job.nodes post.node) ≡ false = rw is.node_is (no_source is.def post.place is.placed) in
-    rw isnt_source (slice_get-map (λ (q : Post). Some q.number) (posts_of job post.node) post.place
-    ∙ (ap (option_map (λ (q : Post). Some q.number)) (get-post_place job w post there) ∙ ap (λ (n : ℕ). Some (Some n)) is.number_is))
 
 -- a worker sends on the edges of its node alone
 along : (job : Written) (w : ℕ) (post : Post) (p : ℕ × Edge) → slice_get (posts job) w ≡ Some post
-    → filter (by w) (lanes_along job p) ≡ (if p.1.from == post.node then row job p.0 p.1 (Some w) else [])
+    → filter (by w) (lanes_along job p) ≡ (if p.1.from == post.node then lanes_from job p.0 p.1 (Some w) else [])
 along job w post p there = go (p.1.from == post.node) refl
   where
     other : (j : ℕ) (sender : Option ℕ) → slice_get (senders job post.node) j ≡ Some sender → j ≢ post.place → (b : Bool) → is_sender w sender ≡ b → b ≡ false
     other j sender at ne true its =
-        let here : slice_get (senders job post.node) j ≡ Some (Some w) = at ∙ ap Some (is_sender-is w sender its) in
-        absurd (ne (same_sender job post.node j post.place (Some w) here (sends job w post there)))
+        let here : slice_get (senders job post.node) j ≡ Some (Some w) = at ∙ ap Some (sender_is w sender its) in
+        absurd (ne (same_place (Some w) j post.place (senders job post.node) (senders_distinct job post.node) here (sends job w post there)))
     other j sender at ne false isnt = refl
 
     away : p.1.from ≢ post.node → (j : ℕ) (sender : Option ℕ) → slice_get (senders job p.1.from) j ≡ Some sender → (b : Bool) → is_sender w sender ≡ b → b ≡ false
     away ne j sender at true its =
-        let s = sender_worker job p.1.from j w (at ∙ ap Some (is_sender-is w sender its)) in
-        let q = post_of job p.1.from j s.post s.post_is in
-        let same : s.post ≡ post = same_Some s.post post (sym q.1 ∙ (ap (slice_get (posts job)) s.number_is ∙ there)) in
-        absurd (ne (sym q.0 ∙ ap (λ (x : Post). x.node) same))
+        let (other, here, number, node) = sender_worker job p.1.from w (in_of_place (Some w) (senders job p.1.from) j (at ∙ ap Some (sender_is w sender its))) in
+        absurd (ne (sym node ∙ ap (λ (x : Post). x.node) (same_Some other post (sym here ∙ there))))
     away ne j sender at false isnt = refl
 
-    go : (b : Bool) → (p.1.from == post.node) ≡ b → filter (by w) (lanes_along job p) ≡ (if b then row job p.0 p.1 (Some w) else [])
+    go : (b : Bool) → (p.1.from == post.node) ≡ b → filter (by w) (lanes_along job p) ≡ (if b then lanes_from job p.0 p.1 (Some w) else [])
     go true from =
         let e : p.1.from ≡ post.node = eqb-true p.1.from post.node from in
-        one-piece (by w) (row job p.0 p.1) (senders job p.1.from) post.place (Some w) (rw e (sends job w post there)) (mine job p.0 p.1 w)
+        one-piece (by w) (lanes_from job p.0 p.1) (senders job p.1.from) post.place (Some w) (rw e (sends job w post there)) (mine job p.0 p.1 w)
         (λ j sender at ne. others job p.0 p.1 w sender (other j sender (rw (← e) at) ne (is_sender w sender) refl))
     go false from =
         let e : p.1.from ≢ post.node = eqb-false p.1.from post.node from in
-        no-piece (by w) (row job p.0 p.1) (senders job p.1.from) (λ j sender at. others job p.0 p.1 w sender (away e j sender at (is_sender w sender) refl))
+        no-piece (by w) (lanes_from job p.0 p.1) (senders job p.1.from) (λ j sender at. others job p.0 p.1 w sender (away e j sender at (is_sender w sender) refl))
 
 out_of : (job : Written) (w : ℕ) (post : Post) (edges : List (ℕ × Edge)) → slice_get (posts job) w ≡ Some post
-    → filter (by w) (flat_map (lanes_along job) edges) ≡ flat_map (λ (p : ℕ × Edge). row job p.0 p.1 (Some w)) (filter (λ (p : ℕ × Edge). p.1.from == post.node) edges)
+    → filter (by w) (flat_map (lanes_along job) edges) ≡ flat_map (λ (p : ℕ × Edge). lanes_from job p.0 p.1 (Some w)) (filter (λ (p : ℕ × Edge). p.1.from == post.node) edges)
 out_of job w post [] there = refl
 out_of job w post (p ∷ edges) there =
     filter-append (by w) (lanes_along job p) (flat_map (lanes_along job) edges) ∙ (rw (along job w post p there) (go (p.1.from == post.node) (out_of job w post edges there)))
   where
-    go : (b : Bool) → filter (by w) (flat_map (lanes_along job) edges) ≡ flat_map (λ (p : ℕ × Edge). row job p.0 p.1 (Some w)) (filter (λ (p : ℕ × Edge). p.1.from == post.node) edges)
-        → (if b then row job p.0 p.1 (Some w) else []) ++ filter (by w) (flat_map (lanes_along job) edges)
-        ≡ flat_map (λ (p : ℕ × Edge). row job p.0 p.1 (Some w)) (if b then p ∷ filter (λ (p : ℕ × Edge). p.1.from == post.node) edges else filter (λ (p : ℕ × Edge). p.1.from == post.node) edges)
-    go true later = ap (λ rest. row job p.0 p.1 (Some w) ++ rest) later
+    go : (b : Bool) → filter (by w) (flat_map (lanes_along job) edges) ≡ flat_map (λ (p : ℕ × Edge). lanes_from job p.0 p.1 (Some w)) (filter (λ (p : ℕ × Edge). p.1.from == post.node) edges)
+        → (if b then lanes_from job p.0 p.1 (Some w) else []) ++ filter (by w) (flat_map (lanes_along job) edges)
+        ≡ flat_map (λ (p : ℕ × Edge). lanes_from job p.0 p.1 (Some w)) (if b then p ∷ filter (λ (p : ℕ × Edge). p.1.from == post.node) edges else filter (λ (p : ℕ × Edge). p.1.from == post.node) edges)
+    go true later = ap (λ rest. lanes_from job p.0 p.1 (Some w) ++ rest) later
     go false later = later
 
 -- the lanes out of a worker are its rows along the edges of its node
 pub lanes_out-rows : (job : Written) (w : ℕ) (post : Post) → slice_get (posts job) w ≡ Some post
-    → lanes_out job w ≡ flat_map (λ (p : ℕ × Edge). row job p.0 p.1 (Some w)) (filter (λ (p : ℕ × Edge). p.1.from == post.node) (enumerate_from 0 job.edges))
+    → lanes_out job w ≡ flat_map (λ (p : ℕ × Edge). lanes_from job p.0 p.1 (Some w)) (filter (λ (p : ℕ × Edge). p.1.from == post.node) (enumerate_from 0 job.edges))
 lanes_out-rows job w post there = out_of job w post (enumerate_from 0 job.edges) there
 
 -- ---- outlets
@@ -160,25 +132,25 @@ outlets-to job number sender base place (post ∷ to) there =
 -- an edge among those that leave a node
 leaving : (job : Written) (node j : ℕ) (p : ℕ × Edge) → slice_get (filter (λ (p : ℕ × Edge). p.1.from == node) (enumerate_from 0 job.edges)) j ≡ Some p → (slice_get job.edges p.0 ≡ Some p.1) × (p.1.from ≡ node)
 leaving job node j p at =
-    let (i, listed, passes) = get-filter (λ (p : ℕ × Edge). p.1.from == node) (enumerate_from 0 job.edges) j p at in
-    let is = enumerate-get 0 job.edges i p listed in
-    let z : p.0 ≡ i = omega (arith, is.0) in
-    (rw z is.1, eqb-true p.1.from node passes)
+    let (listed, passes) = in_filter (λ (p : ℕ × Edge). p.1.from == node) p (enumerate_from 0 job.edges) (in_of_place p (filter (λ (p : ℕ × Edge). p.1.from == node) (enumerate_from 0 job.edges)) j at) in
+    let (k, number, there) = in_enumerate 0 job.edges p listed in
+    let z : p.0 ≡ k = omega (arith, number) in
+    (rw z there, eqb-true p.1.from node passes)
 
 -- the outlets of a worker along one edge of its node
 outlets-row : (job : Written) (w : ℕ) (post : Post) (number : ℕ) (edge : Edge) → slice_get (posts job) w ≡ Some post → slice_get job.edges number ≡ Some edge → edge.from ≡ post.node
-    → AreOutlets job (row job number edge (Some w)) (outlets_from (exit_of job (number, edge)) post.place)
+    → AreOutlets job (lanes_from job number edge (Some w)) (outlets_from (exit_of job (number, edge)) post.place)
 outlets-row job w post number edge there at from =
     outlets-to job number (Some w) (first_lane job number + post.place * length (posts_of job edge.to)) 0 (posts_of job edge.to) (λ k to is.
     get-lane job number edge post.place k (Some w) to _ at (rw from (sends job w post there)) is (omega arith))
 
 outlets-rows : (job : Written) (w : ℕ) (post : Post) (edges : List (ℕ × Edge)) → slice_get (posts job) w ≡ Some post
     → ((j : ℕ) (p : ℕ × Edge) → slice_get edges j ≡ Some p → (slice_get job.edges p.0 ≡ Some p.1) × (p.1.from ≡ post.node))
-    → AreOutlets job (flat_map (λ (p : ℕ × Edge). row job p.0 p.1 (Some w)) edges) (flat_map (λ (exit : Exit). outlets_from exit post.place) (map (exit_of job) edges))
+    → AreOutlets job (flat_map (λ (p : ℕ × Edge). lanes_from job p.0 p.1 (Some w)) edges) (flat_map (λ (exit : Exit). outlets_from exit post.place) (map (exit_of job) edges))
 outlets-rows job w post [] there each = tt
 outlets-rows job w post (p ∷ edges) there each =
     let here = each 0 p refl in
-    outlets-append job (row job p.0 p.1 (Some w)) (flat_map (λ (q : ℕ × Edge). row job q.0 q.1 (Some w)) edges) (outlets_from (exit_of job p) post.place)
+    outlets-append job (lanes_from job p.0 p.1 (Some w)) (flat_map (λ (q : ℕ × Edge). lanes_from job q.0 q.1 (Some w)) edges) (outlets_from (exit_of job p) post.place)
     (flat_map (λ (exit : Exit). outlets_from exit post.place) (map (exit_of job) edges))
     (outlets-row job w post p.0 p.1 there here.0 here.1) (outlets-rows job w post edges there (λ j q at. each (suc j) q at))
 
@@ -210,20 +182,10 @@ exit_fits job w post i exit law there listed =
         let few = lanes-few job law in
         subst (λ (x : Exit). x.lane + post.place * x.workers + x.workers < 2 ^ 32) same (omega (arith, within, few, long, has.some))
 
--- ---- the seat of a worker
-
-pub seat_is : (job : Written) (wiring : Wiring) (w : ℕ) (seats : List Seat) (d : Seat) → IsWired job wiring → seats ≡ wiring.seats → w < length (posts job) → get_or seats w d ≡ seat_of (post_at job w)
-seat_is job wiring w seats d wired same lt =
-    get_or_from_slice_get seats w (seat_of (post_at job w)) d
-    (ap (λ (l : List Seat). slice_get l w) (same ∙ wired.seats) ∙ (slice_get-map seat_of (posts job) w ∙ ap (option_map seat_of) (get-post_at job w lt)))
-
-pub node_below : (job : Written) (w : ℕ) → w < length (posts job) → (post_at job w).node < length job.nodes
-node_below job w lt = let is = is_post job w (post_at job w) (get-post_at job w lt) in slice_get_within job.nodes (post_at job w).node is.def is.node_is
+-- ---- the place of a worker
 
 pub place_below : (job : Written) (w : ℕ) → w < length (posts job) → (post_at job w).place < length (senders job (post_at job w).node)
 place_below job w lt = slice_get_within (senders job (post_at job w).node) (post_at job w).place (Some w) (sends job w (post_at job w) (get-post_at job w lt))
 
 pub sends_at : (job : Written) (w : ℕ) → w < length (posts job) → slice_get (senders job (post_at job w).node) (post_at job w).place ≡ Some (Some (post_at job w).number)
-sends_at job w lt =
-    let is = is_post job w (post_at job w) (get-post_at job w lt) in
-    sends job w (post_at job w) (get-post_at job w lt) ∙ ap (λ (n : ℕ). Some (Some n)) (sym is.number_is)
+sends_at job w lt = sends job w (post_at job w) (get-post_at job w lt) ∙ ap (λ (n : ℕ). Some (Some n)) (sym (worker_at job w lt).0)

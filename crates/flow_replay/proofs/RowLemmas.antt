@@ -1,7 +1,6 @@
 -- Where a row enters the flow.
 use Rattle.std.proofs.Common.{◌≡◌, ◌<◌, ℕ, List, true, length, Option, Some, None, refl, sym, ap, subst, ◌∙◌, arith}
 use Rattle.std.specs.Prelude.{option_map, slice_get}
-use Rattle.std.proofs.lemmas.Option.{slice_get_within}
 use Rattle.flow_dag.specs.declared.edge.Edge.{Edge}
 use Rattle.jobs.specs.Law.{IsLawful}
 use Rattle.jobs.specs.Nodes.{is_source, is_source_node}
@@ -16,26 +15,22 @@ use Rattle.flow_replay.specs.declared.wiring.Hop.{Hop}
 use Rattle.flow_replay.specs.declared.worker.Desk.{Desk}
 use Rattle.flow_replay.specs.Tables.{IsHopAlong}
 use Rattle.flow_replay.specs.Ways.{IsBrought, IsFed}
-use Rattle.flow_replay.proofs.JobLemmas.{edge_out}
-use Rattle.flow_replay.proofs.LaneLemmas.{first_on-edge}
+use Rattle.flow_model.proofs.FitLemmas.{port_edge, source_port}
 use Rattle.flow_replay.proofs.TableLemmas.{is_reached, length-feeder}
 use Rattle.flow_replay.proofs.WayLemmas.{lane_there}
 
 -- a node that is a source
-pub record IsSource (job : Written) (node : ℕ) : Type 0 where
-  pub def : NodeDef
-  pub node_is : slice_get job.nodes node ≡ Some def
-  pub source : is_source def.func ≡ true
+record IsSource (job : Written) (node : ℕ) : Type 0 where
+  def : NodeDef
+  node_is : slice_get job.nodes node ≡ Some def
+  source : is_source def.func ≡ true
 
-pub is_source_at : (job : Written) (node : ℕ) → is_source_node (slice_get job.nodes node) ≡ true → IsSource job node
+is_source_at : (job : Written) (node : ℕ) → is_source_node (slice_get job.nodes node) ≡ true → IsSource job node
 is_source_at job node e = go (slice_get job.nodes node) refl e
   where
     go : (o : Option NodeDef) → slice_get job.nodes node ≡ o → is_source_node o ≡ true → IsSource job node
     go None g t = absurd (cc)
     go (Some def) g t = record { def = def; node_is = g; source = t }
-
-pub source_inside : (job : Written) (node : ℕ) → is_source_node (slice_get job.nodes node) ≡ true → node < length job.nodes
-source_inside job node e = let is = is_source_at job node e in slice_get_within job.nodes node is.def is.node_is
 
 -- the feeder is the one sender of a source
 pub feeder_alone : (job : Written) (node : ℕ) → is_source_node (slice_get job.nodes node) ≡ true → (0 < length (senders job node)) × (slice_get (senders job node) 0 ≡ Some None)
@@ -48,14 +43,13 @@ feeder_alone job node e =
 pub lane_from_source : (job : Written) (node : ℕ) (tuple : Tuple) → IsLawful job → is_source_node (slice_get job.nodes node) ≡ true → lane_of job None node 0 tuple ≡ None → ⊥
 lane_from_source job node tuple law e none =
     let is = is_source_at job node e in
-    let out = edge_out job node is.def law is.node_is is.source in
-    let edge = first_on-edge node 0 0 job.edges out.0 out.1 in
-    let at : edge.0 ≡ out.0.0 = omega (arith, edge.1) in
-    let there : slice_get job.edges out.0.0 ≡ Some out.0.1 = ap (slice_get job.edges) (sym at) ∙ edge.2 in
-    let reached = is_reached job out.0.0 out.0.1 tuple (worker_along job out.0.0 tuple) law there refl in
+    let out = port_edge job.edges node 0 0 (source_port job.edges node is.def.func is.source (law.ports node is.def is.node_is)) in
+    let at : out.at ≡ out.number = omega (arith, out.number_is) in
+    let there : slice_get job.edges out.number ≡ Some out.edge = ap (slice_get job.edges) (sym at) ∙ out.edge_is in
+    let reached = is_reached job out.number out.edge tuple (worker_along job out.number tuple) law there refl in
     let found : lane_of job None node 0 tuple ≡ Some _ =
-    ap (λ (o : Option (ℕ × Edge)). lane_along job None o tuple) out.1
-    ∙ ap (option_map (λ (post : Post). record { edge = out.0.0; sender = None; receiver = post.number })) reached.reached in
+    ap (λ (o : Option (ℕ × Edge)). lane_along job None o tuple) out.found
+    ∙ ap (option_map (λ (post : Post). record { edge = out.number; sender = None; receiver = post.number })) reached.reached in
     absurd (let clash = sym none ∙ found in cc)
 
 pub row_fed : (setup : Outline) (rank : ℕ → ℕ) (row : Row) (issued : ℕ) (hop : Hop) (copy : Tuple) (old new : List Desk) → IsHopAlong setup.job (lane_of setup.job None row.source 0 row.tuple) hop → copy ≡ row.tuple

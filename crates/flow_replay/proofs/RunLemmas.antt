@@ -1,11 +1,11 @@
 -- The steps of a run: a request is issued, a row is fed, and the end.
-use Rattle.std.proofs.Common.{◌≡◌, ◌<◌, ◌+◌, ℕ, zero, suc, List, [], ◌∷◌, ◌++◌, Bool, true, false, cond, length, map, Option, Some, None, refl, sym, ap, subst, ◌∙◌, arith, append_assoc}
-use Rattle.std.specs.Prelude.{slice_get}
+use Rattle.std.proofs.Common.{◌≡◌, ◌<◌, ◌+◌, ℕ, suc, List, [], ◌∷◌, ◌++◌, Bool, true, false, cond, length, map, Option, Some, None, refl, sym, ap, subst, ◌∙◌, arith, append_assoc}
+use Rattle.std.specs.Prelude.{option_map, slice_get}
 use Rattle.std.specs.List.{cons_option}
 use Rattle.std.specs.FinMap.{empty}
 use Rattle.std.proofs.lemmas.List.{append-nil, length-map}
 use Rattle.std.proofs.lemmas.List.Elements.{filter_map-append}
-use Rattle.std.proofs.lemmas.Option.{same_Some, slice_get_within}
+use Rattle.std.proofs.lemmas.Option.{get_or_from_slice_get, same_Some, slice_get-get_or, slice_get-map, slice_get_within}
 use Rattle.jobs.specs.Written.{Written}
 use Rattle.keyed_state.specs.Counts.{Counts}
 use Rattle.sink_journal.specs.declared.journal.Entry.{Entry}
@@ -26,17 +26,19 @@ use Rattle.flow_model.specs.Run.{IsRun, IsWorked, put_by, sent_by as sent_from}
 use Rattle.flow_model.specs.Station.{station}
 use Rattle.flow_model.specs.Workers.{posts}
 use Rattle.flow_model.proofs.JournalLemmas.{IsExecution-append, after_all-append, progress_after-append}
+use Rattle.flow_model.proofs.LaneLemmas.{same_lane}
+use Rattle.flow_model.proofs.PlaceLemmas.{map_place}
 use Rattle.flow_replay.specs.declared.wiring.Wiring.{Wiring}
 use Rattle.flow_replay.specs.declared.worker.Desk.{Desk}
-use Rattle.flow_replay.specs.Desks.{AllEnded, AllGain, AreInForce, AreTied, desk_at, end_block, first_local, journal_at, local_of, nothing, post_at, put_so_far, turn_block, with_item}
+use Rattle.flow_replay.specs.Desks.{AllEnded, AllGain, AreInForce, AreTied, desk_at, empty_desk, end_block, first_local, journal_at, local_of, nobody, nothing, post_at, put_so_far, turn_block, with_item}
 use Rattle.flow_replay.specs.Rest.{AreEmpty, IsSoFar, count_issued, told_by, waiting}
 use Rattle.flow_replay.specs.Tables.{IsWired}
 use Rattle.flow_replay.specs.Ways.{IsFed, lane_at}
 use Rattle.flow_replay.proofs.CoverLemmas.{AreCovering}
 use Rattle.flow_replay.proofs.DeskLemmas.{ends-block}
-use Rattle.flow_replay.proofs.FollowLemmas.{finishes, meetings-follow, turn-follows}
-use Rattle.flow_replay.proofs.LaneLemmas.{is_lane_of, same_lane}
-use Rattle.flow_replay.proofs.SeatLemmas.{get-post_at, is_post, post_at-get}
+use Rattle.flow_replay.proofs.FollowLemmas.{ended_all, finishes, meetings-follow, turn-follows}
+use Rattle.flow_replay.proofs.LaneLemmas.{is_lane_of}
+use Rattle.flow_replay.proofs.SeatLemmas.{get-post_at, post_at-get, worker_at}
 use Rattle.flow_replay.proofs.TieLemmas.{sent_by}
 use Rattle.flow_replay.proofs.TurnLemmas.{IsSending, is_sending, sent_ended, shown_ended, turns_tie}
 use Rattle.flow_replay.proofs.WayLemmas.{receiver_below}
@@ -66,9 +68,6 @@ law_gains at s old more new e f is g = (
   ap (progress_after (initial at)) e ∙ (progress_after-append (initial at) old more ∙ ap (λ (x : Progress). progress_after x more) is),
 )
 
-pub number_at : (job : Written) (w : ℕ) → w < length (posts job) → (post_at job w).number ≡ w
-number_at job w lt = (is_post job w (post_at job w) (get-post_at job w lt)).number_is
-
 -- ---- a request is issued
 
 pub issue_step : (setup : Outline) (rows : List Row) (feeds : List Feed) (m : ℕ) (old new : List Desk) → AreCovering setup → m < length setup.plans → IsSoFar setup rows feeds m old
@@ -80,7 +79,7 @@ issue_step setup rows feeds m old new covering h far gain = record {
     in_force = forces;
     tied = subst (λ (ps : List Put). AreTied setup ps new nothing) (sym same) (turns_tie setup (fed_puts setup.job rows 0 feeds) (m + 1) old new covering far.rest.long gain far.rest.tied);
     lawful = λ w b. (law w (omega (arith, b, gain.long))).0;
-    waits = λ w b. (law w (omega (arith, b, gain.long))).1 ∙ (turn-follows setup w m (number_at setup.job w (omega (arith, b, gain.long, far.rest.long))) h).1;
+    waits = λ w b. (law w (omega (arith, b, gain.long))).1 ∙ (turn-follows setup w m (worker_at setup.job w (omega (arith, b, gain.long, far.rest.long))).0 h).1;
   };
 }
   where
@@ -98,7 +97,7 @@ issue_step setup rows feeds m old new covering h far gain = record {
         × (progress_after (initial (station setup 0 (post_at setup.job w))) (journal_at new w) ≡ progress_after (waiting setup (post_at setup.job w) m) (turn_block setup (m + 1) w))
     law w c =
         law_gains (station setup 0 (post_at setup.job w)) (waiting setup (post_at setup.job w) m) (journal_at old w) (turn_block setup (m + 1) w) (journal_at new w) (gain.each w c).journal
-        (far.rest.lawful w c) (far.rest.waits w c) (turn-follows setup w m (number_at setup.job w (omega (arith, c, far.rest.long))) h).0
+        (far.rest.lawful w c) (far.rest.waits w c) (turn-follows setup w m (worker_at setup.job w (omega (arith, c, far.rest.long))).0 h).0
 
 -- ---- a row is fed
 
@@ -120,7 +119,7 @@ row_ties setup fed found at x old is source tied n l g = go l.sender refl (tied 
     go (Some s) e was = by_lane (is_same_lane (Some at) l) refl
       where
         by_lane : (b : Bool) → is_same_lane (Some at) l ≡ b → put_so_far setup fed old l (Some s) ≡ shown setup n (journal_at old l.receiver) ++ cond b (x ∷ []) []
-        by_lane true t = absurd (let same = same_lane at l t in let q : Some s ≡ None = sym e ∙ (ap (λ (y : Lane). y.sender) (sym same) ∙ source) in cc)
+        by_lane true t = absurd (let same = same_Some at l (same_lane (Some at) l t) in let q : Some s ≡ None = sym e ∙ (ap (λ (y : Lane). y.sender) (sym same) ∙ source) in cc)
         by_lane false t = was ∙ sym (append-nil (shown setup n (journal_at old l.receiver)))
 
 pub feed_step : (setup : Outline) (rank : ℕ → ℕ) (rows : List Row) (feeds : List Feed) (m k : ℕ) (row : Row) (old new : List Desk) → slice_get rows k ≡ Some row → row.tuple.row ≡ k + 1
@@ -155,7 +154,7 @@ feed_step setup rank rows feeds m k row old new there number far fed = record {
     follow : (w : ℕ) → w < length old → IsExecution (station setup 0 (post_at setup.job w)) (waiting setup (post_at setup.job w) m) (fed.brought.met w).more
         × (progress_after (waiting setup (post_at setup.job w) m) (fed.brought.met w).more ≡ waiting setup (post_at setup.job w) m)
     follow w c =
-        meetings-follow setup w row.tuple.row m (post_at setup.job w) (fed.brought.met w).more (number_at setup.job w (omega (arith, c, far.rest.long))) (fed.brought.met w).meetings
+        meetings-follow setup w row.tuple.row m (post_at setup.job w) (fed.brought.met w).more (worker_at setup.job w (omega (arith, c, far.rest.long))).0 (fed.brought.met w).meetings
 
     law : (w : ℕ) → w < length old → IsExecution (station setup 0 (post_at setup.job w)) (initial (station setup 0 (post_at setup.job w))) (journal_at new w)
         × (progress_after (initial (station setup 0 (post_at setup.job w))) (journal_at new w) ≡ progress_after (waiting setup (post_at setup.job w) m) (fed.brought.met w).more)
@@ -190,16 +189,12 @@ first_far setup rows desks none = record {
 -- ---- the end
 
 pub at_desk : {A : Type 0} (f : Desk → A) (desks : List Desk) (w : ℕ) (x : A) → slice_get (map f desks) w ≡ Some x → f (desk_at desks w) ≡ x
-at_desk f [] w x e = absurd (cc)
-at_desk f (d ∷ ds) zero x e = same_Some (f d) x e
-at_desk f (d ∷ ds) (suc w) x e = at_desk f ds w x e
+at_desk f desks w x e = let r = map_place f desks w x e in ap f (get_or_from_slice_get desks w r.0 empty_desk r.1) ∙ sym r.2
 
 get_desk : {A : Type 0} (f : Desk → A) (desks : List Desk) (w : ℕ) → w < length desks → slice_get (map f desks) w ≡ Some (f (desk_at desks w))
-get_desk f [] w lt = absurd (omega arith)
-get_desk f (d ∷ ds) zero lt = refl
-get_desk f (d ∷ ds) (suc w) lt = get_desk f ds w (omega (arith, lt))
+get_desk f desks w lt = slice_get-map f desks w ∙ ap (option_map f) (slice_get-get_or desks w empty_desk lt)
 
-ends_counts : (setup : Outline) (post : Post) (local : Local) (ns : List ℕ) → (after_all setup post local (map (λ (lane : ℕ). entry.Ended lane) ns)).counts ≡ local.counts
+ends_counts : (setup : Outline) (post : Post) (local : Local) (ns : List ℕ) → (after_all setup post local (ended_all ns)).counts ≡ local.counts
 ends_counts setup post local [] = refl
 ends_counts setup post local (n ∷ ns) = ends_counts setup post (after setup post local (entry.Ended n)) ns
 
@@ -207,14 +202,10 @@ abbrev starts : List Post → List Counts
 starts ps = map (λ (post : Post). empty) ps
 
 at_start : (ps : List Post) (w : ℕ) (counts : Counts) → slice_get (starts ps) w ≡ Some counts → empty ≡ counts
-at_start [] w counts e = absurd (cc)
-at_start (p ∷ ps) zero counts e = same_Some empty counts e
-at_start (p ∷ ps) (suc w) counts e = at_start ps w counts e
+at_start ps w counts e = sym (map_place (λ (post : Post). empty) ps w counts e).2
 
 get_start : (ps : List Post) (w : ℕ) → w < length ps → slice_get (starts ps) w ≡ Some empty
-get_start [] w lt = absurd (omega arith)
-get_start (p ∷ ps) zero lt = refl
-get_start (p ∷ ps) (suc w) lt = get_start ps w (omega (arith, lt))
+get_start ps w lt = slice_get-map (λ (post : Post). empty) ps w ∙ ap (option_map (λ (post : Post). empty)) (slice_get-get_or ps w nobody lt)
 
 pub stop_step : (setup : Outline) (wiring : Wiring) (rows : List Row) (feeds : List Feed) (old new : List Desk) → AreCovering setup → IsWired setup.job wiring → IsSoFar setup rows feeds (length setup.plans) old
     → AllEnded wiring.inlets old new → feeds ++ feed.Stopped ∷ [] ≡ feed_from 0 0 (afters setup.requests) (length rows) → IsRun setup rows (told_by setup (feeds ++ feed.Stopped ∷ []) new)
@@ -248,7 +239,7 @@ stop_step setup wiring rows feeds old new covering wired far gain fed_is = recor
     done : (w : ℕ) → w < length (posts setup.job) → IsWorked setup (at_first setup) (post_at setup.job w) empty (journal_at new w) (desk_at new w).counts
     done w b = record {
       finished = subst (IsFinished (station setup 0 (post_at setup.job w))) (sym (ended w b))
-          (finishes setup w (journal_at old w) (number_at setup.job w b) (far.rest.lawful w (below w b)) (far.rest.waits w (below w b)));
+          (finishes setup w (journal_at old w) (worker_at setup.job w b).0 (far.rest.lawful w (below w b)) (far.rest.waits w (below w b)));
       state_is = counted w b;
     }
 

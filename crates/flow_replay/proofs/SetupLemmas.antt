@@ -1,5 +1,5 @@
 -- What the type of a setup keeps, in the words of a run.
-use Rattle.std.proofs.Common.{refl, arith}
+use Rattle.std.proofs.Common.{arith}
 use Rattle.jobs.specs.Job.{written}
 use Rattle.flow_model.specs.declared.setup.Setup.{Setup}
 use Rattle.flow_replay.specs.Ways.{rank_in}
@@ -12,7 +12,7 @@ use Rattle.versions.proofs.KeptLemmas.{accepted-order}
 
 pub ranked : (setup : Setup) → IsRanked (written setup.job) (rank_in setup)
 ranked setup = record {
-  forward = rank-forward setup.job.dag setup.job.dag.edges refl;
+  forward = rank-forward setup.job.dag;
   below = λ node lt. rank-below setup.job.dag node (omega (arith, lt, setup.job.drawn));
 }
 

@@ -1,9 +1,10 @@
 -- Rows and turns stand in order.
-use Rattle.std.proofs.Common.{◌≡◌, ◌<◌, ◌≤◌, ◌+◌, ◌==◌, ◌||◌, ℕ, zero, suc, List, [], ◌∷◌, ◌++◌, inl, inr, Bool, true, false, cond, length, map, min, Option, Some, None, refl, sym, ap, subst, ◌∙◌, arith}
+use Rattle.std.proofs.Common.{◌≡◌, ◌<◌, ◌≤◌, ◌+◌, ◌==◌, ◌||◌, ℕ, suc, List, [], ◌∷◌, ◌++◌, inl, inr, Bool, true, false, cond, length, min, Option, Some, refl, sym, ap, subst, ◌∙◌, arith}
 use Rattle.std.specs.Prelude.{All, slice_get}
 use Rattle.std.specs.List.{AllByRecursion}
-use Rattle.std.proofs.lemmas.Bool.{cases_lt, eq-eqb, ne_eqb}
+use Rattle.std.proofs.lemmas.Bool.{cases_lt, eq-eqb, ne_eqb, or_right}
 use Rattle.std.proofs.lemmas.List.{append-nil}
+use Rattle.std.proofs.lemmas.List.Folds.{list_any-append}
 use Rattle.std.proofs.lemmas.List.Elements.{All-append, All-nil, All-weaker, All-from_recursion, filter_map-append}
 use Rattle.std.proofs.lemmas.Option.{slice_get_within}
 use Rattle.sink_journal.specs.Alerts.{met}
@@ -14,8 +15,7 @@ use Rattle.tuple_trace.specs.declared.row.Row.{Row}
 use Rattle.tuple_trace.specs.declared.tuple.Tuple.{Tuple}
 use Rattle.versions.specs.declared.request.Request.{Request}
 use Rattle.jobs.specs.Written.{Written}
-use Rattle.cover_planner.specs.declared.cover.Plan.{Plan}
-use Rattle.flow_model.specs.Covers.{covers, holds_node}
+use Rattle.flow_model.specs.Covers.{covers}
 use Rattle.flow_model.specs.Fresh.{IsUpTo}
 use Rattle.flow_model.specs.Lanes.{lanes_in, marked_lanes}
 use Rattle.flow_model.specs.Outline.{Outline, Post}
@@ -29,7 +29,9 @@ use Rattle.flow_replay.specs.Desks.{AllEnded, AllGain, end_block, journal_at, ma
 use Rattle.flow_replay.specs.Rest.{AreEmpty, AreSorted, IsSorted, has_turn, told_by}
 use Rattle.flow_replay.specs.Tables.{IsWired}
 use Rattle.flow_replay.specs.Ways.{IsFed, IsMeeting, Meets}
+use Rattle.flow_model.proofs.PlannedLemmas.{covers_within}
 use Rattle.flow_replay.proofs.DeskLemmas.{ends-block}
+use Rattle.flow_replay.proofs.FollowLemmas.{ended_all}
 use Rattle.flow_replay.proofs.RunLemmas.{at_desk}
 use Rattle.flow_replay.proofs.SeatLemmas.{post_at-get}
 
@@ -37,14 +39,6 @@ use Rattle.flow_replay.proofs.SeatLemmas.{post_at-get}
 
 met-append : (xs ys : List Entry) → met_tuples (xs ++ ys) ≡ met_tuples xs ++ met_tuples ys
 met-append xs ys = filter_map-append met xs ys
-
-has_turn-append : (r : ℕ) (xs ys : List Entry) → has_turn r (xs ++ ys) ≡ (has_turn r xs || has_turn r ys)
-has_turn-append r [] ys = refl
-has_turn-append r (x ∷ xs) ys = go (is_turn r x) (has_turn-append r xs ys)
-  where
-    go : (b : Bool) → has_turn r (xs ++ ys) ≡ (has_turn r xs || has_turn r ys) → (b || has_turn r (xs ++ ys)) ≡ ((b || has_turn r xs) || has_turn r ys)
-    go true h = refl
-    go false h = h
 
 before-turned : (r : ℕ) (xs ys : List Entry) → has_turn r xs ≡ true → before_turn r (xs ++ ys) ≡ before_turn r xs
 before-turned r [] ys h = absurd (cc)
@@ -92,9 +86,9 @@ turn-met : (r : ℕ) (ns : List ℕ) → met_tuples (marks r ns ++ entry.Turned 
 turn-met r ns = met-append (marks r ns) (entry.Turned r ∷ []) ∙ ap (λ (l : List Tuple). l ++ []) (marks-met r ns)
 
 turn-turn : (q r : ℕ) (ns : List ℕ) → has_turn q (marks r ns ++ entry.Turned r ∷ []) ≡ ((r == q) || false)
-turn-turn q r ns = has_turn-append q (marks r ns) (entry.Turned r ∷ []) ∙ ap (λ (b : Bool). b || ((r == q) || false)) (marks-turn q r ns)
+turn-turn q r ns = list_any-append (is_turn q) (marks r ns) (entry.Turned r ∷ []) ∙ ap (λ (b : Bool). b || ((r == q) || false)) (marks-turn q r ns)
 
-ended-met : (ns : List ℕ) → met_tuples (map (λ (lane : ℕ). entry.Ended lane) ns) ≡ []
+ended-met : (ns : List ℕ) → met_tuples (ended_all ns) ≡ []
 ended-met [] = refl
 ended-met (n ∷ ns) = ended-met ns
 
@@ -126,9 +120,9 @@ meets_sorted setup rows k m node w issued old new gained is =
             (All-append (λ (t : Tuple). IsOfEarlierRow setup rows r t → ⊥) (met_tuples (after_turn r old)) (met_tuples gained.more) (is.past r p le c).after
             (All-weaker (λ (t : Tuple). t.row ≡ k + 1) (λ (t : Tuple). IsOfEarlierRow setup rows r t → ⊥) (λ t h up. let late = is.late r p le t.row up in absurd (omega (arith, h, late))) (met_tuples gained.more) of_row));
       };
-      there = λ r p le c. has_turn-append r old gained.more ∙ ap (λ (b : Bool). b || has_turn r gained.more) (is.there r p le c);
+      there = λ r p le c. list_any-append (is_turn r) old gained.more ∙ ap (λ (b : Bool). b || has_turn r gained.more) (is.there r p le c);
       late = λ r p le later up. let h = is.late r p le later up in omega (arith, h);
-      left = λ r lt. has_turn-append r old gained.more ∙ (ap (λ (b : Bool). b || has_turn r gained.more) (is.left r lt) ∙ meets-turn setup.job w (k + 1) issued r gained.more gained.meetings);
+      left = λ r lt. list_any-append (is_turn r) old gained.more ∙ (ap (λ (b : Bool). b || has_turn r gained.more) (is.left r lt) ∙ meets-turn setup.job w (k + 1) issued r gained.more gained.meetings);
     })
   where
     of_row : All (λ (t : Tuple). t.row ≡ k + 1) (met_tuples gained.more)
@@ -155,10 +149,10 @@ turn_gain setup rows row m node ns request old e at is = record {
     | inr ge ↦ let s : m + 1 ≡ r = omega (arith, le, ge) in subst (λ (q : ℕ). TurnsInOrder setup rows q (old ++ block)) s now
   ];
   there = λ r p le c. elim (cases_lt r (m + 1)) [
-    | inl lt ↦ has_turn-append r old block ∙ ap (λ (b : Bool). b || has_turn r block) (is.there r p (omega (arith, lt)) c)
+    | inl lt ↦ list_any-append (is_turn r) old block ∙ ap (λ (b : Bool). b || has_turn r block) (is.there r p (omega (arith, lt)) c)
     | inr ge ↦
         let s : m + 1 ≡ r = omega (arith, le, ge) in
-        has_turn-append r old block ∙ (ap (λ (b : Bool). has_turn r old || b) (turn-turn r (m + 1) ns ∙ ap (λ (b : Bool). b || false) (eq-eqb (m + 1) r s)) ∙ or_true (has_turn r old))
+        list_any-append (is_turn r) old block ∙ (ap (λ (b : Bool). has_turn r old || b) (turn-turn r (m + 1) ns ∙ ap (λ (b : Bool). b || false) (eq-eqb (m + 1) r s)) ∙ or_right (has_turn r old) true refl)
   ];
   late = λ r p le later up. elim (cases_lt r (m + 1)) [
     | inl lt ↦ is.late r p (omega (arith, lt)) later up
@@ -168,16 +162,12 @@ turn_gain setup rows row m node ns request old e at is = record {
         omega (arith, h, at)
   ];
   left = λ r lt.
-      has_turn-append r old block ∙ (ap (λ (b : Bool). b || has_turn r block) (is.left r (omega (arith, lt)))
+      list_any-append (is_turn r) old block ∙ (ap (λ (b : Bool). b || has_turn r block) (is.left r (omega (arith, lt)))
       ∙ (turn-turn r (m + 1) ns ∙ ap (λ (b : Bool). b || false) (ne_eqb (m + 1) r (λ q. absurd (omega (arith, q, lt))))));
 }
   where
     block : List Entry
     block = marks (m + 1) ns ++ entry.Turned (m + 1) ∷ []
-
-    or_true : (b : Bool) → (b || true) ≡ true
-    or_true true = refl
-    or_true false = refl
 
     same_met : met_tuples (old ++ block) ≡ met_tuples old
     same_met = met-append old block ∙ (ap (λ (l : List Tuple). met_tuples old ++ l) (turn-met (m + 1) ns) ∙ append-nil (met_tuples old))
@@ -257,15 +247,6 @@ first_sorted setup rows desks none w b =
       left = λ r lt. refl;
     })
 
--- a request that covers a node has a plan
-covering_plan : (setup : Outline) (r node : ℕ) → covers setup r node ≡ true → (0 < r) × (r ≤ length setup.plans)
-covering_plan setup zero node c = absurd (cc)
-covering_plan setup (suc p) node c = go (slice_get setup.plans p) refl c
-  where
-    go : (o : Option Plan) → slice_get setup.plans p ≡ o → holds_node o node ≡ true → (0 < suc p) × (suc p ≤ length setup.plans)
-    go None e t = absurd (cc)
-    go (Some plan) e t = let w = slice_get_within setup.plans p plan e in (omega arith, omega (arith, w))
-
 pub ends_sorted : (setup : Outline) (wiring : Wiring) (rows : ℕ) (feeds : List Feed) (old new : List Desk) → IsWired setup.job wiring → length old ≡ length (posts setup.job) → AllEnded wiring.inlets old new
     → AreSorted setup rows rows (length setup.plans) old → IsInOrder rows (told_by setup feeds new)
 ends_sorted setup wiring rows feeds old new wired long gain is w post journal ep ej r covered =
@@ -273,7 +254,7 @@ ends_sorted setup wiring rows feeds old new wired long gain is w post journal ep
     let c : w < length old = omega (arith, b, long) in
     let at : post_at setup.job w ≡ post = post_at-get setup.job w post ep in
     let cover : covers setup r (post_at setup.job w).node ≡ true = ap (λ (p : Post). covers setup r p.node) at ∙ covered in
-    let known = covering_plan setup r (post_at setup.job w).node cover in
+    let known = covers_within setup r (post_at setup.job w).node cover in
     let sorted = is w c in
     let there = sorted.there r known.0 known.1 cover in
     let past = sorted.past r known.0 known.1 cover in

@@ -1,17 +1,16 @@
 -- How the tables are made, one entry after another.
-use Rattle.std.proofs.Common.{◌≡◌, ◌<◌, ◌≤◌, ◌+◌, ◌*◌, ◌%◌, ◌^◌, ◌==◌, ◌&&◌, ℕ, zero, suc, List, [], ◌∷◌, ◌++◌, Bool, true, false, cond, length, map, take, drop, get_or, Option, Some, None, refl, sym, ap, ◌∙◌, arith, length-append, append_assoc}
+use Rattle.std.proofs.Common.{◌≡◌, ◌<◌, ◌≤◌, ◌+◌, ◌*◌, ◌^◌, ◌==◌, ◌&&◌, ℕ, zero, suc, List, [], ◌∷◌, ◌++◌, Bool, true, false, cond, length, map, take, drop, get_or, Option, Some, None, refl, sym, ap, ◌∙◌, arith, length-append, append_assoc}
 use Rattle.std.specs.Prelude.{filter, option_map, slice_get}
 use Rattle.std.specs.List.{enumerate_from, flat_map, range_with_len}
-use Rattle.std.proofs.lemmas.List.{append-nil, length-map, map-append}
+use Rattle.std.proofs.lemmas.List.{append-nil, drop_all, drop_more, length-map, map-append, take_all, take_more}
+use Rattle.std.proofs.lemmas.Simd.{map-map}
 use Rattle.std.proofs.lemmas.List.Concat.{flat_map-append}
 use Rattle.std.proofs.lemmas.List.FromFn.{length-enumerate_from, length-map-range_with_len, map-range_with_len_more}
 use Rattle.std.proofs.lemmas.Option.{get_or_from_slice_get, same_Some, slice_get-get_or, slice_get-map, slice_get_within}
 use Rattle.flow_dag.specs.declared.edge.Edge.{Edge}
 use Rattle.jobs.specs.Law.{IsLawful}
 use Rattle.jobs.specs.Nodes.{is_source, is_source_node, workers_of}
-use Rattle.jobs.specs.declared.column.Column.{Column}
 use Rattle.jobs.specs.declared.func.Func.{Func}
-use Rattle.jobs.specs.declared.func.Func.TheVariants as func
 use Rattle.jobs.specs.declared.func.NodeDef.{NodeDef}
 use Rattle.jobs.specs.Written.{Written}
 use Rattle.operators.specs.Lanes.{worker_along, worker_among, worker_at, worker_for}
@@ -28,7 +27,9 @@ use Rattle.flow_replay.specs.declared.wiring.Wiring.{Wiring}
 use Rattle.flow_replay.specs.Tables.{IsHopAlong, IsWired, arrival_of, arrivals_from, exit_by, exit_of, exits_of, first_lane, first_worker, inlet_by, inlet_of, inlets_among, inlets_of, lanes_along, seat_of}
 use Rattle.flow_replay.proofs.SeatLemmas.{get-posts_of, length-posts_of, post_by, posts_of-node}
 use Rattle.flow_replay.proofs.PieceLemmas.{get-enumerate, length-all_pieces}
-use Rattle.flow_replay.proofs.LaneLemmas.{first_on-edge, get-lane, length-row, row}
+use Rattle.flow_model.proofs.FitLemmas.{among_within}
+use Rattle.flow_model.proofs.LaneLemmas.{lanes_from}
+use Rattle.flow_replay.proofs.LaneLemmas.{first_on-edge, get-lane, length-lanes_from}
 use Rattle.flow_replay.proofs.JobLemmas.{entered, first_worker-workers, lanes-few}
 
 -- ---- items by their places
@@ -48,30 +49,10 @@ pub item_in_front : {A : Type 0} (xs ys : List A) (n i : ℕ) (x : A) → xs ≡
 item_in_front xs ys n i x same lt is = ap (λ l. slice_get l i) (sym same) ∙ get-take xs n i x (slice_get-get_or (take n xs) i x lt ∙ ap Some (sym is))
 
 pub drop-at : {A : Type 0} (xs : List A) (i : ℕ) (x : A) → slice_get xs i ≡ Some x → drop i xs ≡ x ∷ drop (i + 1) xs
-drop-at [] i x e = absurd (cc)
-drop-at (y ∷ ys) zero x e =
-    let same : y ≡ x = cc in
-    let z : 0 + 1 ≡ suc 0 = omega arith in
-    ap (λ a. a ∷ ys) same ∙ ap (λ m. x ∷ drop m (y ∷ ys)) (sym z)
-drop-at (y ∷ ys) (suc i) x e =
-    let z : suc i + 1 ≡ suc (i + 1) = omega arith in
-    drop-at ys i x e ∙ ap (λ m. x ∷ drop m (y ∷ ys)) (sym z)
-
-pub drop-end : {A : Type 0} (xs : List A) (i : ℕ) → length xs ≤ i → drop i xs ≡ []
-drop-end [] zero le = refl
-drop-end [] (suc i) le = refl
-drop-end (x ∷ xs) zero le = absurd (omega arith)
-drop-end (x ∷ xs) (suc i) le = drop-end xs i (omega arith)
+drop-at xs i x e = drop_more xs i x (slice_get_within xs i x e) ∙ ap (λ y. y ∷ drop (i + 1) xs) (get_or_from_slice_get xs i x x e)
 
 pub take-next : {A : Type 0} (xs : List A) (i : ℕ) (x : A) → slice_get xs i ≡ Some x → take (i + 1) xs ≡ take i xs ++ x ∷ []
-take-next [] i x e = absurd (cc)
-take-next (y ∷ ys) zero x e =
-    let same : y ≡ x = cc in
-    let z : 0 + 1 ≡ suc 0 = omega arith in
-    ap (λ m. take m (y ∷ ys)) z ∙ ap (λ a. a ∷ []) same
-take-next (y ∷ ys) (suc i) x e =
-    let z : suc i + 1 ≡ suc (i + 1) = omega arith in
-    ap (λ m. take m (y ∷ ys)) z ∙ ap (λ l. y ∷ l) (take-next ys i x e)
+take-next xs i x e = take_more xs i x (slice_get_within xs i x e) ∙ ap (λ y. take i xs ++ y ∷ []) (get_or_from_slice_get xs i x x e)
 
 -- ---- a list that grows by what passes a test, of numbered items
 
@@ -93,7 +74,7 @@ numbered-take f test xs i x done more all b e t is grown h =
 pub numbered-end : {A B : Type 0} (f : ℕ × A → B) (test : ℕ × A → Bool) (xs : List A) (i : ℕ) (done all : List B) → length xs ≤ i
     → done ++ map f (filter test (enumerate_from i (drop i xs))) ≡ all → done ≡ all
 numbered-end f test xs i done all le h =
-    sym (append-nil done) ∙ (ap (λ l. done ++ map f (filter test (enumerate_from i l))) (sym (drop-end xs i le)) ∙ h)
+    sym (append-nil done) ∙ (ap (λ l. done ++ map f (filter test (enumerate_from i l))) (sym (drop_all i xs le)) ∙ h)
 
 -- a list that grows by what a function gives at each number
 pub pushed-range : {A : Type 0} (f : ℕ → A) (old now new : List A) (n : ℕ) (x : A) → now ≡ old ++ map f (range_with_len 0 n) → new ≡ now ++ x ∷ [] → x ≡ f n
@@ -136,9 +117,6 @@ seats-next nodes i workers def done more all e w grown h =
     ∙ (ap (λ (l : List Seat). done ++ l) (sym (map-append seat_of (posts_at 0 i def.func 0 (workers_of def)) (posts_from (0 + workers_of def) (i + 1) (drop (i + 1) nodes))))
     ∙ (ap (λ (l : List NodeDef). done ++ map seat_of (posts_from 0 i l)) (sym (drop-at nodes i def e)) ∙ h)))))
 
-pub seats-end : (nodes : List NodeDef) (i : ℕ) (done all : List Seat) → length nodes ≤ i → done ++ map seat_of (posts_from 0 i (drop i nodes)) ≡ all → done ≡ all
-seats-end nodes i done all le h = sym (append-nil done) ∙ (ap (λ (l : List NodeDef). done ++ map seat_of (posts_from 0 i l)) (sym (drop-end nodes i le)) ∙ h)
-
 -- ---- senders
 
 pub length-senders : (job : Written) (node : ℕ) (def : NodeDef) → slice_get job.nodes node ≡ Some def → is_source def.func ≡ false → length (senders job node) ≡ workers_of def
@@ -155,11 +133,11 @@ length-feeder job node def e is =
 -- ---- edges and their lanes
 
 pub length-lanes_of : (job : Written) (number : ℕ) (edge : Edge) → length (lanes_of job number edge) ≡ length (senders job edge.from) * length (posts_of job edge.to)
-length-lanes_of job number edge = length-all_pieces (row job number edge) (length (posts_of job edge.to)) (length-row job number edge) (senders job edge.from)
+length-lanes_of job number edge = length-all_pieces (lanes_from job number edge) (length (posts_of job edge.to)) (length-lanes_from job number edge) (senders job edge.from)
 
 pub first_lane-next : (job : Written) (i : ℕ) (edge : Edge) → slice_get job.edges i ≡ Some edge → first_lane job (i + 1) ≡ first_lane job i + length (senders job edge.from) * length (posts_of job edge.to)
 first_lane-next job i edge e =
-    let at : slice_get (enumerate_from 0 job.edges) i ≡ Some (i, edge) = let z : 0 + i ≡ i = omega arith in get-enumerate 0 job.edges i edge e ∙ ap (λ (m : ℕ). Some (m, edge)) z in
+    let at : slice_get (enumerate_from 0 job.edges) i ≡ Some (i, edge) = get-enumerate 0 job.edges i i edge e (omega arith) in
     ap (λ (l : List (ℕ × Edge)). length (flat_map (lanes_along job) l)) (take-next (enumerate_from 0 job.edges) i (i, edge) at)
     ∙ (ap (length {A = Lane}) (flat_map-append (lanes_along job) (take i (enumerate_from 0 job.edges)) ((i, edge) ∷ []))
     ∙ (length-append (flat_map (lanes_along job) (take i (enumerate_from 0 job.edges))) (lanes_of job i edge ++ [])
@@ -178,7 +156,7 @@ first_lane-few job i law = let a = front_few (lanes_along job) (enumerate_from 0
 pub routes-next : (job : Written) (i : ℕ) (edge : Edge) (exit : Exit) (done more : List Exit) → slice_get job.edges i ≡ Some edge → exit ≡ exit_of job (i, edge) → more ≡ done ++ exit ∷ []
     → done ≡ map (exit_of job) (take i (enumerate_from 0 job.edges)) → more ≡ map (exit_of job) (take (i + 1) (enumerate_from 0 job.edges))
 routes-next job i edge exit done more e is grown h =
-    let at : slice_get (enumerate_from 0 job.edges) i ≡ Some (i, edge) = let z : 0 + i ≡ i = omega arith in get-enumerate 0 job.edges i edge e ∙ ap (λ (m : ℕ). Some (m, edge)) z in
+    let at : slice_get (enumerate_from 0 job.edges) i ≡ Some (i, edge) = get-enumerate 0 job.edges i i edge e (omega arith) in
     grown ∙ (ap (λ (l : List Exit). l ++ exit ∷ []) h
     ∙ (ap (λ (x : Exit). map (exit_of job) (take i (enumerate_from 0 job.edges)) ++ x ∷ []) is
     ∙ (sym (map-append (exit_of job) (take i (enumerate_from 0 job.edges)) ((i, edge) ∷ []))
@@ -199,10 +177,6 @@ arrivals-at edge first number node f place (suc n) e =
     ap (λ (l : List Arrival). here ∷ l) (arrivals-at edge first (number + 1) node f (place + 1) n (omega arith))
     ∙ ap (λ (x : Arrival). x ∷ map (λ (p : ℕ). arrival_by edge (first + p)) (range_with_len (place + 1) n)) same
 
-map_map : {A B C : Type 0} (f : A → B) (g : B → C) (xs : List A) → map g (map f xs) ≡ map (λ x. g (f x)) xs
-map_map f g [] = refl
-map_map f g (x ∷ xs) = ap (λ l. g (f x) ∷ l) (map_map f g xs)
-
 map_flat : {A B C : Type 0} (f : A → List B) (g : B → C) (xs : List A) → map g (flat_map f xs) ≡ flat_map (λ x. map g (f x)) xs
 map_flat f g [] = refl
 map_flat f g (x ∷ xs) = map-append g (f x) (flat_map f xs) ∙ ap (λ l. map g (f x) ++ l) (map_flat f g xs)
@@ -212,9 +186,9 @@ same_flat f ys [] a each = refl
 same_flat f ys (x ∷ xs) a each = ap (λ l. l ++ flat_map f xs) (each x) ∙ ap (λ l. ys ++ l) (same_flat f ys xs (a + 1) each)
 
 row-arrivals : (job : Written) (number : ℕ) (edge : Edge) (def : NodeDef) (sender : Option ℕ) → slice_get job.nodes edge.to ≡ Some def
-    → map arrival_of (row job number edge sender) ≡ arrivals_from number (first_worker job edge.to) (length (posts_of job edge.to))
+    → map arrival_of (lanes_from job number edge sender) ≡ arrivals_from number (first_worker job edge.to) (length (posts_of job edge.to))
 row-arrivals job number edge def sender e =
-    map_map (λ (post : Post). record { edge = number; sender = sender; receiver = post.number }) arrival_of (posts_of job edge.to)
+    map-map arrival_of (λ (post : Post). record { edge = number; sender = sender; receiver = post.number }) (posts_of job edge.to)
     ∙ (ap (map (λ (post : Post). arrival_by number post.number)) (posts_of-node job edge.to def e)
     ∙ (arrivals-at number (first_worker job edge.to) (first_worker job edge.to) edge.to def.func 0 (workers_of def) (omega arith)
     ∙ ap (λ (k : ℕ). arrivals_from number (first_worker job edge.to) k) (sym (length-posts_of job edge.to def e))))
@@ -226,13 +200,13 @@ edge-arrivals job number edge def first workers sends e f w s =
     ap (λ (m : ℕ). flat_map (λ (k : ℕ). arrivals_from number m workers) (range_with_len 0 sends)) f
     ∙ (ap (λ (m : ℕ). flat_map (λ (k : ℕ). arrivals_from number (first_worker job edge.to) m) (range_with_len 0 sends)) w
     ∙ (ap (λ (m : ℕ). flat_map (λ (k : ℕ). arrivals_from number (first_worker job edge.to) (length (posts_of job edge.to))) (range_with_len 0 m)) s
-    ∙ (sym (same_flat (λ (sender : Option ℕ). map arrival_of (row job number edge sender)) (arrivals_from number (first_worker job edge.to) (length (posts_of job edge.to))) (senders job edge.from) 0 (λ sender. row-arrivals job number edge def sender e))
-    ∙ sym (map_flat (row job number edge) arrival_of (senders job edge.from)))))
+    ∙ (sym (same_flat (λ (sender : Option ℕ). map arrival_of (lanes_from job number edge sender)) (arrivals_from number (first_worker job edge.to) (length (posts_of job edge.to))) (senders job edge.from) 0 (λ sender. row-arrivals job number edge def sender e))
+    ∙ sym (map_flat (lanes_from job number edge) arrival_of (senders job edge.from)))))
 
 pub arrivals-next : (job : Written) (i : ℕ) (edge : Edge) (done more some : List Arrival) → slice_get job.edges i ≡ Some edge → more ≡ done ++ some → some ≡ map arrival_of (lanes_of job i edge)
     → done ≡ map arrival_of (flat_map (lanes_along job) (take i (enumerate_from 0 job.edges))) → more ≡ map arrival_of (flat_map (lanes_along job) (take (i + 1) (enumerate_from 0 job.edges)))
 arrivals-next job i edge done more some e grown is h =
-    let at : slice_get (enumerate_from 0 job.edges) i ≡ Some (i, edge) = let z : 0 + i ≡ i = omega arith in get-enumerate 0 job.edges i edge e ∙ ap (λ (m : ℕ). Some (m, edge)) z in
+    let at : slice_get (enumerate_from 0 job.edges) i ≡ Some (i, edge) = get-enumerate 0 job.edges i i edge e (omega arith) in
     grown ∙ (ap (λ (l : List Arrival). l ++ some) h
     ∙ (ap (λ (l : List Arrival). map arrival_of (flat_map (lanes_along job) (take i (enumerate_from 0 job.edges))) ++ l) (is ∙ ap (map arrival_of) (sym (append-nil (lanes_of job i edge))))
     ∙ (sym (map-append arrival_of (flat_map (lanes_along job) (take i (enumerate_from 0 job.edges))) (lanes_of job i edge ++ []))
@@ -311,19 +285,6 @@ no_exit job node port exits same is = go (first_on node port (enumerate_from 0 j
     go None e = refl
     go (Some p) e = absurd (cc)
 
-remainder_below : (a n : ℕ) → 1 ≤ n → a % n < n
-remainder_below a n h = omega arith
-
-worker_among-below : (columns : List Column) (f : Func) (n : ℕ) (tuple : Tuple) → 1 ≤ n → worker_among columns f n tuple < n
-worker_among-below columns func.Source n tuple h = remainder_below tuple.row n h
-worker_among-below columns (func.Filter conds) n tuple h = remainder_below tuple.row n h
-worker_among-below columns (func.Map steps) n tuple h = remainder_below tuple.row n h
-worker_among-below columns (func.Enrich lookup) n tuple h = remainder_below tuple.row n h
-worker_among-below columns (func.Count count) n tuple h = remainder_below _ n h
-worker_among-below columns (func.Split split) n tuple h = remainder_below tuple.row n h
-worker_among-below columns func.Replicate n tuple h = remainder_below tuple.row n h
-worker_among-below columns (func.Sink listed) n tuple h = remainder_below tuple.row n h
-
 -- the worker that a tuple reaches along an edge
 pub record IsReached (job : Written) (edge : Edge) (tuple : Tuple) (worker : ℕ) : Type 0 where
   pub def : NodeDef
@@ -336,7 +297,7 @@ pub is_reached : (job : Written) (number : ℕ) (edge : Edge) (tuple : Tuple) (w
 is_reached job number edge tuple worker law e is =
     let to = entered job number edge law e in
     let at : worker ≡ worker_among job.columns to.def.func to.def.workers tuple = is ∙ (ap (λ (o : Option Edge). worker_for job o tuple) e ∙ ap (λ (o : Option NodeDef). worker_at job.columns o tuple) to.node_is) in
-    let b = worker_among-below job.columns to.def.func to.def.workers tuple to.some in
+    let b = among_within job to.def.func to.def.workers tuple to.some in
     let below : worker < workers_of to.def = omega (arith, at, b, to.all) in
     record {
       def = to.def;
@@ -388,10 +349,9 @@ exits_at job wiring all exits result node wired same lt is made =
 pub route_at : (job : Written) (routes : List Exit) (i : ℕ) (edge : Edge) (d : Exit) → routes ≡ map (exit_of job) (enumerate_from 0 job.edges) → slice_get job.edges i ≡ Some edge
     → get_or routes i d ≡ exit_of job (i, edge)
 route_at job routes i edge d same e =
-    let z : 0 + i ≡ i = omega arith in
     get_or_from_slice_get routes i (exit_of job (i, edge)) d
     (ap (λ (l : List Exit). slice_get l i) same ∙ (slice_get-map (exit_of job) (enumerate_from 0 job.edges) i
-    ∙ ap (option_map (exit_of job)) (get-enumerate 0 job.edges i edge e ∙ ap (λ (m : ℕ). Some (m, edge)) z)))
+    ∙ ap (option_map (exit_of job)) (get-enumerate 0 job.edges i i edge e (omega arith))))
 
 pub routes-long : (job : Written) (routes : List Exit) → routes ≡ map (exit_of job) (enumerate_from 0 job.edges) → length routes ≡ length job.edges
 routes-long job routes same = ap (length {A = Exit}) same ∙ (length-map (enumerate_from 0 job.edges) (exit_of job) ∙ length-enumerate_from 0 job.edges)
@@ -420,14 +380,8 @@ arrived job i edge first workers sends done more law e f w s grown h =
     arrivals-next job i edge done more (flat_map (λ (k : ℕ). arrivals_from i first workers) (range_with_len 0 sends)) e grown
     (edge-arrivals job i edge to.def first workers sends to.node_is f w s) h
 
-take_all : {A : Type 0} (xs : List A) (i : ℕ) → length xs ≤ i → take i xs ≡ xs
-take_all [] zero le = refl
-take_all [] (suc i) le = refl
-take_all (x ∷ xs) zero le = absurd (omega arith)
-take_all (x ∷ xs) (suc i) le = ap (λ l. x ∷ l) (take_all xs i (omega arith))
-
 pub take-all_edges : (edges : List Edge) (i : ℕ) → length edges ≤ i → take i (enumerate_from 0 edges) ≡ enumerate_from 0 edges
-take-all_edges edges i le = take_all (enumerate_from 0 edges) i (let l = length-enumerate_from 0 edges in omega (arith, l))
+take-all_edges edges i le = take_all i (enumerate_from 0 edges) (let l = length-enumerate_from 0 edges in omega (arith, l))
 
 -- one piece of the same length more
 pub pushed-pieces : {A : Type 0} (ys old now new : List A) (n : ℕ) → now ≡ old ++ flat_map (λ (k : ℕ). ys) (range_with_len 0 n) → new ≡ now ++ ys
@@ -456,12 +410,6 @@ pub exit_made : (job : Written) (i : ℕ) (edge : Edge) (lane first workers : �
 exit_made job i edge lane first workers l f w =
     ap (λ (n : ℕ). exit_with edge.port i n first workers) l
     ∙ (ap (λ (n : ℕ). exit_with edge.port i (first_lane job i) n workers) f ∙ ap (λ (n : ℕ). exit_with edge.port i (first_lane job i) (first_worker job edge.to) n) w)
-
-pub item_of : {A : Type 0} (xs ys : List A) (i : ℕ) (x : A) → xs ≡ ys → i < length xs → x ≡ get_or xs i x → slice_get ys i ≡ Some x
-item_of xs ys i x same lt is = ap (λ l. slice_get l i) (sym same) ∙ (slice_get-get_or xs i x lt ∙ ap Some (sym is))
-
-pub next_in_range : {A : Type 0} (f : ℕ → A) (now new : List A) (n : ℕ) (x : A) → now ≡ map f (range_with_len 0 n) → new ≡ now ++ x ∷ [] → x ≡ f n → new ≡ map f (range_with_len 0 (n + 1))
-next_in_range f now new n x is grown same = pushed-range f [] now new n x is grown same
 
 -- the tables are those of the job where each is
 pub wired_by : (job : Written) (wiring : Wiring) (arrivals : List Arrival) (workers : ℕ) → wiring.seats ≡ map seat_of (posts job) → wiring.exits ≡ map (exits_of job) (range_with_len 0 (length job.nodes))

@@ -16,25 +16,20 @@ use Rattle.flow_model.specs.Lanes.{is_same_lane, lane_of, lanes}
 use Rattle.flow_model.specs.Outline.{Lane, Outline, Post}
 use Rattle.flow_model.specs.Replay.{Local, Put, after, after_all, items_on, put_out, puts, sent, shown}
 use Rattle.flow_model.proofs.JournalLemmas.{after_all-append, sent-append, shown-append}
+use Rattle.flow_model.proofs.LaneLemmas.{lane_self, same_lane, same_number}
 use Rattle.flow_replay.specs.declared.worker.Desk.{Desk}
 use Rattle.flow_replay.specs.Desks.{AreInForce, AreTied, IsQuiet, IsStep, desk_at, first_local, from_node, journal_at, local_of, made_at, post_at, put_so_far, with_item}
-use Rattle.flow_replay.proofs.LaneLemmas.{from_node-is, is_lane_of, same_lane, same_lane_self, same_number}
+use Rattle.flow_replay.proofs.LaneLemmas.{from_node-is, is_lane_of}
 
 -- ---- the lanes of what a worker makes
 
 -- a lane that an output was given is one of the sender, from its node
 pub its_lane : (job : Written) (post : Post) (out : Output) (l : Lane) → is_same_lane (lane_of job (Some post.number) post.node out.port out.tuple) l ≡ true
     → (lane_of job (Some post.number) post.node out.port out.tuple ≡ Some l) × (l.sender ≡ Some post.number) × (from_node job l ≡ post.node)
-its_lane job post out l e = go (lane_of job (Some post.number) post.node out.port out.tuple) refl e
-  where
-    go : (o : Option Lane) → lane_of job (Some post.number) post.node out.port out.tuple ≡ o → is_same_lane o l ≡ true
-        → (o ≡ Some l) × (l.sender ≡ Some post.number) × (from_node job l ≡ post.node)
-    go None g t = absurd (cc)
-    go (Some found) g t =
-        let same = same_lane found l t in
-        let g' : lane_of job (Some post.number) post.node out.port out.tuple ≡ Some l = g ∙ ap Some same in
-        let is = is_lane_of job (Some post.number) post.node out.port out.tuple l g' in
-        (ap Some same, is.sender_is, from_node-is job l is.edge is.edge_is ∙ is.from_is)
+its_lane job post out l e =
+    let found = same_lane (lane_of job (Some post.number) post.node out.port out.tuple) l e in
+    let is = is_lane_of job (Some post.number) post.node out.port out.tuple l found in
+    (found, is.sender_is, from_node-is job l is.edge is.edge_is ∙ is.from_is)
 
 abbrev pub out_puts : Written → Post → List Output → List Put
 out_puts job post outs = map (put_out job post) outs
@@ -111,7 +106,7 @@ shown_step setup n lane m l t old new gn gm step under_way = go (is_same_lane (S
         let k : n ≡ m = eqb-true n m e in
         let h : slice_get (lanes setup.job) m ≡ Some lane = ap (slice_get (lanes setup.job)) (sym k) ∙ gn in
         let s : lane ≡ l = same_Some lane l (sym h ∙ gm) in
-        let q : is_same_lane (Some lane) l ≡ true = subst (λ (x : Lane). is_same_lane (Some lane) x ≡ true) s (same_lane_self lane) in
+        let q : is_same_lane (Some lane) l ≡ true = subst (λ (x : Lane). is_same_lane (Some lane) x ≡ true) s (lane_self lane) in
         absurd (cc)
 
     kept : is_same_lane (Some lane) l ≡ false → (b : Bool) → (l.receiver == lane.receiver) ≡ b → shown setup m (journal_at old l.receiver) ≡ shown setup m (journal_at new l.receiver)
@@ -123,8 +118,8 @@ shown_step setup n lane m l t old new gn gm step under_way = go (is_same_lane (S
 
     go : (b : Bool) → is_same_lane (Some lane) l ≡ b → shown setup m (journal_at old l.receiver) ++ cond b (item.Carry t ∷ under_way l) (under_way l) ≡ shown setup m (journal_at new l.receiver) ++ under_way l
     go true e =
-        let s = same_lane lane l e in
-        let k : n ≡ m = same_number setup.job n m l (subst (λ (x : Lane). slice_get (lanes setup.job) n ≡ Some x) s gn) gm in
+        let s = same_Some lane l (same_lane (Some lane) l e) in
+        let k : n ≡ m = same_number setup.job lane l n m gn gm s in
         let q : (n == m) ≡ true = eq-eqb n m k in
         let r : l.receiver ≡ lane.receiver = ap (λ (x : Lane). x.receiver) (sym s) in
         sym (ap (λ (xs : List Item). xs ++ under_way l) (there r ∙ ap (λ (b : Bool). shown setup m (journal_at old l.receiver) ++ cond b (item.Carry t ∷ []) []) q)

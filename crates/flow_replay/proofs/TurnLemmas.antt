@@ -1,7 +1,7 @@
 -- What is on the lanes where all covered workers turn, and where all workers end.
-use Rattle.std.proofs.Common.{◌≡◌, ◌<◌, ◌+◌, ◌==◌, ◌&&◌, ℕ, zero, suc, List, [], ◌∷◌, ◌++◌, inl, inr, Bool, true, false, cond, length, map, Option, Some, None, refl, sym, ap, subst, ◌∙◌, arith}
+use Rattle.std.proofs.Common.{◌≡◌, ◌<◌, ◌+◌, ◌==◌, ◌&&◌, ℕ, List, [], ◌∷◌, ◌++◌, inl, inr, Bool, true, false, cond, length, map, Option, Some, None, refl, sym, ap, subst, ◌∙◌, arith}
 use Rattle.std.specs.Prelude.{filter, slice_get}
-use Rattle.std.specs.List.{cons_option, enumerate_from, flat_map}
+use Rattle.std.specs.List.{flat_map}
 use Rattle.std.proofs.lemmas.Bool.{eq-eqb, ne_eqb}
 use Rattle.std.proofs.lemmas.List.{append-nil}
 use Rattle.std.proofs.lemmas.List.Elements.{filter_map-append}
@@ -13,40 +13,25 @@ use Rattle.sink_journal.specs.declared.journal.Entry.TheVariants as entry
 use Rattle.tuple_trace.specs.declared.tuple.Item.{Item}
 use Rattle.tuple_trace.specs.declared.tuple.Item.TheVariants as item
 use Rattle.flow_model.specs.Covers.{covers, covers_edge}
-use Rattle.flow_model.specs.Lanes.{is_same_lane, is_sender, lanes, lanes_in, lanes_out, lanes_that, marked_lanes}
+use Rattle.flow_model.specs.Lanes.{is_sender, lanes, lanes_in, lanes_out, lanes_that, marked_lanes, senders}
 use Rattle.flow_model.specs.Outline.{Lane, Outline, Post}
 use Rattle.flow_model.specs.Replay.{Local, Put, after, after_all, came_in, item_on, items_on, marker, put_on_each, puts, sent, shown}
 use Rattle.flow_model.specs.Workers.{posts}
+use Rattle.flow_model.proofs.ElementLemmas.{AreDistinct, IsIn, distinct_filter, filter_in, in_filter, in_of_place}
 use Rattle.flow_model.proofs.JournalLemmas.{sent-append, shown-append}
+use Rattle.flow_model.proofs.LaneLemmas.{LaneIs, in_lanes_that, lane_is, lanes_that_in}
 use Rattle.flow_replay.specs.declared.worker.Desk.{Desk}
 use Rattle.flow_replay.specs.Desks.{AllGain, AreTied, end_block, first_local, journal_at, marks, nothing, post_at, put_so_far, turn_block, turn_entries}
 use Rattle.flow_replay.proofs.CoverLemmas.{AreCovering}
-use Rattle.flow_replay.proofs.FollowLemmas.{AreDistinct, IsIn, contains-in, lanes_that-distinct}
-use Rattle.flow_replay.proofs.LaneLemmas.{IsLane, is_lane, receiver_node, same_lane, same_lane_self, same_number, sender_source, sender_worker}
-use Rattle.flow_replay.proofs.SeatLemmas.{post_at-get, post_of}
+use Rattle.flow_replay.proofs.FoldLemmas.{none_on, one_on, out_distinct}
+use Rattle.flow_replay.proofs.FollowLemmas.{ended_all, lanes_that-distinct}
+use Rattle.flow_replay.proofs.LaneLemmas.{receiver_node, sender_source, sender_worker}
+use Rattle.flow_replay.proofs.SeatLemmas.{post_at-get}
 use Rattle.flow_replay.proofs.TieLemmas.{sent_by}
-use Rattle.flow_replay.proofs.WayLemmas.{lanes_that_hold, receiver_below}
+use Rattle.flow_replay.proofs.WayLemmas.{receiver_below}
 
--- ---- one item on each of several lanes
+-- ---- items on each of several lanes
 
-pub none_on : (x : Item) (l : Lane) (ls : List Lane) → ¬ IsIn l ls → items_on l (put_on_each x ls) ≡ []
-none_on x l [] h = refl
-none_on x l (y ∷ ls) h = go (is_same_lane (Some y) l) refl (none_on x l ls (λ i. h (inr i)))
-  where
-    go : (b : Bool) → is_same_lane (Some y) l ≡ b → items_on l (put_on_each x ls) ≡ [] → cons_option (cond b (Some x) None) (items_on l (put_on_each x ls)) ≡ []
-    go true e r = absurd (h (inl (same_lane y l e)))
-    go false e r = r
-
-pub one_on : (x : Item) (l : Lane) (ls : List Lane) → AreDistinct ls → IsIn l ls → items_on l (put_on_each x ls) ≡ x ∷ []
-one_on x l [] d h = absurd h
-one_on x l (y ∷ ls) d h = go (is_same_lane (Some y) l) refl h (one_on x l ls d.1)
-  where
-    go : (b : Bool) → is_same_lane (Some y) l ≡ b → IsIn l (y ∷ ls) → (IsIn l ls → items_on l (put_on_each x ls) ≡ x ∷ []) → cons_option (cond b (Some x) None) (items_on l (put_on_each x ls)) ≡ x ∷ []
-    go true e i r = let s = same_lane y l e in ap (λ (xs : List Item). x ∷ xs) (none_on x l ls (subst (λ (z : Lane). ¬ IsIn z ls) s d.0))
-    go false e (inl s) r = absurd (let q : is_same_lane (Some y) l ≡ true = subst (λ (z : Lane). is_same_lane (Some y) z ≡ true) s (same_lane_self y) in cc)
-    go false e (inr i) r = r i
-
--- the same for a list of items on each
 all_on : (xs : List Item) (l : Lane) (ls : List Lane) → AreDistinct ls → IsIn l ls → items_on l (flat_map (λ (x : Item). put_on_each x ls) xs) ≡ xs
 all_on [] l ls d h = refl
 all_on (x ∷ xs) l ls d h =
@@ -59,97 +44,32 @@ all_off (x ∷ xs) l ls h =
     filter_map-append (item_on l) (put_on_each x ls) (flat_map (λ (x : Item). put_on_each x ls) xs)
     ∙ (ap (λ (ys : List Item). ys ++ items_on l (flat_map (λ (x : Item). put_on_each x ls) xs)) (none_on x l ls h) ∙ all_off xs l ls h)
 
-pub in-filter : (test : Lane → Bool) (l : Lane) (ls : List Lane) → IsIn l ls → test l ≡ true → IsIn l (filter test ls)
-in-filter test l [] h t = absurd h
-in-filter test l (y ∷ ls) (inl e) t = go (test y) (subst (λ (z : Lane). test z ≡ true) (sym e) t)
-  where
-    go : (b : Bool) → b ≡ true → IsIn l (cond b (y ∷ filter test ls) (filter test ls))
-    go true q = inl e
-    go false q = absurd (cc)
-in-filter test l (y ∷ ls) (inr i) t = go (test y) (in-filter test l ls i t)
-  where
-    go : (b : Bool) → IsIn l (filter test ls) → IsIn l (cond b (y ∷ filter test ls) (filter test ls))
-    go true r = inr r
-    go false r = r
-
-of-filter : (test : Lane → Bool) (l : Lane) (ls : List Lane) → IsIn l (filter test ls) → IsIn l ls × (test l ≡ true)
-of-filter test l [] h = absurd h
-of-filter test l (y ∷ ls) h = go (test y) refl h (of-filter test l ls)
-  where
-    go : (b : Bool) → test y ≡ b → IsIn l (cond b (y ∷ filter test ls) (filter test ls)) → (IsIn l (filter test ls) → IsIn l ls × (test l ≡ true)) → IsIn l (y ∷ ls) × (test l ≡ true)
-    go true e (inl s) r = (inl s, subst (λ (z : Lane). test z ≡ true) s e)
-    go true e (inr i) r = let k = r i in (inr k.0, k.1)
-    go false e i r = let k = r i in (inr k.0, k.1)
-
-distinct-filter : (test : Lane → Bool) (ls : List Lane) → AreDistinct ls → AreDistinct (filter test ls)
-distinct-filter test [] d = tt
-distinct-filter test (y ∷ ls) d = go (test y) (distinct-filter test ls d.1)
-  where
-    go : (b : Bool) → AreDistinct (filter test ls) → AreDistinct (cond b (y ∷ filter test ls) (filter test ls))
-    go true r = ((λ i. d.0 (of-filter test y ls i).0), r)
-    go false r = r
-
-in_get : (x : Lane) (xs : List Lane) → IsIn x xs → (k : ℕ) × (slice_get xs k ≡ Some x)
-in_get x [] h = absurd h
-in_get x (y ∷ ys) (inl e) = (zero, ap Some e)
-in_get x (y ∷ ys) (inr h) = let r = in_get x ys h in (suc r.0, r.1)
-
-get_in : (x : Lane) (xs : List Lane) (k : ℕ) → slice_get xs k ≡ Some x → IsIn x xs
-get_in x [] k e = absurd (cc)
-get_in x (y ∷ ys) zero e = inl (same_Some y x e)
-get_in x (y ∷ ys) (suc k) e = inr (get_in x ys k e)
-
-distinct-get : (xs : List Lane) → ((n m : ℕ) (x : Lane) → slice_get xs n ≡ Some x → slice_get xs m ≡ Some x → n ≡ m) → AreDistinct xs
-distinct-get [] h = tt
-distinct-get (x ∷ xs) h =
-    ((λ i. let r = in_get x xs i in let q = h zero (suc r.0) x refl r.1 in absurd (omega (arith, q))), distinct-get xs (λ n m y a b. let q = h (suc n) (suc m) y a b in omega (arith, q)))
-
-lanes-distinct : (job : Written) → AreDistinct (lanes job)
-lanes-distinct job = distinct-get (lanes job) (same_number job)
-
-pub lanes_out-distinct : (job : Written) (w : ℕ) → AreDistinct (lanes_out job w)
-lanes_out-distinct job w = distinct-filter (λ (lane : Lane). is_sender w lane.sender) (lanes job) (lanes-distinct job)
-
 pub goes_out : (job : Written) (n : ℕ) (l : Lane) (s : ℕ) → slice_get (lanes job) n ≡ Some l → l.sender ≡ Some s → IsIn l (lanes_out job s)
 goes_out job n l s g e =
-    in-filter (λ (lane : Lane). is_sender s lane.sender) l (lanes job) (get_in l (lanes job) n g) (ap (is_sender s) e ∙ eq-eqb s s refl)
+    filter_in (λ (lane : Lane). is_sender s lane.sender) l (lanes job) (in_of_place l (lanes job) n g) (ap (is_sender s) e ∙ eq-eqb s s refl)
 
 -- ---- entries of several lanes
 
 shown_none : (setup : Outline) (n : ℕ) (x : List Item) (f : ℕ → Entry) → ((k : ℕ) → came_in setup n (f k) ≡ cond (k == n) x []) → (ns : List ℕ) → ¬ IsIn n ns → shown setup n (map f ns) ≡ []
 shown_none setup n x f is [] h = refl
 shown_none setup n x f is (k ∷ ns) h =
-    let other : (k == n) ≡ false = ne_eqb k n (λ e. h (inl e)) in
+    let other : (k == n) ≡ false = ne_eqb k n (λ e. h (inl (sym e))) in
     ap (λ (xs : List Item). xs ++ shown setup n (map f ns)) (is k ∙ ap (λ (b : Bool). cond b x []) other) ∙ shown_none setup n x f is ns (λ i. h (inr i))
 
 shown_one : (setup : Outline) (n : ℕ) (x : List Item) (f : ℕ → Entry) → ((k : ℕ) → came_in setup n (f k) ≡ cond (k == n) x []) → (ns : List ℕ) → AreDistinct ns → IsIn n ns → shown setup n (map f ns) ≡ x
 shown_one setup n x f is [] d h = absurd h
 shown_one setup n x f is (k ∷ ns) d (inl e) =
-    let same : (k == n) ≡ true = eq-eqb k n e in
+    let same : (k == n) ≡ true = eq-eqb k n (sym e) in
     ap (λ (xs : List Item). xs ++ shown setup n (map f ns)) (is k ∙ ap (λ (b : Bool). cond b x []) same)
-    ∙ (ap (λ (xs : List Item). x ++ xs) (shown_none setup n x f is ns (subst (λ (z : ℕ). ¬ IsIn z ns) e d.0)) ∙ append-nil x)
+    ∙ (ap (λ (xs : List Item). x ++ xs) (shown_none setup n x f is ns (subst (λ (z : ℕ). ¬ IsIn z ns) (sym e) d.0)) ∙ append-nil x)
 shown_one setup n x f is (k ∷ ns) d (inr i) =
     let other : (k == n) ≡ false = ne_eqb k n (λ e. d.0 (subst (λ (z : ℕ). IsIn z ns) (sym e) i)) in
     ap (λ (xs : List Item). xs ++ shown setup n (map f ns)) (is k ∙ ap (λ (b : Bool). cond b x []) other) ∙ shown_one setup n x f is ns d.1 i
 
--- a number among those that pass a test is that of such a lane
-numbers_pass : (test : Lane → Bool) (i n : ℕ) (ls : List Lane) → IsIn n (map (λ (p : ℕ × Lane). p.0) (filter (λ (p : ℕ × Lane). test p.1) (enumerate_from i ls)))
-    → (k : ℕ) × (n ≡ i + k) × (l : Lane) × (slice_get ls k ≡ Some l) × (test l ≡ true)
-numbers_pass test i n [] h = absurd h
-numbers_pass test i n (x ∷ ls) h = go (test x) refl h (numbers_pass test (i + 1) n ls)
-  where
-    go : (b : Bool) → test x ≡ b → IsIn n (map (λ (p : ℕ × Lane). p.0) (cond b ((i, x) ∷ filter (λ (p : ℕ × Lane). test p.1) (enumerate_from (i + 1) ls)) (filter (λ (p : ℕ × Lane). test p.1) (enumerate_from (i + 1) ls))))
-        → (IsIn n (map (λ (p : ℕ × Lane). p.0) (filter (λ (p : ℕ × Lane). test p.1) (enumerate_from (i + 1) ls))) → (k : ℕ) × (n ≡ i + 1 + k) × (l : Lane) × (slice_get ls k ≡ Some l) × (test l ≡ true))
-        → (k : ℕ) × (n ≡ i + k) × (l : Lane) × (slice_get (x ∷ ls) k ≡ Some l) × (test l ≡ true)
-    go true t (inl e) later = (zero, omega (arith, e), x, refl, t)
-    go true t (inr r) later = let q = later r in (suc q.0, omega (arith, q.1), q.2, q.3, q.4)
-    go false t r later = let q = later r in (suc q.0, omega (arith, q.1), q.2, q.3, q.4)
-
 not_that : (test : Lane → Bool) (job : Written) (n : ℕ) (l : Lane) → slice_get (lanes job) n ≡ Some l → test l ≡ false → ¬ IsIn n (lanes_that test job)
 not_that test job n l g t h =
-    let (k, at, x, there, pass) = numbers_pass test 0 n (lanes job) h in
-    let e : k ≡ n = omega (arith, at) in
-    let same : x ≡ l = same_Some x l (sym there ∙ (ap (slice_get (lanes job)) e ∙ g)) in
+    let (x, there, pass) = in_lanes_that test job n h in
+    let same : x ≡ l = same_Some x l (sym there ∙ g) in
     let q : test l ≡ true = subst (λ (z : Lane). test z ≡ true) same pass in
     absurd (cc)
 
@@ -172,11 +92,11 @@ turn_items setup n l r s post local g e num = go (covers_edge setup r l.edge) re
     go : (b : Bool) → covers_edge setup r l.edge ≡ b → items_on l (puts setup post local (entry.Turned r)) ≡ cond b (marker setup r) []
     go true t =
         all_on (marker setup r) l (filter (λ (lane : Lane). covers_edge setup r lane.edge) (lanes_out setup.job post.number))
-        (distinct-filter (λ (lane : Lane). covers_edge setup r lane.edge) (lanes_out setup.job post.number) (lanes_out-distinct setup.job post.number))
-        (in-filter (λ (lane : Lane). covers_edge setup r lane.edge) l (lanes_out setup.job post.number) out t)
+        (distinct_filter (λ (lane : Lane). covers_edge setup r lane.edge) (lanes_out setup.job post.number) (out_distinct setup.job post.number))
+        (filter_in (λ (lane : Lane). covers_edge setup r lane.edge) l (lanes_out setup.job post.number) out t)
     go false t =
         all_off (marker setup r) l (filter (λ (lane : Lane). covers_edge setup r lane.edge) (lanes_out setup.job post.number))
-        (λ i. let k = of-filter (λ (lane : Lane). covers_edge setup r lane.edge) l (lanes_out setup.job post.number) i in let q = k.1 in absurd (cc))
+        (λ i. let k = in_filter (λ (lane : Lane). covers_edge setup r lane.edge) l (lanes_out setup.job post.number) i in let q = k.1 in absurd (cc))
 
 turn_shown : (setup : Outline) (n : ℕ) (l : Lane) (r : ℕ) → slice_get (lanes setup.job) n ≡ Some l → shown setup n (turn_entries setup r l.receiver) ≡ mark_on setup r l
 turn_shown setup n l r g =
@@ -189,7 +109,7 @@ turn_shown setup n l r g =
     go : (b : Bool) → covers_edge setup r l.edge ≡ b → shown setup n (map (λ (k : ℕ). entry.Marked k r) (lanes_that test setup.job)) ≡ cond b (marker setup r) []
     go true t =
         shown_one setup n (marker setup r) (λ (k : ℕ). entry.Marked k r) (λ k. refl) (lanes_that test setup.job) (lanes_that-distinct test setup.job)
-        (contains-in n (lanes_that test setup.job) (lanes_that_hold test setup.job n l g (ap (λ (b : Bool). b && covers_edge setup r l.edge) (eq-eqb l.receiver l.receiver refl) ∙ t)))
+        (lanes_that_in test setup.job n l g (ap (λ (b : Bool). b && covers_edge setup r l.edge) (eq-eqb l.receiver l.receiver refl) ∙ t))
     go false t =
         shown_none setup n (marker setup r) (λ (k : ℕ). entry.Marked k r) (λ k. refl) (lanes_that test setup.job)
         (not_that test setup.job n l g (ap (λ (b : Bool). (l.receiver == l.receiver) && b) t ∙ ap (λ (b : Bool). b && false) (eq-eqb l.receiver l.receiver refl)))
@@ -206,17 +126,15 @@ pub record IsSending (job : Written) (l : Lane) (s : ℕ) : Type 0 where
 
 pub is_sending : (job : Written) (n : ℕ) (l : Lane) (s : ℕ) → slice_get (lanes job) n ≡ Some l → l.sender ≡ Some s → IsSending job l s
 is_sending job n l s g e =
-    let is = is_lane job n l g in
-    let by = sender_worker job is.edge.from is.sender_place s (is.sender_is ∙ ap Some e) in
-    let there = post_of job is.edge.from is.sender_place by.post by.post_is in
-    let at : slice_get (posts job) s ≡ Some by.post = ap (slice_get (posts job)) (sym by.number_is) ∙ there.1 in
-    let same = post_at-get job s by.post at in
+    let is = lane_is job n l g in
+    let (post, there, number, node) = sender_worker job is.edge.from s (subst (λ (o : Option ℕ). IsIn o (senders job is.edge.from)) e is.sends) in
+    let same = post_at-get job s post there in
     record {
       edge = is.edge;
       edge_is = is.edge_is;
-      below = slice_get_within (posts job) s by.post at;
-      number_is = ap (λ (p : Post). p.number) same ∙ by.number_is;
-      node_is = ap (λ (p : Post). p.node) same ∙ there.0;
+      below = slice_get_within (posts job) s post there;
+      number_is = ap (λ (p : Post). p.number) same ∙ number;
+      node_is = ap (λ (p : Post). p.node) same ∙ node;
     }
 
 pub turns_tie : (setup : Outline) (fed : List Put) (r : ℕ) (old new : List Desk) → AreCovering setup → length old ≡ length (posts setup.job) → AllGain setup (turn_block setup r) old new
@@ -226,8 +144,8 @@ turns_tie setup fed r old new covering long gain tied n l g =
     ∙ (ap (λ (xs : List Item). xs ++ mark_on setup r l) (tied n l g ∙ append-nil (shown setup n (journal_at old l.receiver)))
     ∙ (sym shown_gain ∙ sym (append-nil (shown setup n (journal_at new l.receiver)))))
   where
-    is : IsLane setup.job n l
-    is = is_lane setup.job n l g
+    is : LaneIs setup.job l
+    is = lane_is setup.job n l g
 
     -- a node that isn't covered has no covered edge
     no_mark : (v : ℕ) → (covers_edge setup r l.edge ≡ true → covers setup r v ≡ true) → covers setup r v ≡ false → mark_on setup r l ≡ []
@@ -239,7 +157,7 @@ turns_tie setup fed r old new covering long gain tied n l g =
 
     put_gain : (o : Option ℕ) → l.sender ≡ o → put_so_far setup fed new l o ≡ put_so_far setup fed old l o ++ mark_on setup r l
     put_gain None e =
-        let source = sender_source setup.job is.edge.from is.sender_place (is.sender_is ∙ ap Some e) in
+        let source = sender_source setup.job is.edge.from (subst (λ (o : Option ℕ). IsIn o (senders setup.job is.edge.from)) e is.sends) in
         let none : covers_edge setup r l.edge ≡ false = covering.no_source r l.edge is.edge is.edge_is source in
         sym (append-nil (items_on l fed)) ∙ ap (λ (b : Bool). items_on l fed ++ cond b (marker setup r) []) (sym none)
     put_gain (Some s) e = ap (sent_by setup l s) (gain.each s below).journal ∙ of_worker (covers setup r (post_at setup.job s).node) refl
@@ -276,7 +194,7 @@ turns_tie setup fed r old new covering long gain tied n l g =
         below = let b = receiver_below setup.job n l g in omega (arith, b, long)
 
         covered : covers_edge setup r l.edge ≡ true → covers setup r (post_at setup.job l.receiver).node ≡ true
-        covered t = ap (covers setup r) (receiver_node setup.job n l is) ∙ covering.to r l.edge is.edge is.edge_is t
+        covered t = ap (covers setup r) (receiver_node setup.job l is) ∙ covering.to r l.edge is.edge is.edge_is t
 
         of_worker : (b : Bool) → covers setup r (post_at setup.job l.receiver).node ≡ b
             → shown setup n (journal_at old l.receiver ++ cond (covers setup r (post_at setup.job l.receiver).node) (turn_entries setup r l.receiver) []) ≡ shown setup n (journal_at old l.receiver) ++ mark_on setup r l
@@ -291,24 +209,21 @@ turns_tie setup fed r old new covering long gain tied n l g =
 
 -- ---- all end
 
-abbrev end_all : List ℕ → List Entry
-end_all ns = map (λ (lane : ℕ). entry.Ended lane) ns
-
 -- the last of the ends puts what all put
 ends_sent : (setup : Outline) (post : Post) (l : Lane) (local : Local) (n : ℕ) (ns : List ℕ) → local.ended + length (n ∷ ns) ≡ length (lanes_in setup.job post.number)
-    → sent setup post local l (end_all (n ∷ ns)) ≡ items_on l (put_on_each item.Last (lanes_out setup.job post.number))
+    → sent setup post local l (ended_all (n ∷ ns)) ≡ items_on l (put_on_each item.Last (lanes_out setup.job post.number))
 ends_sent setup post l local n [] h =
     let q : (local.ended + 1 == length (lanes_in setup.job post.number)) ≡ true = eq-eqb (local.ended + 1) (length (lanes_in setup.job post.number)) (omega (arith, h)) in
     append-nil (items_on l (puts setup post local (entry.Ended n))) ∙ ap (λ (b : Bool). items_on l (cond b (put_on_each item.Last (lanes_out setup.job post.number)) [])) q
 ends_sent setup post l local n (m ∷ ns) h =
     let q : (local.ended + 1 == length (lanes_in setup.job post.number)) ≡ false = ne_eqb (local.ended + 1) (length (lanes_in setup.job post.number)) (λ e. absurd (omega (arith, h, e))) in
-    ap (λ (b : Bool). items_on l (cond b (put_on_each item.Last (lanes_out setup.job post.number)) []) ++ sent setup post (after setup post local (entry.Ended n)) l (end_all (m ∷ ns))) q
+    ap (λ (b : Bool). items_on l (cond b (put_on_each item.Last (lanes_out setup.job post.number)) []) ++ sent setup post (after setup post local (entry.Ended n)) l (ended_all (m ∷ ns))) q
     ∙ ends_sent setup post l (after setup post local (entry.Ended n)) m ns (omega (arith, h))
 
 end_shown : (setup : Outline) (n : ℕ) (l : Lane) → slice_get (lanes setup.job) n ≡ Some l → shown setup n (end_block setup.job l.receiver) ≡ item.Last ∷ []
 end_shown setup n l g =
     shown_one setup n (item.Last ∷ []) (λ (k : ℕ). entry.Ended k) (λ k. refl) (lanes_in setup.job l.receiver) (lanes_that-distinct (λ (lane : Lane). lane.receiver == l.receiver) setup.job)
-    (contains-in n (lanes_in setup.job l.receiver) (lanes_that_hold (λ (lane : Lane). lane.receiver == l.receiver) setup.job n l g (eq-eqb l.receiver l.receiver refl)))
+    (lanes_that_in (λ (lane : Lane). lane.receiver == l.receiver) setup.job n l g (eq-eqb l.receiver l.receiver refl))
 
 pub shown_ended : (setup : Outline) (n : ℕ) (l : Lane) (old new : List Entry) → slice_get (lanes setup.job) n ≡ Some l → new ≡ old ++ end_block setup.job l.receiver → shown setup n new ≡ shown setup n old ++ item.Last ∷ []
 shown_ended setup n l old new g e =
@@ -319,7 +234,7 @@ pub sent_ended : (setup : Outline) (n : ℕ) (l : Lane) (s : ℕ) (old new : Lis
 sent_ended setup n l s old new covering g e zero_ended grown =
     ap (sent_by setup l s) grown
     ∙ (sent-append setup (post_at setup.job s) (first_local setup (post_at setup.job s)) l old (end_block setup.job s)
-    ∙ ap (λ (xs : List Item). sent_by setup l s old ++ xs) (some (lanes_in setup.job s) refl (covering.reached s by.below).0 (contains-in (covering.reached s by.below).0 (lanes_in setup.job s) (covering.reached s by.below).1) ∙ last))
+    ∙ ap (λ (xs : List Item). sent_by setup l s old ++ xs) (some (lanes_in setup.job s) refl (covering.reached s by.below).0 (covering.reached s by.below).1 ∙ last))
   where
     by : IsSending setup.job l s
     by = is_sending setup.job n l s g e
@@ -330,12 +245,12 @@ sent_ended setup n l s old new covering g e zero_ended grown =
     here : Local
     here = after_all setup post (first_local setup post) old
 
-    some : (ns : List ℕ) → ns ≡ lanes_in setup.job s → (k : ℕ) → IsIn k ns → sent setup post here l (end_all ns) ≡ items_on l (put_on_each item.Last (lanes_out setup.job post.number))
+    some : (ns : List ℕ) → ns ≡ lanes_in setup.job s → (k : ℕ) → IsIn k ns → sent setup post here l (ended_all ns) ≡ items_on l (put_on_each item.Last (lanes_out setup.job post.number))
     some [] q k i = absurd i
     some (m ∷ ns) q k i =
         ends_sent setup post l here m ns (let a = ap (length {A = ℕ}) q in let b : length (lanes_in setup.job post.number) ≡ length (lanes_in setup.job s) = ap (λ (v : ℕ). length (lanes_in setup.job v)) by.number_is in omega (arith, zero_ended, a, b))
 
     last : items_on l (put_on_each item.Last (lanes_out setup.job post.number)) ≡ item.Last ∷ []
     last =
-        one_on item.Last l (lanes_out setup.job post.number) (lanes_out-distinct setup.job post.number)
+        one_on item.Last l (lanes_out setup.job post.number) (out_distinct setup.job post.number)
         (subst (λ (v : ℕ). IsIn l (lanes_out setup.job v)) (sym by.number_is) (goes_out setup.job n l s g e))

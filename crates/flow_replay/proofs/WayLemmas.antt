@@ -1,7 +1,7 @@
 -- The way of a tuple through the job: how it begins, goes on and ends.
-use Rattle.std.proofs.Common.{◌≡◌, ◌<◌, ◌+◌, ◌-◌, ◌==◌, ◌⊎◌, ℕ, zero, suc, List, [], ◌∷◌, ◌++◌, inl, inr, Bool, true, false, cond, length, map, Option, Some, None, refl, sym, ap, subst, ◌∙◌, arith, append_assoc}
-use Rattle.std.specs.Prelude.{Contains, filter, slice_get}
-use Rattle.std.specs.List.{AllByRecursion, cons_option, enumerate_from}
+use Rattle.std.proofs.Common.{◌≡◌, ◌<◌, ◌-◌, ◌==◌, ◌⊎◌, ℕ, List, [], ◌∷◌, ◌++◌, inl, inr, Bool, true, false, cond, length, Option, Some, None, refl, sym, ap, subst, ◌∙◌, arith, append_assoc}
+use Rattle.std.specs.Prelude.{Contains, slice_get}
+use Rattle.std.specs.List.{AllByRecursion, cons_option}
 use Rattle.std.proofs.lemmas.Bool.{eq-eqb, eqb-false, eqb-true}
 use Rattle.std.proofs.lemmas.List.{append-nil}
 use Rattle.std.proofs.lemmas.Option.{get_or_from_slice_get, same_Some, slice_get_within}
@@ -15,17 +15,19 @@ use Rattle.sink_journal.specs.declared.journal.Entry.TheVariants as entry
 use Rattle.tuple_trace.specs.declared.tuple.Item.{Item}
 use Rattle.tuple_trace.specs.declared.tuple.Item.TheVariants as item
 use Rattle.tuple_trace.specs.declared.tuple.Tuple.{Tuple}
-use Rattle.flow_model.specs.Lanes.{is_same_lane, lane_of, lanes, lanes_in, lanes_that}
+use Rattle.flow_model.specs.Lanes.{is_same_lane, lane_of, lanes, lanes_in}
 use Rattle.flow_model.specs.Outline.{Lane, Outline, Post}
 use Rattle.flow_model.specs.Replay.{items_on, shown, visit_at}
 use Rattle.flow_model.specs.Workers.{posts}
+use Rattle.flow_model.proofs.ElementLemmas.{all_of, contains_of_in, place_of_in}
+use Rattle.flow_model.proofs.LaneLemmas.{lane_is, lanes_that_in}
 use Rattle.flow_replay.specs.declared.wiring.Hop.{Hop}
 use Rattle.flow_replay.specs.declared.worker.Desk.{Desk}
 use Rattle.flow_replay.specs.Desks.{AreTied, IsQuiet, IsStep, desk_at, from_node, journal_at, local_of, made_at, post_at, with_item}
 use Rattle.flow_replay.specs.Tables.{IsHop, IsHopAlong}
 use Rattle.flow_replay.specs.Ways.{IsBrought, IsMeeting, IsOfRow, IsUnderWay, Meets, lane_at, no_lane, rank_behind}
-use Rattle.flow_replay.proofs.LaneLemmas.{is_lane, is_lane_of, receiver_node, receiver_there}
-use Rattle.flow_replay.proofs.SeatLemmas.{is_post, post_at-get}
+use Rattle.flow_replay.proofs.LaneLemmas.{is_lane_of, receiver_node, receiver_there}
+use Rattle.flow_replay.proofs.SeatLemmas.{node_below, post_at-get}
 use Rattle.flow_replay.proofs.TieLemmas.{in_force_step, meet_tied, mine, out_puts}
 
 -- each edge leads to a higher rank, and ranks are below 64
@@ -39,61 +41,37 @@ pub lane_there : (job : Written) (n : ℕ) (lane : Lane) → slice_get (lanes jo
 lane_there job n lane e = get_or_from_slice_get (lanes job) n lane no_lane e
 
 pub receiver_below : (job : Written) (n : ℕ) (lane : Lane) → slice_get (lanes job) n ≡ Some lane → lane.receiver < length (posts job)
-receiver_below job n lane e = let is = is_lane job n lane e in slice_get_within (posts job) lane.receiver is.post (receiver_there job n lane is)
+receiver_below job n lane e = let is = lane_is job n lane e in slice_get_within (posts job) lane.receiver is.to (receiver_there job lane is)
 
 pub receiver_number : (job : Written) (n : ℕ) (lane : Lane) → slice_get (lanes job) n ≡ Some lane → (post_at job lane.receiver).number ≡ lane.receiver
 receiver_number job n lane e =
-    let is = is_lane job n lane e in
-    let there = receiver_there job n lane is in
-    ap (λ (p : Post). p.number) (post_at-get job lane.receiver is.post there) ∙ (is_post job lane.receiver is.post there).number_is
+    let is = lane_is job n lane e in ap (λ (p : Post). p.number) (post_at-get job lane.receiver is.to (receiver_there job lane is)) ∙ sym is.receiver
 
--- numbered elements that pass a test have their numbers among those
-numbers_hold : (test : Lane → Bool) (i n k : ℕ) (l : Lane) (ls : List Lane) → slice_get ls k ≡ Some l → test l ≡ true → n ≡ i + k
-    → Contains (map (λ (p : ℕ × Lane). p.0) (filter (λ (p : ℕ × Lane). test p.1) (enumerate_from i ls))) n
-numbers_hold test i n k l [] e t q = absurd (cc)
-numbers_hold test i n zero l (x ∷ ls) e t q =
-    let same : x ≡ l = cc in
-    go (test x) (subst (λ (y : Lane). test y ≡ true) (sym same) t)
-  where
-    go : (b : Bool) → b ≡ true → Contains (map (λ (p : ℕ × Lane). p.0) (cond b ((i, x) ∷ filter (λ (p : ℕ × Lane). test p.1) (enumerate_from (i + 1) ls)) (filter (λ (p : ℕ × Lane). test p.1) (enumerate_from (i + 1) ls)))) n
-    go true h = (0, omega arith, let z : i ≡ n = omega arith in z)
-    go false h = absurd (cc)
-numbers_hold test i n (suc k) l (x ∷ ls) e t q = go (test x) (numbers_hold test (i + 1) n k l ls e t (omega arith))
-  where
-    go : (b : Bool) → Contains (map (λ (p : ℕ × Lane). p.0) (filter (λ (p : ℕ × Lane). test p.1) (enumerate_from (i + 1) ls))) n
-        → Contains (map (λ (p : ℕ × Lane). p.0) (cond b ((i, x) ∷ filter (λ (p : ℕ × Lane). test p.1) (enumerate_from (i + 1) ls)) (filter (λ (p : ℕ × Lane). test p.1) (enumerate_from (i + 1) ls)))) n
-    go true (j, lt, is) = (suc j, omega (arith, lt), is)
-    go false h = h
-
-pub lanes_that_hold : (test : Lane → Bool) (job : Written) (n : ℕ) (l : Lane) → slice_get (lanes job) n ≡ Some l → test l ≡ true → Contains (lanes_that test job) n
-lanes_that_hold test job n l e t = numbers_hold test 0 n n l (lanes job) e t (omega arith)
-
-pub comes_in : (job : Written) (n : ℕ) (lane : Lane) → slice_get (lanes job) n ≡ Some lane → Contains (lanes_in job lane.receiver) n
-comes_in job n lane e = lanes_that_hold (λ (l : Lane). l.receiver == lane.receiver) job n lane e (eq-eqb lane.receiver lane.receiver refl)
+comes_in : (job : Written) (n : ℕ) (lane : Lane) → slice_get (lanes job) n ≡ Some lane → Contains (lanes_in job lane.receiver) n
+comes_in job n lane e = contains_of_in n (lanes_in job lane.receiver) (lanes_that_in (λ (l : Lane). l.receiver == lane.receiver) job n lane e (eq-eqb lane.receiver lane.receiver refl))
 
 -- a tuple's lane leads to a node of higher rank
 rises : (job : Written) (rank : ℕ → ℕ) (post : Post) (n : ℕ) (out : Output) → IsRanked job rank → slice_get (lanes job) n ≡ Some (lane_at job n)
     → lane_of job (Some post.number) post.node out.port out.tuple ≡ Some (lane_at job n) → rank post.node < rank_behind job rank n
 rises job rank post n out ranked g along =
     let l : Lane = lane_at job n in
-    let is = is_lane job n l g in
+    let is = lane_is job n l g in
     let of = is_lane_of job (Some post.number) post.node out.port out.tuple l along in
     let same : of.edge ≡ is.edge = same_Some of.edge is.edge (sym of.edge_is ∙ is.edge_is) in
     let from : is.edge.from ≡ post.node = ap (λ (e : Edge). e.from) (sym same) ∙ of.from_is in
-    let to : (post_at job l.receiver).node ≡ is.edge.to = receiver_node job n l is in
+    let to : (post_at job l.receiver).node ≡ is.edge.to = receiver_node job l is in
     let up : rank is.edge.from < rank is.edge.to = ranked.forward l.edge is.edge is.edge_is in
     subst (λ (v : ℕ). rank v < rank (post_at job l.receiver).node) from (subst (λ (v : ℕ). rank is.edge.from < rank v) (sym to) up)
 
 -- ---- a tuple under way
 
-rows_of : (t : Tuple) (outs : List Output) → ((k : ℕ) (out : Output) → slice_get outs k ≡ Some out → IsOfRow t.row t.issued out) → AllByRecursion (IsOfRow t.row t.issued) outs
-rows_of t [] h = tt
-rows_of t (out ∷ outs) h = (h 0 out refl, rows_of t outs (λ k x e. h (suc k) x e))
-
 made_rows : (setup : Outline) (post : Post) (desk : Desk) (t : Tuple) → AllByRecursion (IsOfRow t.row t.issued) (made_at setup post desk t)
 made_rows setup post desk t =
-    rows_of t (made_at setup post desk t)
-    (λ k out e. let is = outputs_made setup.job (visit_at post (local_of setup post desk)) (local_of setup post desk).func desk.counts t k out e in (is.row, is.issued))
+    all_of (IsOfRow t.row t.issued) (made_at setup post desk t)
+    (λ out i.
+    let (k, e) = place_of_in out (made_at setup post desk t) i in
+    let is = outputs_made setup.job (visit_at post (local_of setup post desk)) (local_of setup post desk).func desk.counts t k out e in
+    (is.row, is.issued))
 
 -- a meeting begins the way
 way_begins : (setup : Outline) (rank : ℕ → ℕ) (n : ℕ) (t : Tuple) (old new : List Desk) → slice_get (lanes setup.job) n ≡ Some (lane_at setup.job n)
@@ -216,12 +194,8 @@ falls_at job rank hop next node out ranked law is node_is (lane, along, is_next)
     ap (λ (k : ℕ). lane_of job (Some k) post.node out.port out.tuple) number
     ∙ (ap (λ (v : ℕ). lane_of job (Some hop.worker) v out.port out.tuple) (ap (λ (p : Post). p.node) (sym same) ∙ sym node_is) ∙ (along ∙ ap Some (sym at))) in
     let up = rises job rank post next.lane out ranked g way in
-    let to = is_lane job next.lane (lane_at job next.lane) g in
-    let there = receiver_there job next.lane (lane_at job next.lane) to in
-    let p = is_post job (lane_at job next.lane).receiver to.post there in
-    let within = slice_get_within job.nodes to.post.node p.def p.node_is in
-    let at_post : (post_at job (lane_at job next.lane).receiver).node ≡ to.post.node = ap (λ (x : Post). x.node) (post_at-get job (lane_at job next.lane).receiver to.post there) in
-    let b : rank (post_at job (lane_at job next.lane).receiver).node < 64 = ranked.below (post_at job (lane_at job next.lane).receiver).node (omega (arith, within, at_post)) in
+    let below = node_below job (lane_at job next.lane).receiver (receiver_below job next.lane (lane_at job next.lane) g) in
+    let b = ranked.below (post_at job (lane_at job next.lane).receiver).node below in
     omega (arith, up, b)
 
 pub goes_at : (setup : Outline) (rank : ℕ → ℕ) (hop next : Hop) (t : Tuple) (all : List Output) (out : Output) (outs : List Output) (node : ℕ) (old now new : List Desk) → IsRanked setup.job rank

@@ -7,16 +7,16 @@ use Rattle.flow_model.specs.Outline.{Lane}
 use Rattle.flow_model.specs.Replay.{sent}
 use Rattle.flow_model.specs.Setup.{outline}
 use Rattle.flow_replay.specs.Desks.{first_local, post_at}
-use Rattle.flow_replay.proofs.DeskLemmas.{is_post_at}
 use Rattle.flow_replay.proofs.EntryLemmas.{ended_grows, folded_more, folded_none}
 use Rattle.flow_replay.proofs.FoldLemmas.{length-outlets}
+use Rattle.flow_replay.proofs.SeatLemmas.{worker_at}
 use Rattle.flow_replay.proofs.folds.folded.Goals as goal
 
 pub loop-entry-init : goal.loop-entry-init
 loop-entry-init c =
     let setup = outline c.args.setup.now in
     let post = post_at setup.job c.args.worker in
-    let number = (is_post_at setup.job c.args.worker c.requires.worker).number_is in
+    let number = (worker_at setup.job c.args.worker c.requires.worker).0 in
     let outs = length-outlets setup.job (lanes_out setup.job c.args.worker) c.in_ok-outlets.outlets c.in_ok-outlets.ensures in
     let lists = c.in_ok-empty_lists.ensures ∙ (ap (λ (n : ℕ). replicate {A = List Item} n []) (c.len.ensures ∙ outs) ∙ ap (λ (n : ℕ). replicate {A = List Item} (length (lanes_out setup.job n)) []) (sym number)) in
     record { folded = folded_none setup post (record { desk = c.new.result; ended = 0; lists = c.in_ok-empty_lists.field-0 }) c.new.ensures refl lists; ended = omega arith }
@@ -25,7 +25,7 @@ pub enter-requires-clause-long : goal.enter-requires-clause-long
 enter-requires-clause-long c =
     let setup = outline c.args.setup.now in
     let post = post_at setup.job c.args.worker in
-    let number = (is_post_at setup.job c.args.worker c.requires.worker).number_is in
+    let number = (worker_at setup.job c.args.worker c.requires.worker).0 in
     let outs = length-outlets setup.job (lanes_out setup.job c.args.worker) c.in_ok-outlets.outlets c.in_ok-outlets.ensures in
     ap length c.loop-entry.invariant.folded.lists ∙ (length-map (lanes_out setup.job post.number) (λ (lane : Lane). sent setup post (first_local setup post) lane (take c.loop-entry.entry-index c.as_slice-entry-items.result.now))
     ∙ (ap (λ (n : ℕ). length (lanes_out setup.job n)) number ∙ (sym outs ∙ ap length (sym c.as_slice.ensures))))

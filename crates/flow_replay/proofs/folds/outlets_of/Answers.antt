@@ -10,24 +10,25 @@ use Rattle.flow_replay.specs.declared.wiring.Seat.{Seat}
 use Rattle.flow_replay.specs.Desks.{post_at}
 use Rattle.flow_replay.specs.Folds.{outlets_from}
 use Rattle.flow_replay.specs.Tables.{exits_of}
-use Rattle.flow_replay.proofs.OutletLemmas.{exit_fits, node_below, outlets-are, seat_is}
-use Rattle.flow_replay.proofs.SeatLemmas.{get-post_at}
+use Rattle.flow_replay.proofs.DeskLemmas.{seat_is, seat_read}
+use Rattle.flow_replay.proofs.OutletLemmas.{exit_fits, outlets-are}
+use Rattle.flow_replay.proofs.SeatLemmas.{get-post_at, node_below}
 use Rattle.flow_replay.proofs.TableLemmas.{exits_at}
 use Rattle.flow_replay.proofs.folds.outlets_of.Goals as goal
 
 pub bounds-as_slice-seat : goal.bounds-as_slice-seat
 bounds-as_slice-seat c =
     let job = written c.args.job.now in
-    let seat = seat_is job c.args.wiring.now c.args.worker c.as_slice.result.now (record { node = 0; place = 0 }) c.requires.wired c.as_slice.ensures c.requires.worker in
+    let seat = seat_is job c.args.wiring.now c.as_slice.result.now c.args.worker c.requires.wired c.as_slice.ensures c.requires.worker in
     let below = node_below job c.args.worker c.requires.worker in
     rw (seat, c.as_slice-2.ensures, c.requires.wired.each_node) below
 
 pub push_outlets-requires : goal.push_outlets-requires
 push_outlets-requires c =
     let job = written c.args.job.now in
-    let seat = seat_is job c.args.wiring.now c.args.worker c.as_slice.result.now (record { node = 0; place = 0 }) c.requires.wired c.as_slice.ensures c.requires.worker in
+    let seat = seat_is job c.args.wiring.now c.as_slice.result.now c.args.worker c.requires.wired c.as_slice.ensures c.requires.worker in
     let d : Exit = record { port = 0; edge = 0; lane = 0; worker = 0; workers = 0 } in
-    let below : (get_or c.as_slice.result.now c.args.worker (record { node = 0; place = 0 })).node < length job.nodes = rw seat (node_below job c.args.worker c.requires.worker) in
+    let below : (seat_read c.as_slice.result.now c.args.worker).node < length job.nodes = rw seat (node_below job c.args.worker c.requires.worker) in
     let exits : c.as_slice-exit-items.result.now ≡ exits_of job (post_at job c.args.worker).node =
     exits_at job c.args.wiring.now c.as_slice-2.result.now c.index-as_slice-seat.result c.as_slice-exit-items.result.now _ c.requires.wired c.as_slice-2.ensures below c.index-as_slice-seat.is c.as_slice-exit-items.ensures
     ∙ ap (λ (s : Seat). exits_of job s.node) seat in
@@ -37,7 +38,7 @@ push_outlets-requires c =
 
 pub loop-exit-preserved : goal.loop-exit-preserved
 loop-exit-preserved c =
-    let place : ℕ = (get_or c.as_slice.result.now c.args.worker (record { node = 0; place = 0 })).place in
+    let place : ℕ = (seat_read c.as_slice.result.now c.args.worker).place in
     let exits = c.as_slice-exit-items.result.now in
     let i = c.loop-exit.exit-index in
     let d : Exit = record { port = 0; edge = 0; lane = 0; worker = 0; workers = 0 } in
@@ -51,8 +52,8 @@ loop-exit-preserved c =
 pub returns : goal.returns
 returns c =
     let job = written c.args.job.now in
-    let seat = seat_is job c.args.wiring.now c.args.worker c.as_slice.result.now (record { node = 0; place = 0 }) c.requires.wired c.as_slice.ensures c.requires.worker in
-    let below : (get_or c.as_slice.result.now c.args.worker (record { node = 0; place = 0 })).node < length job.nodes = rw seat (node_below job c.args.worker c.requires.worker) in
+    let seat = seat_is job c.args.wiring.now c.as_slice.result.now c.args.worker c.requires.wired c.as_slice.ensures c.requires.worker in
+    let below : (seat_read c.as_slice.result.now c.args.worker).node < length job.nodes = rw seat (node_below job c.args.worker c.requires.worker) in
     let exits : c.as_slice-exit-items.result.now ≡ exits_of job (post_at job c.args.worker).node =
     exits_at job c.args.wiring.now c.as_slice-2.result.now c.index-as_slice-seat.result c.as_slice-exit-items.result.now _ c.requires.wired c.as_slice-2.ensures below c.index-as_slice-seat.is c.as_slice-exit-items.ensures
     ∙ ap (λ (s : Seat). exits_of job s.node) seat in

@@ -13,19 +13,21 @@ use Rattle.flow_replay.specs.declared.wiring.Seat.{Seat}
 use Rattle.flow_replay.specs.Desks.{post_at}
 use Rattle.flow_replay.specs.Folds.{with_puts}
 use Rattle.flow_replay.specs.Tables.{IsHopAlong}
+use Rattle.flow_replay.proofs.DeskLemmas.{seat_is}
 use Rattle.flow_replay.proofs.FoldLemmas.{length-outlets, length-with_puts, outlets-small, put_on, with_puts-append, with_puts-same}
-use Rattle.flow_replay.proofs.OutletLemmas.{node_below, place_below, seat_is, sends_at}
+use Rattle.flow_replay.proofs.OutletLemmas.{place_below, sends_at}
+use Rattle.flow_replay.proofs.SeatLemmas.{node_below}
 use Rattle.flow_replay.proofs.folds.send.Goals as goal
 
 pub hop-requires-clause-place : goal.hop-requires-clause-place
 hop-requires-clause-place c =
     let job = (outline c.args.setup.now).job in
-    rw (seat_is job c.args.wiring.now c.args.worker c.as_slice.result.now (record { node = 0; place = 0 }) c.requires.wired c.as_slice.ensures c.requires.worker) (place_below job c.args.worker c.requires.worker)
+    rw (seat_is job c.args.wiring.now c.as_slice.result.now c.args.worker c.requires.wired c.as_slice.ensures c.requires.worker) (place_below job c.args.worker c.requires.worker)
 
 pub hop-requires-clause-node : goal.hop-requires-clause-node
 hop-requires-clause-node c =
     let job = (outline c.args.setup.now).job in
-    rw (seat_is job c.args.wiring.now c.args.worker c.as_slice.result.now (record { node = 0; place = 0 }) c.requires.wired c.as_slice.ensures c.requires.worker) (node_below job c.args.worker c.requires.worker)
+    rw (seat_is job c.args.wiring.now c.as_slice.result.now c.args.worker c.requires.wired c.as_slice.ensures c.requires.worker) (node_below job c.args.worker c.requires.worker)
 
 pub put-requires-clause-edges : goal.put-requires-clause-edges
 put-requires-clause-edges c =
@@ -44,7 +46,7 @@ loop-output-preserved-in_ok-put-in-Some-hop c =
     let post = post_at job c.args.worker in
     let w = c.args.worker in
     let output = c.in-Some.output in
-    let seat = seat_is job c.args.wiring.now w c.as_slice.result.now (record { node = 0; place = 0 }) c.requires.wired c.as_slice.ensures c.requires.worker in
+    let seat = seat_is job c.args.wiring.now c.as_slice.result.now w c.requires.wired c.as_slice.ensures c.requires.worker in
     let along = subst (λ (s : Seat). (sender : Option ℕ) → slice_get (senders job s.node) s.place ≡ Some sender → IsHopAlong job (lane_of job sender s.node output.port output.tuple) c.in-Some-hop.hop) seat
     c.in-Some-hop.ensures.some (Some post.number) (sends_at job w c.requires.worker) in
     let (lane, found, is) = along in
@@ -64,7 +66,7 @@ loop-output-preserved c =
     let post = post_at job c.args.worker in
     let w = c.args.worker in
     let output = c.in-Some.output in
-    let seat = seat_is job c.args.wiring.now w c.as_slice.result.now (record { node = 0; place = 0 }) c.requires.wired c.as_slice.ensures c.requires.worker in
+    let seat = seat_is job c.args.wiring.now c.as_slice.result.now w c.requires.wired c.as_slice.ensures c.requires.worker in
     let nowhere = subst (λ (s : Seat). (sender : Option ℕ) → lane_of job sender s.node output.port output.tuple ≡ None) seat c.in-None-hop.ensures.none (Some post.number) in
     let long = length-outlets job (lanes_out job w) c.args.outlets.now c.requires.outlets in
     let same : with_puts (lanes_out job w) (put_out job post output ∷ []) c.loop-output.lists ≡ c.loop-output.lists =

@@ -4,8 +4,9 @@ use Rattle.sink_journal.specs.declared.journal.Feed.{Feed}
 use Rattle.versions.specs.declared.request.Request.{Request}
 use Rattle.flow_model.specs.Requests.{afters}
 use Rattle.flow_model.specs.Setup.{outline}
+use Rattle.flow_model.proofs.PlaceLemmas.{map_place}
 use Rattle.flow_replay.specs.Rest.{AreIssued, IsSoFar, issues}
-use Rattle.flow_replay.proofs.IssueLemmas.{due_ends, due_next, due_stops, issues-end, issues-next, issues-stop, request_there}
+use Rattle.flow_replay.proofs.IssueLemmas.{due_ends, due_next, due_stops, issues-end, issues-next, issues-stop}
 use Rattle.flow_replay.proofs.RunLemmas.{issue_step}
 use Rattle.flow_replay.proofs.SetupLemmas.{covered, in_order}
 use Rattle.flow_replay.proofs.SortLemmas.{turn_sorted}
@@ -30,7 +31,7 @@ loop-place-preserved c =
     let place = c.loop-place.place in
     let due : min c.after.result c.args.rows ≤ c.args.row = omega (arith, c.if-min-row.false, c.min.ensures) in
     let left = c.loop-place.invariant.due.left place c.after.result c.after.ensures (omega arith) in
-    let request = request_there setup.requests place c.after.result c.after.ensures in
+    let request = map_place (λ (r : Request). r.after) setup.requests place c.after.result c.after.ensures in
     let now : min request.0.after c.args.rows ≡ c.args.row = omega (arith, due, left, request.2) in
     let planned = (covered c.args.setup.now).plan_each in
     record {

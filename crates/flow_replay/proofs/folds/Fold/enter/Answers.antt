@@ -29,8 +29,8 @@ use Rattle.std.specs.Global.{Global}
 use Rattle.std.proofs.Common.{Vec}
 use Rattle.std.proofs.lemmas.List.{with_items_is}
 use Rattle.flow_replay.specs.declared.folds.Fold.{Fold}
-use Rattle.flow_replay.proofs.DeskLemmas.{inlets-lanes, inlets_read, is_post_at}
-use Rattle.flow_replay.proofs.SeatLemmas.{get-post_at}
+use Rattle.flow_replay.proofs.DeskLemmas.{inlets-lanes, inlets_read}
+use Rattle.flow_replay.proofs.SeatLemmas.{get-post_at, worker_at}
 use Rattle.flow_replay.proofs.folds.Fold.enter.Goals as goal
 
 pub mark-requires-clause-edges : goal.mark-requires-clause-edges
@@ -47,7 +47,7 @@ pub returns-in-Marked : goal.returns-in-Marked
 returns-in-Marked c =
     let setup = outline c.args.setup.now in
     let post = post_at setup.job c.args.worker in
-    let number = (is_post_at setup.job c.args.worker c.requires.worker).number_is in
+    let number = (worker_at setup.job c.args.worker c.requires.worker).0 in
     let lists = c.as_mut_slice-lists.ensures in
     let new : Fold = record { desk = c.args.self.now.desk; ended = c.args.self.now.ended; lists = with_items c.args.self.now.lists c.as_mut_slice-lists.result.now } in
     let long = c.requires.long ∙ length-outlets setup.job (lanes_out setup.job c.args.worker) c.args.outlets.now c.requires.outlets in
@@ -60,7 +60,7 @@ pub returns-in_ok-send-in-Met : goal.returns-in_ok-send-in-Met
 returns-in_ok-send-in-Met c =
     let setup = outline c.args.setup.now in
     let post = post_at setup.job c.args.worker in
-    let number = (is_post_at setup.job c.args.worker c.requires.worker).number_is in
+    let number = (worker_at setup.job c.args.worker c.requires.worker).0 in
     let lanes' = lanes_out setup.job c.args.worker in
     let outs = length-outlets setup.job lanes' c.args.outlets.now c.requires.outlets in
     let long : length c.args.self.now.lists.items ≡ length lanes' = c.requires.long ∙ outs in
@@ -80,7 +80,7 @@ pub returns-in_ok-mark-in-Turned : goal.returns-in_ok-mark-in-Turned
 returns-in_ok-mark-in-Turned c =
     let setup = outline c.args.setup.now in
     let post = post_at setup.job c.args.worker in
-    let number = (is_post_at setup.job c.args.worker c.requires.worker).number_is in
+    let number = (worker_at setup.job c.args.worker c.requires.worker).0 in
     let lanes' = lanes_out setup.job c.args.worker in
     let outs = length-outlets setup.job lanes' c.args.outlets.now c.requires.outlets in
     let long : length c.args.self.now.lists.items ≡ length lanes' = c.requires.long ∙ outs in
@@ -113,7 +113,7 @@ pub returns-in_ok-put-in-Ended : goal.returns-in_ok-put-in-Ended
 returns-in_ok-put-in-Ended c =
     let setup = outline c.args.setup.now in
     let post = post_at setup.job c.args.worker in
-    let number = (is_post_at setup.job c.args.worker c.requires.worker).number_is in
+    let number = (worker_at setup.job c.args.worker c.requires.worker).0 in
     let lanes' = lanes_out setup.job c.args.worker in
     let outs = length-outlets setup.job lanes' c.args.outlets.now c.requires.outlets in
     let long : length c.args.self.now.lists.items ≡ length lanes' = c.requires.long ∙ outs in
@@ -135,7 +135,7 @@ pub returns-else-self-len : goal.returns-else-self-len
 returns-else-self-len c =
     let setup = outline c.args.setup.now in
     let post = post_at setup.job c.args.worker in
-    let number = (is_post_at setup.job c.args.worker c.requires.worker).number_is in
+    let number = (worker_at setup.job c.args.worker c.requires.worker).0 in
     let lanes' = lanes_out setup.job c.args.worker in
     let long : length c.args.self.now.lists.items ≡ length lanes' = c.requires.long ∙ length-outlets setup.job lanes' c.args.outlets.now c.requires.outlets in
     let new : Fold = record { desk = c.args.self.now.desk; ended = c.args.self.now.ended + 1; lists = with_items c.args.self.now.lists c.as_mut_slice-lists.result.now } in
