@@ -70,7 +70,7 @@ IsNew setup r t = (v : Visit) → IsIn v t.trace → covers setup r v.node ≡ t
 covers_has : (setup : Outline) (r node : ℕ) (plan : Plan) → plan_of setup r ≡ Some plan → covers setup r node ≡ true → Has plan.nodes node
 covers_has setup r node plan e h = let k : has plan.nodes node ≡ true = rw e at h in (has-Has plan.nodes node).0 k
 
-has_covers_node : (setup : Outline) (r node : ℕ) (plan : Plan) → plan_of setup r ≡ Some plan → Has plan.nodes node → covers setup r node ≡ true
+pub has_covers_node : (setup : Outline) (r node : ℕ) (plan : Plan) → plan_of setup r ≡ Some plan → Has plan.nodes node → covers setup r node ≡ true
 has_covers_node setup r node plan e h = rw e ((has-Has plan.nodes node).1 h)
 
 pub old_of_at : (setup : Outline) (r : ℕ) (plan : Plan) (t : Tuple) → plan_of setup r ≡ Some plan → IsOldAt r plan.nodes t → IsOld setup r t

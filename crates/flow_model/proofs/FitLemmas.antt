@@ -1,8 +1,7 @@
 -- Every port that a function puts out on has an edge, and every tuple a lane there.
-use Rattle.std.proofs.Common.{◌≡◌, ◌∙◌, ◌≢◌, ◌<◌, ◌+◌, ◌==◌, ◌&&◌, ◌||◌, ℕ, zero, suc, List, [], ◌∷◌, refl, sym, subst, ap, arith, true, false, Bool, length, filter, Some, Option, slice_get, option_map, length-append}
+use Rattle.std.proofs.Common.{◌≡◌, ◌∙◌, ◌<◌, ◌+◌, ◌==◌, ◌&&◌, ◌||◌, ℕ, suc, List, [], ◌∷◌, refl, sym, subst, ap, arith, true, false, Bool, length, Some, Option, slice_get, option_map}
 use Rattle.std.specs.List.{enumerate_from}
-use Rattle.std.proofs.lemmas.Bool.{and_parts, eq-eqb, eqb-true, ne_eqb}
-use Rattle.std.proofs.lemmas.List.Elements.{filter-append}
+use Rattle.std.proofs.lemmas.Bool.{and_parts, eqb-true}
 use Rattle.flow_dag.specs.declared.edge.Edge.{Edge}
 use Rattle.jobs.specs.Nodes.{is_source, is_source_node, workers_of}
 use Rattle.jobs.specs.Ports.{are_ports, has_port, has_ports, out_count}
@@ -15,10 +14,11 @@ use Rattle.operators.specs.Lanes.{worker_among}
 use Rattle.tuple_trace.specs.declared.tuple.Tuple.{Tuple}
 use Rattle.flow_model.specs.Lanes.{first_on, lane_along, lane_of, lanes, receiver_of, senders}
 use Rattle.flow_model.specs.Outline.{Lane, Post}
-use Rattle.flow_model.specs.Workers.{posts_at, posts_from, posts_of}
+use Rattle.flow_model.specs.Workers.{posts_of}
 use Rattle.flow_model.proofs.ElementLemmas.{IsIn, in_of_place}
 use Rattle.flow_model.proofs.JobLemmas.{IsWired, ports_by_kind}
 use Rattle.flow_model.proofs.LaneLemmas.{lane_of_edge}
+use Rattle.flow_model.proofs.PostLemmas.{length-posts_of}
 use Rattle.flow_model.proofs.WorkerLemmas.{all_workers, item_at}
 
 -- ---- the edge of a port
@@ -63,46 +63,6 @@ source_port edges node (func.Split split) s all = absurd (cc)
 source_port edges node func.Replicate s all = absurd (cc)
 source_port edges node (func.Sink listed) s all = absurd (cc)
 
--- ---- how many workers a node has
-
-abbrev of_node : ℕ → List Post → List Post
-of_node node ps = filter (λ (post : Post). post.node == node) ps
-
-all_of_it : (number node : ℕ) (f : Func) (place left : ℕ) → length (of_node node (posts_at number node f place left)) ≡ left
-all_of_it number node f place zero = refl
-all_of_it number node f place (suc left) = rw (eq-eqb node node refl) (ap suc (all_of_it (number + 1) node f (place + 1) left))
-
-none_of_it : (number other node : ℕ) (f : Func) (place left : ℕ) → other ≢ node → length (of_node node (posts_at number other f place left)) ≡ 0
-none_of_it number other node f place zero d = refl
-none_of_it number other node f place (suc left) d = rw (ne_eqb other node d) (none_of_it (number + 1) other node f (place + 1) left d)
-
-none_behind : (number first node : ℕ) (nodes : List NodeDef) → node < first → length (of_node node (posts_from number first nodes)) ≡ 0
-none_behind number first node [] lt = refl
-none_behind number first node (def ∷ more) lt =
-    let here = posts_at number first def.func 0 (workers_of def) in
-    let later = posts_from (number + workers_of def) (first + 1) more in
-    let a : length (of_node node (posts_at number first def.func 0 (workers_of def))) ≡ 0 = none_of_it number first node def.func 0 (workers_of def) (λ e. omega arith) in
-    let b : length (of_node node (posts_from (number + workers_of def) (first + 1) more)) ≡ 0 = none_behind (number + workers_of def) (first + 1) node more (omega arith) in
-    ap length (filter-append (λ (post : Post). post.node == node) here later) ∙ omega (arith, a, b, length-append (of_node node here) (of_node node later))
-
-count_of_node : (number first i node : ℕ) (nodes : List NodeDef) (def : NodeDef) → slice_get nodes i ≡ Some def → node ≡ first + i → length (of_node node (posts_from number first nodes)) ≡ workers_of def
-count_of_node number first i node [] def g e = absurd (cc)
-count_of_node number first zero node (d ∷ more) def g e =
-    let same : d ≡ def = cc in
-    let at : first ≡ node = omega arith in
-    let here = posts_at number first d.func 0 (workers_of d) in
-    let later = posts_from (number + workers_of d) (first + 1) more in
-    let a : length (of_node node here) ≡ workers_of d = subst (λ v. length (of_node v (posts_at number first d.func 0 (workers_of d))) ≡ workers_of d) at (all_of_it number first d.func 0 (workers_of d)) in
-    let b : length (of_node node later) ≡ 0 = none_behind (number + workers_of d) (first + 1) node more (omega arith) in
-    let c : workers_of d ≡ workers_of def = ap workers_of same in
-    ap length (filter-append (λ (post : Post). post.node == node) here later) ∙ omega (arith, a, b, c, length-append (of_node node here) (of_node node later))
-count_of_node number first (suc i) node (d ∷ more) def g e =
-    let here = posts_at number first d.func 0 (workers_of d) in
-    let later = posts_from (number + workers_of d) (first + 1) more in
-    let a : length (of_node node here) ≡ 0 = none_of_it number first node d.func 0 (workers_of d) (λ s. omega arith) in
-    let b : length (of_node node later) ≡ workers_of def = count_of_node (number + workers_of d) (first + 1) i node more def g (omega arith) in
-    ap length (filter-append (λ (post : Post). post.node == node) here later) ∙ omega (arith, a, b, length-append (of_node node here) (of_node node later))
-
 -- ---- the worker that a tuple reaches
 
 pub among_within : (job : Written) (f : Func) (workers : ℕ) (t : Tuple) → 0 < workers → worker_among job.columns f workers t < workers
@@ -126,7 +86,7 @@ receiver_there job wired i edge t g =
     let def : NodeDef = to.0 in
     let into : is_source_node (slice_get job.nodes edge.to) ≡ false = wired.into i edge g in
     let no_source : is_source def.func ≡ false = rw to.1 at into in
-    let count : length (posts_of job edge.to) ≡ workers_of def = count_of_node 0 0 edge.to edge.to job.nodes def to.1 (omega arith) in
+    let count : length (posts_of job edge.to) ≡ workers_of def = length-posts_of job edge.to def to.1 in
     let workers : workers_of def ≡ def.workers = all_workers def no_source in
     let m = wired.manned edge.to def to.1 no_source in
     let some : 0 < length (posts_of job edge.to) = some_in (posts_of job edge.to) m.0 m.1 in

@@ -1,7 +1,6 @@
 -- What the type of a job keeps, as the laws of runs use it.
-use Rattle.std.proofs.Common.{◌≡◌, ◌∙◌, ◌<◌, ◌≤◌, ◌+◌, ◌==◌, ℕ, zero, suc, List, [], ◌∷◌, inl, refl, sym, subst, ap, arith, true, false, Bool, cond, length, map, get_or, Some, None, Option, slice_get}
+use Rattle.std.proofs.Common.{◌≡◌, ◌∙◌, ◌<◌, ◌≤◌, ◌==◌, ℕ, List, [], ◌∷◌, inl, refl, sym, subst, ap, arith, true, false, Bool, cond, length, map, get_or, Some, None, Option, slice_get}
 use Rattle.std.proofs.lemmas.Bool.{and_parts, eq-eqb, eqb-true}
-use Rattle.std.proofs.lemmas.List.Elements.{All-get_or}
 use Rattle.std.proofs.lemmas.List.Folds.{Any-from_list_any, list_any_at}
 use Rattle.std.proofs.lemmas.Option.{get_or_from_slice_get, slice_get-get_or, slice_get_within}
 use Rattle.flow_dag.specs.Dag.{DagView}
@@ -11,7 +10,7 @@ use Rattle.flow_dag.specs.declared.edge.Edge.{Edge}
 use Rattle.flow_dag.proofs.EdgeLemmas.{HasEdge-at}
 use Rattle.flow_dag.proofs.PlaceLemmas.{place_of-below, place_of-forward}
 use Rattle.jobs.specs.Law.{IsLawful}
-use Rattle.jobs.specs.Nodes.{is_source, is_source_node, most_workers, workers_of}
+use Rattle.jobs.specs.Nodes.{is_source, is_source_node, most_workers}
 use Rattle.jobs.specs.Ports.{are_ports, has_ports, is_entered, may_enter, may_leave, out_count}
 use Rattle.jobs.specs.Written.{Written}
 use Rattle.jobs.specs.declared.func.Func.{Func}
@@ -19,8 +18,9 @@ use Rattle.jobs.specs.declared.func.Func.TheVariants as func
 use Rattle.jobs.specs.declared.func.NodeDef.{NodeDef}
 use Rattle.flow_model.specs.Lanes.{lanes_in, senders}
 use Rattle.flow_model.specs.Outline.{Lane, Post}
-use Rattle.flow_model.specs.Workers.{posts, posts_at, posts_from, posts_of}
-use Rattle.flow_model.proofs.ElementLemmas.{IsIn, in_left, in_of_place, in_right, map_in}
+use Rattle.flow_model.specs.Workers.{posts, posts_of}
+use Rattle.flow_model.proofs.ElementLemmas.{IsIn, at_of_all, in_of_place, map_in}
+use Rattle.flow_model.proofs.PostLemmas.{length-posts_of}
 use Rattle.flow_model.proofs.WorkerLemmas.{IsWorker, all_workers, item_at, posts_of_in}
 use Rattle.flow_model.proofs.LaneLemmas.{lane_of_edge, lanes_that_in}
 
@@ -38,8 +38,7 @@ pub record IsWired (job : Written) : Type 0 where
 
 pub inside_edge : (job : Written) → IsLawful job → (i : ℕ) (edge : Edge) → slice_get job.edges i ≡ Some edge → IsInside (length job.nodes) edge
 inside_edge job is i edge g =
-    subst (IsInside (length job.nodes)) (get_or_from_slice_get job.edges i edge edge g)
-    (All-get_or (IsInside (length job.nodes)) job.edges i edge (slice_get_within job.edges i edge g) is.ends)
+    at_of_all (IsInside (length job.nodes)) edge job.edges is.ends (in_of_place edge job.edges i g)
 
 -- ---- which nodes are entered
 
@@ -86,33 +85,14 @@ edge_into edges node h =
 
 -- ---- each node but a source has a worker
 
-manned_at : (number node : ℕ) (f : Func) (place left : ℕ) → 0 < left → (post : Post) × IsIn post (posts_at number node f place left) × (post.node ≡ node)
-manned_at number node f place zero lt = absurd (omega arith)
-manned_at number node f place (suc left) lt = (record { number = number; node = node; place = place; func = f }, inl refl, refl)
-
-manned_from : (number node : ℕ) (nodes : List NodeDef) (k : ℕ) (def : NodeDef) → slice_get nodes k ≡ Some def → 0 < workers_of def
-    → (post : Post) × IsIn post (posts_from number node nodes) × (post.node ≡ node + k)
-manned_from number node [] k def g lt = absurd (cc)
-manned_from number node (d ∷ more) zero def g lt =
-    let e : d ≡ def = cc in
-    let lt' : 0 < workers_of d = subst (λ (x : NodeDef). 0 < workers_of x) (sym e) lt in
-    let r = manned_at number node d.func 0 (workers_of d) lt' in
-    (r.0, in_left r.0 (posts_at number node d.func 0 (workers_of d)) (posts_from (number + workers_of d) (node + 1) more) r.1, omega (arith, r.2))
-manned_from number node (d ∷ more) (suc k) def g lt =
-    let r = manned_from (number + workers_of d) (node + 1) more k def g lt in
-    (r.0, in_right r.0 (posts_at number node d.func 0 (workers_of d)) (posts_from (number + workers_of d) (node + 1) more) r.1, omega (arith, r.2))
-
-some_workers : (def : NodeDef) → is_source def.func ≡ false → 1 ≤ def.workers → 0 < workers_of def
-some_workers def e le = let n : workers_of def ≡ def.workers = all_workers def e in omega arith
+pub one_worker : (job : Written) → IsLawful job → (node : ℕ) (def : NodeDef) → slice_get job.nodes node ≡ Some def → 1 ≤ def.workers
+one_worker job is node def g =
+    (at_of_all (λ (n : NodeDef). (1 ≤ n.workers) × (n.workers ≤ most_workers n.func)) def job.nodes is.limits.workers (in_of_place def job.nodes node g)).0
 
 manned_node : (job : Written) → IsLawful job → (node : ℕ) (def : NodeDef) → slice_get job.nodes node ≡ Some def → is_source def.func ≡ false → (post : Post) × IsIn post (posts_of job node)
 manned_node job is node def g e =
-    let within : node < length job.nodes = slice_get_within job.nodes node def g in
-    let limits = All-get_or (λ (n : NodeDef). (1 ≤ n.workers) × (n.workers ≤ most_workers n.func)) job.nodes node def within is.limits.workers in
-    let here : get_or job.nodes node def ≡ def = get_or_from_slice_get job.nodes node def def g in
-    let some : 1 ≤ def.workers = subst (λ (n : NodeDef). 1 ≤ n.workers) here limits.0 in
-    let r = manned_from 0 0 job.nodes node def g (some_workers def e some) in
-    (r.0, posts_of_in job node r.0 r.1 (omega (arith, r.2)))
+    let (post, first) = item_at (posts_of job node) 0 (omega (arith, length-posts_of job node def g, all_workers def e, one_worker job is node def g)) in
+    (post, in_of_place post (posts_of job node) 0 first)
 
 -- ---- each worker has a lane in
 

@@ -42,7 +42,7 @@ use Rattle.flow_model.proofs.KindLemmas.{AreAlike, alike_ports, alike_self, alik
 use Rattle.flow_model.proofs.RunLemmas.{HasWorker, Running, in_fed_puts, journal_here}
 use Rattle.flow_model.proofs.KinLemmas.{puts_of, story_of}
 use Rattle.flow_model.proofs.FreshLemmas.{past_issued}
-use Rattle.flow_model.proofs.SumLemmas.{count_append, count_flat_map, count_one, count_sum, of_some, sum_add, sum_append, sum_filter_map, sum_flat_map, sum_map, sum_none, sum_over, sum_same}
+use Rattle.flow_model.proofs.SumLemmas.{count_append, count_flat_map, count_one, count_sum, if_none, of_some, sum_add, sum_append, sum_filter_map, sum_flat_map, sum_map, sum_none, sum_over, sum_same}
 use Rattle.flow_model.proofs.FitLemmas.{GoesOn, goes_on, source_port}
 use Rattle.flow_model.proofs.FlowLemmas.{PutsFit, all_puts, entry_weight, flow, lane_to, node_to, put_weight, weigh}
 use Rattle.flow_model.proofs.LandingLemmas.{HasFunc, behind, has_func, lands-outputs, lands-sink, lands_same, outputs_alike, sum_alike}
@@ -181,10 +181,6 @@ module _ (rows : List Row) (ran : Ran) (g : Running rows ran) (none : HasNoCount
   abbrev kept_at : ℕ → Entry → ℕ
   kept_at w e = cond (is_sink (post_of ran.setup w).func) 0 (entry_weight V (post_of ran.setup w).node e)
 
-  zero_if : (b : Bool) → ◌≡◌ {A = ℕ} 0 (cond b 0 0)
-  zero_if true = refl
-  zero_if false = refl
-
   -- a put that carries no tuple weighs nothing
   no_tuple : (ps : List Put) → ((p : Put) → IsIn p ps → (node : ℕ) → weigh V node p.item ≡ 0) → sum_over (put_weight V ran.setup.job) ps ≡ 0
   no_tuple ps h = sum_none (put_weight V ran.setup.job) ps (λ p i. go p i p.lane)
@@ -267,14 +263,14 @@ module _ (rows : List Row) (ran : Ran) (g : Running rows ran) (none : HasNoCount
     where
       go : (e : Entry) → m.entry ≡ e → sum_over (put_weight V ran.setup.job) (puts ran.setup (post_of ran.setup w) m.local e) ≡ kept_at w e
       go (entry.Met l u) e = met_keeps w l m u a e
-      go (entry.Marked l r) e = zero_if (is_sink (post_of ran.setup w).func)
+      go (entry.Marked l r) e = sym (if_none (is_sink (post_of ran.setup w).func))
       go (entry.Turned r) e =
           no_tuple (puts ran.setup (post_of ran.setup w) m.local (entry.Turned r))
           (λ p i node. let c = puts_come ran.setup (post_of ran.setup w) m.local (entry.Turned r) p i in no_mark r c.0.nodes node p.item c.2)
-          ∙ zero_if (is_sink (post_of ran.setup w).func)
+          ∙ sym (if_none (is_sink (post_of ran.setup w).func))
       go (entry.Ended l) e =
           no_tuple (puts ran.setup (post_of ran.setup w) m.local (entry.Ended l)) (λ p i node. no_last node p.item (puts_come ran.setup (post_of ran.setup w) m.local (entry.Ended l) p i))
-          ∙ zero_if (is_sink (post_of ran.setup w).func)
+          ∙ sym (if_none (is_sink (post_of ran.setup w).func))
 
   sum_entries : (setup : Outline) (post : Post) (local : Local) (journal : List Entry) (F : Entry → ℕ) → sum_over (λ (m : Moment). F m.entry) (story setup post local journal) ≡ sum_over F journal
   sum_entries setup post local [] F = refl

@@ -1,7 +1,7 @@
 -- The workers of a job, by their numbers.
 use Rattle.std.proofs.Common.{◌≡◌, ◌∙◌, ◌<◌, ◌+◌, ◌==◌, ℕ, zero, suc, List, [], ◌∷◌, ◌++◌, ◌⊎◌, inl, inr, refl, sym, subst, ap, arith, true, false, Bool, length, Some, slice_get, slice_index_or}
 use Rattle.std.proofs.lemmas.Bool.{eq-eqb, eqb-true}
-use Rattle.std.proofs.lemmas.Option.{get_or_from_slice_get, slice_get_within}
+use Rattle.std.proofs.lemmas.Option.{get_or_from_slice_get, same_Some, slice_get_within}
 use Rattle.std.specs.FinMap.{empty}
 use Rattle.sink_journal.specs.declared.journal.Entry.{Entry}
 use Rattle.jobs.specs.Nodes.{is_source, workers_of, workers_with}
@@ -14,7 +14,7 @@ use Rattle.flow_model.specs.Begin.{local_at}
 use Rattle.flow_model.specs.Replay.{Local}
 use Rattle.flow_model.specs.Run.{Ran}
 use Rattle.flow_model.specs.Workers.{posts, posts_at, posts_from, posts_of}
-use Rattle.flow_model.proofs.PostLemmas.{length-posts_at}
+use Rattle.flow_model.proofs.PostLemmas.{get-posts_at, length-posts_at, post_by}
 use Rattle.flow_model.proofs.ElementLemmas.{AreDistinct, IsIn, distinct_by_place, distinct_filter, filter_in, in_filter, place_of_in}
 
 -- ---- what a worker is
@@ -30,18 +30,10 @@ pub record IsWorker (job : Written) (post : Post) : Type 0 where
 
 posts_at_get : (number node : ℕ) (f : Func) (place left k : ℕ) (post : Post) → slice_get (posts_at number node f place left) k ≡ Some post
     → (post.number ≡ number + k) × (post.node ≡ node) × (post.place ≡ place + k) × (post.func ≡ f) × (k < left)
-posts_at_get number node f place zero k post g = absurd (cc)
-posts_at_get number node f place (suc left) zero post g =
-    let e : ◌≡◌ {A = Post} (record { number = number; node = node; place = place; func = f }) post = cc in (
-      sym (ap (λ (p : Post). p.number) e) ∙ omega arith,
-      sym (ap (λ (p : Post). p.node) e),
-      sym (ap (λ (p : Post). p.place) e) ∙ omega arith,
-      sym (ap (λ (p : Post). p.func) e),
-      omega arith,
-    )
-posts_at_get number node f place (suc left) (suc k) post g =
-    let r = posts_at_get (number + 1) node f (place + 1) left k post g in
-    (omega (arith, r.0), r.1, omega (arith, r.2), r.3, omega (arith, r.4))
+posts_at_get number node f place left k post g =
+    let lt : k < left = omega (arith, slice_get_within (posts_at number node f place left) k post g, length-posts_at number node f place left) in
+    let e : post ≡ post_by (number + k) node f (place + k) = same_Some post (post_by (number + k) node f (place + k)) (sym g ∙ get-posts_at number node f place left k lt) in
+    (ap (λ (p : Post). p.number) e, ap (λ (p : Post). p.node) e, ap (λ (p : Post). p.place) e, ap (λ (p : Post). p.func) e, lt)
 
 -- a place of joined lists is one of the first or of the second
 pub get_append : {A : Type 0} (xs ys : List A) (q : ℕ) (x : A) → slice_get (xs ++ ys) q ≡ Some x

@@ -18,11 +18,12 @@ use Rattle.jobs.specs.Law.{IsLawful}
 use Rattle.jobs.specs.Nodes.{is_source_node}
 use Rattle.jobs.specs.Written.{Written}
 use Rattle.versions.specs.declared.request.Request.{Request}
-use Rattle.flow_model.specs.Covers.{covers, covers_edge, holds_edge, holds_node}
+use Rattle.flow_model.specs.Covers.{covers, covers_edge, holds_edge}
 use Rattle.flow_model.specs.Lanes.{lanes_in}
 use Rattle.flow_model.specs.Outline.{Outline}
 use Rattle.flow_model.specs.Planned.{IsPlanFor, IsPlanned}
 use Rattle.flow_model.specs.Workers.{posts}
+use Rattle.flow_model.proofs.AgreementLemmas.{has_covers_node}
 use Rattle.flow_model.proofs.ElementLemmas.{IsIn, in_of_place}
 use Rattle.flow_model.proofs.JobLemmas.{reached_worker, unentered}
 use Rattle.flow_replay.specs.Desks.{post_at}
@@ -82,20 +83,17 @@ covered_by setup (suc p) i edge is e h = go (slice_get setup.plans p) refl h
           planned = for;
         }
 
-covers_by : (setup : Outline) (p node : ℕ) (plan : Plan) → slice_get setup.plans p ≡ Some plan → Has plan.nodes node → covers setup (suc p) node ≡ true
-covers_by setup p node plan g h = ap (λ (o : Option Plan). holds_node o node) g ∙ (has-Has plan.nodes node).1 h
-
 covers_from : (setup : Outline) (r i : ℕ) (edge : Edge) → IsPlanned setup → slice_get setup.job.edges i ≡ Some edge → covers_edge setup r i ≡ true → covers setup r edge.from ≡ true
 covers_from setup r i edge is e h =
     let by = covered_by setup r i edge is e h in
     let has : Has by.plan.nodes edge.from = (by.planned.planned.cover.nodes edge.from).1 (inr (edge.to, inl by.covered)) in
-    ap (λ (k : ℕ). covers setup k edge.from) by.number ∙ covers_by setup by.place edge.from by.plan by.plan_is has
+    ap (λ (k : ℕ). covers setup k edge.from) by.number ∙ has_covers_node setup (suc by.place) edge.from by.plan by.plan_is has
 
 covers_to : (setup : Outline) (r i : ℕ) (edge : Edge) → IsPlanned setup → slice_get setup.job.edges i ≡ Some edge → covers_edge setup r i ≡ true → covers setup r edge.to ≡ true
 covers_to setup r i edge is e h =
     let by = covered_by setup r i edge is e h in
     let has : Has by.plan.nodes edge.to = (by.planned.planned.cover.nodes edge.to).1 (inr (edge.from, inr by.covered)) in
-    ap (λ (k : ℕ). covers setup k edge.to) by.number ∙ covers_by setup by.place edge.to by.plan by.plan_is has
+    ap (λ (k : ℕ). covers setup k edge.to) by.number ∙ has_covers_node setup (suc by.place) edge.to by.plan by.plan_is has
 
 -- a node into which an edge leads isn't a source
 entered_node : (job : Written) (c a : ℕ) → IsLawful job → HasEdge job.edges c a → is_source_node (slice_get job.nodes a) ≡ false

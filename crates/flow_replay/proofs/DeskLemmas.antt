@@ -1,5 +1,5 @@
 -- What a worker does at its desk, in the words of the replay.
-use Rattle.std.proofs.Common.{◌≡◌, ◌<◌, ◌≤◌, ◌+◌, ◌==◌, ◌&&◌, ℕ, List, [], ◌∷◌, ◌++◌, Bool, true, false, cond, length, map, drop, get_or, Option, Some, None, refl, sym, ap, subst, ◌∙◌, arith, append_assoc}
+use Rattle.std.proofs.Common.{◌≡◌, ◌<◌, ◌≤◌, ◌+◌, ◌==◌, ℕ, List, [], ◌∷◌, ◌++◌, Bool, true, false, cond, length, map, drop, get_or, Option, Some, None, refl, sym, ap, subst, ◌∙◌, arith, append_assoc}
 use Rattle.std.specs.Prelude.{filter, option_map, slice_get, slice_index_or}
 use Rattle.std.specs.List.{enumerate_from}
 use Rattle.std.proofs.lemmas.List.{append-nil, drop_all, drop_more, length-map}
@@ -31,6 +31,7 @@ use Rattle.flow_replay.specs.Tables.{IsWired, inlet_of, inlets_of, seat_of}
 use Rattle.flow_model.proofs.ElementLemmas.{in_filter, in_of_place}
 use Rattle.flow_model.proofs.LaneLemmas.{in_enumerate, lane_is}
 use Rattle.flow_replay.proofs.LaneLemmas.{sends}
+use Rattle.flow_replay.proofs.PieceLemmas.{filter_of_map, filter_twice}
 use Rattle.flow_replay.proofs.SeatLemmas.{get-post_at, node_below, worker_at}
 use Rattle.flow_replay.proofs.TableLemmas.{item_at}
 
@@ -109,30 +110,14 @@ inlet_edge job w k inlet law e = go (slice_get (filter (λ (lane : ℕ × Lane).
 pub inlets-lanes : (job : Written) (w : ℕ) → map (λ (i : Inlet). i.lane) (inlets_of job w) ≡ lanes_in job w
 inlets-lanes job w = map-map (λ (i : Inlet). i.lane) inlet_of (filter (λ (p : ℕ × Lane). p.1.receiver == w) (enumerate_from 0 (lanes job)))
 
-marked-numbered : (setup : Outline) (r : ℕ) (ls : List Lane) (n w : ℕ)
-    → map (λ (i : Inlet). i.lane) (filter (λ (i : Inlet). covers_edge setup r i.edge) (map inlet_of (filter (λ (p : ℕ × Lane). p.1.receiver == w) (enumerate_from n ls))))
-    ≡ map (λ (p : ℕ × Lane). p.0) (filter (λ (p : ℕ × Lane). (p.1.receiver == w) && covers_edge setup r p.1.edge) (enumerate_from n ls))
-marked-numbered setup r [] n w = refl
-marked-numbered setup r (l ∷ ls) n w = go (l.receiver == w) (marked-numbered setup r ls (n + 1) w)
-  where
-    go : (b : Bool)
-        → map (λ (i : Inlet). i.lane) (filter (λ (i : Inlet). covers_edge setup r i.edge) (map inlet_of (filter (λ (p : ℕ × Lane). p.1.receiver == w) (enumerate_from (n + 1) ls))))
-        ≡ map (λ (p : ℕ × Lane). p.0) (filter (λ (p : ℕ × Lane). (p.1.receiver == w) && covers_edge setup r p.1.edge) (enumerate_from (n + 1) ls))
-        → map (λ (i : Inlet). i.lane) (filter (λ (i : Inlet). covers_edge setup r i.edge) (map inlet_of (cond b ((n, l) ∷ filter (λ (p : ℕ × Lane). p.1.receiver == w) (enumerate_from (n + 1) ls)) (filter (λ (p : ℕ × Lane). p.1.receiver == w) (enumerate_from (n + 1) ls)))))
-        ≡ map (λ (p : ℕ × Lane). p.0) (cond (b && covers_edge setup r l.edge) ((n, l) ∷ filter (λ (p : ℕ × Lane). (p.1.receiver == w) && covers_edge setup r p.1.edge) (enumerate_from (n + 1) ls)) (filter (λ (p : ℕ × Lane). (p.1.receiver == w) && covers_edge setup r p.1.edge) (enumerate_from (n + 1) ls)))
-    go true h = by_cover (covers_edge setup r l.edge) h
-      where
-        by_cover : (b : Bool)
-            → map (λ (i : Inlet). i.lane) (filter (λ (i : Inlet). covers_edge setup r i.edge) (map inlet_of (filter (λ (p : ℕ × Lane). p.1.receiver == w) (enumerate_from (n + 1) ls))))
-            ≡ map (λ (p : ℕ × Lane). p.0) (filter (λ (p : ℕ × Lane). (p.1.receiver == w) && covers_edge setup r p.1.edge) (enumerate_from (n + 1) ls))
-            → map (λ (i : Inlet). i.lane) (cond b (inlet_of (n, l) ∷ filter (λ (i : Inlet). covers_edge setup r i.edge) (map inlet_of (filter (λ (p : ℕ × Lane). p.1.receiver == w) (enumerate_from (n + 1) ls)))) (filter (λ (i : Inlet). covers_edge setup r i.edge) (map inlet_of (filter (λ (p : ℕ × Lane). p.1.receiver == w) (enumerate_from (n + 1) ls)))))
-            ≡ map (λ (p : ℕ × Lane). p.0) (cond b ((n, l) ∷ filter (λ (p : ℕ × Lane). (p.1.receiver == w) && covers_edge setup r p.1.edge) (enumerate_from (n + 1) ls)) (filter (λ (p : ℕ × Lane). (p.1.receiver == w) && covers_edge setup r p.1.edge) (enumerate_from (n + 1) ls)))
-        by_cover true q = ap (λ (r : List ℕ). n ∷ r) q
-        by_cover false q = q
-    go false h = h
-
 pub inlets-marked : (setup : Outline) (w r : ℕ) → map (λ (i : Inlet). i.lane) (filter (λ (i : Inlet). covers_edge setup r i.edge) (inlets_of setup.job w)) ≡ marked_lanes setup w r
-inlets-marked setup w r = marked-numbered setup r (lanes setup.job) 0 w
+inlets-marked setup w r =
+    ap (map (λ (i : Inlet). i.lane)) (filter_of_map (λ (i : Inlet). covers_edge setup r i.edge) inlet_of among)
+    ∙ (map-map (λ (i : Inlet). i.lane) inlet_of (filter (λ (p : ℕ × Lane). covers_edge setup r p.1.edge) among)
+    ∙ ap (map (λ (p : ℕ × Lane). p.0)) (filter_twice (λ (p : ℕ × Lane). p.1.receiver == w) (λ (p : ℕ × Lane). covers_edge setup r p.1.edge) (enumerate_from 0 (lanes setup.job))))
+  where
+    among : List (ℕ × Lane)
+    among = filter (λ (p : ℕ × Lane). p.1.receiver == w) (enumerate_from 0 (lanes setup.job))
 
 abbrev no_inlet : Inlet
 no_inlet = record { lane = 0; edge = 0 }

@@ -13,14 +13,14 @@ use Rattle.flow_dag.specs.Order.{place_of}
 use Rattle.flow_dag.proofs.EdgeLemmas.{HasEdge-at}
 use Rattle.flow_dag.proofs.PlaceLemmas.{place_of-below, place_of-forward}
 use Rattle.jobs.specs.Law.{IsLawful}
-use Rattle.jobs.specs.Nodes.{is_source, is_source_node, most_workers, worker_count, workers_of}
+use Rattle.jobs.specs.Nodes.{is_source, is_source_node, worker_count, workers_of}
 use Rattle.jobs.specs.declared.func.NodeDef.{NodeDef}
 use Rattle.jobs.specs.Written.{Written}
 use Rattle.flow_model.specs.Lanes.{lanes, lanes_of, senders}
 use Rattle.flow_model.specs.Outline.{Post}
 use Rattle.flow_model.specs.Workers.{posts, posts_of}
 use Rattle.flow_model.proofs.ElementLemmas.{at_of_all, in_of_place}
-use Rattle.flow_model.proofs.JobLemmas.{inside_edge, unentered}
+use Rattle.flow_model.proofs.JobLemmas.{inside_edge, one_worker, unentered}
 use Rattle.flow_model.proofs.LaneLemmas.{lanes_from}
 use Rattle.flow_model.proofs.PostLemmas.{length-posts_from}
 use Rattle.flow_model.proofs.WorkerLemmas.{all_workers, item_at}
@@ -98,8 +98,7 @@ entered job i edge law e =
     let (def, there) = item_at job.nodes edge.to (inside_edge job law i edge e).1 in
     let into = unentered job law i edge e in
     let unsourced : is_source def.func ≡ false = rw there at into in
-    let limits = at_of_all (λ (d : NodeDef). (1 ≤ d.workers) × (d.workers ≤ most_workers d.func)) def job.nodes law.limits.workers (in_of_place def job.nodes edge.to there) in
-    record { def = def; node_is = there; all = all_workers def unsourced; some = limits.0 }
+    record { def = def; node_is = there; all = all_workers def unsourced; some = one_worker job law edge.to def there }
 
 -- ---- ranks
 

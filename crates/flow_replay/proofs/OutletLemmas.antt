@@ -19,9 +19,10 @@ use Rattle.flow_replay.specs.Desks.{post_at}
 use Rattle.flow_model.proofs.ElementLemmas.{in_filter, in_of_place, same_place}
 use Rattle.flow_model.proofs.LaneLemmas.{in_enumerate, lanes_from, sender_is, senders_distinct}
 use Rattle.jobs.specs.Law.{IsLawful}
+use Rattle.flow_model.proofs.PostLemmas.{length-posts_of}
 use Rattle.flow_replay.proofs.JobLemmas.{entered, lanes-few}
 use Rattle.flow_replay.proofs.LaneLemmas.{get-lane, sender_worker, sends}
-use Rattle.flow_replay.proofs.SeatLemmas.{get-post_at, get-posts_of, length-posts_of, worker_at}
+use Rattle.flow_replay.proofs.SeatLemmas.{get-post_at, get-posts_of, worker_at}
 
 -- ---- elements that pass a test
 

@@ -1,6 +1,6 @@
--- Lists that are joined of pieces.
-use Rattle.std.proofs.Common.{◌≡◌, ◌≤◌, ◌+◌, ◌*◌, ℕ, zero, suc, List, [], ◌∷◌, length, take, Some, sym, ap, ◌∙◌, arith, length-append}
-use Rattle.std.specs.Prelude.{slice_get}
+-- Lists that are joined of pieces, numbered, or what passes a test.
+use Rattle.std.proofs.Common.{◌≡◌, ◌≤◌, ◌+◌, ◌*◌, ◌&&◌, ℕ, zero, suc, Bool, true, false, cond, List, [], ◌∷◌, length, map, take, Some, refl, sym, ap, ◌∙◌, arith, length-append}
+use Rattle.std.specs.Prelude.{filter, slice_get}
 use Rattle.std.specs.List.{enumerate_from, flat_map}
 use Rattle.std.proofs.Math.Nat.{suc-mul, zero-mul}
 
@@ -31,3 +31,27 @@ get-enumerate n (a ∷ xs) zero m x e is =
     let z : n ≡ m = omega (arith, is) in
     ap (λ k. Some (k, a)) z ∙ ap (λ y. Some (m, y)) same
 get-enumerate n (a ∷ xs) (suc i) m x e is = get-enumerate (n + 1) xs i m x e (omega (arith, is))
+
+pub enumerate_of_map : {A B : Type 0} (f : A → B) (n : ℕ) (xs : List A) → enumerate_from n (map f xs) ≡ map (λ p. (p.0, f p.1)) (enumerate_from n xs)
+enumerate_of_map f n [] = refl
+enumerate_of_map f n (x ∷ xs) = ap (λ l. (n, f x) ∷ l) (enumerate_of_map f (n + 1) xs)
+
+-- ---- elements that pass a test
+
+pub filter_of_map : {A B : Type 0} (test : B → Bool) (f : A → B) (xs : List A) → filter test (map f xs) ≡ map f (filter (λ x. test (f x)) xs)
+filter_of_map test f [] = refl
+filter_of_map test f (x ∷ xs) = go (test (f x)) (filter_of_map test f xs)
+  where
+    go : (b : Bool) → filter test (map f xs) ≡ map f (filter (λ x. test (f x)) xs)
+        → cond b (f x ∷ filter test (map f xs)) (filter test (map f xs)) ≡ map f (cond b (x ∷ filter (λ x. test (f x)) xs) (filter (λ x. test (f x)) xs))
+    go true h = ap (λ l. f x ∷ l) h
+    go false h = h
+
+pub filter_twice : {A : Type 0} (p q : A → Bool) (xs : List A) → filter q (filter p xs) ≡ filter (λ x. p x && q x) xs
+filter_twice p q [] = refl
+filter_twice p q (x ∷ xs) = go (p x) (filter_twice p q xs)
+  where
+    go : (b : Bool) → filter q (filter p xs) ≡ filter (λ x. p x && q x) xs
+        → filter q (cond b (x ∷ filter p xs) (filter p xs)) ≡ cond (b && q x) (x ∷ filter (λ x. p x && q x) xs) (filter (λ x. p x && q x) xs)
+    go true h = ap (λ l. cond (q x) (x ∷ l) l) h
+    go false h = h

@@ -1,5 +1,5 @@
 -- Where a row enters the flow.
-use Rattle.std.proofs.Common.{◌≡◌, ◌<◌, ℕ, List, true, length, Option, Some, None, refl, sym, ap, subst, ◌∙◌, arith}
+use Rattle.std.proofs.Common.{◌≡◌, ◌<◌, ◌+◌, ℕ, List, true, length, Option, Some, None, refl, sym, ap, subst, ◌∙◌, arith}
 use Rattle.std.specs.Prelude.{option_map, slice_get}
 use Rattle.flow_dag.specs.declared.edge.Edge.{Edge}
 use Rattle.jobs.specs.Law.{IsLawful}
@@ -10,12 +10,12 @@ use Rattle.operators.specs.Lanes.{worker_along}
 use Rattle.tuple_trace.specs.declared.row.Row.{Row}
 use Rattle.tuple_trace.specs.declared.tuple.Tuple.{Tuple}
 use Rattle.flow_model.specs.Lanes.{lane_along, lane_of, senders}
-use Rattle.flow_model.specs.Outline.{Outline, Post}
+use Rattle.flow_model.specs.Outline.{Lane, Outline, Post}
 use Rattle.flow_replay.specs.declared.wiring.Hop.{Hop}
 use Rattle.flow_replay.specs.declared.worker.Desk.{Desk}
-use Rattle.flow_replay.specs.Tables.{IsHopAlong}
+use Rattle.flow_replay.specs.Tables.{IsHopAlong, first_worker}
 use Rattle.flow_replay.specs.Ways.{IsBrought, IsFed}
-use Rattle.flow_model.proofs.FitLemmas.{port_edge, source_port}
+use Rattle.flow_model.proofs.FitLemmas.{HasPortEdge, port_edge, source_port}
 use Rattle.flow_replay.proofs.TableLemmas.{is_reached, length-feeder}
 use Rattle.flow_replay.proofs.WayLemmas.{lane_there}
 
@@ -41,16 +41,20 @@ feeder_alone job node e =
 
 -- a lane leads on from every source
 pub lane_from_source : (job : Written) (node : ℕ) (tuple : Tuple) → IsLawful job → is_source_node (slice_get job.nodes node) ≡ true → lane_of job None node 0 tuple ≡ None → ⊥
-lane_from_source job node tuple law e none =
-    let is = is_source_at job node e in
-    let out = port_edge job.edges node 0 0 (source_port job.edges node is.def.func is.source (law.ports node is.def is.node_is)) in
-    let at : out.at ≡ out.number = omega (arith, out.number_is) in
-    let there : slice_get job.edges out.number ≡ Some out.edge = ap (slice_get job.edges) (sym at) ∙ out.edge_is in
-    let reached = is_reached job out.number out.edge tuple (worker_along job out.number tuple) law there refl in
-    let found : lane_of job None node 0 tuple ≡ Some _ =
-    ap (λ (o : Option (ℕ × Edge)). lane_along job None o tuple) out.found
-    ∙ ap (option_map (λ (post : Post). record { edge = out.number; sender = None; receiver = post.number })) reached.reached in
-    absurd (let clash = sym none ∙ found in cc)
+lane_from_source job node tuple law e none = go (is_source_at job node e)
+  where
+    nowhere : HasPortEdge job.edges node 0 0 → ⊥
+    nowhere out =
+        let at : out.at ≡ out.number = omega (arith, out.number_is) in
+        let reached = is_reached job out.number out.edge tuple (worker_along job out.number tuple) law (ap (slice_get job.edges) (sym at) ∙ out.edge_is) refl in
+        let lane : Lane = record { edge = out.number; sender = None; receiver = first_worker job out.edge.to + worker_along job out.number tuple } in
+        let found : lane_of job None node 0 tuple ≡ Some lane =
+        ap (λ (o : Option (ℕ × Edge)). lane_along job None o tuple) out.found
+        ∙ ap (option_map (λ (post : Post). record { edge = out.number; sender = None; receiver = post.number })) reached.reached in
+        absurd (let clash = sym none ∙ found in cc)
+
+    go : IsSource job node → ⊥
+    go is = nowhere (port_edge job.edges node 0 0 (source_port job.edges node is.def.func is.source (law.ports node is.def is.node_is)))
 
 pub row_fed : (setup : Outline) (rank : ℕ → ℕ) (row : Row) (issued : ℕ) (hop : Hop) (copy : Tuple) (old new : List Desk) → IsHopAlong setup.job (lane_of setup.job None row.source 0 row.tuple) hop → copy ≡ row.tuple
     → IsBrought setup rank hop.lane (record copy { issued = issued }) old new → IsFed setup rank row issued old new

@@ -24,9 +24,10 @@ use Rattle.flow_replay.specs.declared.wiring.Hop.{Hop}
 use Rattle.flow_replay.specs.declared.wiring.Inlet.{Inlet}
 use Rattle.flow_replay.specs.declared.wiring.Seat.{Seat}
 use Rattle.flow_replay.specs.declared.wiring.Wiring.{Wiring}
-use Rattle.flow_replay.specs.Tables.{IsHopAlong, IsWired, arrival_of, arrivals_from, exit_by, exit_of, exits_of, first_lane, first_worker, inlet_by, inlet_of, inlets_among, inlets_of, lanes_along, seat_of}
-use Rattle.flow_replay.proofs.SeatLemmas.{get-posts_of, length-posts_of, post_by, posts_of-node}
-use Rattle.flow_replay.proofs.PieceLemmas.{get-enumerate, length-all_pieces}
+use Rattle.flow_replay.specs.Tables.{IsHopAlong, IsWired, arrival_of, arrivals_from, exit_by, exit_of, exits_of, first_lane, first_worker, inlet_by, inlets_among, inlets_of, lanes_along, seat_of}
+use Rattle.flow_model.proofs.PostLemmas.{length-posts_of, post_by, posts_of-node}
+use Rattle.flow_replay.proofs.SeatLemmas.{get-posts_of}
+use Rattle.flow_replay.proofs.PieceLemmas.{enumerate_of_map, filter_of_map, get-enumerate, length-all_pieces}
 use Rattle.flow_model.proofs.FitLemmas.{among_within}
 use Rattle.flow_model.proofs.LaneLemmas.{lanes_from}
 use Rattle.flow_replay.proofs.LaneLemmas.{first_on-edge, get-lane, length-lanes_from}
@@ -214,19 +215,15 @@ arrivals-next job i edge done more some e grown is h =
     ∙ ap (λ (l : List (ℕ × Edge)). map arrival_of (flat_map (lanes_along job) l)) (sym (take-next (enumerate_from 0 job.edges) i (i, edge) at))))))
 
 -- the inlets among all arrivals are the lanes into the worker
-inlets-numbered : (ls : List Lane) (n w : ℕ)
-    → map inlet_by (filter (λ (p : ℕ × Arrival). p.1.worker == w) (enumerate_from n (map arrival_of ls))) ≡ map inlet_of (filter (λ (p : ℕ × Lane). p.1.receiver == w) (enumerate_from n ls))
-inlets-numbered [] n w = refl
-inlets-numbered (l ∷ ls) n w = go (l.receiver == w) (inlets-numbered ls (n + 1) w)
-  where
-    go : (b : Bool) → map inlet_by (filter (λ (p : ℕ × Arrival). p.1.worker == w) (enumerate_from (n + 1) (map arrival_of ls))) ≡ map inlet_of (filter (λ (p : ℕ × Lane). p.1.receiver == w) (enumerate_from (n + 1) ls))
-        → map inlet_by (cond b ((n, arrival_of l) ∷ filter (λ (p : ℕ × Arrival). p.1.worker == w) (enumerate_from (n + 1) (map arrival_of ls))) (filter (λ (p : ℕ × Arrival). p.1.worker == w) (enumerate_from (n + 1) (map arrival_of ls))))
-        ≡ map inlet_of (cond b ((n, l) ∷ filter (λ (p : ℕ × Lane). p.1.receiver == w) (enumerate_from (n + 1) ls)) (filter (λ (p : ℕ × Lane). p.1.receiver == w) (enumerate_from (n + 1) ls)))
-    go true h = ap (λ (r : List Inlet). inlet_of (n, l) ∷ r) h
-    go false h = h
-
 pub inlets-are : (job : Written) (arrivals : List Arrival) (w : ℕ) → arrivals ≡ map arrival_of (lanes job) → inlets_among arrivals w ≡ inlets_of job w
-inlets-are job arrivals w e = ap (λ (l : List Arrival). inlets_among l w) e ∙ inlets-numbered (lanes job) 0 w
+inlets-are job arrivals w e =
+    ap (λ (l : List Arrival). inlets_among l w) e
+    ∙ (ap (λ (l : List (ℕ × Arrival)). map inlet_by (filter (λ (p : ℕ × Arrival). p.1.worker == w) l)) (enumerate_of_map arrival_of 0 (lanes job))
+    ∙ (ap (map inlet_by) (filter_of_map (λ (p : ℕ × Arrival). p.1.worker == w) numbered (enumerate_from 0 (lanes job)))
+    ∙ map-map inlet_by numbered (filter (λ (p : ℕ × Lane). p.1.receiver == w) (enumerate_from 0 (lanes job)))))
+  where
+    numbered : ℕ × Lane → ℕ × Arrival
+    numbered p = (p.0, arrival_of p.1)
 
 -- ---- where a tuple goes
 

@@ -1,6 +1,6 @@
 use Rattle.std.proofs.Common.{◌∙◌, sym}
 use Rattle.jobs.specs.Job.{written}
-use Rattle.flow_replay.proofs.SeatLemmas.{length-posts_of}
+use Rattle.flow_model.proofs.PostLemmas.{length-posts_of}
 use Rattle.flow_replay.proofs.TableLemmas.{item_at}
 use Rattle.flow_replay.proofs.wiring.receiver_count.Goals as goal
 
