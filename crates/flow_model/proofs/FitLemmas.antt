@@ -19,7 +19,7 @@ use Rattle.flow_model.proofs.ElementLemmas.{IsIn, in_of_place}
 use Rattle.flow_model.proofs.JobLemmas.{IsWired, ports_by_kind}
 use Rattle.flow_model.proofs.LaneLemmas.{lane_of_edge}
 use Rattle.flow_model.proofs.PostLemmas.{length-posts_of}
-use Rattle.flow_model.proofs.WorkerLemmas.{all_workers, item_at}
+use Rattle.flow_model.proofs.WorkerLemmas.{all_workers, item_at, source_is}
 
 -- ---- the edge of a port
 
@@ -48,20 +48,13 @@ port_edge (e ∷ more) node port first h = go (e.from == node && e.port == port)
 -- ---- the ports of a source
 
 pub source_port : (edges : List Edge) (node : ℕ) (f : Func) → is_source f ≡ true → are_ports edges node f ≡ true → has_port edges node 0 ≡ true
-source_port edges node func.Source s all =
-    let k = ports_by_kind edges node func.Source all in
+source_port edges node f s all =
+    let k = ports_by_kind edges node func.Source (subst (λ (g : Func). are_ports edges node g ≡ true) (source_is f s) all) in
     go (has_port edges node 0) refl (omega (arith, eqb-true (out_count edges node) 1 k.1)) k.2
   where
     go : (b : Bool) → has_port edges node 0 ≡ b → 0 < out_count edges node → has_ports edges node (out_count edges node) ≡ true → has_port edges node 0 ≡ true
     go true e lt p = e
     go false e lt p = let lacks : has_ports edges node (out_count edges node) ≡ false = has_ports-lacks edges node 0 (out_count edges node) lt e in absurd (cc)
-source_port edges node (func.Filter conds) s all = absurd (cc)
-source_port edges node (func.Map steps) s all = absurd (cc)
-source_port edges node (func.Enrich lookup) s all = absurd (cc)
-source_port edges node (func.Count count) s all = absurd (cc)
-source_port edges node (func.Split split) s all = absurd (cc)
-source_port edges node func.Replicate s all = absurd (cc)
-source_port edges node (func.Sink listed) s all = absurd (cc)
 
 -- ---- the worker that a tuple reaches
 

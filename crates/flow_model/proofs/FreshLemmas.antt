@@ -1,6 +1,6 @@
 -- In a run a request is in force at the heads of its cover before tuples of later rows come there.
 use Rattle.std.proofs.Common.{◌≡◌, ◌∙◌, ◌<◌, ◌≤◌, ◌+◌, ◌-◌, ◌++◌, ◌==◌, ℕ, zero, suc, List, [], ◌∷◌, inl, inr, refl, sym, subst, ap, arith, true, false, Bool, cond, length, min, nat_le, Some, None, Option, slice_get}
-use Rattle.std.proofs.lemmas.Bool.{cases_lt}
+use Rattle.std.proofs.lemmas.Bool.{cases_lt, le-leb}
 use Rattle.std.proofs.lemmas.Bool.Decides.{nat_tests}
 use Rattle.std.proofs.lemmas.Option.{slice_get_within}
 use Rattle.jobs.specs.Written.{Written}
@@ -152,31 +152,11 @@ counted k total row i request [] o g le = absurd (cc)
 counted k total row zero request (q ∷ later) o g le =
     let e : q ≡ request = cc in
     let h : min q.after total ≤ k = subst (λ (x : Request). min x.after total ≤ k) (sym e) le in
-    one (min q.after total) k h
-  where
-    one : (m k : ℕ) → m ≤ k → 1 ≤ cond (nat_le m k) (suc (count_to k total (afters later))) (count_to k total (afters later))
-    one m k h = go (nat_le m k) refl
-      where
-        never : nat_le m k ≡ false → ⊥
-        never e = grind (arith, nat_tests)
-
-        go : (b : Bool) → nat_le m k ≡ b → 1 ≤ cond b (suc (count_to k total (afters later))) (count_to k total (afters later))
-        go true e = omega arith
-        go false e = absurd (never e)
+    subst (λ (b : Bool). 1 ≤ cond b (suc (count_to k total (afters later))) (count_to k total (afters later))) (sym (le-leb (min q.after total) k h)) (omega arith)
 counted k total row (suc i) request (q ∷ later) o g le =
     let first : q.after ≤ request.after = order_le q.after i request later o.1 g in
     let more : suc i ≤ count_to k total (afters later) = counted k total q.after i request later o.1 g le in
-    one (min q.after total) k (omega arith) more
-  where
-    one : (m k : ℕ) → m ≤ k → suc i ≤ count_to k total (afters later) → suc (suc i) ≤ cond (nat_le m k) (suc (count_to k total (afters later))) (count_to k total (afters later))
-    one m k h more = go (nat_le m k) refl
-      where
-        never : nat_le m k ≡ false → ⊥
-        never e = grind (arith, nat_tests)
-
-        go : (b : Bool) → nat_le m k ≡ b → suc (suc i) ≤ cond b (suc (count_to k total (afters later))) (count_to k total (afters later))
-        go true e = omega arith
-        go false e = absurd (never e)
+    subst (λ (b : Bool). suc (suc i) ≤ cond b (suc (count_to k total (afters later))) (count_to k total (afters later))) (sym (le-leb (min q.after total) k (omega (arith, first, le)))) (omega (arith, more))
 
 -- ---- fresh
 

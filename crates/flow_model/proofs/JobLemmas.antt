@@ -1,6 +1,6 @@
 -- What the type of a job keeps, as the laws of runs use it.
 use Rattle.std.proofs.Common.{◌≡◌, ◌∙◌, ◌<◌, ◌≤◌, ◌==◌, ℕ, List, [], ◌∷◌, inl, refl, sym, subst, ap, arith, true, false, Bool, cond, length, map, get_or, Some, None, Option, slice_get}
-use Rattle.std.proofs.lemmas.Bool.{and_parts, eq-eqb, eqb-true}
+use Rattle.std.proofs.lemmas.Bool.{and_parts, eq-eqb, eqb-true, not-true}
 use Rattle.std.proofs.lemmas.List.Folds.{Any-from_list_any, list_any_at}
 use Rattle.std.proofs.lemmas.Option.{get_or_from_slice_get, slice_get-get_or, slice_get_within}
 use Rattle.flow_dag.specs.Dag.{DagView}
@@ -21,7 +21,7 @@ use Rattle.flow_model.specs.Outline.{Lane, Post}
 use Rattle.flow_model.specs.Workers.{posts, posts_of}
 use Rattle.flow_model.proofs.ElementLemmas.{IsIn, at_of_all, in_of_place, map_in}
 use Rattle.flow_model.proofs.PostLemmas.{length-posts_of}
-use Rattle.flow_model.proofs.WorkerLemmas.{IsWorker, all_workers, item_at, posts_of_in}
+use Rattle.flow_model.proofs.WorkerLemmas.{IsWorker, all_workers, item_at, posts_of_in, source_is}
 use Rattle.flow_model.proofs.LaneLemmas.{lane_of_edge, lanes_that_in}
 
 -- What the laws of runs use of a job: its edges lead from lower ranks to higher ones, none into a source; every other node has a worker, each
@@ -53,15 +53,7 @@ ports_by_kind edges node f all =
     (enter.0, enter.1, ports.1)
 
 source_unentered : (f : Func) (entered : Bool) → is_source f ≡ true → may_enter f entered ≡ true → entered ≡ false
-source_unentered func.Source true e m = absurd (cc)
-source_unentered func.Source false e m = refl
-source_unentered (func.Filter conds) entered e m = absurd (cc)
-source_unentered (func.Map steps) entered e m = absurd (cc)
-source_unentered (func.Enrich lookup) entered e m = absurd (cc)
-source_unentered (func.Count count) entered e m = absurd (cc)
-source_unentered (func.Split split) entered e m = absurd (cc)
-source_unentered func.Replicate entered e m = absurd (cc)
-source_unentered (func.Sink listed) entered e m = absurd (cc)
+source_unentered f entered e m = not-true entered (subst (λ (g : Func). may_enter g entered ≡ true) (source_is f e) m)
 
 other_entered : (f : Func) (entered : Bool) → is_source f ≡ false → may_enter f entered ≡ true → entered ≡ true
 other_entered func.Source entered e m = absurd (cc)

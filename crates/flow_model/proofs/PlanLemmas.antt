@@ -23,7 +23,7 @@ use Rattle.jobs.specs.Written.{Written}
 use Rattle.versions.specs.Book.{is_named}
 use Rattle.flow_model.specs.Outline.{outline_of}
 use Rattle.flow_model.proofs.PlaceLemmas.{append_get, get_left}
-use Rattle.flow_model.proofs.WorkerLemmas.{item_at}
+use Rattle.flow_model.proofs.WorkerLemmas.{item_at, source_is}
 use Rattle.flow_model.specs.Planned.{ArePlansOf, IsPlanOf, IsPlanned, is_many, is_many_at}
 
 pushed-before : {A : Type 0} (xs : List A) (x : A) (k : ℕ) → k < length xs → slice_get (xs ++ x ∷ []) k ≡ slice_get xs k
@@ -61,34 +61,14 @@ IsPlanOf-plan edges many asked request plan is same =
     }
 
 no_source_replaced : (node : NodeDef) (f : Func) (most : ℕ) → is_source node.func ≡ true → may_replace node.func f most ≡ true → ⊥
-no_source_replaced node f most = go node.func
-  where
-    go : (g : Func) → is_source g ≡ true → may_replace g f most ≡ true → ⊥
-    go func.Source is may = cc
-    go (func.Filter conds) is may = cc
-    go (func.Map steps) is may = cc
-    go (func.Enrich lookup) is may = cc
-    go (func.Count count) is may = cc
-    go (func.Split split) is may = cc
-    go func.Replicate is may = cc
-    go (func.Sink listed) is may = cc
+no_source_replaced node f most is may = let no : may_replace func.Source f most ≡ true = subst (λ (g : Func). may_replace g f most ≡ true) (source_is node.func is) may in cc
 
 no_source_many : (nodes : List NodeDef) (node : ℕ) → is_source_node (slice_get nodes node) ≡ true → is_many_at nodes node ≡ true → ⊥
 no_source_many nodes node = go (slice_get nodes node)
   where
-    by_func : (g : Func) → is_source g ≡ true → may_emit g ≡ true → ⊥
-    by_func func.Source is many = cc
-    by_func (func.Filter conds) is many = cc
-    by_func (func.Map steps) is many = cc
-    by_func (func.Enrich lookup) is many = cc
-    by_func (func.Count count) is many = cc
-    by_func (func.Split split) is many = cc
-    by_func func.Replicate is many = cc
-    by_func (func.Sink listed) is many = cc
-
     go : (o : Option NodeDef) → is_source_node o ≡ true → is_many o ≡ true → ⊥
     go None is many = cc
-    go (Some def) is many = by_func def.func is many
+    go (Some def) is many = let no : may_emit func.Source ≡ true = subst (λ (g : Func). may_emit g ≡ true) (source_is def.func is) many in cc
 
 -- a request that keeps the kinds of the job's functions changes no source
 no_source_named : (job : Written) (request : Request) (node : ℕ) → All (KeepsKind job) request.changes → IsSourceOf job node → IsTrue (is_named request.changes node) → ⊥

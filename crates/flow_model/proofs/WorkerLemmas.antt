@@ -43,18 +43,18 @@ get_append (y ∷ xs) ys zero x h = inl h
 get_append (y ∷ xs) ys (suc q) x h =
     elim (get_append xs ys q x h) [ inl a ↦ inl a | inr b ↦ let e = b.1 in inr (b.0, omega (arith, e), b.2) ]
 
+pub source_is : (f : Func) → is_source f ≡ true → f ≡ func.Source
+source_is func.Source e = refl
+source_is (func.Filter conds) e = absurd (cc)
+source_is (func.Map steps) e = absurd (cc)
+source_is (func.Enrich lookup) e = absurd (cc)
+source_is (func.Count count) e = absurd (cc)
+source_is (func.Split split) e = absurd (cc)
+source_is func.Replicate e = absurd (cc)
+source_is (func.Sink listed) e = absurd (cc)
+
 no_workers : (def : NodeDef) → is_source def.func ≡ true → workers_of def ≡ 0
-no_workers def e = go def.func def.workers e
-  where
-    go : (f : Func) (n : ℕ) → is_source f ≡ true → workers_with f n ≡ 0
-    go func.Source n e = refl
-    go (func.Filter conds) n e = absurd (cc)
-    go (func.Map steps) n e = absurd (cc)
-    go (func.Enrich lookup) n e = absurd (cc)
-    go (func.Count count) n e = absurd (cc)
-    go (func.Split split) n e = absurd (cc)
-    go func.Replicate n e = absurd (cc)
-    go (func.Sink listed) n e = absurd (cc)
+no_workers def e = ap (λ (f : Func). workers_with f def.workers) (source_is def.func e)
 
 -- every worker but those of a source: as many as the node's definition says
 pub all_workers : (def : NodeDef) → is_source def.func ≡ false → workers_of def ≡ def.workers
