@@ -1,5 +1,5 @@
 -- How a call ends.
-use Rattle.std.proofs.Common.{◌⊎◌, inl, inr, ℕ, List, Option}
+use Rattle.std.proofs.Common.{inl, inr, ℕ, List, Option}
 use Rattle.fries.specs.Ends.{EndsAfterRun}
 use Rattle.fries.specs.Outside.{Outside}
 use Rattle.fries.specs.declared.fault.Fault.{Fault}

@@ -1,8 +1,8 @@
 -- The run of `first`: its one request is accepted, and the filter met each row on its side of the turn.
-use Rattle.std.proofs.Common.{◌≡◌, ◌≢◌, ◌∙◌, ◌<◌, ◌≤◌, ◌+◌, ◌-◌, ◌%◌, ◌++◌, ◌∷◌, ◌⊎◌, ◌||◌, [], inl, inr, ℕ, ℤ, zero, suc, Bool, true, false, cond, List, Option, None, Some, add-one, ap, arith, eqb, length, ltb, min, refl, sym, subst, slice_get}
+use Rattle.std.proofs.Common.{◌≡◌, ◌∙◌, ◌<◌, ◌≤◌, ◌+◌, ◌-◌, ◌%◌, ◌++◌, ◌∷◌, ◌||◌, [], inl, inr, ℕ, ℤ, zero, suc, Bool, true, false, cond, List, Option, None, Some, add-one, ap, arith, length, ltb, min, refl, sym, subst, slice_get}
 use Rattle.std.specs.Prelude.{All, ◌==◌, nat_le}
-use Rattle.std.specs.List.{filter_map, flat_map, list_any}
-use Rattle.std.proofs.lemmas.Bool.{cases_eq, eq-eqb, le-ltb, ne_eqb}
+use Rattle.std.specs.List.{list_any}
+use Rattle.std.proofs.lemmas.Bool.{cases_eq, eq-eqb, le-ltb, ne_eqb, or_right}
 use Rattle.std.proofs.lemmas.List.Elements.{All-weaker}
 use Rattle.std.proofs.lemmas.List.Folds.{list_any_none}
 use Rattle.jobs.specs.Nodes.{AreFromSources, IsSourceOf}
@@ -18,7 +18,7 @@ use Rattle.tuple_trace.specs.declared.tuple.Tuple.{Tuple}
 use Rattle.versions.specs.Book.{accepted}
 use Rattle.versions.specs.Judged.{judged, judged_from}
 use Rattle.versions.specs.Judging.{first_with}
-use Rattle.flow_model.specs.Lanes.{lane_of, lanes}
+use Rattle.flow_model.specs.Lanes.{lane_of}
 use Rattle.flow_model.specs.Outline.{Lane, Outline, outline_of}
 use Rattle.cover_planner.specs.declared.cover.Plan.{Plan}
 use Rattle.keyed_state.specs.Counts.{Counts}
@@ -79,10 +79,6 @@ comes row items = list_any (is_of row) items
 or_assoc : (a b c : Bool) → a || (b || c) ≡ (a || b) || c
 or_assoc true b c = refl
 or_assoc false b c = refl
-
-or_right : (a b : Bool) → b ≡ true → a || b ≡ true
-or_right true b is = refl
-or_right false b is = is
 
 comes-append : (row : ℕ) (items later : List Item) → comes row (items ++ later) ≡ comes row items || comes row later
 comes-append row [] later = refl

@@ -1,9 +1,9 @@
 -- What printing comes to.
-use Rattle.std.proofs.Common.{◌≡◌, ◌≤◌, ◌⊎◌, ◌++◌, [], inl, inr, ℕ, List, Option, None, Some, refl, sym, subst, arith, rules}
+use Rattle.std.proofs.Common.{◌≡◌, ◌≤◌, ◌⊎◌, ◌++◌, inl, inr, ℕ, List, Option, None, Some, refl, sym, subst, arith, rules}
 use Rattle.std.specs.Prelude.{option_map}
 use Rattle.payments.specs.Causes.{GainsPrefix}
 use Rattle.tuple_trace.specs.Counts.{Rose}
-use Rattle.fries.specs.Outside.{Prints, PrintsReport}
+use Rattle.fries.specs.Outside.{Prints}
 use Rattle.fries.specs.FaultWords.{fault_line}
 use Rattle.fries.specs.declared.fault.Fault.{Fault}
 use Rattle.fries.specs.declared.fault.Fault.TheVariants as fault

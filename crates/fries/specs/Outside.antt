@@ -1,7 +1,7 @@
 -- The outside as a call meets it, and what a call leaves of it.
-use Rattle.std.specs.Prelude.{◌≡◌, ◌⊎◌, ◌<◌, ◌≤◌, ◌++◌, ℕ, List, Option, None, Some, IfSome, length, option_map}
+use Rattle.std.specs.Prelude.{◌≡◌, ◌⊎◌, ◌≤◌, ◌++◌, ℕ, List, Option, None, Some, option_map}
 use Rattle.payments.specs.Causes.{Faults, GainsPrefix, WriteFailed}
-use Rattle.payments.specs.Files.{Files, HoldsPrefix, told_bytes, with_bytes}
+use Rattle.payments.specs.Files.{Files, HoldsPrefix, with_bytes}
 use Rattle.tuple_trace.specs.Counts.{Rose}
 use Rattle.fries.specs.FaultWords.{fault_line}
 use Rattle.fries.specs.declared.fault.Fault.{Fault}

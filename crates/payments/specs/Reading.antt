@@ -1,12 +1,12 @@
 -- The rows of a payments file.
-use Rattle.std.specs.Prelude.{◌+◌, ◌*◌, ◌&&◌, ℕ, pos, Bool, false, not, List, [], ◌∷◌, length, map, filter, drop, position, option_map, All, nat_le, nat_eq, codes, Option, None, Some, Result, Ok, Err, if◌then◌else◌}
+use Rattle.std.specs.Prelude.{◌+◌, ◌*◌, ◌&&◌, ℕ, pos, Bool, false, not, List, [], ◌∷◌, length, map, filter, drop, position, option_map, nat_le, nat_eq, codes, Option, None, Some, Result, Ok, Err, if◌then◌else◌}
 use Rattle.std.specs.Option.{ok_or}
 use Rattle.std.specs.Cmp.Lexicographic.{pointwise}
 use Rattle.csv.specs.Reading.{default_config, records, strip_bom}
 use Rattle.tuple_trace.specs.declared.row.Row.{Row}
 use Rattle.tuple_trace.specs.declared.value.Value.{Value}
 use Rattle.tuple_trace.specs.declared.value.Value.TheVariants as value
-use Rattle.jobs.specs.Nodes.{IsSourceOf, is_source}
+use Rattle.jobs.specs.Nodes.{is_source}
 use Rattle.jobs.specs.Weights.{weight}
 use Rattle.jobs.specs.Written.{Written}
 use Rattle.jobs.specs.declared.column.Column.{Column}

@@ -1,4 +1,4 @@
-use Rattle.std.proofs.Common.{◌≡◌, ◌∙◌, ◌∷◌, [], rules, subst, ap, sym}
+use Rattle.std.proofs.Common.{◌≡◌, ◌∷◌, [], rules, subst}
 use Rattle.jobs.specs.Job.{written}
 use Rattle.jobs.specs.Written.{Written}
 use Rattle.jobs.specs.Nodes.{AreFromSources}
