@@ -1,9 +1,10 @@
 -- What the files that a call reads are answered by.
-use Rattle.std.proofs.Common.{◌≡◌, ◌≢◌, ◌≤◌, ◌<◌, ◌⊎◌, ◌∙◌, inl, inr, ℕ, List, Option, None, Some, Ok, Err, length, refl, sym, ap, subst, arith}
+use Rattle.std.proofs.Common.{◌≡◌, ◌≤◌, ◌<◌, ◌⊎◌, ◌∙◌, inl, inr, ℕ, List, Option, None, Some, Ok, Err, length, refl, sym, ap, subst, arith}
 use Rattle.std.specs.Prelude.{IfSome}
 use Rattle.jobs.specs.Written.{Written}
-use Rattle.job_file.specs.Job.{Excludes, IsJobIn}
+use Rattle.job_file.specs.Job.{Excludes, HaveOneFault, IsJobIn}
 use Rattle.job_file.specs.RequestFile.{requests_of}
+use Rattle.job_file.specs.declared.fault.JobFault.{JobFault}
 use Rattle.payments.specs.Causes.{Faults}
 use Rattle.payments.specs.Files.{Files, told_bytes}
 use Rattle.payments.specs.Reading.{rows_of}
@@ -60,21 +61,16 @@ follows_read is P Refuses name old new answer apart has = record {
   refused = λ why tells. absurd (apart why tells.bytes (told_so is P old.files name tells.bytes has tells.told) tells.are_so);
 }
 
+-- bytes have one fault
+abbrev IsSole : (Fault → List ℕ → Type 0) → Type 0
+IsSole Refuses = (f g : Fault) (bytes : List ℕ) → Refuses f bytes → Refuses g bytes → f ≡ g
+
 -- a file whose bytes are refused
 follows_refused : (is : FileIs) (Refuses : Fault → List ℕ → Type 0) (name : List ℕ) (old new : Outside) (why : Fault) →
-    HasRead is (Refuses why) old.files name → FollowsFile is Refuses name old new (Some why)
-follows_refused is Refuses name old new why has = record {
+    IsSole Refuses → HasRead is (Refuses why) old.files name → FollowsFile is Refuses name old new (Some why)
+follows_refused is Refuses name old new why sole has = record {
   long = λ bytes told above. absurd (not_long is (Refuses why) old.files name bytes has told above);
-  refused = λ other tells. inl (
-    why,
-    refl,
-    record {
-      bytes = tells.bytes;
-      told = tells.told;
-      short = tells.short;
-      are_so = told_so is (Refuses why) old.files name tells.bytes has tells.told;
-    },
-  );
+  refused = λ other tells. inl (ap Some (sole why other tells.bytes (told_so is (Refuses why) old.files name tells.bytes has tells.told) tells.are_so));
 }
 
 -- a file that is too long
@@ -90,13 +86,13 @@ rose_reads : (old between new : Outside) → new.shelf ≡ between.shelf → Ros
 rose_reads old between new same rose = subst (λ (s : Faults). Rose old.shelf.reads s.reads) (sym same) rose
 
 -- a file that wasn't read
-pub follows_unread : (is : FileIs) (Refuses : Fault → List ℕ → Type 0) (name : List ℕ) (old between new : Outside) (why : Fault) → new.shelf ≡ between.shelf →
-    IsUnread is Refuses old.files name old.shelf between.shelf why → FollowsFile is Refuses name old new (Some why)
-follows_unread is Refuses name old between new (fault.Read which) same unread =
+pub follows_unread : (is : FileIs) (Refuses : Fault → List ℕ → Type 0) (name : List ℕ) (old between new : Outside) (why : Fault) → IsSole Refuses →
+    new.shelf ≡ between.shelf → IsUnread is Refuses old.files name old.shelf between.shelf why → FollowsFile is Refuses name old new (Some why)
+follows_unread is Refuses name old between new (fault.Read which) sole same unread =
     follows_excused is Refuses name old new (Some (fault.Read which)) (inl (inl (rose_reads old between new same unread.1.rose)))
-follows_unread is Refuses name old between new (fault.Long which) same unread = follows_long is Refuses name old new which unread.0 unread.1
-follows_unread is Refuses name old between new fault.NoMemory same unread = follows_excused is Refuses name old new (Some fault.NoMemory) (inr refl)
-follows_unread is Refuses name old between new why same unread = follows_refused is Refuses name old new why unread.0
+follows_unread is Refuses name old between new (fault.Long which) sole same unread = follows_long is Refuses name old new which unread.0 unread.1
+follows_unread is Refuses name old between new fault.NoMemory sole same unread = follows_excused is Refuses name old new (Some fault.NoMemory) (inr refl)
+follows_unread is Refuses name old between new why sole same unread = follows_refused is Refuses name old new why sole unread.0
 
 -- a file that holds what it should is refused by no fault
 not_refused : (is : FileIs) (P : List ℕ → Type 0) (Refuses : Fault → List ℕ → Type 0) (files : Option Files) (name : List ℕ) (why : Fault) →
@@ -125,6 +121,21 @@ no_requests job requests _ bytes holds refused = absurd refused
 pub no_rows : (job : Written) (rows : List Row) → Apart (λ bytes. rows_of job bytes ≡ Ok rows) (RefusesRows job)
 no_rows job rows (fault.Payments code) bytes holds refused = absurd (let clash : Ok rows ≡ Err code = sym holds ∙ refused.1 in cc)
 no_rows job rows _ bytes holds refused = absurd refused
+
+sole_job : HaveOneFault → IsSole RefusesJob
+sole_job have (fault.Job f) (fault.Job g) bytes x y = ap (λ (code : JobFault). fault.Job code) (have bytes f g x.0 y.0 x.1 y.1)
+sole_job have (fault.Job f) _ bytes x y = absurd y
+sole_job have _ g bytes x y = absurd x
+
+sole_requests : (job : Written) → IsSole (RefusesRequests job)
+sole_requests job (fault.Requests f) (fault.Requests g) bytes x y = let same = sym x.1 ∙ y.1 in cc
+sole_requests job (fault.Requests f) _ bytes x y = absurd y
+sole_requests job _ g bytes x y = absurd x
+
+sole_rows : (job : Written) → IsSole (RefusesRows job)
+sole_rows job (fault.Payments f) (fault.Payments g) bytes x y = let same = sym x.1 ∙ y.1 in cc
+sole_rows job (fault.Payments f) _ bytes x y = absurd y
+sole_rows job _ g bytes x y = absurd x
 
 -- the job that was read of a file that is told is the one that the file holds
 pub same_job : (files : Option Files) (name : List ℕ) (job other : Written) → IsJobOf files name job → TellsJob files name other → job ≡ other
@@ -169,11 +180,11 @@ ran_or_excused name text lines old between new answer ends report =
 
 -- ---- each command
 
-pub follows_check : Excludes → (name : List ℕ) (old new : Outside) (answer : Answer) → AnswersCheck name old new answer → FollowsCheck name old new answer.fault
-follows_check excludes name old new answer a =
+pub follows_check : Excludes → HaveOneFault → (name : List ℕ) (old new : Outside) (answer : Answer) → AnswersCheck name old new answer → FollowsCheck name old new answer.fault
+follows_check excludes have name old new answer a =
     elim a.ends [
       | inl s ↦ subst (λ (x : Answer). FollowsCheck name old new x.fault) (sym s.answer_is) (record {
-        job = follows_unread file.Job RefusesJob name old a.between new s.why a.prints.shelf s.cause;
+        job = follows_unread file.Job RefusesJob name old a.between new s.why (sole_job have) a.prints.shelf s.cause;
         done = λ job tells. inr (unread_excused file.Job (λ bytes. IsJobIn bytes job) RefusesJob name old a.between new s.why (no_job excludes job) tells a.prints.shelf s.cause);
       })
       | inr p ↦ record {
@@ -187,7 +198,7 @@ follows_first asked old new answer a =
     let job = asked_job asked in
     elim a.ends [
       | inl s ↦ subst (λ (x : Answer). FollowsFirst asked old new x.fault) (sym s.answer_is) (record {
-        payments = follows_unread file.Payments (RefusesRows job) asked.payments old a.between new s.why a.prints.shelf s.cause;
+        payments = follows_unread file.Payments (RefusesRows job) asked.payments old a.between new s.why (sole_rows job) a.prints.shelf s.cause;
         done = λ rows tells. inr (unread_excused file.Payments (λ bytes. rows_of job bytes ≡ Ok rows) (RefusesRows job) asked.payments old a.between new s.why (no_rows job rows) tells a.prints.shelf s.cause);
       })
       | inr r ↦
@@ -209,15 +220,15 @@ excused_where_undone old new why (inl done) = absurd (cc)
 excused_where_undone old new why (inr excused) = excused
 
 -- a call that read no job, or no requests of it
-follows_no_setup : Excludes → (asked : PlanAsked) (old between new : Outside) (why : Fault) → new.shelf ≡ between.shelf →
+follows_no_setup : Excludes → HaveOneFault → (asked : PlanAsked) (old between new : Outside) (why : Fault) → new.shelf ≡ between.shelf →
     IsNoSetup asked old.files old.shelf between.shelf why → FollowsPlan asked old new (Some why)
-follows_no_setup excludes asked old between new why same none =
+follows_no_setup excludes have asked old between new why same none =
     elim none [
       | inl unread ↦
           let excused : (job : Written) → TellsJob old.files asked.job job → IsExcused old new (Some why) =
           λ job tells. unread_excused file.Job (λ bytes. IsJobIn bytes job) RefusesJob asked.job old between new why (no_job excludes job) tells same unread in
           record {
-            job = follows_unread file.Job RefusesJob asked.job old between new why same unread;
+            job = follows_unread file.Job RefusesJob asked.job old between new why (sole_job have) same unread;
             requests = λ job tells. follows_excused file.Requests (RefusesRequests job) asked.requests old new (Some why) (excused job tells);
             done = λ job requests tells more. inr (excused job tells);
           }
@@ -226,16 +237,16 @@ follows_no_setup excludes asked old between new why same none =
           λ job tells. subst (λ (j : Written). AreNoRequests old.files asked.requests j old.shelf between.shelf why) (same_job old.files asked.job read job of tells) unread in
           record {
             job = follows_read file.Job (λ bytes. IsJobIn bytes read) RefusesJob asked.job old new (Some why) (no_job excludes read) of;
-            requests = λ job tells. follows_unread file.Requests (RefusesRequests job) asked.requests old between new why same (here job tells);
+            requests = λ job tells. follows_unread file.Requests (RefusesRequests job) asked.requests old between new why (sole_requests job) same (here job tells);
             done = λ job requests tells more. inr (unread_excused file.Requests (λ bytes. requests_of job bytes ≡ Ok requests) (RefusesRequests job) asked.requests
                 old between new why (no_requests job requests) more same (here job tells));
           }
     ]
 
-pub follows_plan : Excludes → (asked : PlanAsked) (old new : Outside) (answer : Answer) → AnswersPlan asked old new answer → FollowsPlan asked old new answer.fault
-follows_plan excludes asked old new answer a =
+pub follows_plan : Excludes → HaveOneFault → (asked : PlanAsked) (old new : Outside) (answer : Answer) → AnswersPlan asked old new answer → FollowsPlan asked old new answer.fault
+follows_plan excludes have asked old new answer a =
     elim a.ends [
-      | inl s ↦ subst (λ (x : Answer). FollowsPlan asked old new x.fault) (sym s.answer_is) (follows_no_setup excludes asked old a.between new s.why a.prints.shelf s.cause)
+      | inl s ↦ subst (λ (x : Answer). FollowsPlan asked old new x.fault) (sym s.answer_is) (follows_no_setup excludes have asked old a.between new s.why a.prints.shelf s.cause)
       | inr p ↦
           let of = p.of_files in
           record {
@@ -247,12 +258,12 @@ follows_plan excludes asked old new answer a =
     ]
 
 -- a call that read no job, no requests of it, or no rows
-follows_no_run : Excludes → (asked : RunAsked) (old between new : Outside) (why : Fault) → new.shelf ≡ between.shelf →
+follows_no_run : Excludes → HaveOneFault → (asked : RunAsked) (old between new : Outside) (why : Fault) → new.shelf ≡ between.shelf →
     IsNoRun asked old.files old.shelf between.shelf why → FollowsRun asked old new (Some why)
-follows_no_run excludes asked old between new why same none =
+follows_no_run excludes have asked old between new why same none =
     elim none [
       | inl unread ↦
-          let plan = follows_no_setup excludes asked.plan old between new why same unread in
+          let plan = follows_no_setup excludes have asked.plan old between new why same unread in
           let excused : (job : Written) (requests : List Request) → TellsJob old.files asked.plan.job job → TellsRequests old.files asked.plan.requests job requests →
           IsExcused old new (Some why) = λ job requests tells more. excused_where_undone old new why (plan.done job requests tells more) in
           record {
@@ -268,16 +279,16 @@ follows_no_run excludes asked old between new why same none =
             job = follows_read file.Job (λ bytes. IsJobIn bytes read) RefusesJob asked.plan.job old new (Some why) (no_job excludes read) of_job;
             requests = λ job tells. follows_requests asked.plan.requests old new (Some why) job requested
                 (subst (λ (j : Written). AreRequestsOf old.files asked.plan.requests j requested) (same_job old.files asked.plan.job read job of_job tells) of_requests);
-            payments = λ job requests tells more. follows_unread file.Payments (RefusesRows job) asked.payments old between new why same (here job tells);
+            payments = λ job requests tells more. follows_unread file.Payments (RefusesRows job) asked.payments old between new why (sole_rows job) same (here job tells);
             done = λ job requests rows tells more most. inr (unread_excused file.Payments (λ bytes. rows_of job bytes ≡ Ok rows) (RefusesRows job) asked.payments
                 old between new why (no_rows job rows) most same (here job tells));
           }
     ]
 
-pub follows_run : Excludes → (asked : RunAsked) (old new : Outside) (answer : Answer) → AnswersRun asked old new answer → FollowsRun asked old new answer.fault
-follows_run excludes asked old new answer a =
+pub follows_run : Excludes → HaveOneFault → (asked : RunAsked) (old new : Outside) (answer : Answer) → AnswersRun asked old new answer → FollowsRun asked old new answer.fault
+follows_run excludes have asked old new answer a =
     elim a.ends [
-      | inl s ↦ subst (λ (x : Answer). FollowsRun asked old new x.fault) (sym s.answer_is) (follows_no_run excludes asked old a.between new s.why a.prints.shelf s.cause)
+      | inl s ↦ subst (λ (x : Answer). FollowsRun asked old new x.fault) (sym s.answer_is) (follows_no_run excludes have asked old a.between new s.why a.prints.shelf s.cause)
       | inr r ↦
           let of = r.is_so in
           let same : (job : Written) → TellsJob old.files asked.plan.job job → of.job ≡ job = λ job tells. same_job old.files asked.plan.job of.job job of.of_job tells in

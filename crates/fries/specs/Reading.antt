@@ -102,13 +102,12 @@ TellsRequests files name job requests = Tells file.Requests (λ bytes. requests_
 abbrev pub TellsRows : Option Files → List ℕ → Written → List Row → Type 0
 TellsRows files name job rows = Tells file.Payments (λ bytes. rows_of job bytes ≡ Ok rows) files name
 
--- What a file is answered by, where it is told: one that is too long by just that, and one that is refused by a fault that its bytes have.
+-- What a file is answered by, where it is told: one that is too long by just that, and one that is refused by just the fault that its bytes have.
 -- Otherwise the call is excused.
 pub record FollowsFile (is : FileIs) (Refuses : Fault → List ℕ → Type 0) (name : List ℕ) (old new : Outside) (answer : Option Fault) : Type 0 where
   pub long : (bytes : List ℕ) → told_bytes old.files name ≡ Some bytes → limit_of is < length bytes →
       (answer ≡ Some (fault.Long is)) ⊎ IsExcused old new answer
-  pub refused : (why : Fault) → Tells is (Refuses why) old.files name →
-      ((other : Fault) × (answer ≡ Some other) × Tells is (Refuses other) old.files name) ⊎ IsExcused old new answer
+  pub refused : (why : Fault) → Tells is (Refuses why) old.files name → (answer ≡ Some why) ⊎ IsExcused old new answer
 
 abbrev pub FollowsJob : List ℕ → Outside → Outside → Option Fault → Type 0
 FollowsJob name old new answer = FollowsFile file.Job RefusesJob name old new answer

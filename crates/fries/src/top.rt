@@ -21,7 +21,7 @@ use crate::plan::plan_command;
 use crate::printing::print;
 use crate::run::run_command;
 use flow_model::RunRecord;
-use job_file::faulty_is_no_job;
+use job_file::{faulty_is_no_job, files_have_one_fault};
 use payments::{Shelf, Sink};
 use std::alloc::Global;
 use std::sync::Wait;
@@ -136,6 +136,7 @@ fn answer_check<S: Shelf, O: Sink>(alloc: Global, job: &Word, shelf: &mut S, out
         result.fault }
 {
     faulty_is_no_job();
+    files_have_one_fault();
     let answer = check_command(alloc, job, shelf, out);
     report(alloc, answer.fault, out);
     answer
@@ -157,6 +158,7 @@ fn answer_plan<S: Shelf, O: Sink>(
         result.fault }
 {
     faulty_is_no_job();
+    files_have_one_fault();
     let answer = plan_command(alloc, files, shelf, out);
     report(alloc, answer.fault, out);
     answer
@@ -178,6 +180,7 @@ fn answer_run<S: Shelf, O: Sink>(
         result.fault }
 {
     faulty_is_no_job();
+    files_have_one_fault();
     let answer = run_command(alloc, files, shelf, out);
     report(alloc, answer.fault, out);
     answer

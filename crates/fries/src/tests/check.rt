@@ -39,69 +39,71 @@ from = "c"
 to = "a"
 "#;
 
-/// What `check NAME` answers where `job.toml` holds this text. These calls of the output fail.
-fn checked<R>(
-    rt: &R,
-    alloc: Global,
-    name: &str,
-    text: &[u8],
-    refusing: &[u64],
-) -> Result<Seen, NoMemory>
+/// What `check job.toml` answers.
+fn checked<R>(rt: &R, alloc: Global, around: Around<'_>) -> Result<Seen, NoMemory>
 where
     R: Threads + Wait + Copy + Send + Sync + 'static,
 {
-    let files = [("job.toml", text)];
-    let around = Around {
-        files: &files,
-        failing: &[],
-        refusing,
-    };
-    answer_to(rt, alloc, around, &["check", name])
+    answer_to(rt, alloc, around, &["check", "job.toml"])
 }
 
 #[test]
 fn sizes_of_jobs(rt: HostRuntime) -> Result<(), Fail> {
-    let alloc = rt.alloc();
-    let chain = checked(&rt, alloc, "job.toml", CHAIN.as_bytes(), &[])?;
-    assert!(rt; chain.left(0, None, "nodes 3 edges 2 workers 2 weight 2\n"));
-    let payments = checked(&rt, alloc, "job.toml", PAYMENTS.as_bytes(), &[])?;
-    assert!(rt; payments.left(0, None, "nodes 9 edges 8 workers 8 weight 14\n"));
-    let unprinted = checked(&rt, alloc, "job.toml", CHAIN.as_bytes(), &[0])?;
-    assert!(rt; unprinted.left(6, None, ""));
+    let chain = [("job.toml", CHAIN.as_bytes())];
+    let seen = checked(&rt, rt.alloc(), Around::of(&chain))?;
+    assert!(rt; seen.left(0, None, "nodes 3 edges 2 workers 2 weight 2\n"));
+    let payments = [("job.toml", PAYMENTS.as_bytes())];
+    let seen = checked(&rt, rt.alloc(), Around::of(&payments))?;
+    assert!(rt; seen.left(0, None, "nodes 9 edges 8 workers 8 weight 14\n"));
+    Ok(())
+}
+
+#[test]
+fn unprinted_sizes(rt: HostRuntime) -> Result<(), Fail> {
+    let files = [("job.toml", CHAIN.as_bytes())];
+    let around = Around {
+        files: &files,
+        failing: &[],
+        refusing: &[0],
+    };
+    let seen = checked(&rt, rt.alloc(), around)?;
+    assert!(rt; seen.left(6, None, ""));
     Ok(())
 }
 
 #[test]
 fn cycle_is_refused(rt: HostRuntime) -> Result<(), Fail> {
-    let seen = checked(&rt, rt.alloc(), "job.toml", CYCLE.as_bytes(), &[])?;
+    let files = [("job.toml", CYCLE.as_bytes())];
+    let seen = checked(&rt, rt.alloc(), Around::of(&files))?;
     assert!(rt; seen.left(2, None, "fault 2 J7 node 0\n"));
     Ok(())
 }
 
 #[test]
 fn missing_and_cut_files(rt: HostRuntime) -> Result<(), Fail> {
-    let alloc = rt.alloc();
-    let missing = checked(&rt, alloc, "none.toml", CHAIN.as_bytes(), &[])?;
+    let other = [("other.toml", CHAIN.as_bytes())];
+    let missing = checked(&rt, rt.alloc(), Around::of(&other))?;
     assert!(rt; missing.left(5, None, "fault 5 job\n"));
-    let cut = checked(&rt, alloc, "job.toml", CHAIN.as_bytes().split_at(20).0, &[])?;
+    let files = [("job.toml", CHAIN.as_bytes().split_at(20).0)];
+    let cut = checked(&rt, rt.alloc(), Around::of(&files))?;
     assert!(rt; cut.left(2, None, "fault 2 J1\n"));
     Ok(())
 }
 
 #[test]
 fn the_longest_file(rt: HostRuntime) -> Result<(), Fail> {
-    let alloc = rt.alloc();
-    let longest = vec![in alloc; b'\n'; 1_048_576]?;
-    let read = checked(&rt, alloc, "job.toml", &longest, &[])?;
+    let longest = vec![in rt.alloc(); b'\n'; 1_048_576]?;
+    let files = [("job.toml", longest.as_slice())];
+    let read = checked(&rt, rt.alloc(), Around::of(&files))?;
     assert!(rt; read.left(2, None, "fault 2 J2 columns\n"));
     Ok(())
 }
 
 #[test]
 fn one_byte_too_many(rt: HostRuntime) -> Result<(), Fail> {
-    let alloc = rt.alloc();
-    let longer = vec![in alloc; b'\n'; 1_048_577]?;
-    let unread = checked(&rt, alloc, "job.toml", &longer, &[])?;
+    let longer = vec![in rt.alloc(); b'\n'; 1_048_577]?;
+    let files = [("job.toml", longer.as_slice())];
+    let unread = checked(&rt, rt.alloc(), Around::of(&files))?;
     assert!(rt; unread.left(9, None, "fault 9 job\n"));
     Ok(())
 }

@@ -11,4 +11,4 @@ returns-clause-answers g c = record {
 }
 
 pub returns-clause-file : goal.returns-clause-file
-returns-clause-file g c = follows_check c.faulty_is_no_job.ensures c.args.job.now _ _ _ (returns-clause-answers g c)
+returns-clause-file g c = follows_check c.faulty_is_no_job.ensures c.files_have_one_fault.ensures c.args.job.now _ _ _ (returns-clause-answers g c)

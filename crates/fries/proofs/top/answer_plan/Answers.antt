@@ -12,4 +12,4 @@ returns-clause-answers g c = record {
 }
 
 pub returns-clause-file : goal.returns-clause-file
-returns-clause-file g c = follows_plan c.faulty_is_no_job.ensures (plan_asked c.args.files) _ _ _ (returns-clause-answers g c)
+returns-clause-file g c = follows_plan c.faulty_is_no_job.ensures c.files_have_one_fault.ensures (plan_asked c.args.files) _ _ _ (returns-clause-answers g c)
