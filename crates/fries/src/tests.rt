@@ -5,10 +5,11 @@ mod lines;
 mod plan;
 mod run;
 mod texts;
+mod told;
 
 use crate::fault::Fault;
+use crate::tests::told::told;
 use crate::top::fries;
-use flow_model::RunRecord;
 use payments::{Calls, MemoryShelf, MemorySink};
 use std::alloc::Global;
 use std::sync::Wait;
@@ -34,12 +35,12 @@ impl<'a> Around<'a> {
     }
 }
 
-/// What a call came to, and what it left under `alerts.csv` and on the output.
+/// What a call came to, what its record tells, and what it left under `alerts.csv` and on the output.
 #[derive(Drop)]
 pub struct Seen {
     pub status: u8,
     pub fault: Option<Fault>,
-    pub ran: Option<RunRecord>,
+    pub told: Option<Bytes>,
     pub alerts: Option<Bytes>,
     pub out: Bytes,
 }
@@ -47,12 +48,22 @@ pub struct Seen {
 impl Seen {
     /// Whether the call left this status, these alerts and this output.
     pub fn left(&self, status: u8, alerts: Option<&str>, out: &str) -> bool {
-        let same = match (&self.alerts, alerts) {
-            (Some(bytes), Some(text)) => bytes.as_slice() == text.as_bytes(),
-            (None, None) => true,
-            _ => false,
-        };
-        self.status == status && same && self.out.as_slice() == out.as_bytes()
+        self.status == status
+            && is_text(&self.alerts, alerts)
+            && self.out.as_slice() == out.as_bytes()
+    }
+
+    /// Whether there is a record, and it tells this.
+    pub fn tells(&self, text: &str) -> bool {
+        is_text(&self.told, Some(text))
+    }
+}
+
+fn is_text(bytes: &Option<Bytes>, text: Option<&str>) -> bool {
+    match (bytes, text) {
+        (Some(bytes), Some(text)) => bytes.as_slice() == text.as_bytes(),
+        (None, None) => true,
+        _ => false,
     }
 }
 
@@ -69,11 +80,11 @@ where
     let words = words_of(alloc, words)?;
     let mut shelf = shelf_of(alloc, around.files, around.failing)?;
     let mut out = MemorySink::new(alloc, Calls::from_slice(alloc, around.refusing)?);
-    let (status, fault, ran) = outcome(rt, alloc, &words, &mut shelf, &mut out);
+    let (status, fault, told) = outcome(rt, alloc, &words, &mut shelf, &mut out)?;
     Ok(Seen {
         status,
         fault,
-        ran,
+        told,
         alerts: alerts_on(alloc, &shelf)?,
         out: Bytes::from_slice(alloc, out.written())?,
     })
@@ -112,12 +123,16 @@ fn outcome<R>(
     words: &[Word],
     shelf: &mut MemoryShelf,
     out: &mut MemorySink,
-) -> (u8, Option<Fault>, Option<RunRecord>)
+) -> Result<(u8, Option<Fault>, Option<Bytes>), NoMemory>
 where
     R: Threads + Wait + Copy + Send + Sync + 'static,
 {
     let outcome = fries(rt, alloc, words, shelf, out, &OpenGate);
-    (outcome.status, outcome.fault, outcome.ran)
+    let told = match &outcome.ran {
+        Some(ran) => Some(told(alloc, ran)?),
+        None => None,
+    };
+    Ok((outcome.status, outcome.fault, told))
 }
 
 fn alerts_on(alloc: Global, shelf: &MemoryShelf) -> Result<Option<Bytes>, NoMemory> {

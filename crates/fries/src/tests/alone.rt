@@ -1,11 +1,10 @@
 use crate::tests::run::run_over;
-use crate::tests::texts::{CHAIN, FOUR_PAYMENTS, TWO_ALERTS};
+use crate::tests::texts::{CHAIN, FOUR_PAYMENTS};
 use crate::tests::{Around, Seen, answer_to};
-use flow_replay::{FuncTable, alone};
+use flow_replay::{FuncTable, Landing, alone};
 use job_file::read_job;
-use jobs::Job;
+use jobs::{ColumnKind, Job};
 use payments::read_rows;
-use sink_journal::{Entry, Journal};
 use std::alloc::Global;
 use std::ops::Range;
 use std::test::Fail;
@@ -86,33 +85,53 @@ fn counts_over_eight_workers(rt: HostRuntime) -> Result<(), Fail> {
     Ok(())
 }
 
-/// What came to a sink, a line each: the number of the row, and the fields.
+/// The lines of an alerts file.
 type Lines = Vec<Txt>;
 
-fn line(alloc: Global, row: u64, fields: &[Value]) -> Result<Txt, NoMemory> {
-    let mut line = Vec::new(alloc);
-    line.extend_from_slice(format!(in alloc; "{row}")?.as_bytes())?;
-    for field in fields {
-        line.push(b',')?;
-        match field {
-            Value::Num(number) => {
-                line.extend_from_slice(format!(in alloc; "{number}")?.as_bytes())?
-            }
-            Value::Text(text) => line.extend_from_slice(text.as_slice())?,
-        }
-    }
-    Txt::from_slice(alloc, line.as_slice())
-}
-
-/// What a journal met.
-fn met(alloc: Global, journal: &Journal) -> Result<Lines, NoMemory> {
+fn lines_of(alloc: Global, text: &[u8]) -> Result<Lines, NoMemory> {
     let mut lines = Vec::new(alloc);
-    for entry in journal.as_slice() {
-        if let Entry::Met { tuple, .. } = entry {
-            lines.push(line(alloc, tuple.row, tuple.fields.as_slice())?)?;
+    let mut line = Vec::new(alloc);
+    for byte in text {
+        if *byte == b'\n' {
+            lines.push(Txt::from_slice(alloc, line.as_slice())?)?;
+            line.clear();
+        } else {
+            line.push(*byte)?;
         }
     }
     Ok(lines)
+}
+
+/// A field as an alert shows it, behind a comma. It needs no quotes, and no sign.
+fn push_field(
+    alloc: Global,
+    kind: ColumnKind,
+    field: &Value,
+    line: &mut Vec<u8>,
+) -> Result<(), NoMemory> {
+    line.push(b',')?;
+    match (field, kind) {
+        (Value::Text(text), _) => line.extend_from_slice(text.as_slice())?,
+        (Value::Num(cents), ColumnKind::Cents) => {
+            let amount = format!(in alloc; "{}.{:02}", cents / 100, cents % 100)?;
+            line.extend_from_slice(amount.as_bytes())?
+        }
+        (Value::Num(number), _) => {
+            line.extend_from_slice(format!(in alloc; "{number}")?.as_bytes())?
+        }
+    }
+    Ok(())
+}
+
+/// The alert of what came to a sink with this name.
+fn alert(alloc: Global, job: &Job, sink: &str, landing: &Landing) -> Result<Txt, NoMemory> {
+    let mut line = Vec::new(alloc);
+    line.extend_from_slice(format!(in alloc; "{sink},{}", landing.row)?.as_bytes())?;
+    let columns = job.columns.as_slice().iter();
+    for (column, field) in columns.zip(landing.fields.as_slice()) {
+        push_field(alloc, column.kind, field, &mut line)?;
+    }
+    Txt::from_slice(alloc, line.as_slice())
 }
 
 /// The functions of a job, one for each node.
@@ -124,16 +143,38 @@ fn funcs(alloc: Global, job: &Job) -> Result<FuncTable, NoMemory> {
     Ok(table)
 }
 
-/// What comes to the sinks where each row is sent through the job by itself.
-fn by_themselves(alloc: Global, job: &Job, rows: &[Row]) -> Result<Lines, NoMemory> {
+/// Adds the alerts of a row that is sent through a job by itself.
+fn push_alone(
+    alloc: Global,
+    job: &Job,
+    sink: &str,
+    row: &Row,
+    lines: &mut Lines,
+) -> Result<(), NoMemory> {
     let table = funcs(alloc, job)?;
-    let mut lines = Vec::new(alloc);
-    for row in rows {
-        for landing in alone(alloc, job, &table, row)?.as_slice() {
-            lines.push(line(alloc, landing.row, landing.fields.as_slice())?)?;
+    for landing in alone(alloc, job, &table, row)?.as_slice() {
+        lines.push(alert(alloc, job, sink, landing)?)?;
+    }
+    Ok(())
+}
+
+/// Adds the alerts of these rows of the payments, counted from 0, where each is sent through this job by itself.
+fn push_rows(
+    alloc: Global,
+    job: &str,
+    sink: &str,
+    payments: &str,
+    rows: Range<usize>,
+    lines: &mut Lines,
+) -> Result<(), Fail> {
+    let job = read_job(alloc, job.as_bytes())?;
+    let all = read_rows(alloc, &job, payments.as_bytes())?;
+    for (place, row) in all.as_slice().iter().enumerate() {
+        if rows.start <= place && place < rows.end {
+            push_alone(alloc, &job, sink, row, lines)?;
         }
     }
-    Ok(lines)
+    Ok(())
 }
 
 fn times(lines: &[Txt], wanted: &Txt) -> usize {
@@ -151,32 +192,29 @@ fn same_lines(some: &[Txt], others: &[Txt]) -> bool {
             .all(|line| times(some, line) == times(others, line))
 }
 
-/// What comes to the sinks where these rows of the payments, counted from 0, are each sent through this job by themselves.
-fn sent_alone(alloc: Global, job: &str, payments: &str, rows: Range<usize>) -> Result<Lines, Fail> {
-    let job = read_job(alloc, job.as_bytes())?;
-    let all = read_rows(alloc, &job, payments.as_bytes())?;
-    Ok(by_themselves(alloc, &job, &all.as_slice()[rows])?)
+/// Whether the alerts are this header and these lines, in any order.
+fn are_alerts(alloc: Global, seen: &Seen, header: &str, wanted: &Lines) -> Result<bool, NoMemory> {
+    let Some(text) = &seen.alerts else {
+        return Ok(false);
+    };
+    let lines = lines_of(alloc, text.as_slice())?;
+    let Some((first, rest)) = lines.split_first() else {
+        return Ok(false);
+    };
+    Ok(first.as_slice() == header.as_bytes() && same_lines(rest, wanted))
 }
 
-/// What the last worker met in a run, which is that of the sink.
-fn at_the_sink(alloc: Global, seen: &Seen) -> Result<Lines, NoMemory> {
-    match &seen.ran {
-        Some(ran) => match ran.journals.as_slice().last() {
-            Some(journal) => met(alloc, journal),
-            None => Ok(Vec::new(alloc)),
-        },
-        None => Ok(Vec::new(alloc)),
-    }
-}
+const WIDE_HEADER: &str = "sink,row,tags,seen";
 
 #[test]
 fn rows_by_themselves(rt: HostRuntime) -> Result<(), Fail> {
     let job = wide(rt.alloc(), MAP, "")?;
     let seen = run_over(&rt, rt.alloc(), &job, "", PIECES)?;
     assert_eq!(rt; seen.out.as_slice(), WIDE_SUMMARY.as_bytes());
-    let wanted = sent_alone(rt.alloc(), &job, PIECES, 0..4)?;
+    let mut wanted = Vec::new(rt.alloc());
+    push_rows(rt.alloc(), &job, "out", PIECES, 0..4, &mut wanted)?;
     assert_eq!(rt; wanted.len(), 176);
-    assert!(rt; same_lines(&at_the_sink(rt.alloc(), &seen)?, &wanted));
+    assert!(rt; are_alerts(rt.alloc(), &seen, WIDE_HEADER, &wanted)?);
     Ok(())
 }
 
@@ -196,11 +234,10 @@ fn each_row_by_one_table(rt: HostRuntime) -> Result<(), Fail> {
         seen.out.as_slice(),
         b"rows 4 alerts 176 requests 1 refused 0\n".as_slice()
     );
-    let mut wanted = sent_alone(rt.alloc(), &old, PIECES, 0..2)?;
-    for line in sent_alone(rt.alloc(), &new, PIECES, 2..4)? {
-        wanted.push(line)?;
-    }
-    assert!(rt; same_lines(&at_the_sink(rt.alloc(), &seen)?, &wanted));
+    let mut wanted = Vec::new(rt.alloc());
+    push_rows(rt.alloc(), &old, "out", PIECES, 0..2, &mut wanted)?;
+    push_rows(rt.alloc(), &new, "out", PIECES, 2..4, &mut wanted)?;
+    assert!(rt; are_alerts(rt.alloc(), &seen, WIDE_HEADER, &wanted)?);
     Ok(())
 }
 
@@ -209,15 +246,17 @@ fn four_payments_by_themselves(rt: HostRuntime) -> Result<(), Fail> {
     let words = ["first", "pay.csv", "alerts.csv", "10000", "99", "5000"];
     let files = [("pay.csv", FOUR_PAYMENTS.as_bytes())];
     let seen = answer_to(&rt, rt.alloc(), Around::of(&files), &words)?;
-    assert!(rt;
-        seen.left(
-            0,
-            Some(TWO_ALERTS),
-            "rows 4 alerts 2 requests 1 refused 0\n"
-        )
-    );
-    let wanted = sent_alone(rt.alloc(), CHAIN, FOUR_PAYMENTS, 0..4)?;
+    let mut wanted = Vec::new(rt.alloc());
+    push_rows(
+        rt.alloc(),
+        CHAIN,
+        "alerts",
+        FOUR_PAYMENTS,
+        0..4,
+        &mut wanted,
+    )?;
     assert_eq!(rt; wanted.len(), 2);
-    assert!(rt; same_lines(&at_the_sink(rt.alloc(), &seen)?, &wanted));
+    let header = "sink,row,account,merchant,amount,tags";
+    assert!(rt; are_alerts(rt.alloc(), &seen, header, &wanted)?);
     Ok(())
 }

@@ -1,9 +1,7 @@
 use crate::fault::Fault;
 use crate::tests::texts::{FOUR_ALERTS, FOUR_PAYMENTS, HEADER, THREE_ALERTS, TWO_ALERTS};
 use crate::tests::{Around, Seen, answer_to};
-use flow_model::RunRecord;
 use payments::PFault;
-use sink_journal::Entry;
 use std::alloc::Global;
 use std::sync::Wait;
 use std::test::Fail;
@@ -35,49 +33,49 @@ where
     answer_to(rt, alloc, around, &FIRST)
 }
 
-/// Whether `big` met these rows, turned, and met those; and `alerts` met the last.
-fn met(ran: &RunRecord, before: &[u64], after: &[u64], shown: &[u64]) -> bool {
-    let [big, alerts] = ran.journals.as_slice() else {
-        return false;
-    };
-    meets(big.as_slice(), before, after) && meets(alerts.as_slice(), shown, &[])
-}
+/// What is told of the four payments where the request is issued after row 2. Worker 0 is `big`, worker 1 is `alerts`.
+const BETWEEN_ROWS: &str = "fed 1
+fed 2
+issued 1
+fed 3
+fed 4
+stopped
+0 met 1
+0 met 2
+0 turned 1
+0 met 3
+0 met 4
+0 ended
+1 met 2
+1 met 3
+1 met 4
+1 ended
+";
 
-fn meets(journal: &[Entry], before: &[u64], after: &[u64]) -> bool {
-    let mut turned = false;
-    let mut place = 0;
-    for entry in journal {
-        match entry {
-            Entry::Met { tuple, .. } => {
-                let rows = if turned { after } else { before };
-                if rows.get(place) != Some(&tuple.row) {
-                    return false;
-                }
-                place += 1;
-            }
-            Entry::Turned { request: 1 } => {
-                if turned || place != before.len() {
-                    return false;
-                }
-                turned = true;
-                place = 0;
-            }
-            Entry::Ended { .. } => {}
-            _ => return false,
-        }
-    }
-    place == if turned { after.len() } else { before.len() }
-}
+/// What is told of them where it is issued after the last row.
+const BEHIND_ALL_ROWS: &str = "fed 1
+fed 2
+fed 3
+fed 4
+issued 1
+stopped
+0 met 1
+0 met 2
+0 met 3
+0 met 4
+0 turned 1
+0 ended
+1 met 2
+1 met 4
+1 ended
+";
 
 #[test]
 fn four_payments(rt: HostRuntime) -> Result<(), Fail> {
     let seen = call(&rt, rt.alloc(), FOUR_PAYMENTS, &FIRST)?;
     let summary = "rows 4 alerts 3 requests 1 refused 0\n";
     assert!(rt; seen.left(0, Some(THREE_ALERTS), summary));
-    assert!(rt;
-        seen.ran
-            .is_some_and(|ran| met(&ran, &[1, 2], &[3, 4], &[2, 3, 4]))
-    );
+    assert!(rt; seen.tells(BETWEEN_ROWS));
     Ok(())
 }
 
@@ -96,10 +94,7 @@ fn request_after_the_last_row(rt: HostRuntime) -> Result<(), Fail> {
     let seen = call(&rt, rt.alloc(), FOUR_PAYMENTS, &words)?;
     let summary = "rows 4 alerts 2 requests 1 refused 0\n";
     assert!(rt; seen.left(0, Some(TWO_ALERTS), summary));
-    assert!(rt;
-        seen.ran
-            .is_some_and(|ran| met(&ran, &[1, 2, 3, 4], &[], &[2, 4]))
-    );
+    assert!(rt; seen.tells(BEHIND_ALL_ROWS));
     Ok(())
 }
 
@@ -172,7 +167,7 @@ fn faulty_words(rt: HostRuntime) -> Result<(), Fail> {
     for words in FAULTY_WORDS {
         let seen = call(&rt, rt.alloc(), FOUR_PAYMENTS, words)?;
         assert!(rt; seen.left(1, None, "fault 1 usage\n"));
-        assert!(rt; seen.ran.is_none());
+        assert!(rt; seen.told.is_none());
     }
     Ok(())
 }
@@ -235,7 +230,7 @@ fn refused_payments(rt: HostRuntime) -> Result<(), Fail> {
         let seen = call(&rt, rt.alloc(), &payments, &FIRST)?;
         assert!(rt; seen.left(4, None, line));
         assert_eq!(rt; seen.fault, Some(Fault::Payments(code)));
-        assert!(rt; seen.ran.is_none());
+        assert!(rt; seen.told.is_none());
     }
     Ok(())
 }
@@ -245,10 +240,10 @@ fn refused_payments(rt: HostRuntime) -> Result<(), Fail> {
 fn unread_and_unmade_files(rt: HostRuntime) -> Result<(), Fail> {
     let unread = failing(&rt, rt.alloc(), &[0], &[])?;
     assert!(rt; unread.left(5, None, "fault 5 payments\n"));
-    assert!(rt; unread.ran.is_none());
+    assert!(rt; unread.told.is_none());
     let unmade = failing(&rt, rt.alloc(), &[1], &[])?;
     assert!(rt; unmade.left(6, None, "fault 6 alerts\n"));
-    assert!(rt; unmade.ran.is_some());
+    assert!(rt; unmade.told.is_some());
     Ok(())
 }
 
@@ -256,10 +251,10 @@ fn unread_and_unmade_files(rt: HostRuntime) -> Result<(), Fail> {
 fn refusals_of_the_outside(rt: HostRuntime) -> Result<(), Fail> {
     let cut = failing(&rt, rt.alloc(), &[3], &[])?;
     assert!(rt; cut.left(6, Some("sink,row,account"), "fault 6 alerts\n"));
-    assert!(rt; cut.ran.is_some());
+    assert!(rt; cut.told.is_some());
     let unprinted = failing(&rt, rt.alloc(), &[], &[0])?;
     assert!(rt; unprinted.left(6, Some(THREE_ALERTS), ""));
-    assert!(rt; unprinted.ran.is_some());
+    assert!(rt; unprinted.told.is_some());
     Ok(())
 }
 

@@ -3,14 +3,11 @@ use crate::tests::texts::{
     TEN_PAYMENTS, THREE_ALERTS, TWO_ALERTS,
 };
 use crate::tests::{Around, Seen, answer_to};
-use flow_model::RunRecord;
-use keyed_state::Keyed;
-use sink_journal::Feed;
 use std::alloc::Global;
 use std::sync::Wait;
 use std::test::Fail;
 use std::thread::Threads;
-use tuple_trace::{NoMemory, Txt};
+use tuple_trace::NoMemory;
 
 const RUN: [&str; 5] = [
     "run",
@@ -83,37 +80,85 @@ fn stale_request(rt: HostRuntime) -> Result<(), Fail> {
     Ok(())
 }
 
-/// The count of an account.
-fn seen_of(alloc: Global, state: &Keyed, account: &str) -> Result<Option<i64>, NoMemory> {
-    let key = Txt::from_slice(alloc, account.as_bytes())?;
-    Ok(state.get(&key))
-}
-
-/// Whether the two workers of `tally` end with the counts of the ten payments, and no other worker with any.
-fn counted(alloc: Global, ran: &RunRecord) -> Result<bool, NoMemory> {
-    let [rate, big, hot, first, second, review, often, watch] = ran.states.as_slice() else {
-        return Ok(false);
-    };
-    let others = [rate, big, hot, review, often, watch];
-    Ok(
-        others.iter().all(|state| state.iter().next().is_none())
-            && first.iter().count() == 1
-            && second.iter().count() == 2
-            && seen_of(alloc, first, "dee")? == Some(1)
-            && seen_of(alloc, second, "ann")? == Some(2)
-            && seen_of(alloc, second, "gus")? == Some(2),
-    )
-}
+/// What is told of the ten payments. Worker 0 is `rate`, 1 is `big`, 2 is `hot`, 3 and 4 are those of `tally`, 5 is `review`, 6 is `often` and 7 is
+/// `watch`.
+const TEN_TOLD: &str = "fed 1
+fed 2
+fed 3
+fed 4
+issued 1
+fed 5
+fed 6
+fed 7
+fed 8
+issued 2
+fed 9
+fed 10
+stopped
+0 met 1
+0 met 2
+0 met 3
+0 met 4
+0 met 5
+0 met 6
+0 met 7
+0 met 8
+0 met 9
+0 met 10
+0 ended
+0 ended
+1 met 1
+1 met 2
+1 met 3
+1 met 4
+1 turned 1
+1 met 5
+1 met 6
+1 met 7
+1 met 8
+1 met 9
+1 met 10
+1 ended
+2 met 2
+2 met 3
+2 marked 1
+2 turned 1
+2 met 5
+2 met 6
+2 met 7
+2 ended
+3 met 4
+3 ended
+4 met 1
+4 met 8
+4 met 9
+4 met 10
+4 ended
+5 met 2
+5 met 6
+5 ended
+6 met 1
+6 met 4
+6 met 8
+6 turned 2
+6 met 9
+6 met 10
+6 ended
+6 ended
+7 met 9
+7 met 10
+7 ended
+3 counts 1 dee
+4 counts 2 ann
+4 counts 2 gus
+";
 
 #[test]
 fn payments_job(rt: HostRuntime) -> Result<(), Fail> {
     let seen = run_over(&rt, rt.alloc(), PAYMENTS, PAYMENTS_REQUESTS, TEN_PAYMENTS)?;
     let lines = "refused 3 Q4 change 1 current 1\nrows 10 alerts 4 requests 3 refused 1\n";
     assert!(rt; seen.left(8, Some(PAYMENTS_ALERTS), lines));
-    let Some(ran) = &seen.ran else {
-        return Ok(assert!(rt; false));
-    };
-    assert!(rt; counted(rt.alloc(), ran)?);
+    assert!(rt; seen.tells(TEN_TOLD));
     Ok(())
 }
 
@@ -190,6 +235,39 @@ edge = [
 ]
 "#;
 
+/// What is told of five payments on two ways. Worker 0 is `g`, 1 is `x`, 2 is `y` and 3 is `out`.
+const TWO_WAYS_TOLD: &str = "fed 1
+fed 2
+fed 3
+issued 1
+issued 2
+fed 4
+fed 5
+stopped
+0 met 1
+0 met 2
+0 met 3
+0 met 4
+0 met 5
+0 ended
+1 met 1
+1 met 3
+1 turned 1
+1 met 5
+1 ended
+2 met 2
+2 turned 2
+2 met 4
+2 ended
+3 met 1
+3 met 2
+3 met 3
+3 met 4
+3 met 5
+3 ended
+3 ended
+";
+
 #[test]
 fn two_requests_after_one_row(rt: HostRuntime) -> Result<(), Fail> {
     let payments = "source,amount\ncard,1\ncard,0.50\ncard,2\ncard,0.50\ncard,3\n";
@@ -202,20 +280,7 @@ out,4,0.49
 out,5,3.01
 ";
     assert!(rt; seen.left(0, Some(alerts), "rows 5 alerts 5 requests 2 refused 0\n"));
-    let feed = [
-        Feed::Fed(1),
-        Feed::Fed(2),
-        Feed::Fed(3),
-        Feed::Issued(1),
-        Feed::Issued(2),
-        Feed::Fed(4),
-        Feed::Fed(5),
-        Feed::Stopped,
-    ];
-    assert!(rt;
-        seen.ran
-            .is_some_and(|ran| ran.feeds.as_slice() == feed.as_slice())
-    );
+    assert!(rt; seen.tells(TWO_WAYS_TOLD));
     Ok(())
 }
 
@@ -229,7 +294,7 @@ fn faults_of_run(rt: HostRuntime) -> Result<(), Fail> {
     for (job, requests, payments, status, line) in cases {
         let seen = run_over(&rt, rt.alloc(), job, requests, payments)?;
         assert!(rt; seen.left(status, None, line));
-        assert!(rt; seen.ran.is_none());
+        assert!(rt; seen.told.is_none());
     }
     Ok(())
 }
@@ -252,6 +317,6 @@ fn sixth_call_fails(rt: HostRuntime) -> Result<(), Fail> {
     };
     let seen = answer_to(&rt, rt.alloc(), around, &RUN)?;
     assert!(rt; seen.left(6, Some("sink,row,account"), "fault 6 alerts\n"));
-    assert!(rt; seen.ran.is_some());
+    assert!(rt; seen.told.is_some());
     Ok(())
 }
