@@ -1,5 +1,7 @@
 pub mod Counts
 pub mod Digits
+pub mod Reserved
 pub mod Rows
+pub mod Short
 pub mod Spread
 pub mod Values

@@ -7,6 +7,7 @@ mod digits;
 mod gate;
 mod items;
 mod place;
+mod reserved;
 mod row;
 #[cfg(test)]
 mod tests;
@@ -18,6 +19,7 @@ pub use digits::digits_up_to;
 pub use gate::{Gate, OpenGate};
 pub use items::{Items, NoMemory};
 pub use place::spread;
+pub use reserved::Reserved;
 pub use row::{Row, Rows};
 pub use text::{Bytes, Txt, Word};
 pub use tuple::{Births, Fields, Item, Tuple, Visit, Visits};

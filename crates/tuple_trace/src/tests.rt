@@ -1,8 +1,8 @@
 use crate::{
-    Births, Bytes, Fields, Gate, Items, OpenGate, Row, Rows, Tuple, Txt, Value, Visit, Visits,
-    Word, digits_up_to, number_in, spread, text_in,
+    Births, Bytes, Fields, Gate, Items, NoMemory, OpenGate, Reserved, Row, Rows, Tuple, Txt, Value,
+    Visit, Visits, Word, digits_up_to, number_in, spread, text_in,
 };
-use std::test::Fail;
+use std::alloc::Global;
 
 #[test]
 fn spread_values(rt: HostRuntime) {
@@ -37,94 +37,154 @@ fn numbers_in_digits(rt: HostRuntime) {
     }
 }
 
-#[test]
-fn tuples_grow_in_their_copies(rt: HostRuntime) -> Result<(), Fail> {
-    let alloc = rt.alloc();
-    let visit = Visit {
-        node: 3,
-        worker: 1,
-        last: 2,
-    };
+const VISIT: Visit = Visit {
+    node: 3,
+    worker: 1,
+    last: 2,
+};
+
+fn ann(alloc: Global) -> Result<Tuple, NoMemory> {
     let mut fields = Fields::new(alloc);
     fields.push(Value::Text(Txt::from_slice(alloc, b"ann")?))?;
     fields.push(Value::Num(-5))?;
-    let tuple = Tuple {
+    Ok(Tuple {
         row: 7,
         birth: Births::from_slice(alloc, &[4])?,
         issued: 1,
         fields,
         trace: Visits::new(alloc),
-    };
-    let child = tuple.child(2)?.visited(visit)?;
-    assert_eq!(rt; child.birth.as_slice(), [4, 2].as_slice());
-    assert_eq!(rt; child.trace.get(0).copied(), Some(visit));
-    assert_eq!(rt; child.trace.len(), 1);
-    assert_eq!(rt; (child.row, child.issued, child.fields.len()), (7, 1, 2));
-    let copy = tuple.copy()?;
-    assert_eq!(rt; copy.birth.as_slice(), [4].as_slice());
-    assert_eq!(rt; copy.trace.len(), 0);
-    assert!(rt;
-        matches!(copy.fields.as_slice(), [Value::Text(name), Value::Num(-5)] if name.as_slice() == b"ann".as_slice())
-    );
-    Ok(())
+    })
+}
+
+fn is_child(child: &Tuple) -> bool {
+    child.birth.as_slice() == [4, 2].as_slice()
+        && child.trace.get(0).copied() == Some(VISIT)
+        && child.trace.len() == 1
+        && (child.row, child.issued, child.fields.len()) == (7, 1, 2)
+}
+
+fn is_copy(copy: &Tuple) -> bool {
+    copy.birth.as_slice() == [4].as_slice()
+        && copy.trace.len() == 0
+        && matches!(copy.fields.as_slice(), [Value::Text(name), Value::Num(-5)]
+            if name.as_slice() == b"ann".as_slice())
+}
+
+fn child_is_well(alloc: Global) -> Result<bool, NoMemory> {
+    Ok(is_child(&ann(alloc)?.child(2)?.visited(VISIT)?))
+}
+
+fn is_under(tuple: &Tuple, issued: u64) -> bool {
+    (
+        tuple.issued,
+        tuple.row,
+        tuple.birth.len(),
+        tuple.fields.len(),
+    ) == (issued, 7, 1, 2)
+}
+
+fn under_is_well(alloc: Global) -> Result<bool, NoMemory> {
+    Ok(is_under(&ann(alloc)?.under(3)?, 3))
+}
+
+fn visiting_is_well(alloc: Global) -> Result<bool, NoMemory> {
+    Ok(ann(alloc)?.visiting(VISIT)?.trace.get(0).copied() == Some(VISIT))
+}
+
+fn copy_is_well(alloc: Global) -> Result<bool, NoMemory> {
+    Ok(is_copy(&ann(alloc)?.copy()?))
 }
 
 #[test]
-fn rows_are_kept_in_order(rt: HostRuntime) -> Result<(), Fail> {
-    let alloc = rt.alloc();
+fn tuples_grow_in_their_copies(rt: HostRuntime) {
+    assert!(rt; matches!(child_is_well(rt.alloc()), Ok(true)));
+    assert!(rt; matches!(copy_is_well(rt.alloc()), Ok(true)));
+    assert!(rt; matches!(under_is_well(rt.alloc()), Ok(true)));
+    assert!(rt; matches!(visiting_is_well(rt.alloc()), Ok(true)));
+}
+
+fn kept_rows(alloc: Global) -> Result<usize, NoMemory> {
     let mut rows = Rows::new(alloc);
-    rows.push(Row {
-        source: 0,
-        tuple: Tuple {
-            row: 1,
-            birth: Births::new(alloc),
-            issued: 0,
-            fields: Fields::new(alloc),
-            trace: Visits::new(alloc),
-        },
-    })?;
-    assert_eq!(rt; rows.len(), 1);
-    assert_eq!(rt; rows.as_slice().len(), 1);
-    Ok(())
+    let tuple = Tuple {
+        row: 1,
+        birth: Births::new(alloc),
+        issued: 0,
+        fields: Fields::new(alloc),
+        trace: Visits::new(alloc),
+    };
+    rows.push(Row { source: 0, tuple })?;
+    Ok(rows.as_slice().len().min(rows.len()))
 }
 
 #[test]
-fn small_types_hold_what_they_are_given(rt: HostRuntime) -> Result<(), Fail> {
-    let alloc = rt.alloc();
+fn rows_are_kept_in_order(rt: HostRuntime) {
+    assert!(rt; matches!(kept_rows(rt.alloc()), Ok(1)));
+}
+
+fn bytes_are_well(alloc: Global) -> Result<bool, NoMemory> {
     let mut bytes = Bytes::new(alloc);
-    assert!(rt; bytes.is_empty());
+    let was_empty = bytes.is_empty();
     bytes.extend_from_slice(b"fl")?;
     bytes.push(b'y')?;
-    assert_eq!(rt; bytes.len(), 3);
+    if bytes.len() != 3 {
+        return Ok(false);
+    }
     bytes.set(2, b'a');
     bytes.push(b'g')?;
     bytes.truncate(3);
-    assert_eq!(rt; bytes.into_vec().as_slice(), b"fla".as_slice());
-    let items = Items::from_vec(vec![in alloc; 1u8, 2]?);
-    assert_eq!(rt; items.as_slice(), [1, 2].as_slice());
-    let text = Txt::from_slice(alloc, b"a b")?.copy()?;
-    assert_eq!(rt; text.as_slice(), b"a b".as_slice());
-    assert!(rt; Txt::new(alloc).as_slice().is_empty());
-    let word = Word::from_string("run".to_string(alloc)?).copy()?;
-    assert_eq!(rt; word.as_str(), "run");
-    OpenGate.pass(0, 0, 0);
-    OpenGate.issued(1);
-    Ok(())
+    Ok(was_empty && bytes.into_vec().as_slice() == b"fla".as_slice())
+}
+
+fn items_are_well(alloc: Global) -> bool {
+    match vec![in alloc; 1u8, 2] {
+        Ok(items) => Items::from_vec(items).as_slice() == [1, 2].as_slice(),
+        Err(_) => false,
+    }
+}
+
+fn reserved_is_well(alloc: Global) -> Result<bool, NoMemory> {
+    let mut list = Reserved::new(alloc);
+    list.reserve(2)?;
+    list.push_reserved(3u8);
+    list.push_reserved(4);
+    Ok(list.len() == 2 && list.as_slice()[1] == 4 && list.into_items().len() == 2)
+}
+
+// A text of 3 bytes lies in the value, one of 14 too, and one of 15 elsewhere.
+fn text_is_well(alloc: Global, text: &[u8]) -> Result<bool, NoMemory> {
+    Ok(Txt::from_slice(alloc, text)?.copy()?.as_slice() == text)
+}
+
+fn word_is_well(alloc: Global) -> Result<bool, NoMemory> {
+    Ok(Word::from_string("run".to_string(alloc)?).copy()?.as_str() == "run")
 }
 
 #[test]
-fn fields_are_read_by_what_is_asked(rt: HostRuntime) -> Result<(), Fail> {
+fn small_types_hold_what_they_are_given(rt: HostRuntime) {
+    assert!(rt; matches!(bytes_are_well(rt.alloc()), Ok(true)));
+    assert!(rt; items_are_well(rt.alloc()));
+    for text in [b"a b".as_slice(), b"fourteen bytes", b"fifteen  bytes!"] {
+        assert!(rt; matches!(text_is_well(rt.alloc(), text), Ok(true)));
+    }
+    assert!(rt; matches!(reserved_is_well(rt.alloc()), Ok(true)));
+    assert!(rt; matches!(word_is_well(rt.alloc()), Ok(true)));
+    assert!(rt; Txt::new(rt.alloc()).as_slice().is_empty());
+    OpenGate.pass(0, 0, 0);
+    OpenGate.issued(1);
+}
+
+fn text_is_read(alloc: Global) -> Result<bool, NoMemory> {
+    let text = Value::Text(Txt::from_slice(alloc, b"ann")?);
+    Ok(number_in(Some(&text)) == 0 && text_in(Some(&text)) == b"ann".as_slice())
+}
+
+fn number_is_read() -> bool {
     let number = Value::Num(-5);
-    let text = Value::Text(Txt::from_slice(rt.alloc(), b"ann")?);
-    assert_eq!(rt;
-        (
-            number_in(Some(&number)),
-            number_in(Some(&text)),
-            number_in(None)
-        ),
-        (-5, 0, 0)
-    );
-    assert_eq!(rt; text_in(Some(&text)), b"ann".as_slice());
-    assert!(rt; text_in(Some(&number)).is_empty() && text_in(None).is_empty());
-    Ok(())
+    number_in(Some(&number)) == -5 && text_in(Some(&number)).is_empty()
+}
+
+#[test]
+fn fields_are_read_by_what_is_asked(rt: HostRuntime) {
+    assert!(rt; matches!(text_is_read(rt.alloc()), Ok(true)));
+    assert!(rt; number_is_read() && number_in(None) == 0 && text_in(None).is_empty());
 }

@@ -10,20 +10,26 @@ pub type Bytes = Items<u8>;
 
 /// A text of a job or a payment: any bytes. Contracts see the list of its bytes.
 ///
-/// A text doesn't change once it is made, so all copies of it share one piece of memory.
+/// A short text lies in the value itself. A longer one doesn't change once it is made, so all copies of it share one piece of memory.
 #[derive(Clone, Debug, Drop)]
 pub struct Txt {
-    // None for the empty text, which takes no memory.
-    bytes: Option<ArcSlice<u8>>,
+    place: Place,
+}
+
+/// Where the bytes of a text lie.
+#[derive(Clone, Debug, Drop)]
+enum Place {
+    Here { count: u8, bytes: [u8; 14] },
+    There(ArcSlice<u8>),
 }
 
 impl Model for Txt {
-    ghost use Rattle.std.specs.Arc.{arc_slice_items};
-    ghost use Rattle.std.specs.Prelude.{List, ℕ, [], option_map, unwrap_or};
+    ghost use Rattle.std.specs.Prelude.{List, ℕ};
+    ghost use Rattle.tuple_trace.specs.Short.{bytes_of};
 
     ghost Value = { List ℕ };
 
-    ghost view = { λ a. unwrap_or (option_map arc_slice_items a.bytes) [] };
+    ghost view = { λ a. bytes_of a.place };
 }
 
 impl Txt {
@@ -31,31 +37,45 @@ impl Txt {
     pub fn new(_alloc: Global) -> Self
         ensures { result ≡ [] }
     {
-        Txt { bytes: None }
+        Txt {
+            place: Place::Here {
+                count: 0,
+                bytes: [0; 14],
+            },
+        }
     }
 
     /// A text of these bytes.
-    pub fn from_slice(alloc: Global, bytes: &[u8]) -> Result<Self, NoMemory>
-        ensures { IfOk result (λ text. text ≡ bytes.now) }
+    pub fn from_slice(alloc: Global, text: &[u8]) -> Result<Self, NoMemory>
+        ensures { IfOk result (λ made. made ≡ text.now) }
     {
-        let bytes = match bytes {
-            [] => None,
-            _ => Some(ArcSlice::from_slice(alloc, bytes)?),
+        if text.len() > 14 {
+            let place = Place::There(ArcSlice::from_slice(alloc, text)?);
+            return Ok(Txt { place });
+        }
+        let mut bytes = [0u8; 14];
+        bytes[..text.len()].copy_from_slice(text);
+        let place = Place::Here {
+            count: text.len() as u8,
+            bytes,
         };
-        Ok(Txt { bytes })
+        Ok(Txt { place })
     }
 
     /// All bytes in order.
     pub fn as_slice(&self) -> &[u8]
         ensures { result.now ≡ self.now }
     {
-        match &self.bytes {
-            Some(bytes) => bytes.as_slice(),
-            None => &[],
+        match &self.place {
+            Place::Here { count, bytes } => match bytes.get(..*count as usize) {
+                Some(text) => text,
+                None => bytes,
+            },
+            Place::There(text) => text.as_slice(),
         }
     }
 
-    /// An equal text, which shares its memory with this one.
+    /// An equal text.
     pub fn copy(&self) -> Result<Txt, NoMemory>
         ensures { IfOk result (λ copy. copy ≡ self.now) }
     {

@@ -66,6 +66,19 @@ impl Visits {
     }
 }
 
+impl Visits {
+    /// The trace with one more visit, in no more memory than it needs.
+    pub fn with(&self, visit: Visit) -> Result<Visits, NoMemory>
+        ensures { IfOk result (λ made. made ≡ self.now ++ visit ∷ []) }
+    {
+        let seen = self.visits.as_slice();
+        let mut visits = Vec::with_capacity(*self.visits.allocator(), seen.len() + 1)?;
+        visits.extend_from_slice(seen)?;
+        visits.push(visit)?;
+        Ok(Visits { visits })
+    }
+}
+
 /// The births of a tuple: at each split or copy on its way, which of the outputs it was.
 pub type Births = Items<u32>;
 
@@ -99,6 +112,28 @@ impl Tuple {
         let mut child = self.copy()?;
         child.birth.push(index)?;
         Ok(child)
+    }
+
+    /// An equal tuple, fed once `issued` requests were issued.
+    pub fn under(&self, issued: u64) -> Result<Tuple, NoMemory>
+        ensures { IfOk result (λ made. made ≡ record self.now { issued = issued }) }
+    {
+        let mut made = self.copy()?;
+        made.issued = issued;
+        Ok(made)
+    }
+
+    /// An equal tuple, with one more visit in its trace.
+    pub fn visiting(&self, visit: Visit) -> Result<Tuple, NoMemory>
+        ensures { IfOk result (λ made. made ≡ record self.now { trace = self.now.trace ++ visit ∷ [] }) }
+    {
+        Ok(Tuple {
+            row: self.row,
+            birth: self.birth.clone()?,
+            issued: self.issued,
+            fields: self.fields.clone()?,
+            trace: self.trace.with(visit)?,
+        })
     }
 
     /// The tuple with one more visit in its trace. A refusal gives the tuple up.
