@@ -34,6 +34,7 @@ impl Model for Poster {
 pub struct Owner {
     words: Arc<Words, Global>,
     seat: Seat<(), View>,
+    turned: u64,
 }
 
 impl Model for Owner {
@@ -45,7 +46,8 @@ impl Model for Owner {
 
     ghost view = { λ p. record { within = p.seat.table_id; turned = p.seat.me.0.turned; polls = p.seat.me.0.polls } };
 
-    ghost invariant = { λ p. ((arc_value p.words).shared.table_id ≡ p.seat.table_id) × (p.seat.table_id.words ≡ 2) × (p.seat.me.1 ≡ []) × (p.seat.me.0.may_turn ≡ true) };
+    ghost invariant = { λ p. ((arc_value p.words).shared.table_id ≡ p.seat.table_id) × (p.seat.table_id.words ≡ 2) × (p.seat.me.1 ≡ []) × (p.seat.me.0.may_turn ≡ true)
+        × (p.turned ≡ p.seat.me.0.turned) };
 }
 
 /// The two ends of a new box, in which both numbers are 0.
@@ -63,6 +65,7 @@ pub fn make_box(alloc: Global) -> Result<(Poster, Owner), AllocError>
         Owner {
             words: again,
             seat: other,
+            turned: 0,
         },
     ))
 }
@@ -98,6 +101,13 @@ impl Poster {
 }
 
 impl Owner {
+    /// Returns the number of the last due that was acknowledged, 0 if there was none.
+    pub fn last_turned(&self) -> u64
+        ensures { result ≡ self.now.turned }
+    {
+        self.turned
+    }
+
     /// What is posted at this load. It is at most one above what is turned, and never falls.
     pub fn poll(&mut self) -> u64
         ensures same { (self.new.within ≡ self.old.within) × (self.new.turned ≡ self.old.turned) }
@@ -119,5 +129,6 @@ impl Owner {
         self.words
             .shared
             .store::<StoresTurned>(&mut self.seat, TURNED, k);
+        self.turned = k;
     }
 }

@@ -1,7 +1,8 @@
 -- Counters by text, and what a change of function makes of them.
 use Rattle.std.specs.Prelude.{ℕ, ℤ, pos, ◌+ℤ◌, ◌*ℤ◌, ◌≤ℤ◌, List, map, filter, int_le, unwrap_or}
 use Rattle.std.specs.Int.{w64, saturate_signed, int_div_euclid}
-use Rattle.std.specs.FinMap.{get, empty, entries, from_entries}
+use Rattle.std.specs.Coded.{Coded, coded_list, coded_ℕ, coded_ℤ}
+use Rattle.std.specs.FinMap.{get, empty, entries, from_entries, code}
 use Rattle.keyed_state.specs.declared.carry.Carry.{Carry}
 use Rattle.keyed_state.specs.declared.carry.Carry.TheVariants as carry
 use Rattle.keyed_state.specs.TextMap.{TextMapOf}
@@ -9,6 +10,10 @@ use Rattle.keyed_state.specs.TextMap.{TextMapOf}
 -- a count for each of some texts
 abbrev pub Counts : Type 0
 Counts = TextMapOf ℤ
+
+-- a code of counts: a struct whose view holds counts needs it, as `Prim.hlevel (codes, counts_code)`
+abbrev pub counts_code : Coded Counts
+counts_code = code (coded_list coded_ℕ) coded_ℤ
 
 -- a number, cut to the range of 64 bits
 abbrev pub clamp : ℤ → ℤ

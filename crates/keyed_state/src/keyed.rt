@@ -15,13 +15,11 @@ pub struct Keyed {
 }
 
 impl Model for Keyed {
-    ghost use Rattle.keyed_state.specs.Counts.{Counts};
-    ghost use Rattle.std.specs.Coded.{coded_ℕ, coded_ℤ, coded_list};
-    ghost use Rattle.std.specs.FinMap as map;
+    ghost use Rattle.keyed_state.specs.Counts.{Counts, counts_code};
 
     ghost Value = { Counts };
 
-    ghost coded = { map.code (coded_list coded_ℕ) coded_ℤ };
+    ghost coded = { counts_code };
 
     ghost view = { λ k. k.counts };
 }

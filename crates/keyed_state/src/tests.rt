@@ -1,20 +1,16 @@
-use crate::{Carry, Keyed, TextMap, clamp};
+use crate::{Carry, Keyed, TextEntries, TextMap, clamp};
 use std::alloc::Global;
-use std::test::Fail;
 use tuple_trace::{NoMemory, Txt};
 
-// What a map tells: how many entries it has, the lengths of their texts in order, a digit each, their values so, and the values of `b`, `a` and `ab`.
-type Told = (usize, usize, i64, [Option<i64>; 3]);
-
-fn told(map: &TextMap<i64>) -> Told {
-    let mut lengths = 0usize;
-    let mut values = 0i64;
-    for (key, value) in map.iter() {
-        lengths = lengths.wrapping_mul(10).wrapping_add(key.len());
-        values = values.wrapping_mul(10).wrapping_add(*value);
+// Whether these are the entries, in this order.
+fn are(entries: TextEntries<'_, i64>, wanted: &[(&[u8], i64)]) -> bool {
+    let mut found = 0usize;
+    let mut well = true;
+    for (key, value) in entries {
+        well &= wanted.get(found) == Some(&(key, *value));
+        found = found.wrapping_add(1);
     }
-    let found = [b"b".as_slice(), b"a", b"ab"].map(|key| map.get(key).copied());
-    (map.len(), lengths, values, found)
+    well && found == wanted.len()
 }
 
 // Three texts. The later value of `b` stands in place of the first.
@@ -26,70 +22,59 @@ fn three(alloc: Global) -> Result<TextMap<i64>, NoMemory> {
     Ok(map)
 }
 
-// What a map of three texts tells, what it tells once it is cleared, and what a copy from before tells then.
-fn cleared(alloc: Global) -> Result<[Told; 3], NoMemory> {
+const THREE: [(&[u8], i64); 3] = [(b"", 5), (b"ab", 1), (b"b", 3)];
+
+// Whether a map of three texts is as it should be, and is cleared apart from its copy.
+fn keeps_three(alloc: Global) -> Result<bool, NoMemory> {
     let mut map = three(alloc)?;
-    let first = told(&map);
+    let mut well = are(map.iter(), &THREE) && map.len() == 3;
+    well &= map.get(b"ab").copied() == Some(1) && map.get(b"a").is_none();
     let copy = map.copy()?;
     map.clear();
-    Ok([first, told(&map), told(&copy)])
+    Ok(well && map.len() == 0 && are(copy.iter(), &THREE))
 }
 
 #[test]
-fn texts_are_kept_in_the_order_of_their_bytes(rt: HostRuntime) -> Result<(), Fail> {
-    let whole = (3, 21, 513, [Some(3), None, Some(1)]);
-    let empty = (0, 0, 0, [None, None, None]);
-    assert_eq!(rt; cleared(rt.alloc())?, [whole, empty, whole]);
-    Ok(())
+fn texts_are_kept_in_the_order_of_their_bytes(rt: HostRuntime) {
+    assert!(rt; matches!(keeps_three(rt.alloc()), Ok(true)));
 }
 
-// How many counters there are, and those of `more` and of `less`.
-type Pair = (usize, Option<i64>, Option<i64>);
-
-fn pair(counts: &Keyed, more: &Txt, less: &Txt) -> Pair {
-    (counts.iter().count(), counts.get(more), counts.get(less))
-}
-
-// What three bumps answer.
-fn bumped(counts: &mut Keyed, more: &Txt, less: &Txt) -> Result<[i64; 3], NoMemory> {
-    let first = counts.bump(more, -3)?;
-    let second = counts.bump(more, 8)?;
-    Ok([first, second, counts.bump(less, -5)?])
-}
-
-// What three bumps answer, and then what is there of the two counters: halved, without those below 0, in a copy from between, and in that copy once it is
-// reset.
-fn carried(alloc: Global, more: &Txt, less: &Txt) -> Result<([i64; 3], [Pair; 4]), NoMemory> {
+// Two counters, by three bumps. None if a bump answers another sum.
+fn two_counters(alloc: Global) -> Result<Option<Keyed>, NoMemory> {
     let mut counts = Keyed::new(alloc);
-    let bumped = bumped(&mut counts, more, less)?;
+    let more = Txt::from_slice(alloc, b"more")?;
+    let sums = (counts.bump(&more, -3)?, counts.bump(&more, 8)?);
+    let less = counts.add(b"less", -5)?;
+    Ok(if (sums, less) == ((-3, 5), -5) {
+        Some(counts)
+    } else {
+        None
+    })
+}
+
+// Whether the counters are halved, dropped below 0, and, in a copy from between, reset.
+fn is_carried(mut counts: Keyed) -> Result<bool, NoMemory> {
     counts.carry(Carry::Keep);
     counts.carry(Carry::Scale(1, 2));
-    let halved = pair(&counts, more, less);
+    let mut well = are(counts.iter(), &[(b"less", -3), (b"more", 2)]);
     let mut copy = counts.copy()?;
     counts.carry(Carry::DropBelow(0));
-    let least = pair(&counts, more, less);
-    let kept = pair(&copy, more, less);
+    well &= are(counts.iter(), &[(b"more", 2)]);
+    well &= are(copy.iter(), &[(b"less", -3), (b"more", 2)]);
     copy.carry(Carry::Reset);
-    let none = pair(&copy, more, less);
-    Ok((bumped, [halved, least, kept, none]))
+    Ok(well & are(copy.iter(), &[]))
 }
 
-fn two_counters(alloc: Global) -> Result<([i64; 3], [Pair; 4]), NoMemory> {
-    let more = Txt::from_slice(alloc, b"more")?;
-    let less = Txt::from_slice(alloc, b"less")?;
-    carried(alloc, &more, &less)
+fn carries_well(alloc: Global) -> Result<bool, NoMemory> {
+    match two_counters(alloc)? {
+        Some(counts) => is_carried(counts),
+        None => Ok(false),
+    }
 }
 
 #[test]
-fn carries(rt: HostRuntime) -> Result<(), Fail> {
-    let (bumped, carried) = two_counters(rt.alloc())?;
-    assert_eq!(rt; bumped, [-3, 5, -5]);
-    let halved = (2, Some(2), Some(-3));
-    assert_eq!(rt;
-        carried,
-        [halved, (1, Some(2), None), halved, (0, None, None)]
-    );
-    Ok(())
+fn carries(rt: HostRuntime) {
+    assert!(rt; matches!(carries_well(rt.alloc()), Ok(true)));
 }
 
 // What a counter comes to at the low end, below it, and scaled from there.
@@ -103,7 +88,7 @@ fn bumped_to_both_ends(alloc: Global) -> Result<(i64, i64, Option<i64>), NoMemor
 }
 
 #[test]
-fn numbers_are_cut_at_both_ends(rt: HostRuntime) -> Result<(), Fail> {
+fn numbers_are_cut_at_both_ends(rt: HostRuntime) {
     let cases: [(i128, i64); 4] = [
         (9_223_372_036_854_775_807, i64::MAX),
         (9_223_372_036_854_775_808, i64::MAX),
@@ -113,9 +98,6 @@ fn numbers_are_cut_at_both_ends(rt: HostRuntime) -> Result<(), Fail> {
     for (number, want) in cases {
         assert_eq!(rt; clamp(number), want);
     }
-    assert_eq!(rt;
-        bumped_to_both_ends(rt.alloc())?,
-        (i64::MIN, i64::MIN, Some(i64::MAX))
-    );
-    Ok(())
+    let ends = bumped_to_both_ends(rt.alloc());
+    assert!(rt; matches!(ends, Ok((i64::MIN, i64::MIN, Some(i64::MAX)))));
 }

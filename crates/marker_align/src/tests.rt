@@ -1,6 +1,5 @@
 use crate::{Act, Due, Hand, Hands, decide};
 use std::alloc::Global;
-use std::test::Fail;
 use tuple_trace::{Births, Fields, Item, Tuple, Visits};
 
 fn tuple(alloc: Global) -> Hand {
@@ -32,16 +31,22 @@ const DUE: Due = Due {
     cover: 3,
 };
 
+// What a worker with these two hands does. None if memory runs out.
+fn decided(alloc: Global, one: Hand, other: Hand, due: Option<&Due>) -> Option<Act> {
+    match vec![in alloc; one, other] {
+        Ok(hands) => Some(decide(&Hands::from_vec(hands), due, false, 0)),
+        Err(_) => None,
+    }
+}
+
 #[test]
-fn decisions(rt: HostRuntime) -> Result<(), Fail> {
+fn decisions(rt: HostRuntime) {
     let alloc = rt.alloc();
-    let beside = Hands::from_vec(vec![in alloc; marker(), tuple(alloc)]?);
-    assert_eq!(rt; decide(&beside, Some(&DUE), false, 0), Act::Process(1));
-    let aligned = Hands::from_vec(vec![in alloc; marker(), marker()]?);
-    assert_eq!(rt; decide(&aligned, Some(&DUE), false, 0), Act::Turn(1));
-    let waiting = Hands::from_vec(vec![in alloc; marker(), Hand::Empty]?);
-    assert_eq!(rt; decide(&waiting, Some(&DUE), false, 0), Act::Nothing);
-    let ended = Hands::from_vec(vec![in alloc; last(), last()]?);
-    assert_eq!(rt; decide(&ended, None, false, 0), Act::Close);
-    Ok(())
+    let beside = decided(alloc, marker(), tuple(alloc), Some(&DUE));
+    assert_eq!(rt; beside, Some(Act::Process(1)));
+    let aligned = decided(alloc, marker(), marker(), Some(&DUE));
+    assert_eq!(rt; aligned, Some(Act::Turn(1)));
+    let waiting = decided(alloc, marker(), Hand::Empty, Some(&DUE));
+    assert_eq!(rt; waiting, Some(Act::Nothing));
+    assert_eq!(rt; decided(alloc, last(), last(), None), Some(Act::Close));
 }
