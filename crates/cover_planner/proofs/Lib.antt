@@ -4,3 +4,4 @@ pub mod GatherLemmas
 pub mod EmptyLemmas
 pub mod PlanLemmas
 pub mod NumberLemmas
+pub mod MemberLemmas

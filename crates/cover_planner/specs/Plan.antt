@@ -15,10 +15,10 @@ pub record IsCover (edges : List Edge) (p : Plan) : Type 0 where
   pub heads : (a : ℕ) → Has p.heads a ↔ IsHead (HasEdge edges) (Has p.members) a
   pub parts : IsNumbered (Has p.nodes) (InOnePart (HasEdge edges) (Has p.members)) p.part
 
--- the plan has the members of the asked nodes, and their cover
-pub record IsPlan (edges : List Edge) (many asked : ℕ) (p : Plan) : Type 0 where
+-- the plan has the members of the asked nodes, where `splits` may make pieces of a tuple and `copies` send copies of it, and their cover
+pub record IsPlan (edges : List Edge) (splits copies : ℕ → Type 0) (asked : ℕ) (p : Plan) : Type 0 where
   pub asks : p.asked ≡ asked
-  pub members : (a : ℕ) → Has p.members a ↔ IsMember (HasEdge edges) (Has asked) (Has many) a
+  pub members : (a : ℕ) → Has p.members a ↔ IsMember (HasEdge edges) (Has asked) splits copies a
   pub cover : IsCover edges p
 
 -- the tests pass the members, and each edge of each path from a member to a member, with its ends

@@ -6,7 +6,7 @@ pub const NO_PART: u8 = 255;
 pub struct Plan {
     /// The nodes that the plan was made for.
     pub asked: u64,
-    /// The asked nodes and those above them that may make several tuples of one.
+    /// The asked nodes, the splits above them, and the nodes whose copies come to asked nodes along two edges or more.
     pub members: u64,
     /// The members and the ends of the covered edges.
     pub nodes: u64,

@@ -6,19 +6,21 @@ use crate::cover::Plan;
 use crate::{edges, members, nodes, parts};
 use flow_dag::Dag;
 
-/// The plan of a change of the nodes `asked`, where those of `many` may make several tuples of one.
+/// The plan of a change of the nodes `asked`, where those of `splits` may make pieces of a tuple, and
+/// those of `copies` send a copy of it along each of their edges.
 ///
-/// Every node of `many` above an asked one is covered along with the asked ones, so that all that
-/// such a node makes of one tuple meets the same side of the change. With no asked node the plan is
-/// empty.
-pub fn plan(dag: &Dag, many: u64, asked: u64) -> Plan
+/// Every node of `splits` above an asked one is covered along with the asked ones, and every node of
+/// `copies` whose copies come to asked nodes along two edges or more. So all that such a node makes
+/// of one tuple meets the same side of the change. With no asked node the plan is empty.
+pub fn plan(dag: &Dag, splits: u64, copies: u64, asked: u64) -> Plan
     requires asked { asked < 2 ^ dag.now.nodes }
-    requires many { many < 2 ^ dag.now.nodes }
-    ensures plan { IsPlan dag.now.edges many asked result }
+    requires splits { splits < 2 ^ dag.now.nodes }
+    requires copies { copies < 2 ^ dag.now.nodes }
+    ensures plan { IsPlan dag.now.edges (Has splits) (Has copies) asked result }
     ensures paths { HasAllPaths dag.now.edges result }
     ensures least { IsLeast dag.now.edges result }
 {
-    cover(dag, asked, members::members(dag, many, asked))
+    cover(dag, asked, members::members(dag, splits, copies, asked))
 }
 
 /// The plan that has the cover of these members.

@@ -9,7 +9,10 @@ members-requires c m h = Has-below c.args.dag.now.nodes c.args.asked m c.require
 pub cover-requires : goal.cover-requires
 cover-requires c m h = elim ((c.members.ensures m).0 h) [
   | inl asked ↦ Has-below c.args.dag.now.nodes c.args.asked m c.requires.asked asked
-  | inr above ↦ Has-below c.args.dag.now.nodes c.args.many m c.requires.many above.0
+  | inr above ↦ elim above [
+    | inl split ↦ Has-below c.args.dag.now.nodes c.args.splits m c.requires.splits split.0
+    | inr copy ↦ Has-below c.args.dag.now.nodes c.args.copies m c.requires.copies copy.0
+  ]
 ]
 
 pub returns-clause-plan : goal.returns-clause-plan
