@@ -22,6 +22,10 @@ pub trait Tx<N> {
     // How many puts found the lane full; at 2^64 - 1 the number stays.
     ghost full: { Self → ℕ };
 
+    /// Returns the number of the lane.
+    fn number(&self) -> u32
+        ensures { result ≡ number self.now };
+
     /// Puts an item behind those that were sent. A full lane hands it back; the contract says that as many were sent as it holds.
     fn put(&mut self, need: &mut N, item: Item) -> Result<(), Item>
         requires { MayFollow (origin self.old) (sent self.old) item }
@@ -44,6 +48,10 @@ pub trait Rx<N> {
     ghost lane: { Self → LaneId };
     // How many takes found the lane empty; at 2^64 - 1 the number stays.
     ghost dry: { Self → ℕ };
+
+    /// Returns the number of the lane.
+    fn number(&self) -> u32
+        ensures { result ≡ number self.now };
 
     /// Takes the next item. An empty lane gives none, which `dry` counts.
     fn take(&mut self, need: &mut N) -> Option<Item>

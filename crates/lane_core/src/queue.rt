@@ -39,6 +39,10 @@ impl<R: Wait> Tx<R> for QueueTx {
 
     ghost full = { λ s. s.full };
 
+    fn number(&self) -> u32 {
+        self.number
+    }
+
     fn put(&mut self, need: &mut R, item: Item) -> Result<(), Item> {
         match self.line.push_as::<Puts, R>(need, &mut self.pass, item) {
             Ok(()) => Ok(()),
@@ -71,6 +75,10 @@ impl<R: Wait> Rx<R> for QueueRx {
     ghost lane = { λ s. s.pass.table_id };
 
     ghost dry = { λ s. s.dry };
+
+    fn number(&self) -> u32 {
+        self.number
+    }
 
     fn take(&mut self, need: &mut R) -> Option<Item> {
         match self.line.pop_as::<Takes, R>(need, &mut self.pass) {
