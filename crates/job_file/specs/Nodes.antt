@@ -1,6 +1,7 @@
 -- The nodes of a job.
 use Rattle.std.specs.Prelude.{ℕ, ℤ, pos, List, [], ◌∷◌, codes, Result, Ok, Err, if◌then◌else◌}
 use Rattle.toml.specs.Data.{Data, Members}
+use Rattle.jobs.specs.Nodes.{fan_out}
 use Rattle.jobs.specs.declared.column.Column.{Column}
 use Rattle.jobs.specs.declared.func.Func.{Func}
 use Rattle.jobs.specs.declared.func.NodeDef.{NodeDef}
@@ -20,22 +21,29 @@ use Rattle.job_file.specs.Numbers.{nearest}
 abbrev pub beside_of : Kind → List (List ℕ)
 beside_of kind.Source = codes "name" ∷ codes "kind" ∷ []
 beside_of kind.Sink = codes "name" ∷ codes "kind" ∷ []
-beside_of _ = codes "name" ∷ codes "kind" ∷ codes "workers" ∷ []
+beside_of kind.Count = codes "name" ∷ codes "kind" ∷ codes "workers" ∷ []
+beside_of kind.Replicate = codes "name" ∷ codes "kind" ∷ codes "workers" ∷ []
+beside_of _ = codes "name" ∷ codes "kind" ∷ codes "workers" ∷ codes "roof" ∷ []
 
 -- the name of a node
 abbrev pub name_in : Members → Result (List ℕ) FormFault
 name_in ms = and_then (text_at (codes "name") part.Name ms) (λ name. if is_name name then Ok name else Err (fault.Shape part.Name))
 
-abbrev pub node_with : List ℕ → Func → ℤ → Result NodeDef FormFault
-node_with name f workers = Ok (record { name = name; func = f; workers = nearest workers })
+abbrev pub node_with : List ℕ → Func → ℤ → ℤ → Result NodeDef FormFault
+node_with name f workers roof = Ok (record { name = name; func = f; workers = nearest workers; roof = nearest roof })
 
--- the node of a table: its name, its kind, its function and its workers
+-- the roof of a node with this function: the fan-out of the function where none is written
+abbrev pub roof_in : Func → Members → Result ℤ FormFault
+roof_in f ms = optional_whole_at (codes "roof") part.Roof (pos (fan_out f)) ms
+
+-- the node of a table: its name, its kind, its function, its workers and its roof
 abbrev pub node_in : List Column → List Table → Members → Result NodeDef FormFault
 node_in columns tables ms =
     and_then (name_in ms) (λ name.
     and_then (kind_in ms) (λ k.
     and_then (func_in columns tables (beside_of k) k ms) (λ f.
-    and_then (optional_whole_at (codes "workers") part.Workers (pos 1) ms) (node_with name f))))
+    and_then (optional_whole_at (codes "workers") part.Workers (pos 1) ms) (λ workers.
+    and_then (roof_in f ms) (node_with name f workers)))))
 
 abbrev pub node_of : List Column → List Table → Data → Result NodeDef FormFault
 node_of columns tables d = and_then (table_of part.Node d) (node_in columns tables)

@@ -23,9 +23,11 @@ wide_number size (Some z) = if is_wide z then Some (size, z) else None
 abbrev pub wide_at : List ℕ → Which → Members → Option Oversize
 wide_at key size ms = wide_number size (option_and_then as_integer (get_member key ms))
 
--- a node's workers, else the most pieces that it makes
+-- a node's workers, else the most pieces that it makes, else its roof
 abbrev pub wide_node : Members → Option Oversize
-wide_node ms = option_or (wide_at (codes "workers") which.Workers ms) (wide_at (codes "most") which.Most ms)
+wide_node ms =
+    option_or (wide_at (codes "workers") which.Workers ms)
+    (option_or (wide_at (codes "most") which.Most ms) (wide_at (codes "roof") which.Roof ms))
 
 -- what is found in what was read, if it was
 abbrev pub found_in : {A : Type 0} → (A → Option Oversize) → Result A FormFault → Option Oversize

@@ -25,6 +25,7 @@ pub enum Part {
     On,
     By,
     Most,
+    Roof,
     From,
     To,
     Port,

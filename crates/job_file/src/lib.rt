@@ -22,8 +22,6 @@ mod request_sizes;
 mod requests;
 mod steps;
 mod tables;
-#[cfg(test)]
-mod tests;
 mod wide;
 
 pub use fault::{JobFault, Part, ReqFileFault};

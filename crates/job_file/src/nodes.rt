@@ -1,7 +1,7 @@
 ghost use Rattle.std.specs.Prelude.{◌≡◌, ◌≢◌, Ok, Err, IfOk, IfErr, map};
 ghost use Rattle.toml.specs.View.{items_view, table_view, view};
 ghost use Rattle.job_file.specs.Document.{all_of};
-ghost use Rattle.job_file.specs.Nodes.{beside_of, name_in, node_in, node_of};
+ghost use Rattle.job_file.specs.Nodes.{beside_of, name_in, node_in, node_of, roof_in};
 
 use crate::document::{table, text_at, whole_or};
 use crate::fault::{FormFault, Part};
@@ -9,7 +9,7 @@ use crate::funcs::read_func;
 use crate::kinds::{Kind, read_kind};
 use crate::names::is_name;
 use crate::numbers::nearest;
-use jobs::{Column, NodeDef, NodeDefs, Table};
+use jobs::{Column, Func, NodeDef, NodeDefs, Table, fan_out};
 use std::alloc::Global;
 use toml::{Table as Members, Value as Toml};
 use tuple_trace::Txt;
@@ -56,11 +56,21 @@ fn node_from(
     let kind = read_kind(members)?;
     let func = read_func(alloc, columns, tables, beside_of(kind), kind, members)?;
     let workers = whole_or(members, "workers", Part::Workers, 1)?;
+    let roof = read_roof(&func, members)?;
     Ok(NodeDef {
         name,
         func,
         workers: nearest(workers),
+        roof: nearest(roof),
     })
+}
+
+/// The roof that is written, or else the fan-out of the function.
+fn read_roof(func: &Func, members: &Members) -> Result<i64, FormFault>
+    ensures ok { IfOk result (λ roof. roof_in func.now (table_view members.now) ≡ Ok roof) }
+    ensures fault { IfErr result (λ fault. roof_in func.now (table_view members.now) ≡ Err fault) }
+{
+    whole_or(members, "roof", Part::Roof, i64::from(fan_out(func)))
 }
 
 fn read_name(alloc: Global, members: &Members) -> Result<Txt, FormFault>
@@ -80,6 +90,9 @@ fn beside_of(kind: Kind) -> &'static [&'static str]
 {
     match kind {
         Kind::Source | Kind::Sink => &["name", "kind"],
-        _ => &["name", "kind", "workers"],
+        Kind::Count | Kind::Replicate => &["name", "kind", "workers"],
+        Kind::Filter | Kind::Map | Kind::Enrich | Kind::Split => {
+            &["name", "kind", "workers", "roof"]
+        }
     }
 }

@@ -1,6 +1,6 @@
 ghost use Rattle.std.specs.Prelude.{◌≡◌};
 ghost use Rattle.toml.specs.View.{items_view, table_view, view};
-ghost use Rattle.job_file.specs.Wide.{first_found, is_wide, wide_at, wide_in, wide_item, wide_node};
+ghost use Rattle.job_file.specs.Wide.{first_found, is_wide, wide_at, wide_in, wide_item, wide_node, wide_number};
 
 use crate::document::{items_or_none, member, table};
 use crate::fault::Part;
@@ -41,21 +41,37 @@ fn wide_item(item: &Toml) -> Option<(Which, i64)>
 fn wide_node(members: &Members) -> Option<(Which, i64)>
     ensures { result ≡ wide_node (table_view members.now) }
 {
-    match wide_at(members, "workers", Which::Workers) {
-        Some(wide) => Some(wide),
-        None => wide_at(members, "most", Which::Most),
+    if let Some(wide) = wide_at(members, "workers", Which::Workers) {
+        return Some(wide);
     }
+    if let Some(wide) = wide_at(members, "most", Which::Most) {
+        return Some(wide);
+    }
+    wide_at(members, "roof", Which::Roof)
 }
 
 /// The number at a key, where a job has no room for it.
 pub(crate) fn wide_at(members: &Members, key: &str, which: Which) -> Option<(Which, i64)>
     ensures { result ≡ wide_at key.now which (table_view members.now) }
 {
-    let number = member(members, key)?.as_integer()?;
-    if is_wide(number) {
-        Some((which, number))
-    } else {
-        None
+    match member(members, key) {
+        Some(value) => wide_number(which, value.as_integer()),
+        None => None,
+    }
+}
+
+fn wide_number(which: Which, number: Option<i64>) -> Option<(Which, i64)>
+    ensures { result ≡ wide_number which number }
+{
+    match number {
+        Some(number) => {
+            if is_wide(number) {
+                Some((which, number))
+            } else {
+                None
+            }
+        }
+        None => None,
     }
 }
 

@@ -6,3 +6,4 @@ pub mod ShapeLemmas
 pub mod UnlawfulLemmas
 pub mod OneFaultLemmas
 pub mod SettleLemmas
+pub mod RoofLemmas

@@ -6,8 +6,9 @@ use Rattle.std.proofs.lemmas.List.Elements.{All-cons, All-head, All-nil, All-tai
 use Rattle.jobs.specs.declared.fault.Which.{Which}
 use Rattle.jobs.specs.declared.fault.Which.TheVariants as which
 use Rattle.jobs.specs.declared.func.NodeDef.{NodeDef}
-use Rattle.jobs.specs.Limits.{HasLimits, Oversize, entry_count, first_oversize, first_oversize_of, func_oversize, outside, table_oversize, workers_oversize}
-use Rattle.jobs.specs.Nodes.{most_workers, worker_count}
+use Rattle.flow_dag.specs.declared.edge.Edge.{Edge}
+use Rattle.jobs.specs.Limits.{HasLimits, Oversize, entry_count, first_oversize, first_oversize_of, func_oversize, most_roof_of, outside, roof_oversize, table_oversize, workers_oversize}
+use Rattle.jobs.specs.Nodes.{fan_out, most_workers, worker_count}
 use Rattle.jobs.specs.Written.{Written}
 
 pub option_or-none : {A : Type 0} (o p : Option A) → option_or o p ≡ None → (o ≡ None) × (p ≡ None)
@@ -37,6 +38,14 @@ workers-none n e = outside-none which.Workers 1 (most_workers n.func) n.workers 
 workers-within : (n : NodeDef) → (1 ≤ n.workers) × (n.workers ≤ most_workers n.func) → workers_oversize n ≡ None
 workers-within n (low, high) = outside-within which.Workers 1 (most_workers n.func) n.workers low high
 
+roof-none : (nodes : List NodeDef) (edges : List Edge) (n : NodeDef) → roof_oversize nodes edges n ≡ None
+    → (fan_out n.func ≤ n.roof) × (n.roof ≤ most_roof_of nodes edges n)
+roof-none nodes edges n e = outside-none which.Roof (fan_out n.func) (most_roof_of nodes edges n) n.roof e
+
+roof-within : (nodes : List NodeDef) (edges : List Edge) (n : NodeDef) → (fan_out n.func ≤ n.roof) × (n.roof ≤ most_roof_of nodes edges n)
+    → roof_oversize nodes edges n ≡ None
+roof-within nodes edges n (low, high) = outside-within which.Roof (fan_out n.func) (most_roof_of nodes edges n) n.roof low high
+
 HasLimits-from_none : (job : Written) → first_oversize_of job ≡ None → HasLimits job
 HasLimits-from_none job e =
     let (nodes, e1) = option_or-none _ _ e in
@@ -45,7 +54,8 @@ HasLimits-from_none job e =
     let (workers, e4) = option_or-none _ _ e3 in
     let (all, e5) = option_or-none _ _ e4 in
     let (entries, e6) = option_or-none _ _ e5 in
-    let (texts, functions) = option_or-none _ _ e6 in
+    let (texts, e7) = option_or-none _ _ e6 in
+    let (functions, roofs) = option_or-none _ _ e7 in
     record {
       nodes = outside-none which.Nodes 1 64 (length job.nodes) nodes;
       edges = (outside-none which.Edges 0 128 (length job.edges) edges).1;
@@ -55,6 +65,7 @@ HasLimits-from_none job e =
       entries = (outside-none which.Entries 0 4096 (entry_count job.tables) entries).1;
       texts = first_oversize-none table_oversize job.tables texts;
       functions = first_oversize-none func_oversize job.nodes functions;
+      roofs = All-weaker _ _ (roof-none job.nodes job.edges) job.nodes (first_oversize-none (roof_oversize job.nodes job.edges) job.nodes roofs);
     }
 
 -- a job within its limits has no size that is outside of them
@@ -67,7 +78,8 @@ first_oversize_of-none job limits =
     (rw (outside-within which.AllWorkers 0 64 (worker_count job.nodes) (omega arith) limits.all_workers)
     (rw (outside-within which.Entries 0 4096 (entry_count job.tables) (omega arith) limits.entries)
     (rw (first_oversize-all table_oversize job.tables limits.texts)
-    (first_oversize-all func_oversize job.nodes limits.functions)))))))
+    (rw (first_oversize-all func_oversize job.nodes limits.functions)
+    (first_oversize-all (roof_oversize job.nodes job.edges) job.nodes (All-weaker _ _ (roof-within job.nodes job.edges) job.nodes limits.roofs)))))))))
 
 -- where no size is found, all are within their limits
 pub IfNone-limits : (job : Written) (answer : Option Oversize) → answer ≡ first_oversize_of job → IfNone answer (HasLimits job)

@@ -11,7 +11,9 @@ use Rattle.jobs.specs.declared.func.Func.{Func}
 use Rattle.jobs.specs.declared.func.Func.TheVariants as func
 use Rattle.jobs.specs.declared.func.NodeDef.{NodeDef}
 use Rattle.jobs.specs.declared.table.Table.{Table}
-use Rattle.jobs.specs.Nodes.{most_workers, worker_count}
+use Rattle.flow_dag.specs.declared.edge.Edge.{Edge}
+use Rattle.jobs.specs.Names.{named_out_count}
+use Rattle.jobs.specs.Nodes.{fan_out, most_roof, most_workers, worker_count}
 use Rattle.jobs.specs.Written.{Written}
 
 -- a size that is outside of its limits: what it is a size of, and its number, cut to 64 bits
@@ -63,6 +65,14 @@ func_oversize node = oversize node.func
 abbrev pub workers_oversize : NodeDef → Option Oversize
 workers_oversize node = outside which.Workers 1 (most_workers node.func) node.workers
 
+-- the edges that bear on a node's roof: those that leave a node of its name
+abbrev pub most_roof_of : List NodeDef → List Edge → NodeDef → ℕ
+most_roof_of nodes edges node = most_roof node.func (named_out_count nodes edges node.name)
+
+-- a roof is at least the fan-out of the node's own function, and at most what its kind and edges allow
+abbrev pub roof_oversize : List NodeDef → List Edge → NodeDef → Option Oversize
+roof_oversize nodes edges node = outside which.Roof (fan_out node.func) (most_roof_of nodes edges node) node.roof
+
 -- how many entries the tables have together
 abbrev pub entry_count : List Table → ℕ
 entry_count [] = 0
@@ -86,7 +96,8 @@ first_oversize_of job =
     (option_or (outside which.AllWorkers 0 64 (worker_count job.nodes))
     (option_or (outside which.Entries 0 4096 (entry_count job.tables))
     (option_or (first_oversize table_oversize job.tables)
-    (first_oversize func_oversize job.nodes)))))))
+    (option_or (first_oversize func_oversize job.nodes)
+    (first_oversize (roof_oversize job.nodes job.edges) job.nodes))))))))
 
 -- every size is within its limits
 pub record HasLimits (job : Written) : Type 0 where
@@ -98,3 +109,4 @@ pub record HasLimits (job : Written) : Type 0 where
   pub entries : entry_count job.tables ≤ 4096
   pub texts : All (λ table. table_oversize table ≡ None) job.tables
   pub functions : All (λ node. oversize node.func ≡ None) job.nodes
+  pub roofs : All (λ node. (fan_out node.func ≤ node.roof) × (node.roof ≤ most_roof_of job.nodes job.edges node)) job.nodes

@@ -1,5 +1,5 @@
 -- The nodes of a job, by the kinds of their functions.
-use Rattle.std.specs.Prelude.{◌+◌, ℕ, Bool, true, false, List, [], ◌∷◌, Option, Some, None, slice_get, All, IsTrue}
+use Rattle.std.specs.Prelude.{◌+◌, ◌==◌, if◌then◌else◌, ℕ, Bool, true, false, List, [], ◌∷◌, Option, Some, None, slice_get, All, IsTrue}
 use Rattle.jobs.specs.declared.func.Func.{Func}
 use Rattle.jobs.specs.declared.func.Func.TheVariants as func
 use Rattle.jobs.specs.declared.func.NodeDef.{NodeDef}
@@ -27,6 +27,62 @@ is_count (func.Count count) = true
 is_count (func.Split split) = false
 is_count func.Replicate = false
 is_count (func.Sink listed) = false
+
+-- the function is a split
+abbrev pub is_split : Func → Bool
+is_split func.Source = false
+is_split (func.Filter conds) = false
+is_split (func.Map steps) = false
+is_split (func.Enrich lookup) = false
+is_split (func.Count count) = false
+is_split (func.Split split) = true
+is_split func.Replicate = false
+is_split (func.Sink listed) = false
+
+-- the function is a replicate
+abbrev pub is_replicate : Func → Bool
+is_replicate func.Source = false
+is_replicate (func.Filter conds) = false
+is_replicate (func.Map steps) = false
+is_replicate (func.Enrich lookup) = false
+is_replicate (func.Count count) = false
+is_replicate (func.Split split) = false
+is_replicate func.Replicate = true
+is_replicate (func.Sink listed) = false
+
+-- the kinds that requests may change into each other at a node that one edge leaves
+abbrev pub is_free : Func → Bool
+is_free func.Source = false
+is_free (func.Filter conds) = true
+is_free (func.Map steps) = true
+is_free (func.Enrich lookup) = true
+is_free (func.Count count) = false
+is_free (func.Split split) = true
+is_free func.Replicate = false
+is_free (func.Sink listed) = false
+
+-- how many tuples the function may send along an edge for one that it gets
+abbrev pub fan_out : Func → ℕ
+fan_out func.Source = 1
+fan_out (func.Filter conds) = 1
+fan_out (func.Map steps) = 1
+fan_out (func.Enrich lookup) = 1
+fan_out (func.Count count) = 1
+fan_out (func.Split split) = split.most
+fan_out func.Replicate = 1
+fan_out (func.Sink listed) = 1
+
+-- the greatest roof of a node with this function that this number of edges leaves: 16 if its kind
+-- is free, and 1 at a filter that two edges leave
+abbrev pub most_roof : Func → ℕ → ℕ
+most_roof func.Source outs = 1
+most_roof (func.Filter conds) outs = if outs == 2 then 1 else 16
+most_roof (func.Map steps) outs = 16
+most_roof (func.Enrich lookup) outs = 16
+most_roof (func.Count count) outs = 1
+most_roof (func.Split split) outs = 16
+most_roof func.Replicate outs = 1
+most_roof (func.Sink listed) outs = 1
 
 -- the function may make several tuples of one
 abbrev pub may_emit : Func → Bool

@@ -2,27 +2,15 @@
 use Rattle.std.specs.Prelude.{◌≡◌, ℕ, ◌+◌, ◌*◌, ◌==◌, List, [], ◌∷◌, length, Option, Some, None, fold, min, slice_get, zero, suc, if◌then◌else◌}
 use Rattle.flow_dag.specs.declared.edge.Edge.{Edge}
 use Rattle.jobs.specs.declared.func.Func.{Func}
-use Rattle.jobs.specs.declared.func.Func.TheVariants as func
 use Rattle.jobs.specs.declared.func.NodeDef.{NodeDef}
 use Rattle.jobs.specs.Nodes.{is_source, is_source_node}
 use Rattle.jobs.specs.Places.{Each}
 use Rattle.jobs.specs.Written.{Written}
 
--- how many tuples a function may send along an edge for one that it gets
-abbrev pub fan_out : Func → ℕ
-fan_out func.Source = 1
-fan_out (func.Filter conds) = 1
-fan_out (func.Map steps) = 1
-fan_out (func.Enrich lookup) = 1
-fan_out (func.Count count) = 1
-fan_out (func.Split split) = split.most
-fan_out func.Replicate = 1
-fan_out (func.Sink listed) = 1
-
--- the same for the function of a node, if there is one
+-- how many tuples a node may send along an edge for one that it gets: its roof, whatever function requests give it
 abbrev pub fan_out_at : Option NodeDef → ℕ
 fan_out_at None = 1
-fan_out_at (Some node) = fan_out node.func
+fan_out_at (Some node) = node.roof
 
 -- a sum with what one edge more brings, cut at 2 ^ 20
 abbrev pub with_more : ℕ → ℕ → ℕ → ℕ

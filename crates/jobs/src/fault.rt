@@ -18,6 +18,7 @@ pub enum Which {
     Conditions,
     Steps,
     Most,
+    Roof,
     Requests,
     Changes,
     After,

@@ -107,6 +107,10 @@ pub struct NodeDef {
     pub name: Txt,
     pub func: Func,
     pub workers: u32,
+    /// The most tuples that the node may make of one, whatever function requests give it: at least
+    /// the fan-out of its own function, and at most 16. Only a node whose kind requests may change
+    /// has more than 1.
+    pub roof: u32,
 }
 
 /// The nodes of a job, numbered from 0.

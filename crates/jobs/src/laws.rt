@@ -1,8 +1,11 @@
 // Laws of jobs: each stands in the contract of a function that does nothing.
+ghost use Rattle.std.specs.Prelude.{◌≤◌};
 ghost use Rattle.jobs.specs.Fits.{fits};
 ghost use Rattle.jobs.specs.Job.{written};
 ghost use Rattle.jobs.specs.Law.{Excludes, HaveOneFault};
-ghost use Rattle.jobs.specs.Places.{EachPasses};
+ghost use Rattle.jobs.specs.Nodes.{fan_out, most_roof};
+ghost use Rattle.jobs.specs.Places.{Each, EachPasses};
+ghost use Rattle.jobs.specs.Ports.{out_count};
 ghost use Rattle.jobs.specs.Weights.{HasSettledWeights};
 
 use crate::Job;
@@ -17,7 +20,7 @@ pub fn jobs_have_one_fault()
     ensures { HaveOneFault }
 {}
 
-/// In every job a source weighs 1, and any other node the sum over its edges in, of the sender's weight times the sender's fan-out, cut.
+/// In every job a source weighs 1, and any other node the sum over its edges in, of the sender's weight times the sender's roof, cut.
 pub fn weights_settle(job: &Job)
     ensures { HasSettledWeights (written job.now) }
 {}
@@ -25,4 +28,11 @@ pub fn weights_settle(job: &Job)
 /// The function of each node of a job fits.
 pub fn functions_fit(job: &Job)
     ensures { EachPasses (λ _ node. fits (written job.now) node.func) job.now.nodes }
+{}
+
+/// The roof of each node of a job is at least the fan-out of its own function, and at most 16. It is
+/// 1 at a node whose kind can't change, as at a filter that two edges leave.
+pub fn roofs_hold(job: &Job)
+    ensures covers { Each (λ _ node. fan_out node.func ≤ node.roof) job.now.nodes }
+    ensures limit { Each (λ v node. node.roof ≤ most_roof node.func (out_count job.now.dag.edges v)) job.now.nodes }
 {}

@@ -18,8 +18,6 @@ mod ports;
 mod queries;
 mod table;
 mod tables;
-#[cfg(test)]
-mod tests;
 mod weights;
 
 pub use column::{Column, ColumnDefs, ColumnKind, Columns};
@@ -30,9 +28,11 @@ pub use func::{
     Steps, Test,
 };
 pub use job::Job;
-pub use laws::{functions_fit, jobs_have_one_fault, refused_is_unlawful, weights_settle};
+pub use laws::{
+    functions_fit, jobs_have_one_fault, refused_is_unlawful, roofs_hold, weights_settle,
+};
 pub use limits::{outside, size_fault};
-pub use node::{is_source, may_emit_many};
-pub use ports::has_port;
+pub use node::{fan_out, is_free, is_replicate, is_source, is_split};
+pub use ports::{has_port, out_count};
 pub use queries::{fits, weight, worker_count};
 pub use table::{Table, Tables};

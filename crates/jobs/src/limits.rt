@@ -1,19 +1,21 @@
 // Sizes and their limits.
 ghost use Rattle.std.specs.Prelude.{◌≡◌, ◌≤◌, IfNone, length, min};
-ghost use Rattle.jobs.specs.Limits.{HasLimits, entry_count, entry_oversize, first_oversize, first_oversize_of, func_oversize, kept, literal_oversize, outside, oversize, table_oversize, text_oversize, value_oversize, workers_oversize};
+ghost use Rattle.jobs.specs.Limits.{HasLimits, entry_count, entry_oversize, first_oversize, first_oversize_of, func_oversize, kept, literal_oversize, outside, oversize, roof_oversize, table_oversize, text_oversize, value_oversize, workers_oversize};
 ghost use Rattle.std.specs.FinMap as finite;
 ghost use Rattle.jobs.specs.declared.func.Func.TheVariants.{Filter};
 ghost use Rattle.jobs.specs.Nodes.{worker_count};
 ghost use Rattle.jobs.specs.Written.{written_as};
 
-use crate::node::most_workers;
+use crate::names::named_out_count;
+use crate::node::{fan_out, most_roof, most_workers};
 use crate::{Column, Cond, Func, NodeDef, Table, Which};
 use flow_dag::Edge;
 use keyed_state::TextMap;
 use tuple_trace::Value;
 
 /// The first size that is outside of its limits, with its number. The order is: nodes, edges, columns, the workers of each node, all workers,
-/// the entries of all tables, the texts of each table, and the sizes of each node's function.
+/// the entries of all tables, the texts of each table, the sizes of each node's function, and the
+/// roof of each node.
 pub fn first_size_fault(
     columns: &[Column],
     nodes: &[NodeDef],
@@ -44,7 +46,10 @@ pub fn first_size_fault(
     if let Some(fault) = tables_fault(tables) {
         return Some(fault);
     }
-    functions_fault(nodes)
+    if let Some(fault) = functions_fault(nodes) {
+        return Some(fault);
+    }
+    roofs_fault(nodes, edges)
 }
 
 /// The first size of a function that is outside of its limits, with its number: up to 8 conditions or steps, 1 to 16 pieces, and up to 48 bytes
@@ -102,6 +107,33 @@ fn workers_fault(nodes: &[NodeDef]) -> Option<(Which, i64)>
         }
     }
     None
+}
+
+fn roofs_fault(nodes: &[NodeDef], edges: &[Edge]) -> Option<(Which, i64)>
+    requires { length edges.now ≤ 128 }
+    ensures { result ≡ first_oversize (roof_oversize nodes.now edges.now) nodes.now }
+{
+    for node in nodes {
+        if let Some(fault) = roof_fault(nodes, edges, node) {
+            return Some(fault);
+        }
+    }
+    None
+}
+
+fn roof_fault(nodes: &[NodeDef], edges: &[Edge], node: &NodeDef) -> Option<(Which, i64)>
+    requires { length edges.now ≤ 128 }
+    ensures { result ≡ roof_oversize nodes.now edges.now node.now }
+{
+    let outs = named_out_count(nodes, edges, node.name.as_slice());
+    let most = most_roof(&node.func, outs);
+    let least = fan_out(&node.func);
+    outside(
+        Which::Roof,
+        u64::from(least),
+        u64::from(most),
+        u64::from(node.roof),
+    )
 }
 
 // The workers of all nodes that aren't sources.

@@ -1,9 +1,10 @@
 // Names that are taken.
 ghost use Rattle.std.specs.Prelude.{◌≡◌, ◌≤◌, length};
-ghost use Rattle.jobs.specs.Names.{has_column_named, has_node_named, is_new_column, is_new_node};
+ghost use Rattle.jobs.specs.Names.{has_column_named, has_node_named, is_new_column, is_new_node, leaves_named, named_out_count};
 ghost use Rattle.jobs.specs.Places.{FindsFailure};
 
 use crate::{Column, NodeDef};
+use flow_dag::Edge;
 
 /// The first column that has the name of an earlier one.
 pub fn repeated_column(columns: &[Column]) -> Option<u32>
@@ -41,4 +42,27 @@ fn has_node_named(nodes: &[NodeDef], name: &[u8]) -> bool
     ensures { result ≡ has_node_named nodes.now name.now }
 {
     nodes.iter().any(|node| node.name.as_slice() == name)
+}
+
+/// How many edges leave nodes of this name.
+pub fn named_out_count(nodes: &[NodeDef], edges: &[Edge], name: &[u8]) -> u32
+    requires { length edges.now ≤ 128 }
+    ensures { result ≡ named_out_count nodes.now edges.now name.now }
+{
+    let mut count = 0u32;
+    for edge in edges {
+        if leaves_named(nodes, name, *edge) {
+            count += 1;
+        }
+    }
+    count
+}
+
+fn leaves_named(nodes: &[NodeDef], name: &[u8], edge: Edge) -> bool
+    ensures { result ≡ leaves_named nodes.now name.now edge }
+{
+    match nodes.get(edge.from as usize) {
+        Some(node) => node.name.as_slice() == name,
+        None => false,
+    }
 }

@@ -87,7 +87,7 @@ fn is_entered(edges: &[Edge], node: u32) -> bool
     edges.iter().any(|edge| edge.to == node)
 }
 
-fn out_count(edges: &[Edge], node: u32) -> u32
+pub fn out_count(edges: &[Edge], node: u32) -> u32
     requires { length edges.now ≤ 128 }
     ensures { result ≡ out_count edges.now node }
 {

@@ -2,7 +2,7 @@
 ghost use Rattle.std.specs.Prelude.{◌≡◌, ◌<◌, ◌≤◌, ℕ, All, length, option_copied, slice_index};
 ghost use Rattle.flow_dag.specs.Edges.{IsInside};
 ghost use Rattle.jobs.specs.Nodes.{is_source_node};
-ghost use Rattle.jobs.specs.Weights.{added_by, brought_to, fan_out, fan_out_at, weighed, weight_after, weight_of, weight_from, with_edge, with_more};
+ghost use Rattle.jobs.specs.Weights.{added_by, brought_to, fan_out_at, weighed, weight_after, weight_of, weight_from, with_edge, with_more};
 
 use crate::node::is_source;
 use crate::{Func, NodeDef};
@@ -102,23 +102,8 @@ fn fan_out_at(node: Option<&NodeDef>) -> u32
     ensures { result ≡ fan_out_at (option_copied node.entry) }
 {
     match node {
-        Some(node) => fan_out(&node.func),
+        Some(node) => node.roof,
         None => 1,
-    }
-}
-
-fn fan_out(func: &Func) -> u32
-    ensures { result ≡ fan_out func.now }
-{
-    match func {
-        Func::Split(split) => split.most,
-        Func::Source
-        | Func::Filter(_)
-        | Func::Map(_)
-        | Func::Enrich(_)
-        | Func::Count(_)
-        | Func::Replicate
-        | Func::Sink(_) => 1,
     }
 }
 

@@ -1,12 +1,13 @@
 -- What accepted requests keep of a job.
 use Rattle.std.proofs.Common.{get_or, ◌≡◌, ◌≤◌, ◌+◌, ℕ, Bool, true, false, List, [], ◌∷◌, ◌⊎◌, inl, inr, ◌==◌, length, Option, Some, None, refl, sym, ap, subst, ◌∙◌, arith}
 use Rattle.std.specs.Option.{option_or}
-use Rattle.std.specs.Prelude.{option_map, All, IsTrue, nat_lt, not, slice_get, slice_set, if◌then◌else◌}
-use Rattle.std.proofs.lemmas.Bool.{cases_eq, eq-eqb, eqb-true}
+use Rattle.std.specs.Prelude.{option_map, All, IsTrue, nat_le, nat_lt, not, ◌&&◌, ◌||◌, slice_get, slice_set, if◌then◌else◌}
+use Rattle.std.proofs.lemmas.Bool.{and_from, and_parts, cases_eq, eq-eqb, eqb-true, or_cases, or_left, or_right}
 use Rattle.std.proofs.lemmas.Bool.Decides.{nat_tests}
 use Rattle.std.proofs.lemmas.List.{length-map}
 use Rattle.std.proofs.lemmas.Option.{same_Some, slice_get-get_or, slice_get-map, slice_get_within}
 use Rattle.std.proofs.lemmas.List.Elements.{All-cons, All-head, All-tail}
+use Rattle.jobs.specs.Nodes.{fan_out, is_free}
 use Rattle.jobs.specs.Written.{Written}
 use Rattle.jobs.specs.declared.func.Func.{Func}
 use Rattle.jobs.specs.declared.func.Func.TheVariants as func
@@ -20,37 +21,74 @@ use Rattle.versions.specs.declared.request.Change.{Change}
 use Rattle.versions.specs.declared.request.Request.{Request}
 use Rattle.versions.specs.Book.{accepted, current_version, first_book, with_change}
 use Rattle.versions.specs.Judged.{AreAccepted, accepting, by_fault, judged_from, refusing}
-use Rattle.versions.specs.Judging.{fault_of, first_with, is_empty, may_replace, may_replace_at, most_at, most_of, named, stale, whole_fault}
+use Rattle.versions.specs.Judging.{fault_of, first_with, is_empty, is_like, leaves_once, may_replace, may_replace_at, named, roof_at, stale, whole_fault}
 use Rattle.versions.specs.Kept.{AreInOrder, KeepKinds, KeepsKind}
 use Rattle.versions.proofs.BookLemmas.{long_still, other_place}
 use Rattle.versions.proofs.FirstLemmas.{named-none}
 use Rattle.versions.proofs.YoungLemmas.{none_each, same_place}
 
--- the function is the one that the job gives the node, or may replace it
-abbrev pub MayStand : NodeDef → Func → Type 0
-MayStand node f = (f ≡ node.func) ⊎ (may_replace node.func f (most_of node.func) ≡ true)
+-- the function is the one that the job gives the node, or may replace it there
+abbrev pub MayStand : Written → ℕ → NodeDef → Func → Type 0
+MayStand job n node f = (f ≡ node.func) ⊎ (may_replace node.func f node.roof (leaves_once job.edges n) ≡ true)
 
 -- so it is with each function of the book
 pub record IsKept (job : Written) (book : List Current) : Type 0 where
   pub long : length book ≡ length job.nodes
-  pub stands : (n : ℕ) (current : Current) (node : NodeDef) → slice_get book n ≡ Some current → slice_get job.nodes n ≡ Some node → MayStand node current.func
+  pub stands : (n : ℕ) (current : Current) (node : NodeDef) → slice_get book n ≡ Some current → slice_get job.nodes n ≡ Some node → MayStand job n node current.func
 
 same_key : (a b c : ℕ) → (a == b) ≡ true → (b == c) ≡ true → (a == c) ≡ true
 same_key a b c ab bc = eq-eqb a c (eqb-true a b ab ∙ eqb-true b c bc)
 
+like_on : (a b c : Func) → is_like a b ≡ true → is_like b c ≡ true → is_like a c ≡ true
+like_on (func.Filter a) (func.Filter b) (func.Filter c) ab bc = refl
+like_on (func.Map a) (func.Map b) (func.Map c) ab bc = refl
+like_on (func.Enrich a) (func.Enrich b) (func.Enrich c) ab bc = refl
+like_on (func.Count a) (func.Count b) (func.Count c) ab bc = same_key a.key b.key c.key ab bc
+like_on (func.Split a) (func.Split b) (func.Split c) ab bc = refl
+like_on _ _ _ ab bc = absurd (cc)
+
+like_free : (a b : Func) → is_like a b ≡ true → is_free a ≡ is_free b
+like_free (func.Filter a) (func.Filter b) ab = refl
+like_free (func.Map a) (func.Map b) ab = refl
+like_free (func.Enrich a) (func.Enrich b) ab = refl
+like_free (func.Count a) (func.Count b) ab = refl
+like_free (func.Split a) (func.Split b) ab = refl
+like_free _ _ ab = absurd (cc)
+
 -- what may replace a function that may replace another may replace that
-replaces : (a b c : Func) (most : ℕ) → may_replace a b most ≡ true → may_replace b c most ≡ true → may_replace a c most ≡ true
-replaces (func.Filter a) (func.Filter b) (func.Filter c) most ab bc = refl
-replaces (func.Map a) (func.Map b) (func.Map c) most ab bc = refl
-replaces (func.Enrich a) (func.Enrich b) (func.Enrich c) most ab bc = refl
-replaces (func.Count a) (func.Count b) (func.Count c) most ab bc = same_key a.key b.key c.key ab bc
-replaces (func.Split a) (func.Split b) (func.Split c) most ab bc = bc
-replaces _ _ _ most ab bc = absurd (cc)
+replaces : (a b c : Func) (roof : ℕ) (once : Bool) → may_replace a b roof once ≡ true → may_replace b c roof once ≡ true → may_replace a c roof once ≡ true
+replaces a b c roof once ab bc =
+    let p = and_parts (is_like a b || (is_free a && is_free b && once)) (nat_le (fan_out b) roof) ab in
+    let q = and_parts (is_like b c || (is_free b && is_free c && once)) (nat_le (fan_out c) roof) bc in
+    and_from (is_like a c || (is_free a && is_free c && once)) (nat_le (fan_out c) roof)
+    (kinds (or_cases (is_like a b) (is_free a && is_free b && once) p.0) (or_cases (is_like b c) (is_free b && is_free c && once) q.0)) q.1
+  where
+    free : is_free a ≡ true → is_free c ≡ true → once ≡ true → (is_like a c || (is_free a && is_free c && once)) ≡ true
+    free fa fc o = or_right (is_like a c) (is_free a && is_free c && once) (and_from (is_free a && is_free c) once (and_from (is_free a) (is_free c) fa fc) o)
+
+    kinds : (is_like a b ≡ true) ⊎ ((is_free a && is_free b && once) ≡ true) → (is_like b c ≡ true) ⊎ ((is_free b && is_free c && once) ≡ true)
+        → (is_like a c || (is_free a && is_free c && once)) ≡ true
+    kinds (inl x) (inl y) = or_left (is_like a c) (is_free a && is_free c && once) (like_on a b c x y)
+    kinds (inl x) (inr y) =
+        let u = and_parts (is_free b && is_free c) once y in
+        let v = and_parts (is_free b) (is_free c) u.0 in
+        free (like_free a b x ∙ v.0) v.1 u.1
+    kinds (inr x) (inl y) =
+        let u = and_parts (is_free a && is_free b) once x in
+        let v = and_parts (is_free a) (is_free b) u.0 in
+        free v.0 (sym (like_free b c y) ∙ v.1) u.1
+    kinds (inr x) (inr y) =
+        let u = and_parts (is_free a && is_free b) once x in
+        let v = and_parts (is_free a) (is_free b) u.0 in
+        let s = and_parts (is_free b && is_free c) once y in
+        let t = and_parts (is_free b) (is_free c) s.0 in
+        free v.0 t.1 u.1
 
 -- a function that may stand at the node, and one that may replace it
-stands_after : (node : NodeDef) (current f : Func) → MayStand node current → may_replace current f (most_of node.func) ≡ true → may_replace node.func f (most_of node.func) ≡ true
-stands_after node current f (inl same) may = subst (λ (g : Func). may_replace g f (most_of node.func) ≡ true) same may
-stands_after node current f (inr kept) may = replaces node.func current f (most_of node.func) kept may
+stands_after : (job : Written) (n : ℕ) (node : NodeDef) (current f : Func) → MayStand job n node current → may_replace current f node.roof (leaves_once job.edges n) ≡ true
+    → may_replace node.func f node.roof (leaves_once job.edges n) ≡ true
+stands_after job n node current f (inl same) may = subst (λ (g : Func). may_replace g f node.roof (leaves_once job.edges n) ≡ true) same may
+stands_after job n node current f (inr kept) may = replaces node.func current f node.roof (leaves_once job.edges n) kept may
 
 not_not : (b : Bool) → not b ≡ false → b ≡ true
 not_not true e = refl
@@ -82,13 +120,13 @@ free-kept book job request last kept free =
     let none = (free_parts book job request last free).0 in
     λ i d lt node there.
     let change : Change = get_or request.changes i d in
-    let may = not_not (may_replace_at (slice_get book change.node) change.func (most_at (slice_get job.nodes change.node)))
+    let may = not_not (may_replace_at (slice_get book change.node) change.func (roof_at (slice_get job.nodes change.node)) (leaves_once job.edges change.node))
     (none_each code.KindOrKey book job [] request.changes none i change (slice_get-get_or request.changes i d lt)) in
     by_entry change node there (slice_get book change.node) refl may
   where
     by_entry : (change : Change) (node : NodeDef) → slice_get job.nodes change.node ≡ Some node → (entry : Option Current) → slice_get book change.node ≡ entry
-        → may_replace_at (slice_get book change.node) change.func (most_at (slice_get job.nodes change.node)) ≡ true
-        → IsTrue (may_replace node.func change.func (most_of node.func))
+        → may_replace_at (slice_get book change.node) change.func (roof_at (slice_get job.nodes change.node)) (leaves_once job.edges change.node) ≡ true
+        → IsTrue (may_replace node.func change.func node.roof (leaves_once job.edges change.node))
     by_entry change node there None is may =
         let inside = slice_get_within job.nodes change.node node there in
         let here : slice_get book change.node ≡ Some (get_or book change.node (record { version = 0; func = change.func })) =
@@ -96,10 +134,11 @@ free-kept book job request last kept free =
         absurd (cc)
     by_entry change node there (Some current) is may =
         let stands = kept.stands change.node current node is there in
-        let moved : may_replace_at (Some current) change.func (most_at (Some node)) ≡ true =
-        subst (λ (n : Option NodeDef). may_replace_at (Some current) change.func (most_at n) ≡ true) there (
-        subst (λ (c : Option Current). may_replace_at c change.func (most_at (slice_get job.nodes change.node)) ≡ true) is may) in
-        stands_after node current.func change.func stands moved
+        let once : Bool = leaves_once job.edges change.node in
+        let moved : may_replace_at (Some current) change.func (roof_at (Some node)) once ≡ true =
+        subst (λ (n : Option NodeDef). may_replace_at (Some current) change.func (roof_at n) once ≡ true) there (
+        subst (λ (c : Option Current). may_replace_at c change.func (roof_at (slice_get job.nodes change.node)) once ≡ true) is may) in
+        stands_after job change.node node current.func change.func stands moved
 
 -- the book after changes that keep the kinds keeps them too
 kept_after : (job : Written) (book : List Current) (changes : List Change) → IsKept job book → All (KeepsKind job) changes → IsKept job (accepted book changes)
@@ -111,22 +150,24 @@ kept_after job book (change ∷ rest) kept all =
     entry : Current
     entry = record { version = current_version (slice_get book change.node) + 1; func = change.func }
 
-    stands : (n : ℕ) (current : Current) (node : NodeDef) → slice_get (with_change book change.node change.func) n ≡ Some current → slice_get job.nodes n ≡ Some node → MayStand node current.func
+    stands : (n : ℕ) (current : Current) (node : NodeDef) → slice_get (with_change book change.node change.func) n ≡ Some current → slice_get job.nodes n ≡ Some node → MayStand job n node current.func
     stands n current node at there =
         let lt = slice_get_within job.nodes n node there in
         elim (cases_eq change.node n) [
           | inl same ↦
               let here : slice_get (slice_set book change.node entry) change.node ≡ Some entry = same_place book change.node entry (omega (arith, lt, same, kept.long)) in
               let is : entry ≡ current = same_Some entry current (sym here ∙ (rw same refl ∙ at)) in
-              let may : IsTrue (may_replace node.func change.func (most_of node.func)) = All-head (KeepsKind job) change rest all node (rw same there) in
-              inr (rw (← is) may)
+              let may : IsTrue (may_replace node.func change.func node.roof (leaves_once job.edges change.node)) = All-head (KeepsKind job) change rest all node (rw same there) in
+              let here' : may_replace node.func change.func node.roof (leaves_once job.edges n) ≡ true =
+              subst (λ k. may_replace node.func change.func node.roof (leaves_once job.edges k) ≡ true) same may in
+              inr (rw (← is) here')
           | inr ne ↦ kept.stands n current node (sym (other_place book change.node n entry ne) ∙ at) there
         ]
 
 kept_at_first : (job : Written) → IsKept job (first_book job.nodes)
 kept_at_first job = record { long = length-map job.nodes (λ (d : NodeDef). record { version = 0; func = d.func }); stands = stands }
   where
-    stands : (n : ℕ) (current : Current) (node : NodeDef) → slice_get (first_book job.nodes) n ≡ Some current → slice_get job.nodes n ≡ Some node → MayStand node current.func
+    stands : (n : ℕ) (current : Current) (node : NodeDef) → slice_get (first_book job.nodes) n ≡ Some current → slice_get job.nodes n ≡ Some node → MayStand job n node current.func
     stands n current node at there =
         let made : slice_get (first_book job.nodes) n ≡ Some (record { version = 0; func = node.func }) = slice_get-map (λ (d : NodeDef). record { version = 0; func = d.func }) job.nodes n ∙ ap (option_map (λ (d : NodeDef). record { version = 0; func = d.func })) there in
         let is = same_Some (record { version = 0; func = node.func }) current (sym made ∙ at) in

@@ -1,10 +1,12 @@
 -- Which requests are accepted, and why another isn't.
-use Rattle.std.specs.Prelude.{ℕ, pos, ◌+◌, Bool, true, false, not, ◌||◌, List, [], ◌∷◌, ◌++◌, length, Option, Some, None, slice_get, nat_lt, nat_le, int_lt, ◌==◌, if◌then◌else◌}
+use Rattle.std.specs.Prelude.{ℕ, pos, ◌+◌, Bool, true, false, not, ◌||◌, ◌&&◌, List, [], ◌∷◌, ◌++◌, length, Option, Some, None, slice_get, nat_lt, nat_le, int_lt, ◌==◌, if◌then◌else◌}
 use Rattle.std.specs.Option.{option_or}
 use Rattle.keyed_state.specs.declared.carry.Carry.{Carry}
 use Rattle.keyed_state.specs.declared.carry.Carry.TheVariants as carry
 use Rattle.jobs.specs.Fits.{fits}
-use Rattle.jobs.specs.Nodes.{is_count}
+use Rattle.flow_dag.specs.declared.edge.Edge.{Edge}
+use Rattle.jobs.specs.Nodes.{fan_out, is_count, is_free}
+use Rattle.jobs.specs.Ports.{out_count}
 use Rattle.jobs.specs.Written.{Written}
 use Rattle.jobs.specs.declared.func.Func.{Func}
 use Rattle.jobs.specs.declared.func.Func.TheVariants as func
@@ -39,32 +41,37 @@ abbrev pub is_count_at : Option NodeDef → Bool
 is_count_at None = false
 is_count_at (Some node) = is_count node.func
 
-abbrev pub most_of : Func → ℕ
-most_of (func.Split split) = split.most
-most_of _ = 0
+-- the roof of a node, if there is one
+abbrev pub roof_at : Option NodeDef → ℕ
+roof_at None = 1
+roof_at (Some node) = node.roof
 
--- the most pieces that the job lets a node make
-abbrev pub most_at : Option NodeDef → ℕ
-most_at None = 0
-most_at (Some node) = most_of node.func
+-- just one edge leaves the node
+abbrev pub leaves_once : List Edge → ℕ → Bool
+leaves_once edges node = out_count edges node == 1
+
+-- both functions are of one kind that requests change, and count by the same key
+abbrev pub is_like : Func → Func → Bool
+is_like (func.Filter a) (func.Filter b) = true
+is_like (func.Map a) (func.Map b) = true
+is_like (func.Enrich a) (func.Enrich b) = true
+is_like (func.Count a) (func.Count b) = a.key == b.key
+is_like (func.Split a) (func.Split b) = true
+is_like _ _ = false
 
 -- the change was written for another version
 abbrev pub is_stale_at : Option Current → ℕ → Bool
 is_stale_at None from = false
 is_stale_at (Some current) from = not (current.version == from)
 
--- a new function may follow the current one: it is of its kind, counts by the same key, and splits into no more pieces than `most`
-abbrev pub may_replace : Func → Func → ℕ → Bool
-may_replace (func.Filter a) (func.Filter b) most = true
-may_replace (func.Map a) (func.Map b) most = true
-may_replace (func.Enrich a) (func.Enrich b) most = true
-may_replace (func.Count a) (func.Count b) most = a.key == b.key
-may_replace (func.Split a) (func.Split b) most = nat_le b.most most
-may_replace _ _ most = false
+-- a new function may follow the current one: it is of its kind and counts by the same key, or both are
+-- of free kinds and one edge leaves the node; and its fan-out is at most the node's roof
+abbrev pub may_replace : Func → Func → ℕ → Bool → Bool
+may_replace current new roof once = (is_like current new || (is_free current && is_free new && once)) && nat_le (fan_out new) roof
 
-abbrev pub may_replace_at : Option Current → Func → ℕ → Bool
-may_replace_at None new most = true
-may_replace_at (Some current) new most = may_replace current.func new most
+abbrev pub may_replace_at : Option Current → Func → ℕ → Bool → Bool
+may_replace_at None new roof once = true
+may_replace_at (Some current) new roof once = may_replace current.func new roof once
 
 -- counts are carried by a count alone, and are divided by 1 or more
 abbrev pub is_bad_carry : Bool → Carry → Bool
@@ -80,7 +87,7 @@ has_fault code.Fixed book job before c = is_fixed_at (slice_get job.nodes c.node
 has_fault code.NodeTwice book job before c = is_named before c.node
 has_fault code.Stale book job before c = is_stale_at (slice_get book c.node) c.from
 has_fault code.IllTyped book job before c = not (fits job c.func)
-has_fault code.KindOrKey book job before c = not (may_replace_at (slice_get book c.node) c.func (most_at (slice_get job.nodes c.node)))
+has_fault code.KindOrKey book job before c = not (may_replace_at (slice_get book c.node) c.func (roof_at (slice_get job.nodes c.node)) (leaves_once job.edges c.node))
 has_fault code.BadCarry book job before c = is_bad_carry (is_count_at (slice_get job.nodes c.node)) c.carry
 
 -- ---- a request

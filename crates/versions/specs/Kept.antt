@@ -3,13 +3,16 @@ use Rattle.std.specs.Prelude.{◌≡◌, ◌≤◌, ⊤, ℕ, All, IsTrue, List,
 use Rattle.keyed_state.specs.Counts.{CanCarry}
 use Rattle.jobs.specs.Written.{Written}
 use Rattle.jobs.specs.declared.func.NodeDef.{NodeDef}
-use Rattle.versions.specs.Judging.{may_replace, most_of}
+use Rattle.versions.specs.Judging.{leaves_once, may_replace}
 use Rattle.versions.specs.declared.request.Change.{Change}
 use Rattle.versions.specs.declared.request.Request.{Request}
 
--- the new function may replace the one that the job gives the node: it is of its kind, counts by the same key, and splits into no more pieces
+-- the new function may replace the one that the job gives the node: it is of its kind and counts by the same key, or both are of free kinds and one
+-- edge leaves the node; and its fan-out is at most the node's roof
 abbrev pub KeepsKind : Written → Change → Type 0
-KeepsKind job change = (node : NodeDef) → slice_get job.nodes change.node ≡ Some node → IsTrue (may_replace node.func change.func (most_of node.func))
+KeepsKind job change =
+    (node : NodeDef) → slice_get job.nodes change.node ≡ Some node →
+    IsTrue (may_replace node.func change.func node.roof (leaves_once job.edges change.node))
 
 -- so it is with each change of the requests
 abbrev pub KeepKinds : Written → List Request → Type 0

@@ -99,7 +99,7 @@ impl Book {
 }
 
 /// The book once a request is accepted: each node that it changes has the new function and the next version.
-pub fn accept(_alloc: Global, book: &Book, request: &Request) -> Result<Book, NoMemory>
+pub fn accept(book: &Book, request: &Request) -> Result<Book, NoMemory>
     requires { CanAccept book.now request.now.changes }
     ensures { IfOk result (λ next. next ≡ accepted book.now request.now.changes) }
 {

@@ -75,7 +75,7 @@ fn next(
 {
     match judge(&bench.book, job, request, bench.last_after) {
         Ok(()) => {
-            let book = accept(alloc, &bench.book, request)?;
+            let book = accept(&bench.book, request)?;
             let request = request.copy(alloc)?;
             bench.book = book;
             bench.last_after = request.after;

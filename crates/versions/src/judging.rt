@@ -1,10 +1,10 @@
 ghost use Rattle.std.specs.Prelude.{◌≡◌, ◌≤◌, ◌<◌, [], None, Some, IfErr, IfSome, OnOk, length, slice_get};
 ghost use Rattle.jobs.specs.Job.{written};
 ghost use Rattle.versions.specs.Book.{is_named as is_named_in};
-ghost use Rattle.versions.specs.Judging.{fault_of, first_with as first_with_in, has_fault as has_fault_in, is_bad_carry as is_bad_carry_of, is_count_at as is_count_node, is_fixed as is_fixed_func, is_fixed_at as is_fixed_node, is_stale_at as is_stale_node, may_replace as may_replace_func, may_replace_at as may_replace_current, most_at as most_of_node, version_of as version_of_change, whole_fault as whole_fault_of};
+ghost use Rattle.versions.specs.Judging.{fault_of, first_with as first_with_in, has_fault as has_fault_in, is_bad_carry as is_bad_carry_of, is_count_at as is_count_node, is_fixed as is_fixed_func, is_fixed_at as is_fixed_node, is_stale_at as is_stale_node, may_replace as may_replace_func, may_replace_at as may_replace_current, is_like as is_like_func, roof_at as roof_of_node, version_of as version_of_change, whole_fault as whole_fault_of};
 
 use crate::{Book, Change, Current, QFault, Request};
-use jobs::{Func, Job, NodeDef, fits};
+use jobs::{Func, Job, NodeDef, fan_out, fits, is_free, out_count};
 use keyed_state::Carry;
 
 /// Whether a request is accepted by a book, and else its first fault in the order of [`QFault`], with the first change that has it.
@@ -90,7 +90,9 @@ fn has_fault(code: Code, book: &[Current], job: &Job, before: &[Change], change:
         Code::Stale => is_stale_at(book, change.node, change.from),
         Code::IllTyped => !fits(job, &change.func),
         Code::KindOrKey => {
-            !may_replace_at(book, change.node, &change.func, most_at(nodes, change.node))
+            let once = out_count(job.dag.all_edges(), change.node) == 1;
+            let roof = roof_at(nodes, change.node);
+            !may_replace_at(book, change.node, &change.func, roof, once)
         }
         Code::BadCarry => is_bad_carry(is_count_at(nodes, change.node), change.carry),
     }
@@ -129,38 +131,41 @@ fn is_stale_at(book: &[Current], node: u32, from: u64) -> bool
     }
 }
 
-fn may_replace_at(book: &[Current], node: u32, new: &Func, most: u32) -> bool
-    ensures { result ≡ may_replace_current (slice_get book.now node) new.now most }
+fn may_replace_at(book: &[Current], node: u32, new: &Func, roof: u32, once: bool) -> bool
+    ensures { result ≡ may_replace_current (slice_get book.now node) new.now roof once }
 {
     match book.get(node as usize) {
-        Some(current) => may_replace(&current.func, new, most),
+        Some(current) => may_replace(&current.func, new, roof, once),
         None => true,
     }
 }
 
-fn may_replace(current: &Func, new: &Func, most: u32) -> bool
-    ensures { result ≡ may_replace_func current.now new.now most }
+fn may_replace(current: &Func, new: &Func, roof: u32, once: bool) -> bool
+    ensures { result ≡ may_replace_func current.now new.now roof once }
+{
+    (is_like(current, new) || (is_free(current) && is_free(new) && once)) && fan_out(new) <= roof
+}
+
+fn is_like(current: &Func, new: &Func) -> bool
+    ensures { result ≡ is_like_func current.now new.now }
 {
     match (current, new) {
         (Func::Filter(_), Func::Filter(_))
         | (Func::Map(_), Func::Map(_))
-        | (Func::Enrich(_), Func::Enrich(_)) => true,
+        | (Func::Enrich(_), Func::Enrich(_))
+        | (Func::Split(_), Func::Split(_)) => true,
         (Func::Count(old), Func::Count(new)) => old.key == new.key,
-        (Func::Split(_), Func::Split(new)) => new.most <= most,
         _ => false,
     }
 }
 
-/// The most pieces that the job lets a node make.
-fn most_at(nodes: &[NodeDef], node: u32) -> u32
-    ensures { result ≡ most_of_node (slice_get nodes.now node) }
+/// The roof of a node, and 1 if there is none.
+fn roof_at(nodes: &[NodeDef], node: u32) -> u32
+    ensures { result ≡ roof_of_node (slice_get nodes.now node) }
 {
     match nodes.get(node as usize) {
-        Some(found) => match &found.func {
-            Func::Split(split) => split.most,
-            _ => 0,
-        },
-        None => 0,
+        Some(found) => found.roof,
+        None => 1,
     }
 }
 

@@ -14,8 +14,9 @@ pub fn accepted_requests_stay_accepted()
     ensures { (job : Written) (requests : List RequestIs) → AreAccepted job (judged job requests).accepted }
 {}
 
-/// Where judging a list of requests refuses none of them, each of their functions may replace the one that the job gives the node: it is of its
-/// kind, counts by the same key, and splits into no more pieces. So no source, sink or replicate is changed.
+/// If judging a list of requests refuses none of them, each of their functions may replace the one that the job gives the node.
+/// It is of its kind and counts by the same key, or both are free kinds and one edge leaves the node. Its fan-out is at most the
+/// node's roof. So no source, sink or replicate is changed.
 pub fn accepted_requests_keep_kinds()
     ensures { (job : Written) (requests : List RequestIs) → AreAccepted job requests → KeepKinds job requests }
 {}

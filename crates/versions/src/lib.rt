@@ -11,8 +11,6 @@ mod in_order;
 mod judging;
 mod laws;
 mod request;
-#[cfg(test)]
-mod tests;
 
 pub use book::{Book, Current, accept};
 pub use fault::QFault;

@@ -1,5 +1,5 @@
-use super::{Asked, RequestText};
-use crate::{Part, ReqFileFault, Which};
+use super::requesting::{Asked, RequestText};
+use job_file::{Part, ReqFileFault, Which};
 
 /// A piece of a request file, and how many requests the reader answers.
 pub const CASES: &[(RequestText, &str, Asked)] = &[
@@ -113,6 +113,11 @@ pub const CASES: &[(RequestText, &str, Asked)] = &[
     (
         RequestText::Change,
         "node = \"big\"\nfrom = 0\nkind = \"sink\"\ncolumns = []\nname = \"big\"\n",
+        Err(ReqFileFault::Shape(Part::Unknown)),
+    ),
+    (
+        RequestText::Change,
+        "node = \"big\"\nfrom = 0\nkind = \"map\"\nsteps = []\nroof = 1\n",
         Err(ReqFileFault::Shape(Part::Unknown)),
     ),
     (RequestText::Carry, "\"keep\"", Ok(1)),

@@ -1,5 +1,5 @@
-use super::{Answer, Text};
-use crate::{JobFault, Named, Part, Which};
+use super::reading::{Answer, Text};
+use job_file::{JobFault, Named, Part, Which};
 
 /// A piece of a job file, and what the reader answers.
 pub const CASES: &[(Text, &str, Answer)] = &[
@@ -280,6 +280,23 @@ pub const CASES: &[(Text, &str, Answer)] = &[
     ),
     (
         Text::Func,
+        "kind = \"enrich\"\nkey = \"who\"\ninto = \"sum\"\ntable = \"known\"\nother = 0\n",
+        Ok(()),
+    ),
+    // A column that isn't there comes before a table that isn't.
+    (
+        Text::Func,
+        "kind = \"enrich\"\nkey = \"who\"\ninto = \"none\"\ntable = \"none\"\nother = 0\n",
+        Err(JobFault::Column(1)),
+    ),
+    // An `other` that is a text, for a column of numbers.
+    (
+        Text::Func,
+        "kind = \"enrich\"\nkey = \"who\"\ninto = \"risk\"\ntable = \"known\"\nother = \"\"\n",
+        Err(JobFault::Column(1)),
+    ),
+    (
+        Text::Func,
         "kind = \"count\"\nkey = \"who\"\nadd = \"sum\"\ninto = \"risk\"\n",
         Ok(()),
     ),
@@ -407,6 +424,99 @@ pub const CASES: &[(Text, &str, Answer)] = &[
         Text::Func,
         "kind = \"filter\"\nwhen = []\n[[node]]\nname = \"x\"\nkind = \"replicate\"\n[[edge]]\nfrom = \"y\"\nto = \"x\"\n",
         Err(JobFault::NameTwice(Named::Node, 2)),
+    ),
+    (
+        Text::Func,
+        "kind = \"filter\"\nwhen = []\nroof = 16\n",
+        Ok(()),
+    ),
+    (
+        Text::Func,
+        "kind = \"filter\"\nwhen = []\nroof = 17\n",
+        Err(JobFault::Limit(Which::Roof, 17)),
+    ),
+    (
+        Text::Func,
+        "kind = \"map\"\nsteps = []\nroof = 0\n",
+        Err(JobFault::Limit(Which::Roof, 0)),
+    ),
+    (
+        Text::Func,
+        "kind = \"map\"\nsteps = []\nroof = -1\n",
+        Err(JobFault::Limit(Which::Roof, -1)),
+    ),
+    (
+        Text::Func,
+        "kind = \"map\"\nsteps = []\nroof = 5000000000\n",
+        Err(JobFault::Limit(Which::Roof, 5_000_000_000)),
+    ),
+    (
+        Text::Func,
+        "kind = \"map\"\nsteps = []\nroof = \"2\"\n",
+        Err(JobFault::Shape(Part::Roof)),
+    ),
+    (
+        Text::Func,
+        "kind = \"enrich\"\nkey = \"who\"\ninto = \"risk\"\ntable = \"known\"\nother = 0\nroof = 16\n",
+        Ok(()),
+    ),
+    (
+        Text::Func,
+        "kind = \"split\"\non = \"who\"\nby = \";\"\nmost = 3\nroof = 3\n",
+        Ok(()),
+    ),
+    (
+        Text::Func,
+        "kind = \"split\"\non = \"who\"\nby = \";\"\nmost = 3\nroof = 2\n",
+        Err(JobFault::Limit(Which::Roof, 2)),
+    ),
+    (
+        Text::Func,
+        "kind = \"split\"\non = \"who\"\nby = \";\"\nmost = 17\nroof = 16\n",
+        Err(JobFault::Limit(Which::Most, 17)),
+    ),
+    (
+        Text::Func,
+        "kind = \"count\"\nkey = \"who\"\nadd = 1\ninto = \"risk\"\nroof = 1\n",
+        Err(JobFault::Shape(Part::Unknown)),
+    ),
+    (
+        Text::Func,
+        "kind = \"replicate\"\nroof = 1\n",
+        Err(JobFault::Shape(Part::Unknown)),
+    ),
+    (
+        Text::Func,
+        "kind = \"sink\"\ncolumns = []\nroof = 1\n",
+        Err(JobFault::Shape(Part::Unknown)),
+    ),
+    // A filter that two edges leave has roof 1, whatever else is wrong with the edges.
+    (Text::TwoWays, "kind = \"filter\"\nwhen = []\n", Ok(())),
+    (
+        Text::TwoWays,
+        "kind = \"filter\"\nwhen = []\nroof = 1\n",
+        Ok(()),
+    ),
+    (
+        Text::TwoWays,
+        "kind = \"filter\"\nwhen = []\nroof = 2\n",
+        Err(JobFault::Limit(Which::Roof, 2)),
+    ),
+    (
+        Text::Func,
+        "kind = \"filter\"\nwhen = []\nroof = 2\n[[edge]]\nfrom = \"x\"\nto = \"nobody\"\n",
+        Err(JobFault::Limit(Which::Roof, 2)),
+    ),
+    // So has a second filter of that name, since edges are counted by the name.
+    (
+        Text::TwoWays,
+        "kind = \"filter\"\nwhen = []\n[[node]]\nname = \"x\"\nkind = \"filter\"\nwhen = []\nroof = 2\n",
+        Err(JobFault::Limit(Which::Roof, 2)),
+    ),
+    (
+        Text::TwoWays,
+        "kind = \"map\"\nsteps = []\nroof = 2\n",
+        Err(JobFault::Ports(1)),
     ),
     (Text::Name, "aaaaaaaaaaaaaaaaaaaaaaaaaaaaaaaa", Ok(())),
     (

@@ -1,3 +1,0 @@
-mod limits;
-mod parts;
-mod shapes;
