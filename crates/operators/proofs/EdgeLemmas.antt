@@ -17,8 +17,9 @@ use Rattle.jobs.specs.Ports.{are_ports, has_port, has_ports, leaves, may_leave, 
 use Rattle.jobs.specs.Written.{Written}
 use Rattle.jobs.proofs.PortLemmas.{has_ports-lacks}
 use Rattle.operators.specs.declared.output.Output.{Output}
-use Rattle.operators.specs.Laws.{MayLeaveBy, births_of, out_ports}
+use Rattle.operators.specs.Laws.{MayLeaveBy, births_of}
 use Rattle.operators.specs.Meaning.{outputs}
+use Rattle.operators.specs.Ports.{out_ports}
 use Rattle.operators.proofs.OutputLemmas.{outputs_made}
 
 and_left : (a b : Bool) → (a && b) ≡ true → a ≡ true

@@ -1,3 +1,4 @@
 pub mod PieceLemmas
+pub mod PortLemmas
 pub mod OutputLemmas
 pub mod EdgeLemmas

@@ -1,5 +1,5 @@
 -- What is true of all outputs.
-use Rattle.std.specs.Prelude.{◌≡◌, ◌≢◌, ℕ, ◌<◌, ◌⊎◌, false, IsTrue, List, [], ◌∷◌, ◌++◌, map, filter, Some, slice_get}
+use Rattle.std.specs.Prelude.{◌≡◌, ◌≢◌, ℕ, ◌<◌, ◌≤◌, ◌⊎◌, false, IsTrue, List, [], ◌∷◌, ◌++◌, length, map, Some, slice_get}
 use Rattle.flow_dag.specs.declared.edge.Edge.{Edge}
 use Rattle.tuple_trace.specs.declared.tuple.Tuple.{Tuple}
 use Rattle.tuple_trace.specs.declared.tuple.Visit.{Visit}
@@ -8,10 +8,11 @@ use Rattle.jobs.specs.declared.func.Func.{Func}
 use Rattle.jobs.specs.declared.func.Func.TheVariants as func
 use Rattle.jobs.specs.Nodes.{is_count}
 use Rattle.jobs.specs.Places.{Each}
-use Rattle.jobs.specs.Ports.{are_ports, has_port, leaves}
+use Rattle.jobs.specs.Ports.{are_ports, has_port}
 use Rattle.jobs.specs.Written.{Written}
 use Rattle.operators.specs.declared.output.Output.{Output}
 use Rattle.operators.specs.Meaning.{step}
+use Rattle.operators.specs.Ports.{most_outputs, out_ports}
 
 -- the births of the output with number k, which leaves by the port: a split adds the number, a replicate the port, and no other function
 -- adds anything
@@ -24,10 +25,6 @@ births_of (func.Count count) birth k port = birth
 births_of (func.Split split) birth k port = birth ++ k ∷ []
 births_of func.Replicate birth k port = birth ++ port ∷ []
 births_of (func.Sink listed) birth k port = birth
-
--- the ports of the edges that leave a node, in the order of the edges
-abbrev pub out_ports : List Edge → ℕ → List ℕ
-out_ports edges node = map (λ (e : Edge). e.port) (filter (leaves node) edges)
 
 -- the output with number k may leave the node by the port: at most one leaves a filter, by port 0 or 1; one leaves a map, an enrich and a
 -- count, by port 0; up to `most` leave a split, by port 0; one leaves a replicate by each of its edges
@@ -95,3 +92,10 @@ OutputsArePeers =
     → slice_get (step job visit func counts tuple).1 l ≡ Some b
     → k ≢ l
     → a.tuple.birth ≢ b.tuple.birth
+
+-- no function makes more outputs of one tuple than its kind may
+abbrev pub OutputsAreFew : Type 0
+OutputsAreFew =
+    (job : Written) (visit : Visit) (func : Func) (counts : Counts) (tuple : Tuple)
+    → length (step job visit func counts tuple).1
+    ≤ most_outputs func (out_ports job.edges visit.node)

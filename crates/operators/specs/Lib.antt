@@ -4,4 +4,5 @@ pub mod Arithmetic
 pub mod Pieces
 pub mod Meaning
 pub mod Lanes
+pub mod Ports
 pub mod Laws

@@ -1,6 +1,7 @@
 ghost use Rattle.std.specs.Prelude.{◌≡◌, ◌++◌, OnOk, OnErr};
 ghost use Rattle.jobs.specs.Job.{written};
 ghost use Rattle.operators.specs.Meaning.{step};
+ghost use Rattle.operators.specs.Ports.{out_ports};
 
 use crate::Outs;
 use crate::kinds::{count, enrich, filter, map};
@@ -15,25 +16,28 @@ use tuple_trace::{NoMemory, Tuple, Visit};
 /// An output has the tuple's row and `issued`, its trace with the visit behind it, and its fields but for the columns that the function
 /// writes. The tuple itself stays. A column that the tuple doesn't have, or has with another kind than the job gives it, is read as 0 or
 /// as the empty text, and isn't written. After [`NoMemory`] `out` and the counts are as before.
+///
+/// `ports` are those of the visited node, as [`out_ports`](crate::out_ports) answers them.
 pub fn apply(
     alloc: Global,
     job: &Job,
+    ports: &[u32],
     visit: Visit,
     func: &Func,
     state: &mut Keyed,
     tuple: &Tuple,
     out: &mut Outs,
 ) -> Result<(), NoMemory>
+    requires { ports.now ≡ out_ports (written job.now).edges visit.node }
     ensures outputs { OnOk result (out.new ≡ out.old ++ (step (written job.now) visit func.now state.old tuple.now).1) }
     ensures counts { OnOk result (state.new ≡ (step (written job.now) visit func.now state.old tuple.now).0) }
     ensures err { OnErr result (out.new ≡ out.old) }
     ensures err_counts { OnErr result (state.new ≡ state.old) }
 {
     let columns = job.columns.as_slice();
-    let edges = job.dag.all_edges();
     match func {
         Func::Source | Func::Sink(_) => Ok(()),
-        Func::Filter(conds) => filter(columns, edges, visit, conds.as_slice(), tuple, out),
+        Func::Filter(conds) => filter(job, ports, visit, conds.as_slice(), tuple, out),
         Func::Map(steps) => map(columns, visit, steps.as_slice(), tuple, out),
         Func::Enrich(lookup) => {
             let tables = job.tables.as_slice();
@@ -41,6 +45,6 @@ pub fn apply(
         }
         Func::Count(by) => count(columns, visit, by, state, tuple, out),
         Func::Split(by) => split(alloc, columns, visit, by, tuple, out),
-        Func::Replicate => replicate(edges, visit, tuple, out),
+        Func::Replicate => replicate(alloc, ports, visit, tuple, out),
     }
 }

@@ -1,5 +1,6 @@
 // What is true of all outputs. Each function proves its clause for every job, function and tuple, and does nothing.
-ghost use Rattle.operators.specs.Laws.{CountsServeCounts, OutputsAreBlind, OutputsAreMadeOf, OutputsArePeers, PortsHaveEdges};
+ghost use Rattle.operators.specs.Laws.{CountsServeCounts, OutputsAreBlind, OutputsAreFew};
+ghost use Rattle.operators.specs.Laws.{OutputsAreMadeOf, OutputsArePeers, PortsHaveEdges};
 
 /// An output has the row, the `issued` and the births of its tuple, and its trace with the visit behind it. A split adds the number of the
 /// piece to the births, and a replicate the port. It leaves by a port of the function.
@@ -25,4 +26,9 @@ pub fn outputs_leave_by_edges()
 /// And two outputs for one tuple have different births.
 pub fn outputs_are_told_apart()
     ensures { OutputsArePeers }
+{}
+
+/// No function makes more outputs of one tuple than `most_outputs` answers for the node's ports.
+pub fn outputs_are_few()
+    ensures { OutputsAreFew }
 {}

@@ -13,19 +13,19 @@ mod lanes;
 mod laws;
 mod output;
 mod pieces;
+mod ports;
 mod several;
-#[cfg(test)]
-mod tests;
 
 pub use effect::apply;
 pub use jobs::{
     Column, ColumnDefs, ColumnKind, Columns, Cond, Conds, CountBy, Func, Job, LawFault, Lookup,
     NOWHERE, Named, NodeDef, NodeDefs, Op, Operand, SplitBy, Step, Steps, Table, Tables, Test,
-    Which, fits, holds, is_source, kind_at, may_emit_many, size_fault, weight,
+    Which, fits, holds, is_replicate, is_source, is_split, kind_at, size_fault, weight,
 };
 pub use lanes::lane_of;
 pub use laws::{
-    counts_serve_counts_alone, outputs_are_blind, outputs_are_made_of_their_tuple,
+    counts_serve_counts_alone, outputs_are_blind, outputs_are_few, outputs_are_made_of_their_tuple,
     outputs_are_told_apart, outputs_leave_by_edges,
 };
 pub use output::{Output, Outs};
+pub use ports::{Ports, most_outputs, out_ports};

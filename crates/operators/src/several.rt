@@ -1,17 +1,17 @@
-// What functions that make several tuples of one make of it. After want of memory `out` is as before.
-ghost use Rattle.std.specs.Prelude.{◌≡◌, ◌++◌, ◌∷◌, [], IfOk, OnOk, OnErr, length, take};
+// What functions that make several tuples of one make of it. Out of memory, `out` is as before.
+ghost use Rattle.std.specs.Prelude.{ℕ, ◌≡◌, ◌++◌, ◌∷◌, [], IfOk, OnOk, OnErr, length, map, take};
 ghost use Rattle.tuple_trace.specs.declared.value.Value.TheVariants.{Text};
 ghost use Rattle.operators.specs.Fields.{written_at as written_of};
-ghost use Rattle.operators.specs.Meaning.{born as born_of, replicated, split_up, with_fields};
+ghost use Rattle.operators.specs.Meaning.{born as born_of, sent, split_up, visited, with_fields};
 
 use crate::fields::{text_at, written_at};
-use crate::output::{Outs, remade, send};
+use crate::output::{Output, Outs, remade};
 use crate::pieces::cut;
-use flow_dag::Edge;
 use jobs::{Column, SplitBy};
 use std::alloc::Global;
 use tuple_trace::{Births, NoMemory, Tuple, Txt, Value, Visit};
 
+/// Each of the first pieces of a column makes a tuple, whose last birth is the piece's number.
 pub fn split(
     alloc: Global,
     columns: &[Column],
@@ -48,8 +48,8 @@ fn send_pieces(
             break;
         };
         let (piece, rest) = cut(text, split.by);
-        let made = piece_of(alloc, columns, split.on, number, piece, tuple)?;
-        send(visit, 0, made, out)?;
+        let tuple = piece_of(alloc, columns, visit, split.on, number, piece, tuple)?;
+        out.push(Output { port: 0, tuple })?;
         left = rest;
     }
     Ok(())
@@ -59,16 +59,19 @@ fn send_pieces(
 fn piece_of(
     alloc: Global,
     columns: &[Column],
+    visit: Visit,
     on: u32,
     number: u32,
     piece: &[u8],
     tuple: &Tuple,
 ) -> Result<Tuple, NoMemory>
-    ensures { IfOk result (λ made. made ≡ born_of number (with_fields (written_of columns.now tuple.now.fields on (Text piece.now)) tuple.now)) }
+    ensures { let fields = written_of columns.now tuple.now.fields on (Text piece.now) in
+        IfOk result (λ made. made ≡ visited visit (born_of number (with_fields fields tuple.now))) }
 {
     let value = Value::Text(Txt::from_slice(alloc, piece)?);
     let fields = written_at(alloc, columns, &tuple.fields, on, value)?;
-    remade(tuple, born(alloc, tuple.birth.as_slice(), number)?, fields)
+    let birth = born(alloc, tuple.birth.as_slice(), number)?;
+    remade(tuple, visit, birth, fields)
 }
 
 fn born(alloc: Global, birth: &[u32], index: u32) -> Result<Births, NoMemory>
@@ -80,31 +83,48 @@ fn born(alloc: Global, birth: &[u32], index: u32) -> Result<Births, NoMemory>
     Ok(Births::from_vec(births))
 }
 
+/// A copy leaves by each of the ports, which is its last birth.
 pub fn replicate(
-    edges: &[Edge],
+    alloc: Global,
+    ports: &[u32],
     visit: Visit,
     tuple: &Tuple,
     out: &mut Outs,
 ) -> Result<(), NoMemory>
-    ensures ok { OnOk result (out.new ≡ out.old ++ replicated edges.now visit tuple.now) }
+    ensures ok { let copy = λ (port : ℕ). sent visit port (born_of port tuple.now) in
+        OnOk result (out.new ≡ out.old ++ map copy ports.now) }
     ensures err { OnErr result (out.new ≡ out.old) }
 {
     let before = out.len();
-    if send_copies(edges, visit, tuple, out).is_err() {
+    if send_copies(alloc, ports, visit, tuple, out).is_err() {
         out.truncate(before);
         return Err(NoMemory);
     }
     Ok(())
 }
 
-fn send_copies(edges: &[Edge], visit: Visit, tuple: &Tuple, out: &mut Outs) -> Result<(), NoMemory>
-    ensures ok { OnOk result (out.new ≡ out.old ++ replicated edges.now visit tuple.now) }
+fn send_copies(
+    alloc: Global,
+    ports: &[u32],
+    visit: Visit,
+    tuple: &Tuple,
+    out: &mut Outs,
+) -> Result<(), NoMemory>
+    ensures ok { let copy = λ (port : ℕ). sent visit port (born_of port tuple.now) in
+        OnOk result (out.new ≡ out.old ++ map copy ports.now) }
     ensures err { OnErr result (take (length out.old) out.new ≡ out.old) }
 {
-    for edge in edges {
-        if edge.from == visit.node {
-            send(visit, edge.port, tuple.child(edge.port)?, out)?;
-        }
+    for port in ports {
+        let tuple = copy_of(alloc, visit, *port, tuple)?;
+        out.push(Output { port: *port, tuple })?;
     }
     Ok(())
+}
+
+// The tuple with a port as its last birth.
+fn copy_of(alloc: Global, visit: Visit, port: u32, tuple: &Tuple) -> Result<Tuple, NoMemory>
+    ensures { IfOk result (λ made. made ≡ visited visit (born_of port tuple.now)) }
+{
+    let birth = born(alloc, tuple.birth.as_slice(), port)?;
+    remade(tuple, visit, birth, tuple.fields.clone()?)
 }

@@ -3,4 +3,5 @@ pub mod CellLemmas
 pub mod RecordLemmas
 pub mod Rest
 pub mod RowLemmas
+pub mod LimitLemmas
 pub mod SpellingLemmas

@@ -59,7 +59,7 @@ IsSourceOf-row_by : (job : Written) (row : ℕ) (name : List ℕ) (cells : List 
 IsSourceOf-row_by job row name cells None made named ok = absurd (cc ok)
 IsSourceOf-row_by job row name cells (Some source) made named ok = IsSourceOf-row_with job row source (fields_from row 0 job.columns (drop 1 cells)) made (IsSourceOf-named job name source named) ok
 
-if-ok : {A : Type 0} (b : Bool) (first : Result A PFault) (fault : PFault) (made : A) → (if b then first else Err fault) ≡ Ok made → first ≡ Ok made
+pub if-ok : {A : Type 0} (b : Bool) (first : Result A PFault) (fault : PFault) (made : A) → (if b then first else Err fault) ≡ Ok made → first ≡ Ok made
 if-ok true first fault made is = is
 if-ok false first fault made is = absurd (cc is)
 
@@ -68,7 +68,7 @@ IsSourceOf-row_of : (job : Written) (row : ℕ) (cells : List (List ℕ)) (made 
 IsSourceOf-row_of job row cells made ok =
     IsSourceOf-row_by job row (first_cell cells) cells _ made refl (if-ok _ _ _ made (if-ok _ _ _ made ok))
 
-before-ok : {A : Type 0} (first : Result A PFault) (later : Result (List A) PFault) (whole : List A) → before first later ≡ Ok whole
+pub before-ok : {A : Type 0} (first : Result A PFault) (later : Result (List A) PFault) (whole : List A) → before first later ≡ Ok whole
     → (item : A) × (rest : List A) × (first ≡ Ok item) × (later ≡ Ok rest) × (whole ≡ item ∷ rest)
 before-ok (Err fault) later whole is = absurd (cc is)
 before-ok (Ok item) (Err fault) whole is = absurd (cc is)

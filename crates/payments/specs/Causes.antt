@@ -1,5 +1,5 @@
 -- What a call on the outside leaves of the counts of faults.
-use Rattle.std.specs.Prelude.{◌≡◌, ◌++◌, option_map, ℕ, List, Option, Some, Result, Ok, Err}
+use Rattle.std.specs.Prelude.{◌≡◌, ◌<◌, ◌++◌, length, option_map, ℕ, List, Option, Some, Result, Ok, Err}
 use Rattle.tuple_trace.specs.Counts.{Rose}
 use Rattle.payments.specs.declared.outside.ShelfFault.{ShelfFault}
 use Rattle.payments.specs.declared.outside.ShelfFault.TheVariants as shelf
@@ -49,4 +49,12 @@ pub record GainsPrefix (old new : Option (List ℕ)) (text : List ℕ) : Type 0 
   pub done : List ℕ
   pub left : List ℕ
   pub text_is : text ≡ done ++ left
+  pub holds : new ≡ option_map (λ w. w ++ done) old
+
+-- a stream has the first bytes of a text at its end, but not all of them
+pub record GainsProperPrefix (old new : Option (List ℕ)) (text : List ℕ) : Type 0 where
+  pub done : List ℕ
+  pub left : List ℕ
+  pub text_is : text ≡ done ++ left
+  pub some : 0 < length left
   pub holds : new ≡ option_map (λ w. w ++ done) old

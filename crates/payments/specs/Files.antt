@@ -1,5 +1,5 @@
 -- Files by their names.
-use Rattle.std.specs.Prelude.{◌≡◌, ℕ, List, [], ◌++◌, Option, option_map, unwrap_or}
+use Rattle.std.specs.Prelude.{◌≡◌, ◌<◌, ℕ, List, [], ◌++◌, length, Option, option_map, unwrap_or}
 use Rattle.std.specs.Cmp.Lexicographic.{slice_cmp}
 use Rattle.std.specs.Ordering.{nat_cmp}
 use Rattle.std.specs.FinMap as map
@@ -29,4 +29,12 @@ pub record HoldsPrefix (old new : Option Files) (name text : List ℕ) : Type 0 
   pub done : List ℕ
   pub left : List ℕ
   pub text_is : text ≡ done ++ left
+  pub holds : new ≡ with_bytes old name done
+
+-- the files, with the first bytes of a text under a name, but not all of them
+pub record HoldsProperPrefix (old new : Option Files) (name text : List ℕ) : Type 0 where
+  pub done : List ℕ
+  pub left : List ℕ
+  pub text_is : text ≡ done ++ left
+  pub some : 0 < length left
   pub holds : new ≡ with_bytes old name done

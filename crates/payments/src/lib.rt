@@ -12,8 +12,6 @@ mod read;
 mod records;
 mod row;
 mod spelling;
-#[cfg(test)]
-mod tests;
 mod whole;
 
 pub use host::{HostShelf, StdOut};

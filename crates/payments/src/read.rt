@@ -1,8 +1,11 @@
-ghost use Rattle.std.specs.Prelude.{◌≡◌, ◌≢◌, Ok, Err, IfOk, IfErr, length};
+ghost use Rattle.std.specs.Prelude.{◌≡◌, ◌≢◌, ◌≤◌, ◌*◌, All, Ok, Err, IfOk, IfErr, length};
 ghost use Rattle.csv.specs.Records.{fields_of as cells_of};
 ghost use Rattle.jobs.specs.Job.{written};
 ghost use Rattle.jobs.specs.Nodes.{AreFromSources};
-ghost use Rattle.payments.specs.Reading.{header_of, rows_from, rows_of};
+ghost use Rattle.jobs.specs.Weights.{weight as weight_of};
+ghost use Rattle.payments.specs.Reading.{header_of, rows_from, rows_of, work_max};
+ghost use Rattle.payments.specs.ShortTexts.{HasShortTexts};
+ghost use Rattle.tuple_trace.specs.declared.row.Row.{Row as RowIs};
 ghost use Rattle.payments.specs.declared.read.PFault.TheVariants.{NoMemory as OutOfMemory};
 
 use crate::cells::is_header;
@@ -49,6 +52,8 @@ impl From<NoMemory> for PFault {
 pub fn read_rows(alloc: Global, job: &Job, bytes: &[u8]) -> Result<Rows, PFault>
     ensures ok { IfOk result (λ rows. rows_of (written job.now) bytes.now ≡ Ok rows) }
     ensures sources { IfOk result (λ rows. AreFromSources (written job.now) rows) }
+    ensures work { IfOk result (λ rows. length rows * weight_of (written job.now) ≤ work_max) }
+    ensures texts { IfOk result (λ rows. All (λ (row : RowIs). HasShortTexts row.tuple) rows) }
     ensures fault { IfErr result (λ fault. fault ≢ PFault.NoMemory → rows_of (written job.now) bytes.now ≡ Err fault) }
 {
     let mut records = TextRecords::of(alloc, bytes);
@@ -72,6 +77,8 @@ fn later_rows(
     requires header { length (cells_of cells.old) ≡ length (header_of (written job.now)) }
     ensures ok { IfOk result (λ rows. rows_from (written job.now) 1 records.old ≡ Ok rows) }
     ensures sources { IfOk result (λ rows. AreFromSources (written job.now) rows) }
+    ensures work { IfOk result (λ rows. length rows * weight_of (written job.now) ≤ work_max) }
+    ensures texts { IfOk result (λ rows. All (λ (row : RowIs). HasShortTexts row.tuple) rows) }
     ensures fault { IfErr result (λ fault. fault ≢ PFault.NoMemory → rows_from (written job.now) 1 records.old ≡ Err fault) }
 {
     let measure = Measure {

@@ -1,19 +1,21 @@
 ghost use Rattle.std.specs.Prelude.{◌≡◌, ◌⊎◌, ◌++◌, None, Some, option_map, OnErr, OnOk};
-ghost use Rattle.payments.specs.Causes.{WriteCause, SinkCause, GainsPrefix};
-ghost use Rattle.payments.specs.Files.{with_bytes, HoldsPrefix};
+ghost use Rattle.payments.specs.Causes.{WriteCause, SinkCause, GainsPrefix, GainsProperPrefix};
+ghost use Rattle.payments.specs.Files.{with_bytes, HoldsPrefix, HoldsProperPrefix};
 
 use crate::{Shelf, ShelfFault, Sink, SinkFault};
 use tuple_trace::Word;
 
 /// Makes a file that holds this text and nothing else. Each append hands in all that is left of the text.
 ///
-/// After an error the file holds a prefix of the text, or is as before, as it always is where the file couldn't be made. No other
-/// file changes.
+/// After an error the file is as before if it couldn't be made. Else it holds a prefix of the text,
+/// which isn't all of it. No other file changes.
 pub fn store<S: Shelf>(shelf: &mut S, name: &Word, text: &[u8]) -> Result<(), ShelfFault>
     ensures whole { OnOk result (S.files shelf.new ≡ with_bytes (S.files shelf.old) name.now text.now) }
     ensures target { OnOk result (S.target shelf.new ≡ Some name.now) }
     ensures part { OnErr result ((S.files shelf.new ≡ S.files shelf.old) ⊎ HoldsPrefix (S.files shelf.old) (S.files shelf.new) name.now text.now) }
     ensures unmade { OnErr result (S.target shelf.new ≡ None → S.files shelf.new ≡ S.files shelf.old) }
+    ensures stopped { OnErr result ((S.target shelf.new ≡ None)
+        ⊎ HoldsProperPrefix (S.files shelf.old) (S.files shelf.new) name.now text.now) }
     ensures cause { WriteCause result (Some name.now) (S.faults shelf.old) (S.faults shelf.new) }
 {
     shelf.create(name)?;
@@ -25,10 +27,14 @@ pub fn store<S: Shelf>(shelf: &mut S, name: &Word, text: &[u8]) -> Result<(), Sh
     Ok(())
 }
 
-/// Writes a text to a stream. Each write hands in all that is left of it. After an error the stream has gained a prefix of the text.
+/// Writes a text to a stream. Each write hands in all that is left of it.
+///
+/// After an error the stream has gained a prefix of the text, which isn't all of it.
 pub fn write_all<O: Sink>(out: &mut O, text: &[u8]) -> Result<(), SinkFault>
     ensures whole { OnOk result (O.written out.new ≡ option_map (λ w. w ++ text.now) (O.written out.old)) }
     ensures part { GainsPrefix (O.written out.old) (O.written out.new) text.now }
+    ensures stopped { OnErr result
+        (GainsProperPrefix (O.written out.old) (O.written out.new) text.now) }
     ensures cause { SinkCause result (O.faults out.old) (O.faults out.new) }
 {
     let mut left = text;

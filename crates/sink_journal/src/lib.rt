@@ -7,8 +7,6 @@ mod alerts;
 mod cells;
 mod journal;
 mod sheet;
-#[cfg(test)]
-mod tests;
 
 pub use alerts::alerts_text;
 pub use journal::{Entry, Feed, Feeds, Journal, Journals};

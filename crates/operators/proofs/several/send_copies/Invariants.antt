@@ -1,6 +1,7 @@
-use Rattle.std.proofs.Common.{◌≡◌, ◌++◌, take}
-use Rattle.operators.specs.Meaning.{replicated}
+use Rattle.std.proofs.Common.{◌≡◌, ◌++◌, map, take}
+use Rattle.operators.specs.Meaning.{born, sent}
 use Rattle.operators.proofs.several.send_copies.Given as goal
 
-abbrev pub invariant-loop-edge : goal.invariant-loop-edge
-invariant-loop-edge l = l.out ≡ l.initial.out ++ replicated (take l.edge-index l.edges) l.visit l.tuple
+abbrev pub invariant-loop-port : goal.invariant-loop-port
+invariant-loop-port l =
+    l.out ≡ l.initial.out ++ map (λ p. sent l.visit p (born p l.tuple)) (take l.port-index l.ports)

@@ -1,7 +1,9 @@
 use Rattle.std.proofs.Common.{◌≡◌, ◌∙◌, ◌+◌, ◌-◌, ◌<◌, ◌++◌, [], ◌∷◌, ap, sym, map, take, append_assoc, arith}
 use Rattle.std.specs.List.{enumerate_from}
 use Rattle.std.specs.Option.{option_copied}
-use Rattle.operators.specs.Meaning.{piece_sent, sent}
+use Rattle.tuple_trace.specs.declared.tuple.Tuple.{Tuple}
+use Rattle.operators.specs.declared.output.Output.{Output}
+use Rattle.operators.specs.Meaning.{piece_sent}
 use Rattle.operators.specs.Pieces.{pieces_left}
 use Rattle.operators.proofs.PieceLemmas.{numbered-next}
 use Rattle.operators.proofs.several.send_pieces.Goals as goal
@@ -16,7 +18,8 @@ loop-number-preserved c =
     let below : n < split.most = omega arith in
     let piece = c.cut.result.0.now in
     let rest = pieces_left split.by (option_copied c.cut.result.1) in
-    let put : c.send.new.out ≡ out ++ f (n, piece) ∷ [] = c.in_ok-send.ensures.ok ∙ ap (λ t. out ++ sent visit 0 t ∷ []) c.in_ok-made.ensures in
+    let by_port : Tuple → Output = λ t. record { port = 0; tuple = t } in
+    let put : c.push.new.self ≡ out ++ f (n, piece) ∷ [] = c.in_ok-push.ensures.ok ∙ ap (λ t. out ++ by_port t ∷ []) c.in_ok-tuple.ensures in
     let (more, is) = c.loop-number.invariant.more in
     record {
       more = (more ++ f (n, piece) ∷ [], put ∙ ap (λ o. o ++ f (n, piece) ∷ []) is ∙ append_assoc c.args.out.now more (f (n, piece) ∷ []));

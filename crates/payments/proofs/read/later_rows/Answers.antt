@@ -3,6 +3,7 @@ use Rattle.std.proofs.lemmas.Result.{err_from_is_err_and}
 use Rattle.std.proofs.lemmas.List.{length-append}
 use Rattle.csv.specs.Records.{fields_of}
 use Rattle.jobs.specs.Job.{written}
+use Rattle.payments.proofs.LimitLemmas.{HaveShortTexts-rows_from, work-rows_from}
 use Rattle.payments.proofs.RowLemmas.{AreFromSources-rows_from, rows_from-end, rows_from-fault, rows_from-ok}
 use Rattle.payments.proofs.read.later_rows.Goals as goal
 
@@ -13,6 +14,12 @@ returns-then-not-branch-clause-ok c =
 
 pub returns-then-not-branch-clause-sources : goal.returns-then-not-branch-clause-sources
 returns-then-not-branch-clause-sources c = AreFromSources-rows_from (written c.args.job.now) 1 c.args.records.now c.loop-number.rows (returns-then-not-branch-clause-ok c)
+
+pub returns-then-not-branch-clause-work : goal.returns-then-not-branch-clause-work
+returns-then-not-branch-clause-work c = work-rows_from (written c.args.job.now) c.args.records.now c.loop-number.rows (returns-then-not-branch-clause-ok c)
+
+pub returns-then-not-branch-clause-texts : goal.returns-then-not-branch-clause-texts
+returns-then-not-branch-clause-texts c = HaveShortTexts-rows_from (written c.args.job.now) 1 c.args.records.now c.loop-number.rows (returns-then-not-branch-clause-ok c)
 
 pub returns-in_err-row_of-clause-fault : goal.returns-in_err-row_of-clause-fault
 returns-in_err-row_of-clause-fault c =

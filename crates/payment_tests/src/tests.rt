@@ -1,0 +1,6 @@
+mod alerts;
+mod applied;
+mod cases;
+mod fixtures;
+mod outside;
+mod rows;

@@ -1,0 +1,191 @@
+// The text of alerts.
+use super::fixtures::are;
+use job_file::read_job;
+use jobs::{Job, worker_count};
+use payments::read_rows;
+use sink_journal::{Entry, Journal, Journals, alerts_text};
+use std::alloc::Global;
+use tuple_trace::{Bytes, Row};
+
+/// A source, a filter and a sink that lists all four columns.
+const CHAIN: &str =
+    "columns = [\"account:text\", \"merchant:text\", \"amount:cents\", \"tags:text\"]
+[[node]]
+name = \"card\"
+kind = \"source\"
+[[node]]
+name = \"big\"
+kind = \"filter\"
+when = []
+[[node]]
+name = \"alerts\"
+kind = \"sink\"
+columns = [\"account\", \"merchant\", \"amount\", \"tags\"]
+[[edge]]
+from = \"card\"
+to = \"big\"
+[[edge]]
+from = \"big\"
+to = \"alerts\"
+";
+
+/// Two sources, filters of one and two workers, and two sinks. The first sink lists the columns
+/// 0 to 3 and the second 0, 1 and 4.
+const TWO_SINKS: &str = "columns = [\"account:text\", \"merchant:text\", \"amount:cents\",
+           \"risk:number\", \"seen:number\"]
+[[node]]
+name = \"card\"
+kind = \"source\"
+[[node]]
+name = \"wire\"
+kind = \"source\"
+[[node]]
+name = \"tally\"
+kind = \"filter\"
+when = []
+workers = 2
+[[node]]
+name = \"review\"
+kind = \"sink\"
+columns = [\"account\", \"merchant\", \"amount\", \"risk\"]
+[[node]]
+name = \"often\"
+kind = \"filter\"
+when = []
+[[node]]
+name = \"watch\"
+kind = \"sink\"
+columns = [\"seen\", \"account\", \"merchant\"]
+[[edge]]
+from = \"card\"
+to = \"tally\"
+[[edge]]
+from = \"wire\"
+to = \"tally\"
+[[edge]]
+from = \"tally\"
+to = \"review\"
+[[edge]]
+from = \"tally\"
+to = \"often\"
+port = 1
+[[edge]]
+from = \"often\"
+to = \"watch\"
+";
+
+// The journal of a worker that met these rows, turned a request after each, and ended.
+fn journal_of(alloc: Global, rows: &[Row], met: &[usize]) -> Option<Journal> {
+    let mut journal = Journal::new(alloc);
+    for place in met {
+        let tuple = rows.get(*place)?.tuple.copy().ok()?;
+        journal.push(Entry::Met { lane: 0, tuple }).ok()?;
+        journal
+            .push(Entry::Marked {
+                lane: 0,
+                request: 1,
+            })
+            .ok()?;
+        journal.push(Entry::Turned { request: 1 }).ok()?;
+    }
+    journal.push(Entry::Ended { lane: 0 }).ok()?;
+    Some(journal)
+}
+
+fn journals_of(alloc: Global, rows: &[Row], workers: &[&[usize]]) -> Option<Journals> {
+    let mut journals = Journals::new(alloc);
+    for met in workers {
+        journals.push(journal_of(alloc, rows, met)?).ok()?;
+    }
+    Some(journals)
+}
+
+fn text_of(alloc: Global, job: &Job, journals: &Journals) -> Option<Bytes> {
+    if journals.len() as u64 == worker_count(job) {
+        alerts_text(alloc, job, journals).ok()
+    } else {
+        None
+    }
+}
+
+// The alerts of a job whose workers met these of the payments, by their places.
+fn alerts_of(alloc: Global, job: &str, payments: &[u8], workers: &[&[usize]]) -> Option<Bytes> {
+    let job = read_job(alloc, job.as_bytes()).ok()?;
+    let rows = read_rows(alloc, &job, payments).ok()?;
+    let journals = journals_of(alloc, rows.as_slice(), workers)?;
+    text_of(alloc, &job, &journals)
+}
+
+const FOUR_PAYMENTS: &[u8] = b"source,account,merchant,amount,tags
+card,a,m,99.99,
+card,b,m,100.00,
+card,c,m,50.00,
+card,d,m,120.00,
+";
+
+#[test]
+fn header_alone(rt: HostRuntime) {
+    let text = alerts_of(rt.alloc(), CHAIN, FOUR_PAYMENTS, &[&[0, 1, 2, 3], &[]]);
+    assert!(rt; are(text, "sink,row,account,merchant,amount,tags\n"));
+}
+
+#[test]
+fn four_payments(rt: HostRuntime) {
+    let text = alerts_of(
+        rt.alloc(),
+        CHAIN,
+        FOUR_PAYMENTS,
+        &[&[0, 1, 2, 3], &[1, 2, 3]],
+    );
+    let want = "sink,row,account,merchant,amount,tags
+alerts,2,b,m,100.00,
+alerts,3,c,m,50.00,
+alerts,4,d,m,120.00,
+";
+    assert!(rt; are(text, want));
+}
+
+const LARGEST: &[u8] = b"source,account,merchant,amount,tags
+card,a,m,92233720368547758.07,
+card,a,m,-0.05,
+";
+
+#[test]
+fn clamped_product(rt: HostRuntime) {
+    let text = alerts_of(rt.alloc(), CHAIN, LARGEST, &[&[], &[0, 1]]);
+    let want = "sink,row,account,merchant,amount,tags
+alerts,1,a,m,92233720368547758.07,
+alerts,2,a,m,-0.05,
+";
+    assert!(rt; are(text, want));
+}
+
+const TEN_PAYMENTS: &[u8] = b"source,account,merchant,amount,risk,seen
+card,a,m,0,0,0
+card,bob,casino,250.00,3,0
+card,a,m,0,0,0
+card,a,m,0,0,0
+card,a,m,0,0,0
+wire,fay,casino,75.00,3,0
+card,a,m,0,0,0
+card,a,m,0,0,0
+card,ann,\"A, \"\"B\"\" Ltd\",12.00,1,2
+wire,gus,grocer,5.00,1,2
+";
+
+#[test]
+fn payments_job(rt: HostRuntime) {
+    let text = alerts_of(
+        rt.alloc(),
+        TWO_SINKS,
+        TEN_PAYMENTS,
+        &[&[], &[8], &[1, 5], &[], &[8, 9]],
+    );
+    let want = "sink,row,account,merchant,amount,risk,seen
+review,2,bob,casino,250.00,3,
+review,6,fay,casino,75.00,3,
+watch,9,ann,\"A, \"\"B\"\" Ltd\",,,2
+watch,10,gus,grocer,,,2
+";
+    assert!(rt; are(text, want));
+}
