@@ -10,7 +10,7 @@ use Rattle.flow_model.specs.Covers.{asks, holds_asked}
 use Rattle.flow_model.specs.Planned.{IsPlanned}
 use Rattle.flow_model.specs.Requests.{changes, names}
 
-past : {A : Type 0} (xs : List A) (i : ℕ) → slice_get xs i ≡ None → length xs ≤ i
+pub past : {A : Type 0} (xs : List A) (i : ℕ) → slice_get xs i ≡ None → length xs ≤ i
 past [] i e = omega arith
 past (x ∷ xs) zero e = absurd (cc)
 past (x ∷ xs) (suc i) e = omega (arith, past xs i e)
@@ -26,3 +26,16 @@ asked-changed setup is (suc r) node h = go (slice_get setup.requests r) refl (sl
         let none : length setup.plans ≤ r = past setup.plans r ep in
         absurd (omega (arith, is.one_each))
     go (Some q) e (Some p) ep h = (has-Has p.asked node).1 ((is.plans r q p e ep).asked node h)
+
+-- where rows and requests have one order, a plan asks what an earlier request changes
+pub asked-earlier : (setup : Outline) → IsPlanned setup → IsTrue setup.ordered → (s r node : ℕ) → s ≤ r → r ≤ length setup.requests → IsTrue (changes setup s node) → IsTrue (asks setup r node)
+asked-earlier setup is o zero r node le lt h = absurd (cc)
+asked-earlier setup is o (suc s) zero node le lt h = absurd (omega arith)
+asked-earlier setup is o (suc s) (suc r) node le lt h = go (slice_get setup.requests s) refl (slice_get setup.plans r) refl h
+  where
+    go : (q : Option Request) → slice_get setup.requests s ≡ q → (p : Option Plan) → slice_get setup.plans r ≡ p → IsTrue (names q node) → IsTrue (holds_asked p node)
+    go None e p ep h = absurd (cc)
+    go (Some q) e None ep h =
+        let none : length setup.plans ≤ r = past setup.plans r ep in
+        absurd (omega (arith, is.one_each))
+    go (Some q) e (Some p) ep h = (has-Has p.asked node).1 (is.ordered o s r q p (omega arith) e ep node h)

@@ -10,7 +10,8 @@ use Rattle.tuple_trace.specs.declared.row.Row.{Row}
 use Rattle.flow_model.specs.Begin.{at_first}
 use Rattle.flow_model.specs.Feeding.{feed_from}
 use Rattle.flow_model.specs.Lanes.{lanes}
-use Rattle.flow_model.specs.Outline.{Lane, Outline, Post}
+use Rattle.flow_model.specs.declared.topology.Lane.{Lane}
+use Rattle.flow_model.specs.Outline.{Outline, Post}
 use Rattle.flow_model.specs.Replay.{shown}
 use Rattle.flow_model.specs.Requests.{afters}
 use Rattle.flow_model.specs.Run.{IsRun, IsWorked, Ran, put_by}

@@ -4,7 +4,7 @@ use Rattle.std.specs.Prelude.{pos}
 use Rattle.sink_journal.specs.declared.journal.Entry.{Entry}
 use Rattle.sink_journal.specs.declared.journal.Entry.TheVariants as entry
 use Rattle.tuple_trace.specs.declared.tuple.Item.{Item}
-use Rattle.flow_model.specs.Outline.{Lane}
+use Rattle.flow_model.specs.declared.topology.Lane.{Lane}
 use Rattle.flow_model.specs.Begin.{at_first}
 use Rattle.flow_model.specs.FourPayments.{alerts, alerts_meets, big, chain, four_payments, four_ran, four_setup, short_ran}
 use Rattle.flow_model.specs.Lanes.{lanes}

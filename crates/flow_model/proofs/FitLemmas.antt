@@ -13,7 +13,8 @@ use Rattle.jobs.proofs.PortLemmas.{has_ports-lacks}
 use Rattle.operators.specs.Lanes.{worker_among}
 use Rattle.tuple_trace.specs.declared.tuple.Tuple.{Tuple}
 use Rattle.flow_model.specs.Lanes.{first_on, lane_along, lane_of, lanes, receiver_of, senders}
-use Rattle.flow_model.specs.Outline.{Lane, Post}
+use Rattle.flow_model.specs.declared.topology.Lane.{Lane}
+use Rattle.flow_model.specs.Outline.{Post}
 use Rattle.flow_model.specs.Workers.{posts_of}
 use Rattle.flow_model.proofs.ElementLemmas.{IsIn, in_of_place}
 use Rattle.flow_model.proofs.JobLemmas.{IsWired, ports_by_kind}

@@ -17,7 +17,8 @@ use Rattle.cover_planner.specs.declared.cover.Plan.{Plan}
 use Rattle.flow_model.specs.Covers.{plan_of}
 use Rattle.flow_model.specs.Feeding.{fed, fed_puts}
 use Rattle.flow_model.specs.Lanes.{is_same_lane, is_sender, lanes, lanes_in}
-use Rattle.flow_model.specs.Outline.{Lane, Outline, Post}
+use Rattle.flow_model.specs.declared.topology.Lane.{Lane}
+use Rattle.flow_model.specs.Outline.{Outline, Post}
 use Rattle.flow_model.specs.Replay.{Local, Put, after, came_in, item_on, items_on, marker, marker_by, puts, sent, shown}
 use Rattle.flow_model.specs.Run.{Ran}
 use Rattle.flow_model.specs.Workers.{posts}

@@ -40,11 +40,11 @@ use Rattle.flow_model.proofs.WholeLemmas.{covered_turns}
 -- ---- how many requests were issued before a row
 
 -- how many requests wait for this row or an earlier one, of so many rows
-abbrev count_to : ℕ → ℕ → List ℕ → ℕ
+abbrev pub count_to : ℕ → ℕ → List ℕ → ℕ
 count_to row rows [] = 0
 count_to row rows (after ∷ waits) = cond (nat_le (min after rows) row) (suc (count_to row rows waits)) (count_to row rows waits)
 
-count_at_first : (rows r : ℕ) (waits : List ℕ) → length (issued_at_first 0 rows r waits) ≡ count_to 0 rows waits
+pub count_at_first : (rows r : ℕ) (waits : List ℕ) → length (issued_at_first 0 rows r waits) ≡ count_to 0 rows waits
 count_at_first rows r [] = refl
 count_at_first rows r (after ∷ waits) = go (nat_le (min after rows) 0) (count_at_first rows (r + 1) waits)
   where
@@ -53,7 +53,7 @@ count_at_first rows r (after ∷ waits) = go (nat_le (min after rows) 0) (count_
     go true h = ap suc h
     go false h = h
 
-count_next : (row rows r : ℕ) (waits : List ℕ) → count_to row rows waits + length (issued_after (row + 1) rows r waits) ≡ count_to (row + 1) rows waits
+pub count_next : (row rows r : ℕ) (waits : List ℕ) → count_to row rows waits + length (issued_after (row + 1) rows r waits) ≡ count_to (row + 1) rows waits
 count_next row rows r [] = refl
 count_next row rows r (after ∷ waits) =
     go (nat_le (min after rows) row) refl (min after rows == row + 1) refl (nat_le (min after rows) (row + 1)) refl (count_next row rows (r + 1) waits)

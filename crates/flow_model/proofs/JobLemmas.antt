@@ -1,6 +1,6 @@
 -- What the type of a job keeps, as the laws of runs use it.
-use Rattle.std.proofs.Common.{◌≡◌, ◌∙◌, ◌<◌, ◌≤◌, ◌==◌, ℕ, List, [], ◌∷◌, inl, refl, sym, subst, ap, arith, true, false, Bool, cond, length, map, get_or, Some, None, Option, slice_get}
-use Rattle.std.proofs.lemmas.Bool.{and_parts, eq-eqb, eqb-true, not-true}
+use Rattle.std.proofs.Common.{◌≡◌, ◌∙◌, ◌<◌, ◌≤◌, ◌==◌, ◌&&◌, ℕ, zero, suc, List, [], ◌∷◌, inl, refl, sym, subst, ap, arith, true, false, Bool, cond, length, map, get_or, Some, None, Option, slice_get}
+use Rattle.std.proofs.lemmas.Bool.{and_from, and_parts, eq-eqb, eqb-true, not-true, or_parts}
 use Rattle.std.proofs.lemmas.List.Folds.{Any-from_list_any, list_any_at}
 use Rattle.std.proofs.lemmas.Option.{get_or_from_slice_get, slice_get-get_or, slice_get_within}
 use Rattle.flow_dag.specs.Dag.{DagView}
@@ -11,15 +11,16 @@ use Rattle.flow_dag.proofs.EdgeLemmas.{HasEdge-at}
 use Rattle.flow_dag.proofs.PlaceLemmas.{place_of-below, place_of-forward}
 use Rattle.jobs.specs.Law.{IsLawful}
 use Rattle.jobs.specs.Nodes.{is_source, is_source_node, most_workers}
-use Rattle.jobs.specs.Ports.{are_ports, has_ports, is_entered, may_enter, may_leave, out_count}
+use Rattle.jobs.specs.Ports.{are_ports, has_edge, has_ports, is_entered, leads_twice, leaves, may_enter, may_leave, out_count}
 use Rattle.jobs.specs.Written.{Written}
 use Rattle.jobs.specs.declared.func.Func.{Func}
 use Rattle.jobs.specs.declared.func.Func.TheVariants as func
 use Rattle.jobs.specs.declared.func.NodeDef.{NodeDef}
 use Rattle.flow_model.specs.Lanes.{lanes_in, senders}
-use Rattle.flow_model.specs.Outline.{Lane, Post}
+use Rattle.flow_model.specs.declared.topology.Lane.{Lane}
+use Rattle.flow_model.specs.Outline.{Post}
 use Rattle.flow_model.specs.Workers.{posts, posts_of}
-use Rattle.flow_model.proofs.ElementLemmas.{IsIn, at_of_all, in_of_place, map_in}
+use Rattle.flow_model.proofs.ElementLemmas.{IsIn, at_of_all, in_any, in_of_place, map_in}
 use Rattle.flow_model.proofs.PostLemmas.{length-posts_of}
 use Rattle.flow_model.proofs.WorkerLemmas.{IsWorker, all_workers, item_at, posts_of_in, source_is}
 use Rattle.flow_model.proofs.LaneLemmas.{lane_of_edge, lanes_that_in}
@@ -51,6 +52,28 @@ ports_by_kind edges node f all =
     let ports = and_parts _ _ kinds.0 in
     let enter = and_parts _ _ ports.0 in
     (enter.0, enter.1, ports.1)
+
+-- of the edges of such a node only one leads to another
+pub one_edge_to : (edges : List Edge) (node : ℕ) (f : Func) → are_ports edges node f ≡ true → (i j : ℕ) (a b : Edge) → slice_get edges i ≡ Some a → slice_get edges j ≡ Some b
+    → a.from ≡ node → b.from ≡ node → a.to ≡ b.to → a ≡ b
+unfolding are_ports
+one_edge_to edges node f all i j a b g h p q e = go edges (not-true (leads_twice edges node) (and_parts _ _ all).1) i j g h
+  where
+    here : (x y : Edge) (more : List Edge) (k : ℕ) → slice_get more k ≡ Some y → x.from ≡ node → y.from ≡ node → x.to ≡ y.to → leads_twice (x ∷ more) node ≡ false → ⊥
+    here x y more k g p q e none =
+        let first = (or_parts (leaves node x && has_edge more node x.to) (leads_twice more node) none).0 in
+        let leave : leaves node x ≡ true = eq-eqb x.from node p in
+        let lead : has_edge more node x.to ≡ true =
+        in_any (λ (z : Edge). z.from == node && z.to == x.to) y more (in_of_place y more k g) (and_from (y.from == node) (y.to == x.to) (eq-eqb y.from node q) (eq-eqb y.to x.to (sym e))) in
+        let both : (leaves node x && has_edge more node x.to) ≡ true = and_from (leaves node x) (has_edge more node x.to) leave lead in
+        absurd (cc)
+
+    go : (es : List Edge) → leads_twice es node ≡ false → (i j : ℕ) → slice_get es i ≡ Some a → slice_get es j ≡ Some b → a ≡ b
+    go [] none i j g h = absurd (cc)
+    go (x ∷ more) none zero zero g h = cc
+    go (x ∷ more) none zero (suc j) g h = let is : x ≡ a = cc in absurd (here x b more j h (ap (λ (z : Edge). z.from) is ∙ p) q (ap (λ (z : Edge). z.to) is ∙ e) none)
+    go (x ∷ more) none (suc i) zero g h = let is : x ≡ b = cc in absurd (here x a more i g (ap (λ (z : Edge). z.from) is ∙ q) p (ap (λ (z : Edge). z.to) is ∙ sym e) none)
+    go (x ∷ more) none (suc i) (suc j) g h = go more (or_parts (leaves node x && has_edge more node x.to) (leads_twice more node) none).1 i j g h
 
 source_unentered : (f : Func) (entered : Bool) → is_source f ≡ true → may_enter f entered ≡ true → entered ≡ false
 source_unentered f entered e m = not-true entered (subst (λ (g : Func). may_enter g entered ≡ true) (source_is f e) m)

@@ -5,7 +5,8 @@ use Rattle.std.proofs.lemmas.List.{append-nil, append_cancel_left}
 use Rattle.sink_journal.specs.declared.journal.Entry.{Entry}
 use Rattle.sink_journal.specs.declared.journal.Entry.TheVariants as entry
 use Rattle.tuple_trace.specs.declared.tuple.Item.{Item}
-use Rattle.flow_model.specs.Outline.{Lane, Outline, Post}
+use Rattle.flow_model.specs.declared.topology.Lane.{Lane}
+use Rattle.flow_model.specs.Outline.{Outline, Post}
 use Rattle.flow_model.specs.Law.{IsEnabled, IsExecution, IsInTime, IsLawful, Progress, Station, after_entry, initial, later_dues, next_due, progress_after}
 use Rattle.flow_model.specs.Points.{AreOtherEnds, EndsStandLast, HasPoints, HeadsAreInTime, LeadsToTurn, MarkersLeadToTheirTurn, MayStandAtItsPlace, TurnsFirst, TurnsFollowTheirMarkers, markers, turned}
 use Rattle.flow_model.specs.Replay.{Local, after, after_all, came_in, items_on, puts, sent, shown}
@@ -69,7 +70,7 @@ pub due_first : (dues : List ℕ) (request : ℕ) → next_due dues ≡ Some req
 due_first [] request e = absurd (cc)
 due_first (due ∷ later) request e = let same : due ≡ request = cc in ap (λ (r : ℕ). r ∷ later) same
 
-dues_turned : (station : Station) (progress : Progress) (journal : List Entry) → IsExecution station progress journal
+pub dues_turned : (station : Station) (progress : Progress) (journal : List Entry) → IsExecution station progress journal
     → progress.dues ≡ turned journal ++ (progress_after progress journal).dues
 dues_turned station progress [] h = refl
 dues_turned station progress (entry.Met lane tuple ∷ more) h = dues_turned station progress more h.1

@@ -11,7 +11,8 @@ use Rattle.tuple_trace.specs.declared.tuple.Item.TheVariants as item
 use Rattle.tuple_trace.specs.declared.tuple.Tuple.{Tuple}
 use Rattle.tuple_trace.specs.declared.tuple.Visit.{Visit}
 use Rattle.flow_model.specs.Lanes.{lanes}
-use Rattle.flow_model.specs.Outline.{Lane, Outline}
+use Rattle.flow_model.specs.declared.topology.Lane.{Lane}
+use Rattle.flow_model.specs.Outline.{Outline}
 use Rattle.flow_model.specs.Replay.{Put, came_in, items_on, put_out, puts, shown, visit_at}
 use Rattle.flow_model.specs.Run.{Ran}
 use Rattle.flow_model.specs.Workers.{posts}
@@ -100,6 +101,7 @@ pub record Born (ran : Ran) (p c : Address) (k : Child ran p c) : Type 0 where
   pub out : Output
   pub made_so : slice_get (made ran.setup (post_of ran.setup p.worker) k.moment.local tuple) k.k ≡ Some out
   pub is : k.tuple ≡ out.tuple
+  pub put_so : k.put ≡ put_out ran.setup.job (post_of ran.setup p.worker) out
   pub made_of : IsMadeOf ran.setup.job.edges (visit_at (post_of ran.setup p.worker) k.moment.local) k.moment.local.func tuple k.k out
 
 pub born : (ran : Ran) (p c : Address) (k : Child ran p c) → Born ran p c k
@@ -119,6 +121,7 @@ born ran p c k =
           out = r.0;
           made_so = r.1;
           is = cc;
+          put_so = r.2;
           made_of = outputs_made ran.setup.job (visit_at (post_of ran.setup p.worker) k.moment.local) k.moment.local.func k.moment.local.counts t k.k r.0 r.1;
         }
     go (entry.Marked l r) e g h = absurd h

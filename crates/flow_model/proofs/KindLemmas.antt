@@ -1,17 +1,27 @@
--- The function in force at a worker is of the kind that the job gives its node.
-use Rattle.std.proofs.Common.{◌≡◌, ◌∙◌, ◌≢◌, ◌<◌, ◌++◌, ◌==◌, ℕ, zero, suc, List, [], ◌∷◌, inl, inr, refl, sym, subst, ap, true, false, Bool, cond, Some, None, Option, slice_get, All, append_assoc, arith, length}
-use Rattle.std.proofs.lemmas.Bool.{eqb-true}
+-- The function in force at a worker is one that the job or a request gives its node, and goes with what the job gives it.
+use Rattle.std.proofs.Common.{◌≡◌, ◌∙◌, ◌≢◌, ◌<◌, ◌≤◌, ◌++◌, ◌==◌, ◌&&◌, ◌||◌, nat_le, ℕ, zero, suc, List, [], ◌∷◌, ◌⊎◌, inl, inr, refl, sym, subst, ap, true, false, Bool, cond, Some, None, Option, slice_get, All, append_assoc, arith, length, take}
+use Rattle.std.proofs.lemmas.Bool.{and_from, and_parts, eq-eqb, eqb-true, leb-true, or_cases, or_left, or_right}
 use Rattle.std.proofs.lemmas.List.{append-nil, append_cancel_left}
+use Rattle.std.specs.List.{list_any}
 use Rattle.flow_dag.specs.declared.edge.Edge.{Edge}
-use Rattle.jobs.specs.Nodes.{is_count, may_emit}
+use Rattle.jobs.specs.Law.{IsLawful}
+use Rattle.jobs.specs.Nodes.{fan_out, is_count, is_free, is_replicate, is_split, may_emit}
 use Rattle.jobs.specs.Ports.{are_ports, is_entered, may_enter, may_leave, out_count}
 use Rattle.jobs.specs.Written.{Written}
+use Rattle.jobs.proofs.RoofLemmas.{roof_of_node}
 use Rattle.jobs.specs.declared.func.Func.{Func}
 use Rattle.jobs.specs.declared.func.Func.TheVariants as func
 use Rattle.jobs.specs.declared.func.NodeDef.{NodeDef}
 use Rattle.keyed_state.specs.Counts.{Counts}
 use Rattle.operators.specs.Laws.{IsMadeOf, births_of}
-use Rattle.operators.specs.Meaning.{step}
+use Rattle.operators.specs.Fields.{text_at}
+use Rattle.operators.specs.Meaning.{piece_sent, step}
+use Rattle.operators.specs.Pieces.{pieces}
+use Rattle.jobs.specs.declared.func.SplitBy.{SplitBy}
+use Rattle.std.specs.List.{enumerate_from}
+use Rattle.std.proofs.lemmas.Option.{slice_get_within}
+use Rattle.flow_model.proofs.LaneLemmas.{enumerate_get}
+use Rattle.flow_model.proofs.PlaceLemmas.{map_place}
 use Rattle.operators.specs.declared.output.Output.{Output}
 use Rattle.operators.proofs.EdgeLemmas.{outputs_differ}
 use Rattle.operators.proofs.OutputLemmas.{outputs_made}
@@ -20,43 +30,84 @@ use Rattle.sink_journal.specs.declared.journal.Entry.TheVariants as entry
 use Rattle.tuple_trace.specs.declared.tuple.Tuple.{Tuple}
 use Rattle.tuple_trace.specs.declared.tuple.Visit.{Visit}
 use Rattle.versions.specs.Judged.{NameNodes}
-use Rattle.versions.specs.Judging.{may_replace, most_of}
+use Rattle.versions.specs.Judging.{is_like, leaves_once, may_replace}
 use Rattle.versions.specs.Kept.{KeepKinds, KeepsKind}
 use Rattle.versions.specs.declared.request.Change.{Change}
 use Rattle.versions.specs.declared.request.Request.{Request}
 use Rattle.flow_model.specs.Outline.{Outline, Post}
 use Rattle.flow_model.specs.Alone.{is_sink}
-use Rattle.flow_model.specs.Planned.{is_many_at}
+use Rattle.flow_model.specs.Planned.{copies_at, is_made_split, is_replicate_node, is_split_node, makes_split, splits_at}
 use Rattle.flow_model.specs.Replay.{Local, after, with_change}
 use Rattle.flow_model.specs.Requests.{change_among, change_in, change_of}
-use Rattle.flow_model.proofs.ElementLemmas.{IsIn, at_of_all, in_of_place}
+use Rattle.flow_model.proofs.ElementLemmas.{IsIn, at_of_all, in_any, in_of_place}
 use Rattle.flow_model.proofs.StoryLemmas.{Moment, story}
 use Rattle.flow_model.proofs.WorkerLemmas.{item_at}
 
--- two functions are of one kind: both may make several tuples of one or neither, both count or neither, both are sinks or neither, and the edges
--- of a node are those of both kinds or of neither
-pub record AreAlike (f g : Func) : Type 0 where
-  pub emit : may_emit g ≡ may_emit f
+-- a function goes with another at a node: both copy or neither, both count or neither, both are sinks or neither, and where the edges of the node
+-- are those of the one's kind, they are those of the other's
+pub record AreAlike (edges : List Edge) (node : ℕ) (f g : Func) : Type 0 where
+  pub copy : is_replicate g ≡ is_replicate f
   pub count : is_count g ≡ is_count f
   pub sink : is_sink g ≡ is_sink f
-  pub enter : (entered : Bool) → may_enter g entered ≡ may_enter f entered
-  pub leave : (n : ℕ) → may_leave g n ≡ may_leave f n
+  pub ports : are_ports edges node f ≡ true → are_ports edges node g ≡ true
 
-pub alike_self : (f : Func) → AreAlike f f
-alike_self f = record { emit = refl; count = refl; sink = refl; enter = λ entered. refl; leave = λ n. refl }
+pub alike_self : (edges : List Edge) (node : ℕ) (f : Func) → AreAlike edges node f f
+alike_self edges node f = record { copy = refl; count = refl; sink = refl; ports = λ h. h }
 
--- a function that may replace another is of its kind
-pub alike_of_replace : (f g : Func) (most : ℕ) → may_replace f g most ≡ true → AreAlike f g
-alike_of_replace (func.Filter a) (func.Filter b) most h = record { emit = refl; count = refl; sink = refl; enter = λ entered. refl; leave = λ n. refl }
-alike_of_replace (func.Map a) (func.Map b) most h = record { emit = refl; count = refl; sink = refl; enter = λ entered. refl; leave = λ n. refl }
-alike_of_replace (func.Enrich a) (func.Enrich b) most h = record { emit = refl; count = refl; sink = refl; enter = λ entered. refl; leave = λ n. refl }
-alike_of_replace (func.Count a) (func.Count b) most h = record { emit = refl; count = refl; sink = refl; enter = λ entered. refl; leave = λ n. refl }
-alike_of_replace (func.Split a) (func.Split b) most h = record { emit = refl; count = refl; sink = refl; enter = λ entered. refl; leave = λ n. refl }
-alike_of_replace _ _ most h = absurd (cc)
-
-pub alike_ports : (edges : List Edge) (node : ℕ) (f g : Func) → AreAlike f g → are_ports edges node f ≡ true → are_ports edges node g ≡ true
+-- two functions of one kind go with each other
+alike_of_like : (edges : List Edge) (node : ℕ) (f g : Func) → is_like f g ≡ true → AreAlike edges node f g
 unfolding are_ports
-alike_ports edges node f g a h = rw (a.enter (is_entered edges node), a.leave (out_count edges node)) h
+alike_of_like edges node (func.Filter a) (func.Filter b) h = record { copy = refl; count = refl; sink = refl; ports = λ h. h }
+alike_of_like edges node (func.Map a) (func.Map b) h = record { copy = refl; count = refl; sink = refl; ports = λ h. h }
+alike_of_like edges node (func.Enrich a) (func.Enrich b) h = record { copy = refl; count = refl; sink = refl; ports = λ h. h }
+alike_of_like edges node (func.Count a) (func.Count b) h = record { copy = refl; count = refl; sink = refl; ports = λ h. h }
+alike_of_like edges node (func.Split a) (func.Split b) h = record { copy = refl; count = refl; sink = refl; ports = λ h. h }
+alike_of_like edges node _ _ h = absurd (cc)
+
+-- a function of a free kind neither copies nor counts, and is no sink; it is entered, and one edge may leave it
+record IsFreeKind (f : Func) : Type 0 where
+  copy : is_replicate f ≡ false
+  count : is_count f ≡ false
+  sink : is_sink f ≡ false
+  enter : (entered : Bool) → may_enter f entered ≡ entered
+  leave : may_leave f 1 ≡ true
+
+free_kind : (f : Func) → is_free f ≡ true → IsFreeKind f
+free_kind (func.Filter a) h = record { copy = refl; count = refl; sink = refl; enter = λ e. refl; leave = refl }
+free_kind (func.Map a) h = record { copy = refl; count = refl; sink = refl; enter = λ e. refl; leave = refl }
+free_kind (func.Enrich a) h = record { copy = refl; count = refl; sink = refl; enter = λ e. refl; leave = refl }
+free_kind (func.Split a) h = record { copy = refl; count = refl; sink = refl; enter = λ e. refl; leave = refl }
+free_kind _ h = absurd (cc)
+
+-- so at a node that one edge leaves two such functions go with each other
+free_ports : (edges : List Edge) (node : ℕ) (f g : Func) → IsFreeKind f → IsFreeKind g → out_count edges node ≡ 1 → are_ports edges node f ≡ true → are_ports edges node g ≡ true
+unfolding are_ports
+free_ports edges node f g a b one h =
+    let kinds = and_parts _ _ h in
+    let ports = and_parts _ _ kinds.0 in
+    let enter = and_parts _ _ ports.0 in
+    let entered : may_enter g (is_entered edges node) ≡ true = b.enter (is_entered edges node) ∙ (sym (a.enter (is_entered edges node)) ∙ enter.0) in
+    let left : may_leave g (out_count edges node) ≡ true = subst (λ n. may_leave g n ≡ true) (sym one) b.leave in
+    and_from _ _ (and_from _ _ (and_from _ _ entered left) ports.1) kinds.1
+
+-- a function that may replace another goes with it
+pub alike_of_replace : (edges : List Edge) (node : ℕ) (f g : Func) (roof : ℕ) → may_replace f g roof (leaves_once edges node) ≡ true → AreAlike edges node f g
+alike_of_replace edges node f g roof h =
+    let p = and_parts (is_like f g || (is_free f && is_free g && leaves_once edges node)) (nat_le (fan_out g) roof) h in
+    elim (or_cases (is_like f g) (is_free f && is_free g && leaves_once edges node) p.0) [
+      | inl like ↦ alike_of_like edges node f g like
+      | inr free ↦
+          let u = and_parts (is_free f && is_free g) (leaves_once edges node) free in
+          let v = and_parts (is_free f) (is_free g) u.0 in
+          let a : IsFreeKind f = free_kind f v.0 in
+          let b : IsFreeKind g = free_kind g v.1 in
+          record {
+            copy = b.copy ∙ sym a.copy;
+            count = b.count ∙ sym a.count;
+            sink = b.sink ∙ sym a.sink;
+            ports = free_ports edges node f g a b (eqb-true (out_count edges node) 1 u.1);
+          }
+    ]
 
 -- ---- what a request changes
 
@@ -79,14 +130,26 @@ change_there setup (suc r) node change h = go (slice_get setup.requests r) refl 
     go None e h = absurd (cc)
     go (Some request) e h = let found = change_found request.changes node change h in (request, in_of_place request setup.requests r e, found.0, found.1)
 
--- a change's function is of the kind of the one that the job gives the node
+-- a change's function goes with the one that the job gives the node
 pub changed_alike : (setup : Outline) (r node : ℕ) (def : NodeDef) (change : Change) → KeepKinds setup.job setup.requests → slice_get setup.job.nodes node ≡ Some def
-    → change_of setup r node ≡ Some change → AreAlike def.func change.func
+    → change_of setup r node ≡ Some change → AreAlike setup.job.edges node def.func change.func
 changed_alike setup r node def change kinds g h =
     let (request, asked, among, at) = change_there setup r node change h in
     let all : All (KeepsKind setup.job) request.changes = at_of_all (λ (request : Request). All (KeepsKind setup.job) request.changes) request setup.requests kinds asked in
     let one : KeepsKind setup.job change = at_of_all (KeepsKind setup.job) change request.changes all among in
-    alike_of_replace def.func change.func (most_of def.func) (one def (rw at g))
+    alike_of_replace setup.job.edges node def.func change.func def.roof
+    (subst (λ n. may_replace def.func change.func def.roof (leaves_once setup.job.edges n) ≡ true) at (one def (rw at g)))
+
+-- and makes no more pieces than the node's roof
+pub changed_roof : (setup : Outline) (r node : ℕ) (def : NodeDef) (change : Change) → KeepKinds setup.job setup.requests → slice_get setup.job.nodes node ≡ Some def
+    → change_of setup r node ≡ Some change → fan_out change.func ≤ def.roof
+changed_roof setup r node def change kinds g h =
+    let (request, asked, among, at) = change_there setup r node change h in
+    let all : All (KeepsKind setup.job) request.changes = at_of_all (λ (request : Request). All (KeepsKind setup.job) request.changes) request setup.requests kinds asked in
+    let one : KeepsKind setup.job change = at_of_all (KeepsKind setup.job) change request.changes all among in
+    let once : Bool = leaves_once setup.job.edges change.node in
+    leb-true (fan_out change.func) def.roof
+    (and_parts (is_like def.func change.func || (is_free def.func && is_free change.func && once)) (nat_le (fan_out change.func) def.roof) (one def (rw at g))).1
 
 -- the job has the node of a change
 pub changed_node : (setup : Outline) (r node : ℕ) (change : Change) → NameNodes setup.job setup.requests → change_of setup r node ≡ Some change → (def : NodeDef) × (slice_get setup.job.nodes node ≡ Some def)
@@ -99,29 +162,89 @@ changed_node setup r node change named h =
 
 -- ---- the function in force
 
-alike_after : (setup : Outline) (post : Post) (def : NodeDef) (local : Local) (x : Entry) → KeepKinds setup.job setup.requests → slice_get setup.job.nodes post.node ≡ Some def
-    → AreAlike def.func local.func → AreAlike def.func (after setup post local x).func
-alike_after setup post def local (entry.Met l t) kinds g a = a
-alike_after setup post def local (entry.Marked l r) kinds g a = a
-alike_after setup post def local (entry.Turned r) kinds g a = go (change_of setup r post.node) refl
+-- the function is the one that the node has at first, or that of a change of it
+abbrev pub IsGiven : Outline → ℕ → Func → Func → Type 0
+IsGiven setup node first f = (first ≡ f) ⊎ ((r : ℕ) × (change : Change) × (change_of setup r node ≡ Some change) × (change.func ≡ f))
+
+given_after : (setup : Outline) (post : Post) (first : Func) (local : Local) (x : Entry) → IsGiven setup post.node first local.func → IsGiven setup post.node first (after setup post local x).func
+given_after setup post first local (entry.Met l t) a = a
+given_after setup post first local (entry.Marked l r) a = a
+given_after setup post first local (entry.Turned r) a = go (change_of setup r post.node) refl
   where
-    go : (o : Option Change) → change_of setup r post.node ≡ o → AreAlike def.func (with_change o local).func
+    go : (o : Option Change) → change_of setup r post.node ≡ o → IsGiven setup post.node first (with_change o local).func
     go None e = a
-    go (Some change) e = changed_alike setup r post.node def change kinds g e
-alike_after setup post def local (entry.Ended l) kinds g a = a
+    go (Some change) e = inr (r, change, e, refl)
+given_after setup post first local (entry.Ended l) a = a
 
--- at each moment the function in force is of the kind that the job gives the node
-pub alike_then : (setup : Outline) (post : Post) (def : NodeDef) (local : Local) (journal : List Entry) (i : ℕ) (m : Moment) → KeepKinds setup.job setup.requests
-    → slice_get setup.job.nodes post.node ≡ Some def → AreAlike def.func local.func → slice_get (story setup post local journal) i ≡ Some m → AreAlike def.func m.local.func
-alike_then setup post def local [] i m kinds g a h = absurd (cc)
-alike_then setup post def local (x ∷ journal) zero m kinds g a h =
+-- so it is with the function in force at each moment
+pub given_then : (setup : Outline) (post : Post) (first : Func) (local : Local) (journal : List Entry) (i : ℕ) (m : Moment)
+    → IsGiven setup post.node first local.func → slice_get (story setup post local journal) i ≡ Some m → IsGiven setup post.node first m.local.func
+given_then setup post first local [] i m a h = absurd (cc)
+given_then setup post first local (x ∷ journal) zero m a h =
     let q : ◌≡◌ {A = Moment} (record { local = local; entry = x }) m = cc in
-    subst (λ (m : Moment). AreAlike def.func m.local.func) q a
-alike_then setup post def local (x ∷ journal) (suc i) m kinds g a h = alike_then setup post def (after setup post local x) journal i m kinds g (alike_after setup post def local x kinds g a) h
+    subst (λ (m : Moment). IsGiven setup post.node first m.local.func) q a
+given_then setup post first local (x ∷ journal) (suc i) m a h = given_then setup post first (after setup post local x) journal i m (given_after setup post first local x a) h
 
--- a request makes no other node emit many: where the function in force may make several tuples of one, the job's own may
-pub many_by_job : (nodes : List NodeDef) (node : ℕ) (def : NodeDef) (f : Func) → slice_get nodes node ≡ Some def → AreAlike def.func f → may_emit f ≡ true → is_many_at nodes node ≡ true
-many_by_job nodes node def f g a m = rw g (sym a.emit ∙ m)
+-- what a node may be given goes with what the job gives it
+pub alike_given : (setup : Outline) (node : ℕ) (def : NodeDef) (f : Func) → KeepKinds setup.job setup.requests → slice_get setup.job.nodes node ≡ Some def
+    → IsGiven setup node def.func f → AreAlike setup.job.edges node def.func f
+alike_given setup node def f kinds g (inl same) = subst (AreAlike setup.job.edges node def.func) same (alike_self setup.job.edges node def.func)
+alike_given setup node def f kinds g (inr (r, change, at, same)) = subst (AreAlike setup.job.edges node def.func) same (changed_alike setup r node def change kinds g at)
+
+-- at each moment the function in force goes with the one that the job gives the node
+pub alike_then : (setup : Outline) (post : Post) (def : NodeDef) (local : Local) (journal : List Entry) (i : ℕ) (m : Moment) → KeepKinds setup.job setup.requests
+    → slice_get setup.job.nodes post.node ≡ Some def → def.func ≡ local.func → slice_get (story setup post local journal) i ≡ Some m → AreAlike setup.job.edges post.node def.func m.local.func
+alike_then setup post def local journal i m kinds g first h = alike_given setup post.node def m.local.func kinds g (given_then setup post def.func local journal i m (inl first) h)
+
+-- what a node may be given makes no more pieces than its roof
+pub given_roof : (setup : Outline) (node : ℕ) (def : NodeDef) (f : Func) → IsLawful setup.job → KeepKinds setup.job setup.requests
+    → slice_get setup.job.nodes node ≡ Some def → IsGiven setup node def.func f → fan_out f ≤ def.roof
+given_roof setup node def f law kinds g (inl same) = subst (λ (f : Func). fan_out f ≤ def.roof) same (roof_of_node setup.job node def law g).0
+given_roof setup node def f law kinds g (inr (r, change, at, same)) = subst (λ (f : Func). fan_out f ≤ def.roof) same (changed_roof setup r node def change kinds g at)
+
+take_short : {A : Type 0} (n : ℕ) (xs : List A) → length (take n xs) ≤ n
+take_short zero xs = omega arith
+take_short (suc n) [] = omega arith
+take_short (suc n) (x ∷ xs) = omega (arith, take_short n xs)
+
+-- so the numbers of the pieces that are made at a node, which go into the births, stay below its roof
+pub pieces_below_roof : (setup : Outline) (node : ℕ) (def : NodeDef) (split : SplitBy) (visit : Visit) (counts : Counts) (t : Tuple) (k : ℕ) (o : Output)
+    → IsLawful setup.job → KeepKinds setup.job setup.requests → slice_get setup.job.nodes node ≡ Some def → IsGiven setup node def.func (func.Split split)
+    → slice_get (step setup.job visit (func.Split split) counts t).1 k ≡ Some o → k < def.roof
+pieces_below_roof setup node def split visit counts t k o law kinds g given h =
+    let parts = take split.most (pieces split.by (text_at setup.job.columns t.fields split.on)) in
+    let p = map_place (piece_sent setup.job.columns visit split.on t) (enumerate_from 0 parts) k o h in
+    let q = enumerate_get 0 parts k p.0 p.1 in
+    let within : k < length parts = slice_get_within parts k p.0.1 q.1 in
+    let short : length parts ≤ split.most = take_short split.most (pieces split.by (text_at setup.job.columns t.fields split.on)) in
+    let roof : split.most ≤ def.roof = given_roof setup node def (func.Split split) law kinds g given in
+    omega arith
+
+-- a node that is given a split is one of those that may make pieces
+pub splits_given : (setup : Outline) (node : ℕ) (def : NodeDef) (f : Func) → slice_get setup.job.nodes node ≡ Some def → IsGiven setup node def.func f → is_split f ≡ true
+    → splits_at setup.job.nodes setup.requests node ≡ true
+splits_given setup node def f g (inl same) s = or_left (is_split_node (slice_get setup.job.nodes node)) (is_made_split setup.requests node) (ap is_split_node g ∙ (ap is_split same ∙ s))
+splits_given setup node def f g (inr (r, change, at, same)) s =
+    let (request, asked, among, here) = change_there setup r node change at in
+    or_right (is_split_node (slice_get setup.job.nodes node)) (is_made_split setup.requests node)
+    (in_any (λ (request : Request). list_any (makes_split node) request.changes) request setup.requests asked
+    (in_any (makes_split node) change request.changes among (and_from (change.node == node) (is_split change.func) (eq-eqb change.node node here) (ap is_split same ∙ s))))
+
+-- a node that is given a replicate is one in the job
+pub copies_given : (setup : Outline) (node : ℕ) (def : NodeDef) (f : Func) → slice_get setup.job.nodes node ≡ Some def → AreAlike setup.job.edges node def.func f → is_replicate f ≡ true
+    → copies_at setup.job.nodes node ≡ true
+copies_given setup node def f g a s = ap is_replicate_node g ∙ (sym a.copy ∙ s)
+
+-- a function that may make several tuples of one is a split or a replicate
+pub emits_cases : (f : Func) → may_emit f ≡ true → (is_split f ≡ true) ⊎ (is_replicate f ≡ true)
+emits_cases func.Source m = absurd (cc)
+emits_cases (func.Filter conds) m = absurd (cc)
+emits_cases (func.Map steps) m = absurd (cc)
+emits_cases (func.Enrich lookup) m = absurd (cc)
+emits_cases (func.Count count) m = absurd (cc)
+emits_cases (func.Split split) m = inl refl
+emits_cases func.Replicate m = inr refl
+emits_cases (func.Sink listed) m = absurd (cc)
 
 -- ---- the births of outputs
 
@@ -166,6 +289,19 @@ pieces_of job visit f counts t j k a b ports g h d =
     let differ : births_of f t.birth j a.port ≢ births_of f t.birth k b.port = λ e. outputs_differ job visit f counts t j k a b ports g h d (x.birth ∙ (e ∙ sym y.birth)) in
     subst (λ (l : List ℕ). ArePieces f t.birth l b.tuple.birth) (sym x.birth) (
     subst (λ (l : List ℕ). ArePieces f t.birth (births_of f t.birth j a.port) l) (sym y.birth) (births_differ f t.birth j k a.port b.port differ))
+
+-- what a replicate sends along one port has one birth
+copies_by_port : (f : Func) (birth : List ℕ) (j k p q : ℕ) → is_replicate f ≡ true → p ≡ q → births_of f birth j p ≡ births_of f birth k q
+copies_by_port func.Replicate birth j k p q r e = ap (λ n. birth ++ n ∷ []) e
+copies_by_port _ birth j k p q r e = absurd (cc)
+
+-- so two copies of one tuple leave by two ports
+pub copies_part : (job : Written) (visit : Visit) (f : Func) (counts : Counts) (t : Tuple) (j k : ℕ) (a b : Output) → are_ports job.edges visit.node f ≡ true
+    → slice_get (step job visit f counts t).1 j ≡ Some a → slice_get (step job visit f counts t).1 k ≡ Some b → j ≢ k → is_replicate f ≡ true → a.port ≢ b.port
+copies_part job visit f counts t j k a b ports g h d r same =
+    let x : IsMadeOf job.edges visit f t j a = outputs_made job visit f counts t j a g in
+    let y : IsMadeOf job.edges visit f t k b = outputs_made job visit f counts t k b h in
+    outputs_differ job visit f counts t j k a b ports g h d (x.birth ∙ (copies_by_port f t.birth j k a.port b.port r same ∙ sym y.birth))
 
 -- births that parted stay apart
 pub pieces_stay_apart : (b : List ℕ) (j k : ℕ) (x y s t : List ℕ) → x ≡ (b ++ j ∷ []) ++ s → y ≡ (b ++ k ∷ []) ++ t → x ≡ y → j ≡ k

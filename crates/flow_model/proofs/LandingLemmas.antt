@@ -1,5 +1,5 @@
 -- What a tuple makes at the sinks: whatever its trace is, and however many nodes more than needed are allowed.
-use Rattle.std.proofs.Common.{◌≡◌, ◌∙◌, ◌<◌, ◌≤◌, ◌+◌, ◌++◌, ℕ, zero, suc, List, [], ◌∷◌, inl, inr, refl, sym, ap, ap₂, arith, true, false, Bool, cond, length, map, flat_map, Some, None, Option, slice_get}
+use Rattle.std.proofs.Common.{◌≡◌, ◌∙◌, ◌<◌, ◌≤◌, ◌+◌, ◌++◌, ℕ, zero, suc, List, [], ◌∷◌, inl, inr, refl, sym, ap, ap₂, arith, true, false, Bool, length, map, flat_map, Some, Option, slice_get}
 use Rattle.std.specs.FinMap.{empty}
 use Rattle.std.specs.List.{enumerate_from}
 use Rattle.jobs.specs.Nodes.{is_count}
@@ -14,22 +14,22 @@ use Rattle.operators.specs.Meaning.{outputs, step}
 use Rattle.operators.specs.declared.output.Output.{Output}
 use Rattle.operators.proofs.EdgeLemmas.{outputs_leave}
 use Rattle.operators.proofs.OutputLemmas.{outputs_bare}
+use Rattle.sink_journal.specs.declared.journal.Entry.TheVariants as entry
 use Rattle.tuple_trace.specs.declared.row.Row.{Row}
 use Rattle.tuple_trace.specs.declared.tuple.Tuple.{Tuple}
 use Rattle.tuple_trace.specs.declared.tuple.Visit.{Visit}
-use Rattle.versions.specs.declared.request.Change.{Change}
 use Rattle.flow_model.specs.declared.landing.Landing.{Landing}
-use Rattle.flow_model.specs.Alone.{bare_visit, func_for, func_for_node, is_sink, landing, lands, onward, table}
+use Rattle.flow_model.specs.Alone.{bare_visit, is_sink, landing, lands, onward}
 use Rattle.flow_model.specs.Lanes.{first_on}
 use Rattle.flow_model.specs.OneTable.{HasNoCounts}
-use Rattle.flow_model.specs.Requests.{change_of, func_with}
 use Rattle.flow_model.specs.Run.{Ran}
-use Rattle.flow_model.specs.Whole.{is_new}
 use Rattle.flow_model.proofs.ElementLemmas.{IsIn, at_of_all, in_of_place, place_of_in}
-use Rattle.flow_model.proofs.WorkerLemmas.{item_at}
+use Rattle.flow_model.proofs.WorkerLemmas.{item_at, journal_of, post_of}
 use Rattle.flow_model.proofs.FitLemmas.{HasPortEdge, port_edge}
-use Rattle.flow_model.proofs.KindLemmas.{AreAlike, alike_ports, alike_self, changed_alike}
-use Rattle.flow_model.proofs.RunLemmas.{Running}
+use Rattle.flow_model.proofs.KindLemmas.{AreAlike}
+use Rattle.flow_model.proofs.RunLemmas.{HasWorker, Running}
+use Rattle.flow_model.proofs.KinLemmas.{story_of}
+use Rattle.flow_model.proofs.StoryLemmas.{Moment}
 use Rattle.flow_model.proofs.SumLemmas.{sum_over}
 
 -- ---- outputs but for what a flow writes on them
@@ -96,40 +96,36 @@ lands-outputs job table nodes node t (func.Sink listed) is sink = absurd (cc)
 
 -- ---- the functions of a table
 
--- the function that a table gives a node: of the node's kind, and no count where none of the job's is
-pub record HasFunc (ran : Ran) (row node : ℕ) : Type 0 where
+-- a table of functions for each row: each node has one, which goes with what the job gives the node, and what was in force where a tuple of the row
+-- was met is the table's
+pub record AreTables (ran : Ran) (T : ℕ → ℕ → Option Func) : Type 0 where
+  pub gives : (row node : ℕ) (def : NodeDef) → slice_get ran.setup.job.nodes node ≡ Some def → (f : Func) × (T row node ≡ Some f) × AreAlike ran.setup.job.edges node def.func f
+  pub in_force :
+      (w i l : ℕ) (t : Tuple) (m : Moment) → HasWorker ran w → slice_get (story_of ran w) i ≡ Some m → slice_get (journal_of ran w) i ≡ Some (entry.Met l t)
+      → T t.row (post_of ran.setup w).node ≡ Some m.local.func
+
+-- the function that a table gives a node: its edges are those of its kind, and it is no count where none of the job's is
+pub record HasFunc (ran : Ran) (T : ℕ → ℕ → Option Func) (row node : ℕ) : Type 0 where
   pub def : NodeDef
   pub node_is : slice_get ran.setup.job.nodes node ≡ Some def
-  pub func_is : table ran row node ≡ Some (func_for ran row node def.func (length ran.setup.requests))
-  pub alike : AreAlike def.func (func_for ran row node def.func (length ran.setup.requests))
-  pub ports : are_ports ran.setup.job.edges node (func_for ran row node def.func (length ran.setup.requests)) ≡ true
-  pub no_count : is_count (func_for ran row node def.func (length ran.setup.requests)) ≡ false
+  pub func : Func
+  pub func_is : T row node ≡ Some func
+  pub alike : AreAlike ran.setup.job.edges node def.func func
+  pub ports : are_ports ran.setup.job.edges node func ≡ true
+  pub no_count : is_count func ≡ false
 
-module _ (rows : List Row) (ran : Ran) (g : Running rows ran) (none : HasNoCounts ran.setup.job) where
-  table_alike : (row node : ℕ) (def : NodeDef) (r : ℕ) → slice_get ran.setup.job.nodes node ≡ Some def → AreAlike def.func (func_for ran row node def.func r)
-  table_alike row node def zero there = alike_self def.func
-  table_alike row node def (suc r) there = go (is_new ran (suc r) row) (table_alike row node def r there)
-    where
-      with_change : (o : Option Change) → change_of ran.setup (suc r) node ≡ o → AreAlike def.func (func_for ran row node def.func r) → AreAlike def.func (func_with o (func_for ran row node def.func r))
-      with_change None e a = a
-      with_change (Some change) e a = changed_alike ran.setup (suc r) node def change g.kinds there e
-
-      go : (b : Bool) → AreAlike def.func (func_for ran row node def.func r)
-          → AreAlike def.func (cond b (func_with (change_of ran.setup (suc r) node) (func_for ran row node def.func r)) (func_for ran row node def.func r))
-      go true a = with_change (change_of ran.setup (suc r) node) refl a
-      go false a = a
-
-  pub has_func : (row node : ℕ) → node < length ran.setup.job.nodes → HasFunc ran row node
+module _ (rows : List Row) (ran : Ran) (g : Running rows ran) (none : HasNoCounts ran.setup.job) (T : ℕ → ℕ → Option Func) (tables : AreTables ran T) where
+  pub has_func : (row node : ℕ) → node < length ran.setup.job.nodes → HasFunc ran T row node
   has_func row node lt =
       let d = item_at ran.setup.job.nodes node lt in
-      let f : Func = func_for ran row node d.0.func (length ran.setup.requests) in
-      let alike : AreAlike d.0.func f = table_alike row node d.0 (length ran.setup.requests) d.1 in
+      let (f, is, alike) = tables.gives row node d.0 d.1 in
       record {
         def = d.0;
         node_is = d.1;
-        func_is = ap (func_for_node ran row node) d.1;
+        func = f;
+        func_is = is;
         alike = alike;
-        ports = alike_ports ran.setup.job.edges node d.0.func f alike (g.wired.ports node d.0 d.1);
+        ports = alike.ports (g.wired.ports node d.0 d.1);
         no_count = alike.count ∙ at_of_all (λ (def : NodeDef). is_count def.func ≡ false) d.0 ran.setup.job.nodes none (in_of_place d.0 ran.setup.job.nodes node d.1);
       }
 
@@ -156,38 +152,38 @@ module _ (rows : List Row) (ran : Ran) (g : Running rows ran) (none : HasNoCount
       λ i. record { sink = node; row = row i; fields = fields i }
 
   pub lands_same : (row k n node : ℕ) (t u : Tuple) → bare_tuple t ≡ bare_tuple u → node < length ran.setup.job.nodes → length ran.setup.job.nodes ≤ k + g.wired.rank node
-      → length ran.setup.job.nodes ≤ n + g.wired.rank node → lands ran.setup.job (table ran row) k node t ≡ lands ran.setup.job (table ran row) n node u
+      → length ran.setup.job.nodes ≤ n + g.wired.rank node → lands ran.setup.job (T row) k node t ≡ lands ran.setup.job (T row) n node u
   lands_same row zero n node t u a lt p q = let l = g.wired.below node lt in absurd (omega arith)
   lands_same row (suc k) zero node t u a lt p q = let l = g.wired.below node lt in absurd (omega arith)
   lands_same row (suc k) (suc n) node t u a lt p q =
       go (has_func row node lt) (λ e o p' up lt' same. lands_same row k n e o p' same lt' (omega arith) (omega arith))
     where
-      go : HasFunc ran row node
+      go : HasFunc ran T row node
           → ((to : ℕ) (o p : Tuple) → g.wired.rank node < g.wired.rank to → to < length ran.setup.job.nodes → bare_tuple o ≡ bare_tuple p
-          → lands ran.setup.job (table ran row) k to o ≡ lands ran.setup.job (table ran row) n to p)
-          → lands ran.setup.job (table ran row) (suc k) node t ≡ lands ran.setup.job (table ran row) (suc n) node u
-      go h later = by_kind (is_sink (func_for ran row node h.def.func (length ran.setup.requests))) refl
+          → lands ran.setup.job (T row) k to o ≡ lands ran.setup.job (T row) n to p)
+          → lands ran.setup.job (T row) (suc k) node t ≡ lands ran.setup.job (T row) (suc n) node u
+      go h later = by_kind (is_sink h.func) refl
         where
-          onward_same : (o p : Output) → IsIn o (step ran.setup.job (bare_visit node) (func_for ran row node h.def.func (length ran.setup.requests)) empty t).1 → bare o ≡ bare p
-              → behind ran.setup.job (table ran row) k node o ≡ behind ran.setup.job (table ran row) n node p
+          onward_same : (o p : Output) → IsIn o (step ran.setup.job (bare_visit node) h.func empty t).1 → bare o ≡ bare p
+              → behind ran.setup.job (T row) k node o ≡ behind ran.setup.job (T row) n node p
           onward_same o p i b =
-              let e : HasPortEdge ran.setup.job.edges node o.port 0 = output_edge (bare_visit node) (func_for ran row node h.def.func (length ran.setup.requests)) empty t o h.ports i in
+              let e : HasPortEdge ran.setup.job.edges node o.port 0 = output_edge (bare_visit node) h.func empty t o h.ports i in
               let up = edge_up node o.port e in
               let port : o.port ≡ p.port = ap (λ (x : Output). x.port) b in
-              ap (λ f. onward (lands ran.setup.job (table ran row) k) f o.tuple) e.found
+              ap (λ f. onward (lands ran.setup.job (T row) k) f o.tuple) e.found
               ∙ (later e.edge.to o.tuple p.tuple up.0 up.1 (ap (λ (x : Output). x.tuple) b)
-              ∙ ap (λ f. onward (lands ran.setup.job (table ran row) n) f p.tuple) (sym (ap (λ x. first_on node x (enumerate_from 0 ran.setup.job.edges)) (sym port) ∙ e.found)))
+              ∙ ap (λ f. onward (lands ran.setup.job (T row) n) f p.tuple) (sym (ap (λ x. first_on node x (enumerate_from 0 ran.setup.job.edges)) (sym port) ∙ e.found)))
 
-          by_kind : (b : Bool) → is_sink (func_for ran row node h.def.func (length ran.setup.requests)) ≡ b
-              → lands ran.setup.job (table ran row) (suc k) node t ≡ lands ran.setup.job (table ran row) (suc n) node u
+          by_kind : (b : Bool) → is_sink h.func ≡ b
+              → lands ran.setup.job (T row) (suc k) node t ≡ lands ran.setup.job (T row) (suc n) node u
           by_kind true s =
-              lands-sink ran.setup.job (table ran row) k node t (func_for ran row node h.def.func (length ran.setup.requests)) h.func_is s
+              lands-sink ran.setup.job (T row) k node t h.func h.func_is s
               ∙ (ap (λ (l : Landing). l ∷ []) (landing_alike node t u a)
-              ∙ sym (lands-sink ran.setup.job (table ran row) n node u (func_for ran row node h.def.func (length ran.setup.requests)) h.func_is s))
+              ∙ sym (lands-sink ran.setup.job (T row) n node u h.func h.func_is s))
           by_kind false s =
-              lands-outputs ran.setup.job (table ran row) k node t (func_for ran row node h.def.func (length ran.setup.requests)) h.func_is s
-              ∙ (joined_alike (behind ran.setup.job (table ran row) k node) (behind ran.setup.job (table ran row) n node)
-              (step ran.setup.job (bare_visit node) (func_for ran row node h.def.func (length ran.setup.requests)) empty t).1
-              (step ran.setup.job (bare_visit node) (func_for ran row node h.def.func (length ran.setup.requests)) empty u).1
-              (outputs_alike ran.setup.job (bare_visit node) node (func_for ran row node h.def.func (length ran.setup.requests)) empty t u refl h.no_count a) onward_same
-              ∙ sym (lands-outputs ran.setup.job (table ran row) n node u (func_for ran row node h.def.func (length ran.setup.requests)) h.func_is s))
+              lands-outputs ran.setup.job (T row) k node t h.func h.func_is s
+              ∙ (joined_alike (behind ran.setup.job (T row) k node) (behind ran.setup.job (T row) n node)
+              (step ran.setup.job (bare_visit node) h.func empty t).1
+              (step ran.setup.job (bare_visit node) h.func empty u).1
+              (outputs_alike ran.setup.job (bare_visit node) node h.func empty t u refl h.no_count a) onward_same
+              ∙ sym (lands-outputs ran.setup.job (T row) n node u h.func h.func_is s))

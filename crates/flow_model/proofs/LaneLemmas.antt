@@ -1,14 +1,16 @@
 -- The lanes of a job, by their numbers.
-use Rattle.std.proofs.Common.{◌≡◌, ◌∙◌, ◌+◌, ◌==◌, ◌&&◌, ℕ, zero, suc, List, [], ◌∷◌, inl, inr, refl, sym, subst, ap, arith, true, false, Bool, cond, map, filter, Some, None, Option, slice_get}
+use Rattle.std.proofs.Common.{◌≡◌, ◌∙◌, ◌+◌, ◌==◌, ◌&&◌, ℕ, zero, suc, List, [], ◌∷◌, inl, inr, refl, sym, subst, ap, arith, true, false, Bool, cond, map, filter, Some, None, Option, option_map, slice_get}
 use Rattle.std.specs.List.{enumerate_from}
 use Rattle.std.proofs.lemmas.Bool.{and_parts, eq-eqb, eqb-true}
 use Rattle.std.proofs.lemmas.Option.{same_Some}
 use Rattle.flow_dag.specs.declared.edge.Edge.{Edge}
 use Rattle.jobs.specs.Nodes.{is_source_node}
 use Rattle.jobs.specs.Written.{Written}
+use Rattle.tuple_trace.specs.declared.tuple.Tuple.{Tuple}
 use Rattle.flow_model.specs.Covers.{covers_edge}
-use Rattle.flow_model.specs.Lanes.{is_same_lane, is_same_sender, is_sender, lanes, lanes_in, lanes_of, lanes_that, marked_lanes, senders}
-use Rattle.flow_model.specs.Outline.{Lane, Outline, Post}
+use Rattle.flow_model.specs.Lanes.{first_on, is_same_lane, is_same_sender, is_sender, lane_along, lane_of, lanes, lanes_in, lanes_of, lanes_that, marked_lanes, receiver_of, senders}
+use Rattle.flow_model.specs.declared.topology.Lane.{Lane}
+use Rattle.flow_model.specs.Outline.{Outline, Post}
 use Rattle.flow_model.specs.Workers.{posts, posts_of}
 use Rattle.flow_model.proofs.ElementLemmas.{AreDistinct, IsIn, distinct_by_place, distinct_flat_map, distinct_map, filter_in, flat_map_in, in_filter, in_flat_map, in_map, in_of_place, map_in, place_of_in, same_place}
 use Rattle.flow_model.proofs.WorkerLemmas.{IsWorker, in_posts, in_posts_of, posts_of_distinct, same_post}
@@ -85,6 +87,43 @@ lane_of_edge job i edge sender post g s r =
     (enumerate_in 0 job.edges i i edge g (omega arith)) (
     flat_map_in (lanes_from job i edge) sender (record { edge = i; sender = sender; receiver = post.number }) (senders job edge.from) s (
     map_in {B = Lane} (λ (post : Post). record { edge = i; sender = sender; receiver = post.number }) post (posts_of job edge.to) r)))
+
+-- ---- the edge of a tuple's lane
+
+first_on_is : (node port first : ℕ) (edges : List Edge) (found : ℕ × Edge) → first_on node port (enumerate_from first edges) ≡ Some found
+    → IsIn found (enumerate_from first edges) × (found.1.from ≡ node) × (found.1.port ≡ port)
+first_on_is node port first [] found h = absurd (cc)
+first_on_is node port first (e ∷ more) found h = go (e.from == node && e.port == port) refl (first_on_is node port (first + 1) more found) h
+  where
+    go : (b : Bool) → (e.from == node && e.port == port) ≡ b
+        → (first_on node port (enumerate_from (first + 1) more) ≡ Some found → IsIn found (enumerate_from (first + 1) more) × (found.1.from ≡ node) × (found.1.port ≡ port))
+        → cond b (Some (first, e)) (first_on node port (enumerate_from (first + 1) more)) ≡ Some found
+        → IsIn found ((first, e) ∷ enumerate_from (first + 1) more) × (found.1.from ≡ node) × (found.1.port ≡ port)
+    go true is f h =
+        let same : ◌≡◌ {A = ℕ × Edge} (first, e) found = same_Some {A = ℕ × Edge} (first, e) found h in
+        let edge : e ≡ found.1 = ap (λ (p : ℕ × Edge). p.1) same in
+        let parts = and_parts (e.from == node) (e.port == port) is in
+        (inl (sym same), sym (ap (λ (x : Edge). x.from) edge) ∙ eqb-true e.from node parts.0, sym (ap (λ (x : Edge). x.port) edge) ∙ eqb-true e.port port parts.1)
+    go false is f h = let r = f h in (inr r.0, r.1, r.2)
+
+-- a tuple that is put on a port goes along an edge of that port
+pub lane_by_port : (job : Written) (sender : Option ℕ) (node port : ℕ) (t : Tuple) (lane : Lane) → lane_of job sender node port t ≡ Some lane
+    → (edge : Edge) × (slice_get job.edges lane.edge ≡ Some edge) × (edge.from ≡ node) × (edge.port ≡ port)
+lane_by_port job sender node port t lane h = go (first_on node port (enumerate_from 0 job.edges)) refl h
+  where
+    go : (o : Option (ℕ × Edge)) → first_on node port (enumerate_from 0 job.edges) ≡ o → lane_along job sender o t ≡ Some lane
+        → (edge : Edge) × (slice_get job.edges lane.edge ≡ Some edge) × (edge.from ≡ node) × (edge.port ≡ port)
+    go None e h = absurd (cc)
+    go (Some found) e h =
+        let p = first_on_is node port 0 job.edges found e in
+        let q = in_enumerate 0 job.edges found p.0 in
+        let number : found.0 ≡ lane.edge = by_receiver (receiver_of job found.1 t) h in
+        let at : q.0 ≡ lane.edge = omega (arith, q.1, number) in
+        (found.1, subst (λ k. slice_get job.edges k ≡ Some found.1) at q.2, p.1, p.2)
+      where
+        by_receiver : (o : Option Post) → option_map (λ (post : Post). record { edge = found.0; sender = sender; receiver = post.number }) o ≡ Some lane → found.0 ≡ lane.edge
+        by_receiver None h = absurd (cc)
+        by_receiver (Some post) h = ap (λ (l : Lane). l.edge) (same_Some {A = Lane} (record { edge = found.0; sender = sender; receiver = post.number }) lane h)
 
 -- ---- no two lanes are the same
 
@@ -214,3 +253,27 @@ marked_lane setup post n request k c =
 pub sender_is : (worker : ℕ) (o : Option ℕ) → is_sender worker o ≡ true → o ≡ Some worker
 sender_is worker None e = absurd (cc)
 sender_is worker (Some s) e = ap Some (eqb-true s worker e)
+
+-- ---- senders
+
+-- the feeder sends at sources alone
+pub sender_source : (job : Written) (node : ℕ) → IsIn None (senders job node) → is_source_node (slice_get job.nodes node) ≡ true
+sender_source job node = go (is_source_node (slice_get job.nodes node))
+  where
+    go : (b : Bool) → IsIn None (cond b (None ∷ []) (map (λ (post : Post). Some post.number) (posts_of job node))) → b ≡ true
+    go true i = refl
+    go false i = let r = in_map (λ (post : Post). Some post.number) None (posts_of job node) i in let e = r.2 in absurd (cc)
+
+-- the sender that isn't the feeder is a worker of the node
+pub sender_worker : (job : Written) (node w : ℕ) → IsIn (Some w) (senders job node) → (post : Post) × (slice_get (posts job) w ≡ Some post) × (post.number ≡ w) × (post.node ≡ node)
+sender_worker job node w = go (is_source_node (slice_get job.nodes node))
+  where
+    go : (b : Bool) → IsIn (Some w) (cond b (None ∷ []) (map (λ (post : Post). Some post.number) (posts_of job node)))
+        → (post : Post) × (slice_get (posts job) w ≡ Some post) × (post.number ≡ w) × (post.node ≡ node)
+    go true (inl e) = absurd (cc)
+    go true (inr i) = absurd i
+    go false i =
+        let (post, among, is) = in_map (λ (post : Post). Some post.number) (Some w) (posts_of job node) i in
+        let of = in_posts_of job node post among in
+        let number : post.number ≡ w = sym (same_Some w post.number is) in
+        (post, subst (λ (k : ℕ). slice_get (posts job) k ≡ Some post) number (in_posts job post of.0).there, number, of.1)

@@ -1,5 +1,6 @@
 pub mod PostLemmas
 pub mod PlanLemmas
+pub mod GatheredLemmas
 pub mod JournalLemmas
 pub mod PointLemmas
 pub mod EachLemmas
@@ -15,6 +16,17 @@ pub mod StoryLemmas
 pub mod MarkerLemmas
 pub mod JobLemmas
 pub mod PlannedLemmas
+pub mod LeastLemmas
+pub mod HeadLemmas
+pub mod FewLanes
+pub mod PieceLemmas
+pub mod PostPlaces
+pub mod LaneNumbers
+pub mod SizeLemmas
+pub mod TopologyLemmas
+pub mod CoverLemmas
+pub mod ChangeLemmas
+pub mod DueLemmas
 pub mod AgreementLemmas
 pub mod SendingLemmas
 pub mod WorkerLawLemmas
@@ -34,4 +46,5 @@ pub mod FlowLemmas
 pub mod TableLemmas
 pub mod LandingLemmas
 pub mod OneTableLemmas
+pub mod SerialLemmas
 pub mod PremiseLemmas

@@ -1,9 +1,9 @@
--- What came to the sinks of a run is what its rows make by themselves, each with the functions of its table.
+-- What came to the sinks of a run is what its rows make by themselves, each with a table of the functions that were in force where it was met.
 use Rattle.std.proofs.Common.{◌≡◌, ◌∙◌, ◌<◌, ◌≤◌, ◌+◌, ◌-◌, ◌++◌, ◌==◌, ℕ, zero, suc, List, [], ◌∷◌, inl, refl, sym, subst, ap, arith, true, false, Bool, cond, is_none, length, map, flat_map, count_by, nat_le, Some, None, Option, slice_get, append_assoc}
 use Rattle.std.specs.FinMap.{empty}
 use Rattle.std.specs.List.{cons_option, enumerate_from}
 use Rattle.std.proofs.lemmas.Bool.{eq-eqb}
-use Rattle.std.proofs.lemmas.Option.{slice_get_within}
+use Rattle.std.proofs.lemmas.Option.{same_Some, slice_get_within}
 use Rattle.jobs.specs.Nodes.{AreFromSources, IsSourceOf, is_source_node}
 use Rattle.jobs.specs.Ports.{are_ports}
 use Rattle.jobs.specs.Written.{Written}
@@ -23,29 +23,31 @@ use Rattle.tuple_trace.specs.declared.row.Row.{Row}
 use Rattle.tuple_trace.specs.declared.tuple.Item.{Item}
 use Rattle.tuple_trace.specs.declared.tuple.Item.TheVariants as item
 use Rattle.tuple_trace.specs.declared.tuple.Tuple.{Tuple}
+use Rattle.versions.specs.declared.request.Change.{Change}
 use Rattle.flow_model.specs.declared.landing.Landing.{Landing}
-use Rattle.flow_model.specs.Alone.{alone, bare_visit, func_for, is_sink, landing, lands, onward, table}
+use Rattle.flow_model.specs.Alone.{alone, bare_visit, func_for, func_for_node, is_sink, landing, lands, onward, table}
 use Rattle.flow_model.specs.Feeding.{fed_put, fed_puts, fed_tuple, feed_after, issued_after, issued_at_first, row_at}
 use Rattle.flow_model.specs.Lanes.{first_on, is_sender, lane_of, lanes, senders}
-use Rattle.flow_model.specs.OneTable.{HasNoCounts, IsOneTable, landings, landings_alone, landings_by}
-use Rattle.flow_model.specs.Outline.{Lane, Outline, Post}
+use Rattle.flow_model.specs.OneTable.{HasNoCounts, IsOneTable, landings, landings_by}
+use Rattle.flow_model.specs.declared.topology.Lane.{Lane}
+use Rattle.flow_model.specs.Outline.{Outline, Post}
 use Rattle.flow_model.specs.Replay.{Local, Put, after, put_out, puts, visit_at}
-use Rattle.flow_model.specs.Requests.{afters}
+use Rattle.flow_model.specs.Requests.{afters, change_of, func_with}
 use Rattle.flow_model.specs.Run.{Ran}
-use Rattle.flow_model.specs.Whole.{journals_at, met_tuples}
+use Rattle.flow_model.specs.Whole.{is_new, journals_at, met_tuples}
 use Rattle.flow_model.specs.Workers.{posts, posts_of}
 use Rattle.flow_model.proofs.ElementLemmas.{IsIn, at_of_all, in_flat_map, in_map, in_of_place, map_in, place_of_in}
 use Rattle.flow_model.proofs.WorkerLemmas.{IsWorker, begun, in_posts, journal_of, post_is, post_of, posts_of_in, worker_is}
 use Rattle.flow_model.proofs.StoryLemmas.{Moment, story, story_get}
 use Rattle.flow_model.proofs.SendingLemmas.{ComesOf, made, puts_come}
-use Rattle.flow_model.proofs.KindLemmas.{AreAlike, alike_ports, alike_self, alike_then}
+use Rattle.flow_model.proofs.KindLemmas.{AreAlike, alike_self, alike_then, changed_alike}
 use Rattle.flow_model.proofs.RunLemmas.{HasWorker, Running, in_fed_puts, journal_here}
 use Rattle.flow_model.proofs.KinLemmas.{puts_of, story_of}
 use Rattle.flow_model.proofs.FreshLemmas.{past_issued}
 use Rattle.flow_model.proofs.SumLemmas.{count_append, count_flat_map, count_one, count_sum, if_none, of_some, sum_add, sum_append, sum_filter_map, sum_flat_map, sum_map, sum_none, sum_over, sum_same}
 use Rattle.flow_model.proofs.FitLemmas.{GoesOn, goes_on, source_port}
 use Rattle.flow_model.proofs.FlowLemmas.{PutsFit, all_puts, entry_weight, flow, lane_to, node_to, put_weight, weigh}
-use Rattle.flow_model.proofs.LandingLemmas.{HasFunc, behind, has_func, lands-outputs, lands-sink, lands_same, outputs_alike, sum_alike}
+use Rattle.flow_model.proofs.LandingLemmas.{AreTables, HasFunc, behind, has_func, lands-outputs, lands-sink, lands_same, outputs_alike, sum_alike}
 use Rattle.flow_model.proofs.TableLemmas.{by_table}
 
 sinks_make_none : (job : Written) (post : Post) (local : Local) (t : Tuple) → is_sink local.func ≡ true → (step job (visit_at post local) local.func local.counts t).1 ≡ []
@@ -68,21 +70,21 @@ weight_on V job sender node port t u k =
     let to : lane_to job k.lane ≡ k.edge.to = ap node_to (ap (slice_get job.edges) k.edge_number ∙ k.edge_is) in
     ap (of_some (λ (lane : Lane). V (lane_to job lane) u)) k.lane_is ∙ ap (λ v. V v u) to
 
-module _ (rows : List Row) (ran : Ran) (g : Running rows ran) (none : HasNoCounts ran.setup.job) (sources : AreFromSources ran.setup.job rows) (test : Landing → Bool) where
+module _ (rows : List Row) (ran : Ran) (g : Running rows ran) (none : HasNoCounts ran.setup.job) (sources : AreFromSources ran.setup.job rows) (T : ℕ → ℕ → Option Func) (tables : AreTables ran T) (test : Landing → Bool) where
   -- how many nodes a way from this one on has at most
   abbrev left_at : ℕ → ℕ
   left_at node = length ran.setup.job.nodes - g.wired.rank node
 
   -- how many landings of a tuple at a node pass the test
   abbrev V : ℕ → Tuple → ℕ
-  V node t = count_by test (lands ran.setup.job (table ran t.row) (left_at node) node t)
+  V node t = count_by test (lands ran.setup.job (T t.row) (left_at node) node t)
 
   -- as many as an alike tuple makes, over no fewer nodes
   V_is : (row n node : ℕ) (t u : Tuple) → t.row ≡ row → bare_tuple t ≡ bare_tuple u → node < length ran.setup.job.nodes → length ran.setup.job.nodes ≤ n + g.wired.rank node
-      → V node t ≡ count_by test (lands ran.setup.job (table ran row) n node u)
+      → V node t ≡ count_by test (lands ran.setup.job (T row) n node u)
   V_is row n node t u e a lt le =
-      ap (λ r. count_by test (lands ran.setup.job (table ran r) (left_at node) node t)) e
-      ∙ ap (count_by test) (lands_same rows ran g none row (left_at node) n node t u a lt (omega arith) le)
+      ap (λ r. count_by test (lands ran.setup.job (T r) (left_at node) node t)) e
+      ∙ ap (count_by test) (lands_same rows ran g none T tables row (left_at node) n node t u a lt (omega arith) le)
 
   -- ---- a worker's moments
 
@@ -93,24 +95,23 @@ module _ (rows : List Row) (ran : Ran) (g : Running rows ran) (none : HasNoCount
     number : (post_of ran.setup w).number ≡ w
     i : ℕ
     there : slice_get (story_of ran w) i ≡ Some m
-    alike : AreAlike (post_of ran.setup w).func m.local.func
+    alike : AreAlike ran.setup.job.edges (post_of ran.setup w).node (post_of ran.setup w).func m.local.func
     ports : are_ports ran.setup.job.edges (post_of ran.setup w).node m.local.func ≡ true
 
   at_work : (w : ℕ) (m : Moment) → HasWorker ran w → IsIn m (story_of ran w) → AtWork w m
   at_work w m lt h =
       let is : IsWorker ran.setup.job (post_of ran.setup w) = (worker_is ran.setup w lt).1 in
       let i = place_of_in m (story_of ran w) h in
-      let alike : AreAlike is.def.func m.local.func =
-      alike_then ran.setup (post_of ran.setup w) is.def (begun ran.setup w) (journal_of ran w) i.0 m g.kinds is.node_is
-      (subst (λ (f : Func). AreAlike is.def.func f) (sym is.func_is) (alike_self is.def.func)) i.1 in
+      let alike : AreAlike ran.setup.job.edges (post_of ran.setup w).node is.def.func m.local.func =
+      alike_then ran.setup (post_of ran.setup w) is.def (begun ran.setup w) (journal_of ran w) i.0 m g.kinds is.node_is (sym is.func_is) i.1 in
       record {
         is = is;
         within = lt;
         number = (worker_is ran.setup w lt).0;
         i = i.0;
         there = i.1;
-        alike = subst (λ (f : Func). AreAlike f m.local.func) (sym is.func_is) alike;
-        ports = alike_ports ran.setup.job.edges (post_of ran.setup w).node is.def.func m.local.func alike (g.wired.ports (post_of ran.setup w).node is.def is.node_is);
+        alike = subst (λ (f : Func). AreAlike ran.setup.job.edges (post_of ran.setup w).node f m.local.func) (sym is.func_is) alike;
+        ports = alike.ports (g.wired.ports (post_of ran.setup w).node is.def is.node_is);
       }
 
   sends : (w : ℕ) → IsWorker ran.setup.job (post_of ran.setup w) → IsIn (Some (post_of ran.setup w).number) (senders ran.setup.job (post_of ran.setup w).node)
@@ -192,7 +193,7 @@ module _ (rows : List Row) (ran : Ran) (g : Running rows ran) (none : HasNoCount
   -- an output weighs what becomes of it
   out_weighs : (w l : ℕ) (m : Moment) (u : Tuple) (n : ℕ) (o p : Output) → AtWork w m → length ran.setup.job.nodes ≤ suc n + g.wired.rank (post_of ran.setup w).node
       → IsIn o (made ran.setup (post_of ran.setup w) m.local u) → bare o ≡ bare p
-      → put_weight V ran.setup.job (put_out ran.setup.job (post_of ran.setup w) o) ≡ count_by test (behind ran.setup.job (table ran u.row) n (post_of ran.setup w).node p)
+      → put_weight V ran.setup.job (put_out ran.setup.job (post_of ran.setup w) o) ≡ count_by test (behind ran.setup.job (T u.row) n (post_of ran.setup w).node p)
   out_weighs w l m u n o p a le i b =
       let on : GoesOn ran.setup.job (Some (post_of ran.setup w).number) (post_of ran.setup w).node o.port o.tuple = out_goes w m u o a i in
       let k = place_of_in o (made ran.setup (post_of ran.setup w) m.local u) i in
@@ -205,7 +206,7 @@ module _ (rows : List Row) (ran : Ran) (g : Running rows ran) (none : HasNoCount
       ap (λ x. first_on (post_of ran.setup w).node x (enumerate_from 0 ran.setup.job.edges)) (sym port) ∙ on.found in
       weight_on V ran.setup.job (Some (post_of ran.setup w).number) (post_of ran.setup w).node o.port o.tuple o.tuple on
       ∙ (V_is u.row n on.edge.to o.tuple p.tuple of.row (ap (λ (x : Output). x.tuple) b) (g.wired.ends on.number on.edge on.edge_is).1 (omega arith)
-      ∙ ap (λ f. count_by test (onward (lands ran.setup.job (table ran u.row) n) f p.tuple)) (sym found))
+      ∙ ap (λ f. count_by test (onward (lands ran.setup.job (T u.row) n) f p.tuple)) (sym found))
 
   met_keeps : (w l : ℕ) (m : Moment) (u : Tuple) → AtWork w m → m.entry ≡ entry.Met l u
       → sum_over (put_weight V ran.setup.job) (puts ran.setup (post_of ran.setup w) m.local (entry.Met l u)) ≡ kept_at w (entry.Met l u)
@@ -219,16 +220,14 @@ module _ (rows : List Row) (ran : Ran) (g : Running rows ran) (none : HasNoCount
       inside : (post_of ran.setup w).node < length ran.setup.job.nodes
       inside = slice_get_within ran.setup.job.nodes (post_of ran.setup w).node a.is.def a.is.node_is
 
-      has : HasFunc ran u.row (post_of ran.setup w).node
-      has = has_func rows ran g none u.row (post_of ran.setup w).node inside
+      has : HasFunc ran T u.row (post_of ran.setup w).node
+      has = has_func rows ran g none T tables u.row (post_of ran.setup w).node inside
 
-      table_func : m.local.func ≡ func_for ran u.row (post_of ran.setup w).node has.def.func (length ran.setup.requests)
+      table_func : m.local.func ≡ has.func
       table_func =
-          let x = has.node_is in
-          let y = a.is.node_is in
-          let same : a.is.def ≡ has.def = cc in
-          by_table rows ran g w a.within a.i l u m a.there (story_get ran.setup (post_of ran.setup w) (begun ran.setup w) (journal_of ran w) a.i m a.there ∙ ap Some e)
-          ∙ ap (λ (f : Func). func_for ran u.row (post_of ran.setup w).node f (length ran.setup.requests)) (a.is.func_is ∙ ap (λ (d : NodeDef). d.func) same)
+          let x = tables.in_force w a.i l u m a.within a.there (story_get ran.setup (post_of ran.setup w) (begun ran.setup w) (journal_of ran w) a.i m a.there ∙ ap Some e) in
+          let y = has.func_is in
+          same_Some m.local.func has.func (sym x ∙ y)
 
       by_kind : (b : Bool) → is_sink (post_of ran.setup w).func ≡ b → (n : ℕ) → left_at (post_of ran.setup w).node ≡ n
           → sum_over (λ (o : Output). put_weight V ran.setup.job (put_out ran.setup.job (post_of ran.setup w) o)) (made ran.setup (post_of ran.setup w) m.local u)
@@ -237,7 +236,7 @@ module _ (rows : List Row) (ran : Ran) (g : Running rows ran) (none : HasNoCount
           ap (sum_over (λ (o : Output). put_weight V ran.setup.job (put_out ran.setup.job (post_of ran.setup w) o))) (sinks_make_none ran.setup.job (post_of ran.setup w) m.local u (a.alike.sink ∙ s))
       by_kind false s zero d = let low = g.wired.below (post_of ran.setup w).node inside in absurd (omega arith)
       by_kind false s (suc n) d =
-          let f : Func = func_for ran u.row (post_of ran.setup w).node has.def.func (length ran.setup.requests) in
+          let f : Func = has.func in
           let no_sink : is_sink f ≡ false = ap is_sink (sym table_func) ∙ (a.alike.sink ∙ s) in
           let these : map bare (made ran.setup (post_of ran.setup w) m.local u) ≡ map bare (step ran.setup.job (bare_visit (post_of ran.setup w).node) f empty u).1 =
           subst (λ (h : Func). map bare (step ran.setup.job (visit_at (post_of ran.setup w) m.local) h m.local.counts u).1 ≡ map bare (step ran.setup.job (bare_visit (post_of ran.setup w).node) f empty u).1) (sym table_func)
@@ -245,12 +244,12 @@ module _ (rows : List Row) (ran : Ran) (g : Running rows ran) (none : HasNoCount
           let below = g.wired.below (post_of ran.setup w).node inside in
           let enough : length ran.setup.job.nodes ≤ suc n + g.wired.rank (post_of ran.setup w).node = omega arith in
           sum_alike (λ (o : Output). put_weight V ran.setup.job (put_out ran.setup.job (post_of ran.setup w) o))
-          (λ (p : Output). count_by test (behind ran.setup.job (table ran u.row) n (post_of ran.setup w).node p))
+          (λ (p : Output). count_by test (behind ran.setup.job (T u.row) n (post_of ran.setup w).node p))
           (made ran.setup (post_of ran.setup w) m.local u) (step ran.setup.job (bare_visit (post_of ran.setup w).node) f empty u).1 these
           (λ o p i b. out_weighs w l m u n o p a enough i b)
-          ∙ (sym (count_flat_map test (behind ran.setup.job (table ran u.row) n (post_of ran.setup w).node) (step ran.setup.job (bare_visit (post_of ran.setup w).node) f empty u).1)
-          ∙ (ap (count_by test) (sym (lands-outputs ran.setup.job (table ran u.row) n (post_of ran.setup w).node u f has.func_is no_sink))
-          ∙ ap (λ k. count_by test (lands ran.setup.job (table ran u.row) k (post_of ran.setup w).node u)) (sym d)))
+          ∙ (sym (count_flat_map test (behind ran.setup.job (T u.row) n (post_of ran.setup w).node) (step ran.setup.job (bare_visit (post_of ran.setup w).node) f empty u).1)
+          ∙ (ap (count_by test) (sym (lands-outputs ran.setup.job (T u.row) n (post_of ran.setup w).node u f has.func_is no_sink))
+          ∙ ap (λ k. count_by test (lands ran.setup.job (T u.row) k (post_of ran.setup w).node u)) (sym d)))
 
   no_mark : (r cover node : ℕ) (x : Item) → x ≡ item.Mark r cover → weigh V node x ≡ 0
   no_mark r cover node x e = ap (weigh V node) e
@@ -296,7 +295,7 @@ module _ (rows : List Row) (ran : Ran) (g : Running rows ran) (none : HasNoCount
   -- ---- what is fed weighs what the rows make by themselves
 
   abbrev row_weight : Row → ℕ
-  row_weight row = count_by test (alone ran.setup.job (table ran row.tuple.row) row)
+  row_weight row = count_by test (alone ran.setup.job (T row.tuple.row) row)
 
   fed_weighs : (number issued : ℕ) (row : Row) → row_at rows number ≡ Some row → sum_over (put_weight V ran.setup.job) (fed_put ran.setup.job issued (Some row)) ≡ row_weight row
   fed_weighs number issued row e =
@@ -304,7 +303,7 @@ module _ (rows : List Row) (ran : Ran) (g : Running rows ran) (none : HasNoCount
       let a : put_weight V ran.setup.job (record { lane = lane_of ran.setup.job None row.source 0 row.tuple; item = item.Carry (fed_tuple issued row) }) ≡ row_weight row =
       weight_on V ran.setup.job None row.source 0 row.tuple (fed_tuple issued row) on
       ∙ (V_is row.tuple.row (length ran.setup.job.nodes) on.edge.to (fed_tuple issued row) row.tuple refl refl (g.wired.ends on.number on.edge on.edge_is).1 (omega arith)
-      ∙ ap (λ f. count_by test (onward (lands ran.setup.job (table ran row.tuple.row) (length ran.setup.job.nodes)) f row.tuple)) (sym on.found)) in
+      ∙ ap (λ f. count_by test (onward (lands ran.setup.job (T row.tuple.row) (length ran.setup.job.nodes)) f row.tuple)) (sym on.found)) in
       omega arith
 
   get_behind : (front more : List Row) (row : Row) → slice_get (front ++ row ∷ more) (length front) ≡ Some row
@@ -356,21 +355,21 @@ module _ (rows : List Row) (ran : Ran) (g : Running rows ran) (none : HasNoCount
   -- ---- what came to the sinks
 
   sink_weighs : (row_sink : Post) → IsWorker ran.setup.job row_sink → (t : Tuple) → is_sink row_sink.func ≡ true → V row_sink.node t ≡ cond (test (landing row_sink.node t)) 1 0
-  sink_weighs post is t s = go (has_func rows ran g none t.row post.node inside) (left_at post.node) refl
+  sink_weighs post is t s = go (has_func rows ran g none T tables t.row post.node inside) (left_at post.node) refl
     where
       inside : post.node < length ran.setup.job.nodes
       inside = slice_get_within ran.setup.job.nodes post.node is.def is.node_is
 
-      go : HasFunc ran t.row post.node → (n : ℕ) → left_at post.node ≡ n → count_by test (lands ran.setup.job (table ran t.row) (left_at post.node) post.node t) ≡ cond (test (landing post.node t)) 1 0
+      go : HasFunc ran T t.row post.node → (n : ℕ) → left_at post.node ≡ n → count_by test (lands ran.setup.job (T t.row) (left_at post.node) post.node t) ≡ cond (test (landing post.node t)) 1 0
       go h zero e = let low = g.wired.below post.node inside in absurd (omega arith)
       go h (suc n) e =
           let x = h.node_is in
           let y = is.node_is in
           let same : is.def ≡ h.def = cc in
-          let sink : is_sink (func_for ran t.row post.node h.def.func (length ran.setup.requests)) ≡ true =
+          let sink : is_sink h.func ≡ true =
           h.alike.sink ∙ (ap (λ (d : NodeDef). is_sink d.func) (sym same) ∙ (ap is_sink (sym is.func_is) ∙ s)) in
-          ap (λ k. count_by test (lands ran.setup.job (table ran t.row) k post.node t)) e
-          ∙ (ap (count_by test) (lands-sink ran.setup.job (table ran t.row) n post.node t (func_for ran t.row post.node h.def.func (length ran.setup.requests)) h.func_is sink)
+          ap (λ k. count_by test (lands ran.setup.job (T t.row) k post.node t)) e
+          ∙ (ap (count_by test) (lands-sink ran.setup.job (T t.row) n post.node t h.func h.func_is sink)
           ∙ count_one test (landing post.node t))
 
   sink_counts : (post : Post) → IsWorker ran.setup.job post → (journal : List Entry) → is_sink post.func ≡ true
@@ -404,7 +403,7 @@ module _ (rows : List Row) (ran : Ran) (g : Running rows ran) (none : HasNoCount
   halves true x = omega arith
   halves false x = omega arith
 
-  same_count : count_by test (landings ran) ≡ count_by test (landings_alone ran rows)
+  pub same_count : count_by test (landings ran) ≡ count_by test (flat_map (λ (row : Row). alone ran.setup.job (T row.tuple.row) row) rows)
   same_count =
       let met_at : Post → ℕ = λ (post : Post). sum_over (entry_weight V post.node) (journal_of ran post.number) in
       let at_sink : Post → ℕ = λ (post : Post). cond (is_sink post.func) (sum_over (entry_weight V post.node) (journal_of ran post.number)) 0 in
@@ -418,8 +417,34 @@ module _ (rows : List Row) (ran : Ran) (g : Running rows ran) (none : HasNoCount
       let lands_is : count_by test (landings ran) ≡ sum_over at_sink all =
       count_flat_map test (λ (post : Post). flat_map (landings_by post) (journals_at ran.journals (post ∷ []))) all
       ∙ sum_same (λ (post : Post). count_by test (flat_map (landings_by post) (journals_at ran.journals (post ∷ [])))) at_sink all worker_lands in
-      let alone_is : count_by test (landings_alone ran rows) ≡ sum_over row_weight rows = count_flat_map test (λ (row : Row). alone ran.setup.job (table ran row.tuple.row) row) rows in
+      let alone_is : count_by test (flat_map (λ (row : Row). alone ran.setup.job (T row.tuple.row) row) rows) ≡ sum_over row_weight rows = count_flat_map test (λ (row : Row). alone ran.setup.job (T row.tuple.row) row) rows in
       omega (arith, flows, made_is, parts, lands_is, alone_is, feed_weighs)
 
+-- the functions that a row met are such a table
+table_alike : (rows : List Row) (ran : Ran) (g : Running rows ran) (row node : ℕ) (def : NodeDef) (r : ℕ) → slice_get ran.setup.job.nodes node ≡ Some def
+    → AreAlike ran.setup.job.edges node def.func (func_for ran row node def.func r)
+table_alike rows ran g row node def zero there = alike_self ran.setup.job.edges node def.func
+table_alike rows ran g row node def (suc r) there = go (is_new ran (suc r) row) (table_alike rows ran g row node def r there)
+  where
+    with_change : (o : Option Change) → change_of ran.setup (suc r) node ≡ o → AreAlike ran.setup.job.edges node def.func (func_for ran row node def.func r)
+        → AreAlike ran.setup.job.edges node def.func (func_with o (func_for ran row node def.func r))
+    with_change None e a = a
+    with_change (Some change) e a = changed_alike ran.setup (suc r) node def change g.kinds there e
+
+    go : (b : Bool) → AreAlike ran.setup.job.edges node def.func (func_for ran row node def.func r)
+        → AreAlike ran.setup.job.edges node def.func (cond b (func_with (change_of ran.setup (suc r) node) (func_for ran row node def.func r)) (func_for ran row node def.func r))
+    go true a = with_change (change_of ran.setup (suc r) node) refl a
+    go false a = a
+
+met_tables : (rows : List Row) (ran : Ran) (g : Running rows ran) → AreTables ran (table ran)
+met_tables rows ran g = record {
+  gives = λ row node def there.
+      (func_for ran row node def.func (length ran.setup.requests), ap (func_for_node ran row node) there, table_alike rows ran g row node def (length ran.setup.requests) there);
+  in_force = λ w i l t m lt at met.
+      let is : IsWorker ran.setup.job (post_of ran.setup w) = (worker_is ran.setup w lt).1 in
+      ap (func_for_node ran t.row (post_of ran.setup w).node) is.node_is
+      ∙ ap Some (ap (λ (f : Func). func_for ran t.row (post_of ran.setup w).node f (length ran.setup.requests)) (sym is.func_is) ∙ sym (by_table rows ran g w lt i l t m at met));
+}
+
 pub one_table : (rows : List Row) (ran : Ran) (g : Running rows ran) → HasNoCounts ran.setup.job → AreFromSources ran.setup.job rows → IsOneTable rows ran
-one_table rows ran g none sources test = same_count rows ran g none sources test
+one_table rows ran g none sources test = same_count rows ran g none sources (table ran) (met_tables rows ran g) test

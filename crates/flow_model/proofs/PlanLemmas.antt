@@ -1,19 +1,18 @@
 -- Plans, one more at a time.
-use Rattle.std.proofs.Common.{◌≡◌, ◌<◌, ◌+◌, ◌++◌, ◌==◌, ℕ, inl, inr, true, List, [], ◌∷◌, length, Option, Some, None, refl, sym, ap, subst, ◌∙◌, arith}
-use Rattle.std.specs.Prelude.{All, slice_get, IsTrue, ◌↔◌}
-use Rattle.std.proofs.lemmas.List.Folds.{Any-from_list_any}
-use Rattle.std.proofs.lemmas.Bool.{cases_lt, eqb-true}
-use Rattle.std.proofs.lemmas.List.{length_push}
-use Rattle.std.proofs.lemmas.Option.{get_or_from_slice_get, slice_get-get_or, slice_get_within}
+use Rattle.std.proofs.Common.{◌≡◌, ◌<◌, ◌+◌, ◌++◌, ◌==◌, ◌≤◌, ◌↔◌, ℕ, zero, suc, inl, inr, true, false, Bool, take, List, [], ◌∷◌, length, Option, Some, None, refl, sym, ap, subst, ◌∙◌, arith}
+use Rattle.std.specs.Prelude.{All, slice_get, IsTrue, if◌then◌else◌}
+use Rattle.std.specs.List.{list_any}
+use Rattle.std.proofs.lemmas.Bool.{and_parts, cases_lt, eqb-true, or_cases}
+use Rattle.std.proofs.lemmas.List.{length_push, take-append-le, take_all}
+use Rattle.std.proofs.lemmas.Option.{slice_get_within}
 use Rattle.cover_planner.specs.declared.cover.Plan.{Plan}
-use Rattle.flow_dag.specs.declared.edge.Edge.{Edge}
 use Rattle.versions.specs.declared.request.Change.{Change}
 use Rattle.versions.specs.declared.request.Request.{Request}
-use Rattle.versions.specs.Judging.{may_replace, most_of}
+use Rattle.versions.specs.Judging.{leaves_once, may_replace}
 use Rattle.versions.specs.Kept.{KeepKinds, KeepsKind}
 use Rattle.cover_planner.specs.Members.{IsMember}
 use Rattle.flow_dag.specs.Edges.{HasEdge}
-use Rattle.jobs.specs.Nodes.{IsSourceOf, is_source, is_source_node, may_emit}
+use Rattle.jobs.specs.Nodes.{IsSourceOf, is_replicate, is_source, is_source_node, is_split}
 use Rattle.jobs.specs.declared.func.Func.{Func}
 use Rattle.jobs.specs.declared.func.Func.TheVariants as func
 use Rattle.jobs.specs.declared.func.NodeDef.{NodeDef}
@@ -22,9 +21,10 @@ use Rattle.cover_planner.specs.Plan.{IsPlan}
 use Rattle.jobs.specs.Written.{Written}
 use Rattle.versions.specs.Book.{is_named}
 use Rattle.flow_model.specs.Outline.{outline_of}
+use Rattle.flow_model.proofs.ElementLemmas.{IsIn, any_in, at_of_all, in_any, in_of_place}
 use Rattle.flow_model.proofs.PlaceLemmas.{append_get, get_left}
 use Rattle.flow_model.proofs.WorkerLemmas.{item_at, source_is}
-use Rattle.flow_model.specs.Planned.{ArePlansOf, IsPlanOf, IsPlanned, is_many, is_many_at}
+use Rattle.flow_model.specs.Planned.{ArePlansOf, IsPlanOf, IsPlanned, copies_at, is_made_split, is_named_by, is_planned, is_replicate_node, is_split_node, makes_split, names_node, splits_at}
 
 pushed-before : {A : Type 0} (xs : List A) (x : A) (k : ℕ) → k < length xs → slice_get (xs ++ x ∷ []) k ≡ slice_get xs k
 pushed-before xs x k lt = let r = item_at xs k lt in get_left xs (x ∷ []) k r.0 r.1 ∙ sym r.1
@@ -34,76 +34,157 @@ pushed-last xs x k e =
     let z : length xs + 0 ≡ k = omega (arith, e) in
     subst (λ (m : ℕ). slice_get (xs ++ x ∷ []) m ≡ Some x) z (append_get xs (x ∷ []) 0 x refl)
 
-pub ArePlansOf-push : (edges : List Edge) (many : ℕ) (requests : List Request) (plans : List Plan) (request : Request) (plan : Plan)
-    → ArePlansOf edges many requests plans → IsPlanOf edges many request plan → ArePlansOf edges many (requests ++ request ∷ []) (plans ++ plan ∷ [])
-ArePlansOf-push edges many requests plans request plan are is = record {
+-- ---- the set that is planned
+
+in_take : {A : Type 0} (n : ℕ) (xs : List A) (x : A) → IsIn x (take n xs) → IsIn x xs
+in_take zero xs x i = absurd i
+in_take (suc n) [] x i = absurd i
+in_take (suc n) (y ∷ xs) x (inl e) = inl e
+in_take (suc n) (y ∷ xs) x (inr i) = inr (in_take n xs x i)
+
+take_in : {A : Type 0} (n k : ℕ) (xs : List A) (x : A) → k < n → slice_get xs k ≡ Some x → IsIn x (take n xs)
+take_in zero k xs x lt g = absurd (omega arith)
+take_in (suc n) k [] x lt g = absurd (cc)
+take_in (suc n) zero (y ∷ xs) x lt g = inl (let e : y ≡ x = cc in sym e)
+take_in (suc n) (suc k) (y ∷ xs) x lt g = inr (take_in n k xs x (omega arith) g)
+
+-- one more request changes nothing for the earlier ones
+planned-before : (ordered : Bool) (requests : List Request) (request : Request) (r node : ℕ) → r < length requests
+    → is_planned ordered (requests ++ request ∷ []) r node ≡ is_planned ordered requests r node
+planned-before true requests request r node lt = ap (list_any (names_node node)) (take-append-le (r + 1) requests (request ∷ []) (omega arith))
+planned-before false requests request r node lt = ap (λ o. is_named_by o node) (pushed-before requests request r lt)
+
+-- what a request changes is planned for it, and for later ones where rows and requests have one order
+planned_own : (ordered : Bool) (requests : List Request) (r node : ℕ) (request : Request) → slice_get requests r ≡ Some request → names_node node request ≡ true
+    → is_planned ordered requests r node ≡ true
+planned_own true requests r node request g h = in_any (names_node node) request (take (r + 1) requests) (take_in (r + 1) r requests request (omega arith) g) h
+planned_own false requests r node request g h = rw g h
+
+planned_later : (ordered : Bool) → ordered ≡ true → (requests : List Request) (s r node : ℕ) (request : Request) → s ≤ r → slice_get requests s ≡ Some request → names_node node request ≡ true
+    → is_planned ordered requests r node ≡ true
+planned_later true o requests s r node request le g h = in_any (names_node node) request (take (r + 1) requests) (take_in (r + 1) s requests request (omega arith) g) h
+planned_later false o requests s r node request le g h = absurd (cc)
+
+-- some request changes what is planned
+planned_by : (ordered : Bool) (requests : List Request) (r node : ℕ) → is_planned ordered requests r node ≡ true → (request : Request) × IsIn request requests × (names_node node request ≡ true)
+planned_by true requests r node h =
+    let a = any_in (names_node node) (take (r + 1) requests) h in
+    (a.0, in_take (r + 1) requests a.0 a.1, a.2)
+planned_by false requests r node h = go (slice_get requests r) refl h
+  where
+    go : (o : Option Request) → slice_get requests r ≡ o → is_named_by o node ≡ true → (request : Request) × IsIn request requests × (names_node node request ≡ true)
+    go None e h = absurd (cc)
+    go (Some request) e h = (request, in_of_place request requests r e, h)
+
+-- ---- one more plan
+
+pub ArePlansOf-push : (job : Written) (splits : ℕ) (ordered : Bool) (requests : List Request) (plans : List Plan) (request : Request) (plan : Plan)
+    → ArePlansOf job splits ordered requests plans → IsPlanOf job splits (is_planned ordered (requests ++ request ∷ []) (length requests)) plan
+    → ArePlansOf job splits ordered (requests ++ request ∷ []) (plans ++ plan ∷ [])
+ArePlansOf-push job splits ordered requests plans request plan are is = record {
   one_each = omega (arith, are.one_each, length_push plans plan, length_push requests request);
-  each = λ r q p eq ep. elim (cases_lt r (length requests)) [
-    | inl lt ↦ are.each r q p (sym (pushed-before requests request r lt) ∙ eq) (sym (pushed-before plans plan r (omega (arith, are.one_each))) ∙ ep)
+  each = λ r p ep. elim (cases_lt r (length requests)) [
+    | inl lt ↦
+        let old : IsPlanOf job splits (is_planned ordered requests r) p = are.each r p (sym (pushed-before plans plan r (omega (arith, are.one_each))) ∙ ep) in
+        record { by = old.by; asked = λ node. rw (planned-before ordered requests request r node lt) (old.asked node) }
     | inr ge ↦
-        let within : r < length (requests ++ request ∷ []) = slice_get_within (requests ++ request ∷ []) r q eq in
-        let last : r ≡ length requests = omega (arith, length_push requests request) in
-        let same : Some request ≡ Some q = sym (pushed-last requests request r last) ∙ eq in
-        let same' : Some plan ≡ Some p = sym (pushed-last plans plan r (omega (arith, are.one_each))) ∙ ep in
-        let e : request ≡ q = cc in
-        let e' : plan ≡ p = cc in
-        subst (λ (x : Request). IsPlanOf edges many x p) e (subst (λ (x : Plan). IsPlanOf edges many request x) e' is)
+        let within : r < length (plans ++ plan ∷ []) = slice_get_within (plans ++ plan ∷ []) r p ep in
+        let last : r ≡ length requests = omega (arith, length_push plans plan, are.one_each) in
+        let same : Some plan ≡ Some p = sym (pushed-last plans plan r (omega (arith, are.one_each))) ∙ ep in
+        let e : plan ≡ p = cc in
+        subst (λ (k : ℕ). IsPlanOf job splits (is_planned ordered (requests ++ request ∷ []) k) p) (sym last)
+        (subst (λ (x : Plan). IsPlanOf job splits (is_planned ordered (requests ++ request ∷ []) (length requests)) x) e is)
   ];
 }
 
-pub IsPlanOf-plan : (edges : List Edge) (many asked : ℕ) (request : Request) (plan : Plan) → IsPlan edges many asked plan
-    → ((node : ℕ) → Has asked node ↔ IsTrue (is_named request.changes node)) → IsPlanOf edges many request plan
-IsPlanOf-plan edges many asked request plan is same =
-    let e : asked ≡ plan.asked = sym is.asks in
-    record {
-      planned = subst (λ (a : ℕ). IsPlan edges many a plan) e is;
-      asked = subst (λ (a : ℕ). (node : ℕ) → Has a node ↔ IsTrue (is_named request.changes node)) e same;
-    }
+-- the members of a plan do not depend on how its sets are told
+members_alike : (E : ℕ → ℕ → Type 0) (asked splits copies others : ℕ → Type 0) (a : ℕ) → ((n : ℕ) → copies n → others n) → IsMember E asked splits copies a → IsMember E asked splits others a
+members_alike E asked splits copies others a f (inl m) = inl m
+members_alike E asked splits copies others a f (inr (inl m)) = inr (inl m)
+members_alike E asked splits copies others a f (inr (inr m)) = inr (inr (f a m.0, m.1))
 
-no_source_replaced : (node : NodeDef) (f : Func) (most : ℕ) → is_source node.func ≡ true → may_replace node.func f most ≡ true → ⊥
-no_source_replaced node f most is may = let no : may_replace func.Source f most ≡ true = subst (λ (g : Func). may_replace g f most ≡ true) (source_is node.func is) may in cc
-
-no_source_many : (nodes : List NodeDef) (node : ℕ) → is_source_node (slice_get nodes node) ≡ true → is_many_at nodes node ≡ true → ⊥
-no_source_many nodes node = go (slice_get nodes node)
-  where
-    go : (o : Option NodeDef) → is_source_node o ≡ true → is_many o ≡ true → ⊥
-    go None is many = cc
-    go (Some def) is many = let no : may_emit func.Source ≡ true = subst (λ (g : Func). may_emit g ≡ true) (source_is def.func is) many in cc
-
--- a request that keeps the kinds of the job's functions changes no source
-no_source_named : (job : Written) (request : Request) (node : ℕ) → All (KeepsKind job) request.changes → IsSourceOf job node → IsTrue (is_named request.changes node) → ⊥
-no_source_named job request node kept source named =
-    let (k, change, within, at, same) = Any-from_list_any (λ (c : Change). c.node == node) request.changes named in
-    go change (eqb-true change.node node same) (subst (KeepsKind job) at (kept k change within)) (slice_get job.nodes node) refl source
-  where
-    go : (change : Change) → change.node ≡ node → KeepsKind job change → (o : Option NodeDef) → slice_get job.nodes node ≡ o → is_source_node o ≡ true → ⊥
-    go change at kept None is source = cc
-    go change at kept (Some def) is source = no_source_replaced def change.func (most_of def.func) source (kept def (ap (slice_get job.nodes) at ∙ is))
-
--- so a plan that asks exactly the changed nodes has no source for a member
-no_source_planned : (job : Written) (many : ℕ) (request : Request) (plan : Plan) (node : ℕ) → ((n : ℕ) → Has many n ↔ IsTrue (is_many_at job.nodes n))
-    → All (KeepsKind job) request.changes → IsPlanOf job.edges many request plan → IsSourceOf job node → ¬ Has plan.members node
-no_source_planned job many request plan node has kept is source member = go ((is.planned.members node).0 member)
-  where
-    go : IsMember (HasEdge job.edges) (Has plan.asked) (Has many) node → ⊥
-    go (inl asked) = no_source_named job request node kept source ((is.asked node).0 asked)
-    go (inr multiplies) = no_source_many job.nodes node source ((has node).0 multiplies.0)
-
-pub IsPlanned-exact : (job : Written) (requests : List Request) (plans : List Plan) (many : ℕ)
-    → ((node : ℕ) → Has many node ↔ IsTrue (is_many_at job.nodes node)) → KeepKinds job requests → ArePlansOf job.edges many requests plans
-    → IsPlanned (outline_of job requests plans many)
-IsPlanned-exact job requests plans many has kept are = record {
-  many = λ node h. (has node).1 h;
-  one_each = are.one_each;
-  plans = λ r request plan eq ep. let is = are.each r request plan eq ep in record { planned = is.planned; asked = λ node h. (is.asked node).1 h };
-  no_source = λ r node plan ep source.
-      let within : r < length requests = omega (arith, slice_get_within plans r plan ep, are.one_each) in
-      go r node plan ep source (slice_get requests r) refl within;
+-- the planner's plan for the set of a request
+pub IsPlanOf-plan : (job : Written) (splits copies asked so_far changed : ℕ) (ordered : Bool) (requests : List Request) (request : Request) (plan : Plan)
+    → ((n : ℕ) → Has copies n ↔ IsTrue (copies_at job.nodes n)) → IsPlan job.edges (Has splits) (Has copies) asked plan
+    → asked ≡ (if ordered then so_far else changed)
+    → ((node : ℕ) → Has so_far node ↔ IsTrue (list_any (names_node node) (requests ++ request ∷ [])))
+    → ((node : ℕ) → Has changed node ↔ IsTrue (is_named request.changes node))
+    → IsPlanOf job splits (is_planned ordered (requests ++ request ∷ []) (length requests)) plan
+IsPlanOf-plan job splits copies asked so_far changed ordered requests request plan are is set all own = record {
+  by = record {
+    asks = refl;
+    members = λ a. rw is.asks (
+      λ h. members_alike (HasEdge job.edges) (Has asked) (Has splits) (Has copies) (λ n. IsTrue (copies_at job.nodes n)) a (λ n. (are n).0) ((is.members a).0 h),
+      λ m. (is.members a).1 (members_alike (HasEdge job.edges) (Has asked) (Has splits) (λ n. IsTrue (copies_at job.nodes n)) (Has copies) a (λ n. (are n).1) m),
+    );
+    cover = is.cover;
+  };
+  asked = λ node. rw (is.asks, set) (by_mode ordered node);
 }
   where
-    go : (r node : ℕ) (plan : Plan) → slice_get plans r ≡ Some plan → IsSourceOf job node → (o : Option Request) → slice_get requests r ≡ o → r < length requests → ¬ Has plan.members node
-    go r node plan ep source None eq within = absurd (let there = slice_get-get_or requests r (record { after = 0; changes = [] }) within in cc)
-    go r node plan ep source (Some request) eq within =
-        let kept' : All (KeepsKind job) request.changes =
-        subst (λ (x : Request). All (KeepsKind job) x.changes) (get_or_from_slice_get requests r request request eq) (kept r request within) in
-        no_source_planned job many request plan node has kept' (are.each r request plan eq ep) source
+    by_mode : (o : Bool) (node : ℕ) → Has (if o then so_far else changed) node ↔ IsTrue (is_planned o (requests ++ request ∷ []) (length requests) node)
+    by_mode true node = rw (take_all (length requests + 1) (requests ++ request ∷ []) (omega (arith, length_push requests request))) (all node)
+    by_mode false node = rw (pushed-last requests request (length requests) refl) (own node)
+
+-- ---- no source is a member
+
+no_source_replaced : (node : NodeDef) (f : Func) (roof : ℕ) (once : Bool) → is_source node.func ≡ true → may_replace node.func f roof once ≡ true → ⊥
+no_source_replaced node f roof once is may = let no : may_replace func.Source f roof once ≡ true = subst (λ (g : Func). may_replace g f roof once ≡ true) (source_is node.func is) may in cc
+
+no_source_split : (o : Option NodeDef) → is_source_node o ≡ true → is_split_node o ≡ true → ⊥
+no_source_split None is split = cc
+no_source_split (Some def) is split = let no : is_split func.Source ≡ true = subst (λ (g : Func). is_split g ≡ true) (source_is def.func is) split in cc
+
+no_source_copies : (o : Option NodeDef) → is_source_node o ≡ true → is_replicate_node o ≡ true → ⊥
+no_source_copies None is copies = cc
+no_source_copies (Some def) is copies = let no : is_replicate func.Source ≡ true = subst (λ (g : Func). is_replicate g ≡ true) (source_is def.func is) copies in cc
+
+-- a request that keeps the kinds of the job's functions changes no source
+no_source_changed : (job : Written) (change : Change) (node : ℕ) → change.node ≡ node → KeepsKind job change → IsSourceOf job node → ⊥
+no_source_changed job change node at kept source = go (slice_get job.nodes node) refl source
+  where
+    go : (o : Option NodeDef) → slice_get job.nodes node ≡ o → is_source_node o ≡ true → ⊥
+    go None is source = cc
+    go (Some def) is source = no_source_replaced def change.func def.roof (leaves_once job.edges change.node) source (kept def (ap (slice_get job.nodes) at ∙ is))
+
+module _ (job : Written) (requests : List Request) (kept : KeepKinds job requests) where
+  kept_in : (request : Request) (change : Change) → IsIn request requests → IsIn change request.changes → KeepsKind job change
+  kept_in request change i j =
+      at_of_all (KeepsKind job) change request.changes (at_of_all (λ (request : Request). All (KeepsKind job) request.changes) request requests kept i) j
+
+  no_source_named : (node : ℕ) (request : Request) → IsIn request requests → names_node node request ≡ true → IsSourceOf job node → ⊥
+  no_source_named node request i h source =
+      let c = any_in (λ (c : Change). c.node == node) request.changes h in
+      no_source_changed job c.0 node (eqb-true c.0.node node c.2) (kept_in request c.0 i c.1) source
+
+  no_source_made : (node : ℕ) → is_made_split requests node ≡ true → IsSourceOf job node → ⊥
+  no_source_made node h source =
+      let r = any_in (λ (request : Request). list_any (makes_split node) request.changes) requests h in
+      let c = any_in (makes_split node) r.0.changes r.2 in
+      no_source_changed job c.0 node (eqb-true c.0.node node (and_parts (c.0.node == node) (is_split c.0.func) c.2).0) (kept_in r.0 c.0 r.1 c.1) source
+
+  no_source_planned : (splits : ℕ) (ordered : Bool) (r : ℕ) (plan : Plan) (node : ℕ) → ((n : ℕ) → Has splits n ↔ IsTrue (splits_at job.nodes requests n))
+      → IsPlanOf job splits (is_planned ordered requests r) plan → IsSourceOf job node → ¬ Has plan.members node
+  no_source_planned splits ordered r plan node has is source member = go ((is.by.members node).0 member)
+    where
+      go : IsMember (HasEdge job.edges) (Has plan.asked) (Has splits) (λ n. IsTrue (copies_at job.nodes n)) node → ⊥
+      go (inl asked) =
+          let q = planned_by ordered requests r node ((is.asked node).0 asked) in
+          no_source_named node q.0 q.1 q.2 source
+      go (inr (inl split)) =
+          elim (or_cases (is_split_node (slice_get job.nodes node)) (is_made_split requests node) ((has node).0 split.0)) [
+            | inl own ↦ no_source_split (slice_get job.nodes node) source own
+            | inr made ↦ no_source_made node made source
+          ]
+      go (inr (inr copy)) = no_source_copies (slice_get job.nodes node) source copy.0
+
+pub IsPlanned-exact : (job : Written) (requests : List Request) (plans : List Plan) (splits : ℕ) (ordered : Bool)
+    → ((node : ℕ) → Has splits node ↔ IsTrue (splits_at job.nodes requests node)) → KeepKinds job requests → ArePlansOf job splits ordered requests plans
+    → IsPlanned (outline_of job requests plans splits ordered)
+IsPlanned-exact job requests plans splits ordered has kept are = record {
+  splits = λ node h. (has node).1 h;
+  one_each = are.one_each;
+  plans = λ r request plan eq ep. let is = are.each r plan ep in record { planned = is.by; asked = λ node h. (is.asked node).1 (planned_own ordered requests r node request eq h) };
+  no_source = λ r node plan ep source. no_source_planned job requests kept splits ordered r plan node has (are.each r plan ep) source;
+  ordered = λ o s r request plan le eq ep node h. ((are.each r plan ep).asked node).1 (planned_later ordered o requests s r node request le eq h);
+}

@@ -1,11 +1,13 @@
 -- What the plans of a setup keep, as the laws of runs use it.
-use Rattle.std.proofs.Common.{◌≡◌, ◌<◌, ◌≤◌, ◌+◌, ◌-◌, ℕ, zero, suc, ◌∷◌, inl, inr, refl, arith, true, false, Bool, cond, length, filter, Some, None, Option, slice_get}
+use Rattle.std.proofs.Common.{◌≡◌, ◌≢◌, ◌<◌, ◌≤◌, ◌+◌, ◌-◌, ℕ, zero, suc, ◌∷◌, inl, inr, refl, sym, subst, arith, true, false, Bool, cond, length, filter, Some, None, Option, slice_get}
 use Rattle.std.proofs.Math.Bool.{Bool-set}
 use Rattle.std.proofs.Math.Nat.{ℕ_set}
 use Rattle.std.proofs.Math.Logic.{∥∥₁_elim}
 use Rattle.std.proofs.lemmas.Bool.{cases_eq}
 use Rattle.std.proofs.lemmas.Option.{slice_get_within}
+use Rattle.std.specs.Prelude.{IsTrue}
 use Rattle.cover_planner.specs.Cover.{IsCoveredEdge}
+use Rattle.cover_planner.specs.Members.{LeadsToAsked}
 use Rattle.cover_planner.specs.declared.cover.Plan.{Plan}
 use Rattle.cover_planner.proofs.LawLemmas.{IsCoveredEdge-between}
 use Rattle.flow_dag.specs.Edges.{HasEdge}
@@ -14,34 +16,41 @@ use Rattle.flow_dag.specs.Paths.{IsOrReaches, Reaches}
 use Rattle.flow_dag.specs.declared.edge.Edge.{Edge}
 use Rattle.flow_dag.proofs.EdgeLemmas.{HasEdge-at}
 use Rattle.flow_dag.proofs.MaskLemmas.{has-Has}
-use Rattle.flow_dag.proofs.PathLemmas.{IsOrReaches-here}
+use Rattle.flow_dag.proofs.PathLemmas.{IsOrReaches-cases, IsOrReaches-here}
 use Rattle.versions.specs.declared.request.Request.{Request}
 use Rattle.flow_model.specs.Covers.{asks, covers, covers_edge, heads, holds_asked, holds_edge, holds_node, is_head}
-use Rattle.flow_model.specs.Outline.{Outline, many_of}
-use Rattle.flow_model.specs.Planned.{IsPlanFor, IsPlanned, is_many_at}
+use Rattle.flow_model.specs.Outline.{Outline, splits_of}
+use Rattle.flow_model.specs.Planned.{IsPlanFor, IsPlanned, copies_at, splits_at}
 use Rattle.flow_model.specs.Requests.{changes}
 use Rattle.flow_model.specs.Station.{dues_after, numbers_from}
-use Rattle.flow_model.proofs.AskedLemmas.{asked-changed}
+use Rattle.flow_model.proofs.AskedLemmas.{asked-changed, asked-earlier}
 use Rattle.flow_model.proofs.ElementLemmas.{IsIn, filter_in, in_filter}
 use Rattle.flow_model.proofs.WorkerLemmas.{item_at}
 use Rattle.flow_model.proofs.StoryLemmas.{IsRising}
 
 -- What the laws of runs use of plans. An edge on a way from a covered node to a covered node is covered; so is every asked node, every node
--- from which a path leads to one and that may make several tuples of one, and every head. Every node that a request changes is asked.
+-- that may make pieces of a tuple and from which a path leads to one, every node whose copies come to asked ones along two edges, and every head.
+-- Every node that a request changes is asked, and also by later requests where rows and requests have one order.
 pub record HasCovers (setup : Outline) : Type 0 where
   pub edges :
       (r a i : ℕ) (edge : Edge) → slice_get setup.job.edges i ≡ Some edge → covers setup r a ≡ true
       → IsOrReaches (HasEdge setup.job.edges) a edge.from → covers setup r edge.to ≡ true → covers_edge setup r i ≡ true
   pub asked : (r node : ℕ) → asks setup r node ≡ true → covers setup r node ≡ true
   pub changed : (r node : ℕ) → changes setup r node ≡ true → asks setup r node ≡ true
-  pub many :
-      (r node to : ℕ) → is_many_at setup.job.nodes node ≡ true → Reaches (HasEdge setup.job.edges) node to → asks setup r to ≡ true
+  pub splits :
+      (r node to : ℕ) → splits_at setup.job.nodes setup.requests node ≡ true → Reaches (HasEdge setup.job.edges) node to → asks setup r to ≡ true
       → covers setup r node ≡ true
+  pub copies :
+      (r node a b to into : ℕ) → copies_at setup.job.nodes node ≡ true → a ≢ b
+      → HasEdge setup.job.edges node a → IsOrReaches (HasEdge setup.job.edges) a to → asks setup r to ≡ true
+      → HasEdge setup.job.edges node b → IsOrReaches (HasEdge setup.job.edges) b into → asks setup r into ≡ true
+      → covers setup r node ≡ true
+  pub ordered : IsTrue setup.ordered → (s r node : ℕ) → s ≤ r → r ≤ length setup.requests → changes setup s node ≡ true → asks setup r node ≡ true
   pub heads : (r node : ℕ) → is_head setup r node ≡ true → covers setup r node ≡ true
   pub one_each : length setup.plans ≡ length setup.requests
 
-plan_for : (setup : Outline) → IsPlanned setup → (r : ℕ) (plan : Plan) → slice_get setup.plans r ≡ Some plan
-    → (request : Request) × (slice_get setup.requests r ≡ Some request) × IsPlanFor setup.job.edges (many_of setup) request plan
+pub plan_for : (setup : Outline) → IsPlanned setup → (r : ℕ) (plan : Plan) → slice_get setup.plans r ≡ Some plan
+    → (request : Request) × (slice_get setup.requests r ≡ Some request) × IsPlanFor setup.job (splits_of setup) request plan
 plan_for setup is r plan e =
     let within : r < length setup.plans = slice_get_within setup.plans r plan e in
     let q = item_at setup.requests r (omega (arith, is.one_each)) in
@@ -55,7 +64,7 @@ edges_covered setup is (suc r) a i edge g c w d = go (slice_get setup.plans r) r
     go : (o : Option Plan) → slice_get setup.plans r ≡ o → holds_node o a ≡ true → holds_node o edge.to ≡ true → holds_edge o i ≡ true
     go None e c d = absurd (cc)
     go (Some plan) e c d =
-        let p : IsPlanFor setup.job.edges (many_of setup) (plan_for setup is r plan e).0 plan = (plan_for setup is r plan e).2 in
+        let p : IsPlanFor setup.job (splits_of setup) (plan_for setup is r plan e).0 plan = (plan_for setup is r plan e).2 in
         let cover = p.planned.cover in
         let between : IsCoveredEdge (HasEdge setup.job.edges) (Has plan.members) edge.from edge.to =
         IsCoveredEdge-between (HasEdge setup.job.edges) (Has plan.members) a edge.to edge.from edge.to ((cover.nodes a).0 ((has-Has plan.nodes a).0 c))
@@ -72,16 +81,38 @@ asked_covered setup is (suc r) node h = go (slice_get setup.plans r) refl h
         let (request, at, p) = plan_for setup is r plan e in
         (has-Has plan.nodes node).1 ((p.planned.cover.nodes node).1 (inl ((p.planned.members node).1 (inl ((has-Has plan.asked node).0 h)))))
 
-many_covered : (setup : Outline) → IsPlanned setup → (r node to : ℕ) → is_many_at setup.job.nodes node ≡ true → Reaches (HasEdge setup.job.edges) node to
+splits_covered : (setup : Outline) → IsPlanned setup → (r node to : ℕ) → splits_at setup.job.nodes setup.requests node ≡ true → Reaches (HasEdge setup.job.edges) node to
     → asks setup r to ≡ true → covers setup r node ≡ true
-many_covered setup is zero node to m l h = absurd (cc)
-many_covered setup is (suc r) node to m l h = go (slice_get setup.plans r) refl h
+splits_covered setup is zero node to m l h = absurd (cc)
+splits_covered setup is (suc r) node to m l h = go (slice_get setup.plans r) refl h
   where
     go : (o : Option Plan) → slice_get setup.plans r ≡ o → holds_asked o to ≡ true → holds_node o node ≡ true
     go None e h = absurd (cc)
     go (Some plan) e h =
         let (request, at, p) = plan_for setup is r plan e in
-        (has-Has plan.nodes node).1 ((p.planned.cover.nodes node).1 (inl ((p.planned.members node).1 (inr (is.many node m, (to, (has-Has plan.asked to).0 h, l))))))
+        (has-Has plan.nodes node).1 ((p.planned.cover.nodes node).1 (inl ((p.planned.members node).1 (inr (inl (is.splits node m, (to, (has-Has plan.asked to).0 h, l)))))))
+
+-- an edge to a node from which an asked one is reached leads to an asked one
+leads_to_asked : (E : ℕ → ℕ → Type 0) (asked : ℕ → Type 0) (a to : ℕ) → IsOrReaches E a to → asked to → LeadsToAsked E asked a
+leads_to_asked E asked a to w h =
+    elim (IsOrReaches-cases E a to w) [
+      | inl e ↦ inl (subst asked (sym e) h)
+      | inr r ↦ inr (to, h, r)
+    ]
+
+copies_covered : (setup : Outline) → IsPlanned setup → (r node a b to into : ℕ) → copies_at setup.job.nodes node ≡ true → a ≢ b
+    → HasEdge setup.job.edges node a → IsOrReaches (HasEdge setup.job.edges) a to → asks setup r to ≡ true
+    → HasEdge setup.job.edges node b → IsOrReaches (HasEdge setup.job.edges) b into → asks setup r into ≡ true → covers setup r node ≡ true
+copies_covered setup is zero node a b to into m ne e v h f w k = absurd (cc)
+copies_covered setup is (suc r) node a b to into m ne e v h f w k = go (slice_get setup.plans r) refl h k
+  where
+    go : (o : Option Plan) → slice_get setup.plans r ≡ o → holds_asked o to ≡ true → holds_asked o into ≡ true → holds_node o node ≡ true
+    go None q h k = absurd (cc)
+    go (Some plan) q h k =
+        let (request, at, p) = plan_for setup is r plan q in
+        let first = leads_to_asked (HasEdge setup.job.edges) (Has plan.asked) a to v ((has-Has plan.asked to).0 h) in
+        let second = leads_to_asked (HasEdge setup.job.edges) (Has plan.asked) b into w ((has-Has plan.asked into).0 k) in
+        (has-Has plan.nodes node).1 ((p.planned.cover.nodes node).1 (inl ((p.planned.members node).1 (inr (inr (m, (a, b, ne, (e, first), (f, second))))))))
 
 heads_covered : (setup : Outline) → IsPlanned setup → (r node : ℕ) → is_head setup r node ≡ true → covers setup r node ≡ true
 heads_covered setup is zero node h = absurd (cc)
@@ -99,7 +130,9 @@ has_covers setup planned = record {
   edges = λ r a i edge g c w d. ∥∥₁_elim planned (Bool-set _ _) (λ is. edges_covered setup is r a i edge g c w d);
   asked = λ r node h. ∥∥₁_elim planned (Bool-set _ _) (λ is. asked_covered setup is r node h);
   changed = λ r node h. ∥∥₁_elim planned (Bool-set _ _) (λ is. asked-changed setup is r node h);
-  many = λ r node to m l h. ∥∥₁_elim planned (Bool-set _ _) (λ is. many_covered setup is r node to m l h);
+  splits = λ r node to m l h. ∥∥₁_elim planned (Bool-set _ _) (λ is. splits_covered setup is r node to m l h);
+  copies = λ r node a b to into m ne e v h f w k. ∥∥₁_elim planned (Bool-set _ _) (λ is. copies_covered setup is r node a b to into m ne e v h f w k);
+  ordered = λ o s r node le lt h. ∥∥₁_elim planned (Bool-set _ _) (λ is. asked-earlier setup is o s r node le lt h);
   heads = λ r node h. ∥∥₁_elim planned (Bool-set _ _) (λ is. heads_covered setup is r node h);
   one_each = ∥∥₁_elim planned (ℕ_set _ _) (λ is. is.one_each);
 }

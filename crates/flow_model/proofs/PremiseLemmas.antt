@@ -1,5 +1,5 @@
 -- The premises of the laws of runs, met by the four payments.
-use Rattle.std.proofs.Common.{◌≡◌, ◌∙◌, ◌<◌, ◌≤◌, ◌+◌, ℕ, zero, suc, List, [], ◌∷◌, inl, inr, refl, sym, subst, ap, arith, lit<, lit≤, true, false, Bool, ◌&&◌, ◌||◌, ◌==◌, pos, replicate, Some, None, slice_get, slice_index}
+use Rattle.std.proofs.Common.{IsTrue, ◌≡◌, ◌∙◌, ◌<◌, ◌≤◌, ◌+◌, ℕ, zero, suc, List, [], ◌∷◌, inl, inr, refl, sym, subst, ap, arith, lit<, lit≤, true, false, Bool, ◌&&◌, ◌||◌, ◌==◌, pos, replicate, Some, None, slice_get, slice_index}
 use Rattle.std.proofs.lemmas.Bool.{and_parts, eqb-true}
 use Rattle.std.proofs.lemmas.List.Elements.{All-from_recursion, All-nil}
 use Rattle.std.proofs.lemmas.Option.{slice_get-get_or}
@@ -14,9 +14,9 @@ use Rattle.flow_dag.specs.declared.edge.Edge.{Edge}
 use Rattle.flow_dag.proofs.MaskLemmas.{Has-below, Has-none}
 use Rattle.flow_dag.proofs.PathLemmas.{Reaches-steps}
 use Rattle.jobs.specs.Law.{IsLawful, has_columns_of, has_ports_of, has_table_of}
-use Rattle.jobs.specs.Limits.{HasLimits, oversize, table_oversize}
+use Rattle.jobs.specs.Limits.{HasLimits, most_roof_of, oversize, table_oversize}
 use Rattle.jobs.specs.Names.{is_new_column, is_new_node}
-use Rattle.jobs.specs.Nodes.{AreFromSources, IsSourceOf, is_count, is_source_node, most_workers}
+use Rattle.jobs.specs.Nodes.{AreFromSources, fan_out, IsSourceOf, is_count, is_source_node, most_workers}
 use Rattle.jobs.specs.Places.{EachPasses}
 use Rattle.jobs.specs.Ports.{are_ports, has_ports}
 use Rattle.jobs.specs.Weights.{weight_after}
@@ -31,7 +31,7 @@ use Rattle.versions.specs.declared.request.Request.{Request}
 use Rattle.versions.proofs.KeptLemmas.{accepted-kept, accepted-order}
 use Rattle.flow_model.specs.FourPayments.{chain, falls_after, filter_alone, four_payments, four_ran, four_setup, row_of}
 use Rattle.flow_model.specs.OneTable.{HasNoCounts}
-use Rattle.flow_model.specs.Planned.{IsPlanFor, IsPlanned, is_many_at}
+use Rattle.flow_model.specs.Planned.{IsPlanFor, IsPlanned, copies_at, is_made_split, splits_at}
 use Rattle.flow_model.proofs.ExampleLemmas.{four-run}
 use Rattle.flow_model.proofs.JobLemmas.{wired_by_rank}
 use Rattle.flow_model.proofs.PlannedLemmas.{has_covers}
@@ -74,6 +74,8 @@ limits = record {
   entries = lit≤ tt;
   texts = All-nil (λ (table : Table). table_oversize table ≡ None);
   functions = All-from_recursion (λ (node : NodeDef). oversize node.func ≡ None) chain.nodes (refl, (refl, (refl, tt)));
+  roofs = All-from_recursion (λ (node : NodeDef). (fan_out node.func ≤ node.roof) × (node.roof ≤ most_roof_of chain.nodes chain.edges node)) chain.nodes
+      ((lit≤ tt, lit≤ tt), ((lit≤ tt, lit≤ tt), ((lit≤ tt, lit≤ tt), tt)));
 }
 
 -- each item passes the test, with its place
@@ -166,10 +168,16 @@ parts = record {
       absurd (omega (arith, lt, e));
 }
 
-filter_plan : IsPlan chain.edges 0 2 filter_alone
+no_copies : (node : ℕ) → copies_at chain.nodes node ≡ true → ⊥
+no_copies zero h = cc
+no_copies (suc zero) h = cc
+no_copies (suc (suc zero)) h = cc
+no_copies (suc (suc (suc node))) h = cc
+
+filter_plan : IsPlan chain.edges (Has 0) (λ (node : ℕ). IsTrue (copies_at chain.nodes node)) 2 filter_alone
 filter_plan = record {
   asks = refl;
-  members = λ a. ((λ h. inl h), (λ h. elim h [ inl m ↦ m | inr n ↦ absurd (Has-none a n.0) ]));
+  members = λ a. ((λ h. inl h), (λ h. elim h [ inl m ↦ m | inr n ↦ elim n [ inl s ↦ absurd (Has-none a s.0) | inr c ↦ absurd (no_copies a c.0) ] ]));
   cover = record {
     covered = λ i. ((λ h. absurd (Has-none i h)), (λ h. absurd (no_edge h.0.from h.0.to h.2)));
     nodes = λ a. ((λ h. inl h), (λ h. the_filter a h));
@@ -178,14 +186,22 @@ filter_plan = record {
   };
 }
 
-no_many : (node : ℕ) → is_many_at chain.nodes node ≡ true → Has 0 node
-no_many zero h = absurd (cc)
-no_many (suc zero) h = absurd (cc)
-no_many (suc (suc zero)) h = absurd (cc)
-no_many (suc (suc (suc node))) h = absurd (cc)
+-- the request makes the filter no split
+no_made : (node : ℕ) → is_made_split (falls_after 2 ∷ []) node ≡ true → ⊥
+no_made node h = go (1 == node) h
+  where
+    go : (b : Bool) → ((b && false) || false) || false ≡ true → ⊥
+    go true h = cc
+    go false h = cc
+
+no_splits : (node : ℕ) → splits_at chain.nodes (falls_after 2 ∷ []) node ≡ true → Has 0 node
+no_splits zero h = absurd (no_made 0 h)
+no_splits (suc zero) h = absurd (no_made 1 h)
+no_splits (suc (suc zero)) h = absurd (no_made 2 h)
+no_splits (suc (suc (suc node))) h = absurd (no_made (suc (suc (suc node))) h)
 
 pub four-planned : IsPlanned four_setup
-four-planned = record { many = no_many; one_each = refl; plans = plans; no_source = no_source }
+four-planned = record { splits = no_splits; one_each = refl; plans = plans; no_source = no_source; ordered = λ o. absurd (cc) }
   where
     alone : (b : Bool) → b || false ≡ true → b ≡ true
     alone true e = refl
@@ -196,11 +212,11 @@ four-planned = record { many = no_many; one_each = refl; plans = plans; no_sourc
     asked (suc zero) h = refl
     asked (suc (suc node)) h = let e : 1 ≡ suc (suc node) = eqb-true 1 (suc (suc node)) (alone (1 == suc (suc node)) h) in absurd (omega arith)
 
-    plans : (r : ℕ) (request : Request) (plan : Plan) → slice_get four_setup.requests r ≡ Some request → slice_get four_setup.plans r ≡ Some plan → IsPlanFor chain.edges 0 request plan
+    plans : (r : ℕ) (request : Request) (plan : Plan) → slice_get four_setup.requests r ≡ Some request → slice_get four_setup.plans r ≡ Some plan → IsPlanFor chain 0 request plan
     plans zero request plan q p =
         let e : falls_after 2 ≡ request = cc in
         let f : filter_alone ≡ plan = cc in
-        subst (λ (x : Request). IsPlanFor chain.edges 0 x plan) e (subst (λ (x : Plan). IsPlanFor chain.edges 0 (falls_after 2) x) f (record { planned = filter_plan; asked = asked }))
+        subst (λ (x : Request). IsPlanFor chain 0 x plan) e (subst (λ (x : Plan). IsPlanFor chain 0 (falls_after 2) x) f (record { planned = filter_plan; asked = asked }))
     plans (suc r) request plan q p = absurd (cc)
 
     no_source : (r node : ℕ) (plan : Plan) → slice_get four_setup.plans r ≡ Some plan → IsSourceOf chain node → ¬ Has plan.members node

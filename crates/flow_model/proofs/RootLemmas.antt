@@ -15,7 +15,8 @@ use Rattle.tuple_trace.specs.declared.tuple.Item.TheVariants as item
 use Rattle.tuple_trace.specs.declared.tuple.Tuple.{Tuple}
 use Rattle.flow_model.specs.Feeding.{fed, fed_put, fed_puts, fed_tuple, feed_after, feed_from, issued_where, row_at}
 use Rattle.flow_model.specs.Lanes.{lane_of, lanes}
-use Rattle.flow_model.specs.Outline.{Lane, Outline}
+use Rattle.flow_model.specs.declared.topology.Lane.{Lane}
+use Rattle.flow_model.specs.Outline.{Outline}
 use Rattle.flow_model.specs.Replay.{Put, came_in, item_on, shown}
 use Rattle.flow_model.specs.Requests.{afters}
 use Rattle.flow_model.specs.Run.{Ran}

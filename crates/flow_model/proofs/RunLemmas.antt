@@ -19,7 +19,8 @@ use Rattle.flow_model.specs.Begin.{at_first}
 use Rattle.flow_model.specs.Feeding.{fed, fed_put, fed_puts, fed_tuple, row_at}
 use Rattle.flow_model.specs.Lanes.{lane_of, senders}
 use Rattle.flow_model.specs.Law.{IsExecution, IsFinished, Progress, Station, initial}
-use Rattle.flow_model.specs.Outline.{Lane, Post}
+use Rattle.flow_model.specs.declared.topology.Lane.{Lane}
+use Rattle.flow_model.specs.Outline.{Post}
 use Rattle.flow_model.specs.Replay.{Put, sent, shown}
 use Rattle.flow_model.specs.Run.{IsRunFrom, Ran, put_by}
 use Rattle.flow_model.specs.Station.{station}

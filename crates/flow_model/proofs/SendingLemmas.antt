@@ -19,7 +19,8 @@ use Rattle.tuple_trace.specs.declared.tuple.Visit.{Visit}
 use Rattle.flow_model.specs.Covers.{covers_edge, plan_of}
 use Rattle.flow_model.specs.Lanes.{is_same_lane, lanes_in, lanes_out}
 use Rattle.flow_model.specs.Law.{IsExecution, initial}
-use Rattle.flow_model.specs.Outline.{Lane, Outline, Post}
+use Rattle.flow_model.specs.declared.topology.Lane.{Lane}
+use Rattle.flow_model.specs.Outline.{Outline, Post}
 use Rattle.flow_model.specs.Replay.{Local, Put, came_in, item_on, items_on, marker, marker_by, put_on_each, put_out, puts, sent, visit_at}
 use Rattle.flow_model.specs.Station.{dues_after, station}
 use Rattle.flow_model.proofs.ElementLemmas.{Before, IsIn, before_first, before_second, flat_map_before, flat_map_in, in_cases, in_filter_map, in_flat_map, in_map, place_of_in}

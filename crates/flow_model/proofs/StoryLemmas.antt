@@ -4,7 +4,8 @@ use Rattle.sink_journal.specs.declared.journal.Entry.{Entry}
 use Rattle.sink_journal.specs.declared.journal.Entry.TheVariants as entry
 use Rattle.tuple_trace.specs.declared.tuple.Item.{Item}
 use Rattle.flow_model.specs.Law.{IsEnabled, IsExecution, Progress, Station, after_entry, later_dues, next_due}
-use Rattle.flow_model.specs.Outline.{Lane, Outline, Post}
+use Rattle.flow_model.specs.declared.topology.Lane.{Lane}
+use Rattle.flow_model.specs.Outline.{Outline, Post}
 use Rattle.flow_model.specs.Replay.{Local, after, items_on, puts, sent}
 use Rattle.flow_model.proofs.ElementLemmas.{Before, IsIn}
 

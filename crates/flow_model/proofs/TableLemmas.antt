@@ -40,7 +40,7 @@ unnamed (c ∷ more) node h = go (c.node == node) h (unnamed more node)
     go true h f = absurd (cc)
     go false h f = f h
 
-unchanged : (setup : Outline) (r node : ℕ) → changes setup r node ≡ false → change_of setup r node ≡ None
+pub unchanged : (setup : Outline) (r node : ℕ) → changes setup r node ≡ false → change_of setup r node ≡ None
 unchanged setup r node h = go (request_at setup r) h
   where
     go : (o : Option Request) → names o node ≡ false → change_in o node ≡ None
@@ -51,7 +51,7 @@ same_func : (setup : Outline) (r node : ℕ) (f : Func) → changes setup r node
 same_func setup r node f h = ap (λ o. func_with o f) (unchanged setup r node h)
 
 -- requests that don't change the node make no difference
-func_gap : (setup : Outline) (node : ℕ) (f : Func) (low more : ℕ) → ((r : ℕ) → low < r → r ≤ low + more → changes setup r node ≡ false) → func_after setup node f (low + more) ≡ func_after setup node f low
+pub func_gap : (setup : Outline) (node : ℕ) (f : Func) (low more : ℕ) → ((r : ℕ) → low < r → r ≤ low + more → changes setup r node ≡ false) → func_after setup node f (low + more) ≡ func_after setup node f low
 func_gap setup node f low zero h = ap (func_after setup node f) (let e : low + 0 ≡ low = omega arith in e)
 func_gap setup node f low (suc more) h =
     let e : low + suc more ≡ suc (low + more) = omega arith in
@@ -145,7 +145,7 @@ late_in setup station post progress local (x ∷ journal) r (suc i) e m f up low
         later (turned_above setup station post (after_entry progress x) (after setup post local x) journal r f.1 (rising_next setup station post progress local x f.0 up).1 there) there
 
 -- a tuple in whose time the request wasn't turned yet stands before the turn
-early_in : (setup : Outline) (station : Station) (post : Post) (progress : Progress) (local : Local) (journal : List Entry) (r i l : ℕ) (t : Tuple) (m : Moment) → IsExecution station progress journal
+pub early_in : (setup : Outline) (station : Station) (post : Post) (progress : Progress) (local : Local) (journal : List Entry) (r i l : ℕ) (t : Tuple) (m : Moment) → IsExecution station progress journal
     → IsRising local.last progress.dues → slice_get (story setup post local journal) i ≡ Some m → slice_get journal i ≡ Some (entry.Met l t) → m.local.last < r
     → IsIn (entry.Met l t) (before_turn r journal)
 early_in setup station post progress local [] r i l t m f up g k lt = absurd (cc)
@@ -166,7 +166,7 @@ early_in setup station post progress local (x ∷ journal) r (suc i) l t m f up 
 
 -- ---- new and old rows
 
-meets_of : (row l : ℕ) (t : Tuple) (journal : List Entry) → IsIn (entry.Met l t) journal → t.row ≡ row → meets_row row journal ≡ true
+pub meets_of : (row l : ℕ) (t : Tuple) (journal : List Entry) → IsIn (entry.Met l t) journal → t.row ≡ row → meets_row row journal ≡ true
 meets_of row l t journal i e = in_any (λ (tuple : Tuple). tuple.row == row) t (met_tuples journal) (filter_map_in met (entry.Met l t) t journal i refl) (eq-eqb t.row row e)
 
 -- at a request that changes the node of an entry, the row is new just where the entry stands after the turn
@@ -187,7 +187,7 @@ module _ (rows : List Row) (ran : Ran) (g : Running rows ran) (w : ℕ) (lt : Ha
     rises : IsRising 0 (start_of ran w).dues
     rises = dues_rise ran.setup 0 (post_of ran.setup w).node 0 (omega arith)
 
-    late_new : (r : ℕ) → changes ran.setup r (post_of ran.setup w).node ≡ true → r ≤ m.local.last → is_new ran r t.row ≡ true
+    pub late_new : (r : ℕ) → changes ran.setup r (post_of ran.setup w).node ≡ true → r ≤ m.local.last → is_new ran r t.row ≡ true
     late_new r c le =
         let turn : IsIn (entry.Turned r) (journal_of ran w) = covered_turns rows ran g w r lt (g.kept.asked r (post_of ran.setup w).node (g.kept.changed r (post_of ran.setup w).node c)) in
         let low : 0 < r = turned_above ran.setup (station_of ran w) (post_of ran.setup w) (start_of ran w) (begun ran.setup w) (journal_of ran w) r law rises turn in
@@ -195,18 +195,19 @@ module _ (rows : List Row) (ran : Ran) (g : Running rows ran) (w : ℕ) (lt : Ha
         (meets_of t.row l t (after_turn r (journal_of ran w))
         (late_in ran.setup (station_of ran w) (post_of ran.setup w) (start_of ran w) (begun ran.setup w) (journal_of ran w) r i (entry.Met l t) m law rises low turn at is_met le) refl)
 
-    early_old : (r : ℕ) → changes ran.setup r (post_of ran.setup w).node ≡ true → m.local.last < r → is_new ran r t.row ≡ false
+    pub early_before : (r : ℕ) → changes ran.setup r (post_of ran.setup w).node ≡ true → m.local.last < r
+        → any_before r t.row (journals_at ran.journals (changed_workers ran.setup r)) ≡ true
+    early_before r c low =
+        in_any (λ (journal : List Entry). meets_row t.row (before_turn r journal)) (journal_of ran w) (journals_at ran.journals (changed_workers ran.setup r)) (among r c)
+        (meets_of t.row l t (before_turn r (journal_of ran w))
+        (early_in ran.setup (station_of ran w) (post_of ran.setup w) (start_of ran w) (begun ran.setup w) (journal_of ran w) r i l t m law rises at is_met low) refl)
+
+    pub early_old : (r : ℕ) → changes ran.setup r (post_of ran.setup w).node ≡ true → m.local.last < r → is_new ran r t.row ≡ false
     early_old r c low = go (whole rows ran g r t.row)
       where
-        before : any_before r t.row (journals_at ran.journals (changed_workers ran.setup r)) ≡ true
-        before =
-            in_any (λ (journal : List Entry). meets_row t.row (before_turn r journal)) (journal_of ran w) (journals_at ran.journals (changed_workers ran.setup r)) (among r c)
-            (meets_of t.row l t (before_turn r (journal_of ran w))
-            (early_in ran.setup (station_of ran w) (post_of ran.setup w) (start_of ran w) (begun ran.setup w) (journal_of ran w) r i l t m law rises at is_met low) refl)
-
         go : IsWhole ran r t.row → is_new ran r t.row ≡ false
         go (inl h) = h
-        go (inr h) = let x = before in let y = h in absurd (cc)
+        go (inr h) = let x = early_before r c low in let y = h in absurd (cc)
 
     -- ---- the table
 
@@ -263,9 +264,12 @@ module _ (rows : List Row) (ran : Ran) (g : Running rows ran) (w : ℕ) (lt : Ha
           | inr few ↦ ap after_first (let k : m.local.last ≡ min (length ran.setup.requests) m.local.last = omega arith in k)
         ]
 
-    -- the function in force where a tuple is met is the one of its row's table
-    pub by_table : m.local.func ≡ func_for ran t.row (post_of ran.setup w).node (post_of ran.setup w).func (length ran.setup.requests)
-    by_table =
+    -- the function in force where a tuple is met is the one after the requests that were turned
+    pub by_turns : m.local.func ≡ after_first m.local.last
+    by_turns =
         in_force ran.setup g.kept (post_of ran.setup w) (post_of ran.setup w).func (station_of ran w) (start_of ran w) (begun ran.setup w) (journal_of ran w) i m law rises
         (λ r low c. due_of_cover ran.setup (post_of ran.setup w).node r c) refl at
-        ∙ (all_turned ∙ sym (up_to (length ran.setup.requests)))
+
+    -- and the one of its row's table
+    pub by_table : m.local.func ≡ func_for ran t.row (post_of ran.setup w).node (post_of ran.setup w).func (length ran.setup.requests)
+    by_table = by_turns ∙ (all_turned ∙ sym (up_to (length ran.setup.requests)))

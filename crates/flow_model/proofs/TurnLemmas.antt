@@ -29,7 +29,7 @@ turned_if_due station progress (entry.Turned q ∷ journal) r f h e =
 turned_if_due station progress (entry.Ended l ∷ journal) r f h e = inr (turned_if_due station (after_entry progress (entry.Ended l)) journal r f.1 h e)
 
 -- once a lane has ended, nothing is due
-ended_undue : (station : Station) (progress : Progress) (journal : List Entry) (n : ℕ) → IsExecution station progress journal → ((k : ℕ) → IsIn k progress.ended → progress.dues ≡ [])
+pub ended_undue : (station : Station) (progress : Progress) (journal : List Entry) (n : ℕ) → IsExecution station progress journal → ((k : ℕ) → IsIn k progress.ended → progress.dues ≡ [])
     → IsIn n (progress_after progress journal).ended → (progress_after progress journal).dues ≡ []
 ended_undue station progress [] n f h i = h n i
 ended_undue station progress (entry.Met l t ∷ journal) n f h i = ended_undue station progress journal n f.1 h i

@@ -1,5 +1,5 @@
 -- In a run each row is whole at each request.
-use Rattle.std.proofs.Common.{◌≡◌, ◌∙◌, ◌≢◌, ◌<◌, ◌≤◌, ℕ, List, [], ◌∷◌, inl, inr, refl, sym, subst, ap, arith, true, false, Bool, Some, slice_get}
+use Rattle.std.proofs.Common.{◌≡◌, ◌∙◌, ◌≢◌, ◌<◌, ◌≤◌, ℕ, List, [], ◌∷◌, ◌⊎◌, inl, inr, refl, sym, subst, ap, arith, true, false, Bool, Some, slice_get}
 use Rattle.std.specs.List.{list_any}
 use Rattle.flow_dag.specs.Edges.{HasEdge}
 use Rattle.flow_dag.specs.Paths.{IsOrReaches, Reaches}
@@ -9,26 +9,31 @@ use Rattle.sink_journal.specs.declared.journal.Entry.{Entry}
 use Rattle.sink_journal.specs.declared.journal.Entry.TheVariants as entry
 use Rattle.tuple_trace.specs.declared.row.Row.{Row}
 use Rattle.tuple_trace.specs.declared.tuple.Tuple.{Tuple}
+use Rattle.jobs.specs.Ports.{are_ports}
+use Rattle.flow_dag.specs.declared.edge.Edge.{Edge}
 use Rattle.flow_model.specs.Covers.{asks, covers}
+use Rattle.flow_model.specs.Lanes.{lane_of}
+use Rattle.flow_model.proofs.JobLemmas.{one_edge_to}
+use Rattle.flow_model.proofs.LaneLemmas.{LaneIs, lane_by_port, lane_is}
 use Rattle.flow_model.specs.Outline.{Outline, Post}
-use Rattle.flow_model.specs.Planned.{is_many_at}
-use Rattle.flow_model.specs.Replay.{visit_at}
+use Rattle.flow_model.specs.Planned.{copies_at, splits_at}
+use Rattle.flow_model.specs.Replay.{Put, visit_at}
 use Rattle.flow_model.specs.Requests.{changes}
 use Rattle.flow_model.specs.Run.{Ran}
 use Rattle.flow_model.specs.Whole.{IsOneSided, IsWhole, after_turn, any_after, any_before, asked_workers, before_turn, changed_workers, journals_at, meets_row}
 use Rattle.flow_model.specs.Workers.{posts}
 use Rattle.flow_model.proofs.ElementLemmas.{IsIn, any_in, filter_in, filter_map_in, in_any, in_filter, in_filter_map}
-use Rattle.flow_model.proofs.WorkerLemmas.{IsWorker, begun, in_posts, journal_is, journal_of, post_is, post_of, worker_is}
+use Rattle.flow_model.proofs.WorkerLemmas.{IsWorker, begun, in_posts, in_posts_of, journal_is, journal_of, post_is, post_of, worker_is}
 use Rattle.flow_model.proofs.PlannedLemmas.{due_of_cover, dues_rise}
 use Rattle.flow_model.proofs.SendingLemmas.{made}
 use Rattle.flow_model.proofs.StoryLemmas.{Moment}
 use Rattle.flow_model.proofs.AgreementLemmas.{HasAgreed, IsNew, IsOld}
-use Rattle.flow_model.proofs.KindLemmas.{AreAlike, ArePieces, alike_ports, alike_self, alike_then, many_by_job, pieces_of}
+use Rattle.flow_model.proofs.KindLemmas.{AreAlike, ArePieces, IsGiven, alike_given, copies_given, copies_part, emits_cases, given_then, pieces_of, splits_given}
 use Rattle.flow_model.proofs.RunLemmas.{HasWorker, Running, all_agree, execution, finished, start_of, station_of}
 use Rattle.flow_model.proofs.KinLemmas.{Address, AreKin, Born, Child, IsChain, Meets, Parted, Passed, born, kin, meets_one, parted, passed, story_of, visit_of}
 use Rattle.flow_model.proofs.RootLemmas.{Rooted, one_root, rooted}
 use Rattle.flow_model.proofs.TurnLemmas.{Early, Late, found_early, found_late, turns}
-use Rattle.std.proofs.lemmas.Option.{slice_get_within}
+use Rattle.std.proofs.lemmas.Option.{same_Some, slice_get_within}
 
 -- ---- chains lead along edges
 
@@ -51,12 +56,38 @@ pub record Meeting (ran : Ran) (row : ℕ) (c : Address) : Type 0 where
   pub there : slice_get (story_of ran c.worker) c.entry ≡ Some moment
   pub within : HasWorker ran c.worker
 
--- two children of an entry are pieces that its function made
+-- two children of an entry are pieces that its function made: those of a split, or copies that went to two nodes
 pub record HasParted (ran : Ran) (p a b : Address) (k : Parted ran p a b) : Type 0 where
   pub tuple : Tuple
   pub func : Func
   pub pieces : ArePieces func tuple.birth k.first.tuple.birth k.second.tuple.birth
-  pub many : is_many_at ran.setup.job.nodes (post_of ran.setup p.worker).node ≡ true
+  pub source :
+      (splits_at ran.setup.job.nodes ran.setup.requests (post_of ran.setup p.worker).node ≡ true)
+      ⊎ ((copies_at ran.setup.job.nodes (post_of ran.setup p.worker).node ≡ true) × ((post_of ran.setup a.worker).node ≢ (post_of ran.setup b.worker).node))
+
+-- the edge along which a child came
+along : (ran : Ran) (p a : Address) (k : Child ran p a) (x : Born ran p a k)
+    → (edge : Edge) × (slice_get ran.setup.job.edges k.lane.edge ≡ Some edge) × (edge.from ≡ (post_of ran.setup p.worker).node) × (edge.port ≡ x.out.port) × (edge.to ≡ (post_of ran.setup a.worker).node)
+along ran p a k x =
+    let post : Post = post_of ran.setup p.worker in
+    let lane : lane_of ran.setup.job (Some post.number) post.node x.out.port x.out.tuple ≡ Some k.lane = sym (ap (λ (p : Put). p.lane) x.put_so) ∙ k.on in
+    let (edge, there, from, port) = lane_by_port ran.setup.job (Some post.number) post.node x.out.port x.out.tuple k.lane lane in
+    let is : LaneIs ran.setup.job k.lane = lane_is ran.setup.job k.n k.lane k.numbered in
+    let same : is.edge ≡ edge = same_Some is.edge edge (sym is.edge_is ∙ there) in
+    let into = in_posts_of ran.setup.job is.edge.to is.to is.receives in
+    let w : IsWorker ran.setup.job is.to = in_posts ran.setup.job is.to into.0 in
+    let number : is.to.number ≡ a.worker = sym is.receiver ∙ k.receiver in
+    let stands : post_of ran.setup a.worker ≡ is.to = post_is ran.setup a.worker is.to (subst (λ n. slice_get (posts ran.setup.job) n ≡ Some is.to) number w.there) in
+    (edge, there, from, port, sym (ap (λ (e : Edge). e.to) same) ∙ (sym into.1 ∙ sym (ap (λ (p : Post). p.node) stands)))
+
+-- two children that came to one node left by one port
+same_port : (ran : Ran) (p a b : Address) (k : Child ran p a) (l : Child ran p b) (x : Born ran p a k) (y : Born ran p b l) (f : Func) → are_ports ran.setup.job.edges (post_of ran.setup p.worker).node f ≡ true
+    → (post_of ran.setup a.worker).node ≡ (post_of ran.setup b.worker).node → x.out.port ≡ y.out.port
+same_port ran p a b k l x y f ports e =
+    let (edge, there, from, port, to) = along ran p a k x in
+    let (other, there', from', port', to') = along ran p b l y in
+    let same : edge ≡ other = one_edge_to ran.setup.job.edges (post_of ran.setup p.worker).node f ports k.lane.edge l.lane.edge edge other there there' from from' (to ∙ (e ∙ sym to')) in
+    sym port ∙ (ap (λ (e : Edge). e.port) same ∙ port')
 
 pub has_parted : (rows : List Row) (ran : Ran) (g : Running rows ran) (p a b : Address) (k : Parted ran p a b) → HasParted ran p a b k
 has_parted rows ran g p a b k =
@@ -67,21 +98,29 @@ has_parted rows ran g p a b k =
     let x : Born ran p a k.first = born ran p a k.first in
     let y : Born ran p b k.second = born ran p b k.second in
     let same : y.tuple ≡ x.tuple = meets_one ran p y.tuple x.tuple y.meets x.meets in
-    let alike : AreAlike is.def.func m.local.func =
-    alike_then setup post is.def (begun setup p.worker) (journal_of ran p.worker) p.entry m g.kinds is.node_is
-    (subst (λ (f : Func). AreAlike is.def.func f) (sym is.func_is) (alike_self is.def.func)) k.first.there in
+    let given : IsGiven setup post.node is.def.func m.local.func =
+    given_then setup post is.def.func (begun setup p.worker) (journal_of ran p.worker) p.entry m (inl (sym is.func_is)) k.first.there in
+    let alike : AreAlike setup.job.edges post.node is.def.func m.local.func = alike_given setup post.node is.def m.local.func g.kinds is.node_is given in
+    let ports : are_ports setup.job.edges post.node m.local.func ≡ true = alike.ports (g.wired.ports post.node is.def is.node_is) in
     let second : slice_get (made setup post m.local x.tuple) k.second.k ≡ Some y.out =
     subst (λ (n : Moment). slice_get (made setup post n.local x.tuple) k.second.k ≡ Some y.out) (sym k.same_moment)
     (subst (λ (t : Tuple). slice_get (made setup post k.second.moment.local t) k.second.k ≡ Some y.out) same y.made_so) in
     let pieces : ArePieces m.local.func x.tuple.birth x.out.tuple.birth y.out.tuple.birth =
     pieces_of setup.job (visit_at post m.local) m.local.func m.local.counts x.tuple k.first.k k.second.k x.out y.out
-    (alike_ports setup.job.edges post.node is.def.func m.local.func alike (g.wired.ports post.node is.def is.node_is)) x.made_so second k.other_output in
+    ports x.made_so second k.other_output in
     record {
       tuple = x.tuple;
       func = m.local.func;
       pieces = subst (λ (l : List ℕ). ArePieces m.local.func x.tuple.birth l k.second.tuple.birth) (sym (ap (λ (t : Tuple). t.birth) x.is))
           (subst (λ (l : List ℕ). ArePieces m.local.func x.tuple.birth x.out.tuple.birth l) (sym (ap (λ (t : Tuple). t.birth) y.is)) pieces);
-      many = many_by_job setup.job.nodes post.node is.def m.local.func is.node_is alike pieces.emits;
+      source = elim (emits_cases m.local.func pieces.emits) [
+        | inl split ↦ inl (splits_given setup post.node is.def m.local.func is.node_is given split)
+        | inr copy ↦ inr (
+          copies_given setup post.node is.def m.local.func is.node_is alike copy,
+          λ e. copies_part setup.job (visit_at post m.local) m.local.func m.local.counts x.tuple k.first.k k.second.k x.out y.out ports x.made_so second k.other_output copy
+              (same_port ran p a b k.first k.second x y m.local.func ports e),
+        )
+      ];
     }
 
 -- ---- two entries of a row at asked nodes
@@ -120,7 +159,7 @@ module _ (rows : List Row) (ran : Ran) (g : Running rows ran) (row r : ℕ) (c d
         let last = same_last ran d k.moment n.moment k.there n.there in
         absurd (omega arith)
 
-    -- where they parted is a node of many, and so a covered one, whose visit both must judge
+    -- where they parted is a split, or a node whose copies came to asked nodes along two edges, and so a covered one, whose visit both must judge
     between : (p a b : Address) → Child ran p a → Child ran p b → a ≢ b → (s t : List Address) → IsChain ran a s c → IsChain ran b t d → ⊥
     between p a b x y differ s t u v =
         let k : Parted ran p a b = parted ran p a b x y differ in
@@ -128,7 +167,13 @@ module _ (rows : List Row) (ran : Ran) (g : Running rows ran) (row r : ℕ) (c d
         let post : Post = post_of ran.setup p.worker in
         let leads : Reaches (HasEdge ran.setup.job.edges) post.node (post_of ran.setup c.worker).node =
         Reaches-from_steps (HasEdge ran.setup.job.edges) post.node (post_of ran.setup a.worker).node (post_of ran.setup c.worker).node k.first.edge (chain_reaches ran a c s u) in
-        let cov : covers ran.setup r post.node ≡ true = g.kept.many r post.node (post_of ran.setup c.worker).node h.many leads ac in
+        let cov : covers ran.setup r post.node ≡ true =
+        elim h.source [
+          | inl split ↦ g.kept.splits r post.node (post_of ran.setup c.worker).node split leads ac
+          | inr copy ↦
+              g.kept.copies r post.node (post_of ran.setup a.worker).node (post_of ran.setup b.worker).node (post_of ran.setup c.worker).node (post_of ran.setup d.worker).node copy.0 copy.1
+              k.first.edge (chain_reaches ran a c s u) ac k.second.edge (chain_reaches ran b d t v) ad
+        ] in
         let le : r ≤ k.first.moment.local.last = new (visit_at post k.first.moment.local) (visit_of ran p a c s m.tuple k.first u m.meets) cov in
         let lt : k.second.moment.local.last < r = old (visit_at post k.second.moment.local) (visit_of ran p b d t n.tuple k.second v n.meets) cov in
         let last : k.first.moment.local.last ≡ k.second.moment.local.last = ap (λ (m : Moment). m.local.last) k.same_moment in
@@ -179,13 +224,13 @@ covered_turns rows ran g w r lt c =
     let lane = g.wired.reached (post_of ran.setup w) (worker_is ran.setup w lt).1 in
     turns (station_of ran w) (journal_of ran w) lane.0 r (finished rows ran g w lt) lane.1 (due_of_cover ran.setup (post_of ran.setup w).node r c)
 
-late_of : (rows : List Row) (ran : Ran) (g : Running rows ran) (w row r : ℕ) → HasWorker ran w → meets_row row (after_turn r (journal_of ran w)) ≡ true
+pub late_of : (rows : List Row) (ran : Ran) (g : Running rows ran) (w row r : ℕ) → HasWorker ran w → meets_row row (after_turn r (journal_of ran w)) ≡ true
     → Late ran.setup (post_of ran.setup w) (begun ran.setup w) (journal_of ran w) row r
 late_of rows ran g w row r lt h =
     found_late ran.setup (station_of ran w) (post_of ran.setup w) (start_of ran w) (begun ran.setup w) (journal_of ran w) row r
     (execution rows ran g w lt) (dues_rise ran.setup 0 (post_of ran.setup w).node 0 (omega arith)) h
 
-early_of : (rows : List Row) (ran : Ran) (g : Running rows ran) (w row r : ℕ) → HasWorker ran w → covers ran.setup r (post_of ran.setup w).node ≡ true → meets_row row (before_turn r (journal_of ran w)) ≡ true
+pub early_of : (rows : List Row) (ran : Ran) (g : Running rows ran) (w row r : ℕ) → HasWorker ran w → covers ran.setup r (post_of ran.setup w).node ≡ true → meets_row row (before_turn r (journal_of ran w)) ≡ true
     → Early ran.setup (post_of ran.setup w) (begun ran.setup w) (journal_of ran w) row r
 early_of rows ran g w row r lt c h =
     found_early ran.setup (station_of ran w) (post_of ran.setup w) (start_of ran w) (begun ran.setup w) (journal_of ran w) row r
@@ -219,14 +264,14 @@ one_sided rows ran g r row =
         absurd (both_sides rows ran g r row a.0 b.0 (asked_journal ran r a.0 a.1) (asked_journal ran r b.0 b.1) a.2 b.2)
 
 -- what no list of a longer list passes, none of a shorter one does
-fewer_pass : {A : Type 0} (test : A → Bool) (few many : List A) → ((x : A) → IsIn x few → IsIn x many) → list_any test many ≡ false → list_any test few ≡ false
+pub fewer_pass : {A : Type 0} (test : A → Bool) (few many : List A) → ((x : A) → IsIn x few → IsIn x many) → list_any test many ≡ false → list_any test few ≡ false
 fewer_pass test few many f e = go (list_any test few) refl
   where
     go : (b : Bool) → list_any test few ≡ b → list_any test few ≡ false
     go true h = let (x, i, t) = any_in test few h in let k : list_any test many ≡ true = in_any test x many (f x i) t in absurd (cc)
     go false h = h
 
-changed_asked : (rows : List Row) (ran : Ran) (g : Running rows ran) (r : ℕ) (journal : List Entry) → IsIn journal (journals_at ran.journals (changed_workers ran.setup r))
+pub changed_asked : (rows : List Row) (ran : Ran) (g : Running rows ran) (r : ℕ) (journal : List Entry) → IsIn journal (journals_at ran.journals (changed_workers ran.setup r))
     → IsIn journal (journals_at ran.journals (asked_workers ran.setup r))
 changed_asked rows ran g r journal h =
     let p = in_filter_map (λ (post : Post). slice_get ran.journals post.number) journal (changed_workers ran.setup r) h in

@@ -16,7 +16,8 @@ use Rattle.tuple_trace.specs.declared.tuple.Item.TheVariants as item
 use Rattle.flow_model.specs.Agreement.{Agreement, IsGraphOf, SendsSteadily, WorksSteadily}
 use Rattle.flow_model.specs.Begin.{Begin, at_first, last_after, local_at}
 use Rattle.flow_model.specs.Covers.{covers}
-use Rattle.flow_model.specs.Outline.{Lane, Outline, Post}
+use Rattle.flow_model.specs.declared.topology.Lane.{Lane}
+use Rattle.flow_model.specs.Outline.{Outline, Post}
 use Rattle.flow_model.specs.Replay.{sent, shown}
 use Rattle.flow_model.specs.Run.{IsLawfulFrom, Ran}
 use Rattle.flow_model.specs.Workers.{posts}

@@ -9,7 +9,8 @@ use Rattle.keyed_state.specs.Counts.{Counts}
 use Rattle.lane_core.specs.Steady.{IsNewAt, IsOldAt, IsSteady}
 use Rattle.sink_journal.specs.declared.journal.Entry.{Entry}
 use Rattle.sink_journal.specs.declared.journal.Entry.TheVariants as entry
-use Rattle.flow_model.specs.Outline.{Lane, Outline, Post}
+use Rattle.flow_model.specs.declared.topology.Lane.{Lane}
+use Rattle.flow_model.specs.Outline.{Outline, Post}
 use Rattle.flow_model.specs.Begin.{Begin, local_at}
 use Rattle.flow_model.specs.Covers.{plan_of}
 use Rattle.flow_model.specs.Lanes.{lanes}

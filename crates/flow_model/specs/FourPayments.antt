@@ -3,6 +3,7 @@ use Rattle.std.specs.Prelude.{ℕ, ℤ, pos, List, [], ◌∷◌, false, codes, 
 use Rattle.std.specs.FinMap.{empty}
 use Rattle.cover_planner.specs.declared.cover.Plan.{Plan}
 use Rattle.keyed_state.specs.declared.carry.Carry.TheVariants as carry
+use Rattle.jobs.specs.Nodes.{fan_out}
 use Rattle.jobs.specs.Written.{Written, written_as}
 use Rattle.jobs.specs.declared.column.ColumnKind.TheVariants as kind
 use Rattle.jobs.specs.declared.func.Func.{Func}
@@ -22,7 +23,7 @@ use Rattle.flow_model.specs.Run.{Ran, ran_as}
 
 -- a node with one worker
 abbrev pub node_of : List ℕ → Func → NodeDef
-node_of name func = record { name = name; func = func; workers = 1 }
+node_of name func = record { name = name; func = func; workers = 1; roof = fan_out func }
 
 -- payments from this amount on pass
 abbrev pub at_least : ℤ → Func
@@ -45,7 +46,7 @@ abbrev pub filter_alone : Plan
 filter_alone = record { asked = 2; members = 2; nodes = 2; edges = 0; heads = 2; part = 255 ∷ 0 ∷ replicate 62 255 }
 
 abbrev pub four_setup : Outline
-four_setup = outline_of chain (falls_after 2 ∷ []) (filter_alone ∷ []) 0
+four_setup = outline_of chain (falls_after 2 ∷ []) (filter_alone ∷ []) 0 false
 
 -- the worker of the filter
 abbrev pub filter_post : Post

@@ -1,12 +1,13 @@
 -- The lanes of a job: the ways along which its feeder and its workers send.
-use Rattle.std.specs.Prelude.{ℕ, ◌==◌, Bool, false, true, ◌&&◌, List, [], ◌∷◌, map, filter, Option, Some, None, option_map, slice_get, if◌then◌else◌}
+use Rattle.std.specs.Prelude.{ℕ, ◌==◌, Bool, false, true, ◌&&◌, List, [], ◌∷◌, map, filter, Option, Some, None, option_map, slice_get, slice_index_or, if◌then◌else◌}
 use Rattle.std.specs.List.{enumerate_from, flat_map}
 use Rattle.flow_dag.specs.declared.edge.Edge.{Edge}
 use Rattle.jobs.specs.Nodes.{is_source_node}
 use Rattle.jobs.specs.Written.{Written}
 use Rattle.operators.specs.Lanes.{worker_at}
 use Rattle.tuple_trace.specs.declared.tuple.Tuple.{Tuple}
-use Rattle.flow_model.specs.Outline.{Lane, Outline, Post}
+use Rattle.flow_model.specs.declared.topology.Lane.{Lane}
+use Rattle.flow_model.specs.Outline.{Outline, Post}
 use Rattle.flow_model.specs.Covers.{covers_edge}
 use Rattle.flow_model.specs.Workers.{posts_of}
 
@@ -45,6 +46,17 @@ is_sender worker (Some sender) = sender == worker
 -- the lanes out of a worker
 abbrev pub lanes_out : Written → ℕ → List Lane
 lanes_out job worker = filter (λ (lane : Lane). is_sender worker lane.sender) (lanes job)
+
+-- their numbers
+abbrev pub out_numbers : Written → ℕ → List ℕ
+out_numbers job worker = lanes_that (λ (lane : Lane). is_sender worker lane.sender) job
+
+-- the lane with a number; past the last one, a lane of no edge
+abbrev pub no_lane : Lane
+no_lane = record { edge = 0; sender = None; receiver = 0 }
+
+abbrev pub lane_at : Written → ℕ → Lane
+lane_at job n = slice_index_or (lanes job) n no_lane
 
 abbrev pub is_same_sender : Option ℕ → Option ℕ → Bool
 is_same_sender None None = true

@@ -3,12 +3,16 @@ pub mod Planned
 pub mod Setup
 pub mod Workers
 pub mod Lanes
+pub mod Topology
 pub mod Covers
 pub mod Requests
+pub mod Least
 pub mod Law
 pub mod Points
 pub mod Station
 pub mod Replay
+pub mod InForce
+pub mod Dues
 pub mod Begin
 pub mod Feeding
 pub mod Run
@@ -19,6 +23,7 @@ pub mod Fresh
 pub mod Alone
 pub mod Consistent
 pub mod OneTable
+pub mod Serial
 pub mod FourPayments
 pub mod SplitAbove
 pub mod TwoLanes

@@ -1,50 +1,93 @@
 -- What the type of a setup keeps: its requests are accepted, and have the planner's plans.
-use Rattle.std.specs.Prelude.{◌≡◌, ◌↔◌, ℕ, Bool, false, IsTrue, List, length, Option, Some, None, slice_get}
+use Rattle.std.specs.Prelude.{◌≡◌, ◌↔◌, ◌≤◌, ◌+◌, ◌==◌, ◌&&◌, ◌||◌, ℕ, Bool, false, true, IsTrue, List, length, take, Option, Some, None, slice_get, if◌then◌else◌}
+use Rattle.std.specs.List.{list_any}
 use Rattle.cover_planner.specs.declared.cover.Plan.{Plan}
 use Rattle.cover_planner.specs.Plan.{IsPlan}
-use Rattle.flow_dag.specs.declared.edge.Edge.{Edge}
 use Rattle.flow_dag.specs.Masks.{Has}
-use Rattle.jobs.specs.Nodes.{IsSourceOf, may_emit}
+use Rattle.jobs.specs.Nodes.{IsSourceOf, is_replicate, is_split}
+use Rattle.jobs.specs.Written.{Written}
 use Rattle.jobs.specs.declared.func.NodeDef.{NodeDef}
 use Rattle.versions.specs.Book.{is_named}
+use Rattle.versions.specs.declared.request.Change.{Change}
 use Rattle.versions.specs.declared.request.Request.{Request}
-use Rattle.flow_model.specs.Outline.{Outline, many_of}
+use Rattle.flow_model.specs.Outline.{Outline, splits_of}
 
-abbrev pub is_many : Option NodeDef → Bool
-is_many None = false
-is_many (Some node) = may_emit node.func
+-- ---- which nodes make several tuples of one
 
--- the node with this number may make several tuples of one
-abbrev pub is_many_at : List NodeDef → ℕ → Bool
-is_many_at nodes node = is_many (slice_get nodes node)
+abbrev pub is_split_node : Option NodeDef → Bool
+is_split_node None = false
+is_split_node (Some node) = is_split node.func
 
--- the plan is the planner's for the nodes that it asks, and it asks every node that the request changes
-pub record IsPlanFor (edges : List Edge) (many : ℕ) (request : Request) (plan : Plan) : Type 0 where
-  pub planned : IsPlan edges many plan.asked plan
+abbrev pub is_replicate_node : Option NodeDef → Bool
+is_replicate_node None = false
+is_replicate_node (Some node) = is_replicate node.func
+
+-- the job makes the node a replicate; no request changes one
+abbrev pub copies_at : List NodeDef → ℕ → Bool
+copies_at nodes node = is_replicate_node (slice_get nodes node)
+
+-- the change makes the node a split
+abbrev pub makes_split : ℕ → Change → Bool
+makes_split node change = change.node == node && is_split change.func
+
+-- some request makes the node a split
+abbrev pub is_made_split : List Request → ℕ → Bool
+is_made_split requests node = list_any (λ (request : Request). list_any (makes_split node) request.changes) requests
+
+-- the function that the job, or some request, gives the node is a split
+abbrev pub splits_at : List NodeDef → List Request → ℕ → Bool
+splits_at nodes requests node = is_split_node (slice_get nodes node) || is_made_split requests node
+
+-- ---- plans
+
+-- the plan is the planner's for the nodes that it asks
+abbrev pub IsPlanBy : Written → ℕ → Plan → Type 0
+IsPlanBy job splits plan = IsPlan job.edges (Has splits) (λ (node : ℕ). IsTrue (copies_at job.nodes node)) plan.asked plan
+
+-- so it is, and it asks every node that the request changes
+pub record IsPlanFor (job : Written) (splits : ℕ) (request : Request) (plan : Plan) : Type 0 where
+  pub planned : IsPlanBy job splits plan
   pub asked : (node : ℕ) → IsTrue (is_named request.changes node) → Has plan.asked node
 
--- the mask holds every node that may make several tuples of one, each request has its plan, and no plan has a source for a member
+-- the mask holds every node that may make pieces of a tuple, each request has its plan, and no plan has a source for a member; where rows and
+-- requests have one order, a plan asks every node that a request up to its own changes
 pub record IsPlanned (setup : Outline) : Type 0 where
-  pub many : (node : ℕ) → IsTrue (is_many_at setup.job.nodes node) → Has (many_of setup) node
+  pub splits : (node : ℕ) → IsTrue (splits_at setup.job.nodes setup.requests node) → Has (splits_of setup) node
   pub one_each : length setup.plans ≡ length setup.requests
   pub plans :
       (r : ℕ) (request : Request) (plan : Plan) → slice_get setup.requests r ≡ Some request → slice_get setup.plans r ≡ Some plan →
-      IsPlanFor setup.job.edges (many_of setup) request plan
+      IsPlanFor setup.job (splits_of setup) request plan
   pub no_source : (r node : ℕ) (plan : Plan) → slice_get setup.plans r ≡ Some plan → IsSourceOf setup.job node → ¬ Has plan.members node
+  pub ordered :
+      IsTrue setup.ordered → (s r : ℕ) (request : Request) (plan : Plan) → s ≤ r → slice_get setup.requests s ≡ Some request →
+      slice_get setup.plans r ≡ Some plan → (node : ℕ) → IsTrue (is_named request.changes node) → Has plan.asked node
 
--- the plan is the planner's for exactly the nodes that the request changes
-pub record IsPlanOf (edges : List Edge) (many : ℕ) (request : Request) (plan : Plan) : Type 0 where
-  pub planned : IsPlan edges many plan.asked plan
-  pub asked : (node : ℕ) → Has plan.asked node ↔ IsTrue (is_named request.changes node)
+-- ---- nothing else
+
+abbrev pub names_node : ℕ → Request → Bool
+names_node node request = is_named request.changes node
+
+abbrev pub is_named_by : Option Request → ℕ → Bool
+is_named_by None node = false
+is_named_by (Some request) node = names_node node request
+
+-- the set that is planned for the request at this place holds the node: the request changes it, or, where rows and requests have one order, some
+-- request up to this one does
+abbrev pub is_planned : Bool → List Request → ℕ → ℕ → Bool
+is_planned ordered requests r node =
+    if ordered then list_any (names_node node) (take (r + 1) requests) else is_named_by (slice_get requests r) node
+
+-- the plan is the planner's for exactly these nodes
+pub record IsPlanOf (job : Written) (splits : ℕ) (planned : ℕ → Bool) (plan : Plan) : Type 0 where
+  pub by : IsPlanBy job splits plan
+  pub asked : (node : ℕ) → Has plan.asked node ↔ IsTrue (planned node)
 
 -- each request has such a plan
-pub record ArePlansOf (edges : List Edge) (many : ℕ) (requests : List Request) (plans : List Plan) : Type 0 where
+pub record ArePlansOf (job : Written) (splits : ℕ) (ordered : Bool) (requests : List Request) (plans : List Plan) : Type 0 where
   pub one_each : length plans ≡ length requests
-  pub each :
-      (r : ℕ) (request : Request) (plan : Plan) → slice_get requests r ≡ Some request → slice_get plans r ≡ Some plan →
-      IsPlanOf edges many request plan
+  pub each : (r : ℕ) (plan : Plan) → slice_get plans r ≡ Some plan → IsPlanOf job splits (is_planned ordered requests r) plan
 
--- the masks hold nothing else: the nodes that may make several tuples of one, and for each request the nodes that it changes
+-- the masks hold nothing else: the nodes that may make pieces of a tuple, and for each request the set that is planned
 pub record IsExact (setup : Outline) : Type 0 where
-  pub many : (node : ℕ) → Has (many_of setup) node ↔ IsTrue (is_many_at setup.job.nodes node)
-  pub plans : ArePlansOf setup.job.edges (many_of setup) setup.requests setup.plans
+  pub splits : (node : ℕ) → Has (splits_of setup) node ↔ IsTrue (splits_at setup.job.nodes setup.requests node)
+  pub plans : ArePlansOf setup.job (splits_of setup) setup.ordered setup.requests setup.plans

@@ -13,7 +13,8 @@ use Rattle.tuple_trace.specs.declared.tuple.Item.{Item}
 use Rattle.tuple_trace.specs.declared.tuple.Item.TheVariants as item
 use Rattle.tuple_trace.specs.declared.tuple.Visit.{Visit}
 use Rattle.versions.specs.declared.request.Change.{Change}
-use Rattle.flow_model.specs.Outline.{Lane, Outline, Post}
+use Rattle.flow_model.specs.declared.topology.Lane.{Lane}
+use Rattle.flow_model.specs.Outline.{Outline, Post}
 use Rattle.flow_model.specs.Covers.{covers_edge, plan_of}
 use Rattle.flow_model.specs.Lanes.{is_same_lane, lane_of, lanes_in, lanes_out}
 use Rattle.flow_model.specs.Requests.{change_of}

@@ -6,7 +6,8 @@ use Rattle.sink_journal.specs.declared.journal.Feed.{Feed}
 use Rattle.tuple_trace.specs.declared.row.Row.{Row}
 use Rattle.tuple_trace.specs.declared.tuple.Item.{Item}
 use Rattle.tuple_trace.specs.declared.tuple.Item.TheVariants as item
-use Rattle.flow_model.specs.Outline.{Lane, Outline, Post}
+use Rattle.flow_model.specs.declared.topology.Lane.{Lane}
+use Rattle.flow_model.specs.Outline.{Outline, Post}
 use Rattle.flow_model.specs.Begin.{Begin, at_first, local_at}
 use Rattle.flow_model.specs.Feeding.{fed, feed_from}
 use Rattle.flow_model.specs.Lanes.{lanes}
@@ -73,7 +74,11 @@ pub record IsRunFrom (begin : Begin) (rows : List Row) (ran : Ran) : Type 0 wher
       (n : ℕ) (lane : Lane) (journal : List Entry) → slice_get (lanes ran.setup.job) n ≡ Some lane →
       slice_get ran.journals lane.receiver ≡ Some journal → put_by begin rows ran lane lane.sender ≡ Some (shown ran.setup n journal)
 
--- what was left is a run of this setup and these rows
-pub record IsRun (setup : Outline) (rows : List Row) (ran : Ran) : Type 0 where
+-- what was left is a run of this setup and these rows, from this beginning on
+pub record IsRunSince (begin : Begin) (setup : Outline) (rows : List Row) (ran : Ran) : Type 0 where
   pub setup_is : ran.setup ≡ setup
-  pub run : IsRunFrom (at_first setup) rows ran
+  pub run : IsRunFrom begin rows ran
+
+-- what was left is a run of this setup and these rows, from the beginning of all on
+abbrev pub IsRun : Outline → List Row → Ran → Type 0
+IsRun setup rows ran = IsRunSince (at_first setup) setup rows ran

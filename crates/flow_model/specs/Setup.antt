@@ -5,4 +5,4 @@ use Rattle.flow_model.specs.Outline.{Outline, outline_of}
 
 -- a setup, as the definitions see it
 abbrev pub outline : Setup → Outline
-outline setup = outline_of (written setup.job) setup.judged.accepted setup.plans setup.many
+outline setup = outline_of (written setup.job) setup.judged.accepted setup.plans setup.splits setup.ordered

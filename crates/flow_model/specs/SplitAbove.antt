@@ -59,7 +59,7 @@ abbrev pub from_the_split : Plan
 from_the_split = record { asked = 32; members = 34; nodes = 62; edges = 62; heads = 2; part = 255 ∷ (replicate 5 0 ++ replicate 58 255) }
 
 abbrev pub split_setup : Outline
-split_setup = outline_of two_ways (b_alone ∷ []) (from_the_split ∷ []) 2
+split_setup = outline_of two_ways (b_alone ∷ []) (from_the_split ∷ []) 2 false
 
 abbrev pub row_of : ℕ → Row
 row_of number = record { source = 0; tuple = record { row = number; birth = []; issued = 0; fields = value.Text (codes "a;b") ∷ []; trace = [] } }

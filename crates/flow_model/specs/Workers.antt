@@ -1,8 +1,9 @@
 -- The workers of a job.
-use Rattle.std.specs.Prelude.{ℕ, zero, suc, ◌+◌, ◌==◌, List, [], ◌∷◌, ◌++◌, filter}
+use Rattle.std.specs.Prelude.{ℕ, zero, suc, ◌+◌, ◌==◌, List, [], ◌∷◌, ◌++◌, filter, slice_index_or}
 use Rattle.jobs.specs.Nodes.{workers_of}
 use Rattle.jobs.specs.Written.{Written}
 use Rattle.jobs.specs.declared.func.Func.{Func}
+use Rattle.jobs.specs.declared.func.Func.TheVariants as func
 use Rattle.jobs.specs.declared.func.NodeDef.{NodeDef}
 use Rattle.flow_model.specs.Outline.{Post}
 
@@ -25,3 +26,10 @@ posts job = posts_from 0 0 job.nodes
 -- the workers of a node, by their places
 abbrev pub posts_of : Written → ℕ → List Post
 posts_of job node = filter (λ (post : Post). post.node == node) (posts job)
+
+-- the worker with a number; past the last one, a worker of no node
+abbrev pub nobody : Post
+nobody = record { number = 0; node = 0; place = 0; func = func.Source }
+
+abbrev pub post_at : Written → ℕ → Post
+post_at job worker = slice_index_or (posts job) worker nobody

@@ -1,5 +1,5 @@
 // Worked runs. Each function proves what its clauses say of one, and does nothing.
-ghost use Rattle.std.specs.Prelude.{◌≡◌, ℕ, ◌∷◌, [], false, true, pos};
+ghost use Rattle.std.specs.Prelude.{◌≡◌, ℕ, ◌∷◌, [], Some, false, true, pos};
 ghost use Rattle.std.specs.List.{flat_map};
 ghost use Rattle.jobs.specs.Law.{IsLawful as IsLawfulJob};
 ghost use Rattle.jobs.specs.Nodes.{AreFromSources};
@@ -12,12 +12,13 @@ ghost use Rattle.versions.specs.Judged.{AreAccepted};
 ghost use Rattle.flow_model.specs.Alone.{alone, table};
 ghost use Rattle.flow_model.specs.Begin.{at_first};
 ghost use Rattle.flow_model.specs.Feeding.{feed_from};
-ghost use Rattle.flow_model.specs.FourPayments.{chain, filter_post, four_payments, four_ran, four_setup, late_big, row_of, short_ran};
+ghost use Rattle.flow_model.specs.FourPayments.{at_least, chain, filter_post, four_payments, four_ran, four_setup, late_big, row_of, short_ran};
 ghost use Rattle.flow_model.specs.Fresh.{IsFresh, IsFreshBefore};
 ghost use Rattle.flow_model.specs.Law.{IsFinished, IsLawful};
 ghost use Rattle.flow_model.specs.OneTable.{HasNoCounts, IsOneTable};
 ghost use Rattle.flow_model.specs.Planned.{IsPlanned};
 ghost use Rattle.flow_model.specs.Run.{IsLawfulFrom, IsRun};
+ghost use Rattle.flow_model.specs.Serial.{serial, table_at};
 ghost use Rattle.flow_model.specs.SplitAbove.{exchanged_ran, split_landings, split_ran, split_setup, two_rows, two_ways};
 ghost use Rattle.flow_model.specs.SteadyLanes.{mark, new_tuple, old_tuple, out_of_filter, stray_tuple};
 ghost use Rattle.flow_model.specs.TwoLanes.{joined, joining, parted, unmarked, unturned};
@@ -42,6 +43,16 @@ pub fn four_payments_are_whole()
 pub fn payments_alone()
     ensures first { alone chain (table four_ran 1) (row_of 1 (pos 9999)) ≡ [] }
     ensures third { alone chain (table four_ran 3) (row_of 3 (pos 5000)) ≡ record { sink = 2; row = 3; fields = value.Num (pos 5000) ∷ [] } ∷ [] }
+{}
+
+/// The order of the four payments and the request: the second payment comes before it, and the third behind it. So the third meets the functions
+/// after the request.
+pub fn payments_have_an_order()
+    ensures second { serial four_ran 2 ≡ 0 }
+    ensures third { serial four_ran 3 ≡ 1 }
+    ensures before { table_at four_setup (serial four_ran 2) 1 ≡ table four_ran 2 1 }
+    ensures behind { table_at four_setup (serial four_ran 3) 1 ≡ table four_ran 3 1 }
+    ensures changed { table_at four_setup 1 1 ≡ Some (at_least (pos 5000)) }
 {}
 
 /// It is no run where the sink never met the third payment.

@@ -2,7 +2,8 @@
 ghost use Rattle.std.specs.Prelude.{◌≡◌, ◌↔◌, ◌++◌, ℕ, List};
 ghost use Rattle.sink_journal.specs.declared.journal.Entry.{Entry as EntryIs};
 ghost use Rattle.flow_model.specs.Law.{IsExecution, IsLawful, Progress, Station, initial, progress_after};
-ghost use Rattle.flow_model.specs.Outline.{Lane, Outline, Post};
+ghost use Rattle.flow_model.specs.declared.topology.Lane.{Lane};
+ghost use Rattle.flow_model.specs.Outline.{Outline, Post};
 ghost use Rattle.flow_model.specs.Points.{HasPoints, MayStandAtItsPlace};
 ghost use Rattle.flow_model.specs.Replay.{Local, after_all, sent, shown};
 

@@ -3,18 +3,23 @@
 //! Nothing here runs anything. Contracts of whatever does cite these definitions, which know no queue, no capacity and no thread.
 #![tactic(auto)]
 
+mod changes;
 mod consistent;
+mod dues;
 mod examples;
+mod in_force;
 mod journals;
 mod landing;
+mod lanes;
 mod laws;
 mod masks;
+mod ordered;
 mod plans;
 mod record;
 mod runs;
 mod setup;
-#[cfg(test)]
-mod tests;
+mod tables;
+mod topology;
 mod workers;
 
 pub use consistent::runs_are_consistent;
@@ -22,13 +27,19 @@ pub use examples::{
     a_late_turn_is_unlawful, a_missed_payment_is_no_run, an_exchanged_item_is_no_run,
     four_payments_are_a_run, four_payments_are_whole, four_payments_keep_the_laws,
     markers_part_old_from_new, markers_stand_before_their_turn, payments_alone,
-    requests_wait_for_their_rows, two_ways_are_a_run,
+    payments_have_an_order, requests_wait_for_their_rows, two_ways_are_a_run,
 };
+pub use in_force::InForce;
 pub use journals::{lawful_journals_have_four_points, replays_go_on, the_law_goes_on};
 pub use landing::{Landing, Landings};
-pub use laws::{changed_nodes_are_asked, requests_keep_kinds, setups_are_planned};
+pub use laws::{
+    changed_nodes_are_asked, heads_are_unentered, plans_are_least, requests_keep_kinds,
+    setups_are_planned, sources_are_unentered, workers_have_few_lanes,
+};
+pub use ordered::ordered_runs_are_serial;
 pub use record::{RunRecord, States};
 pub use runs::{
     runs_are_fresh, runs_are_one_table, runs_are_whole, runs_keep_steady, workers_keep_steady,
 };
 pub use setup::{Plans, Setup};
+pub use topology::{Lane, LaneNumbers, OutEdge, OutEdges, Topology, WorkerAt};

@@ -1,30 +1,44 @@
-ghost use Rattle.std.specs.Prelude.{◌≡◌, ℕ, ◌<◌, ◌^◌, All, IfOk, length};
+ghost use Rattle.std.specs.Prelude.{◌≡◌, ℕ, ◌<◌, ◌^◌, All, IfOk, length, if◌then◌else◌};
+ghost use Rattle.jobs.specs.Job.{written};
 ghost use Rattle.versions.specs.declared.request.Change.{Change as ChangeIs};
 ghost use Rattle.versions.specs.declared.request.Request.{Request as RequestIs};
 ghost use Rattle.flow_model.specs.Planned.{ArePlansOf};
 
 use crate::{Plans, masks};
 use cover_planner::plan;
-use flow_dag::Dag;
+use operators::Job;
 use std::alloc::Global;
 use tuple_trace::NoMemory;
 use versions::Request;
 
-/// The plan of each request, where the nodes of `many` may make several tuples of one.
+/// The plan of each request, where the nodes of `splits` may make pieces of a tuple. Where rows and requests are to have one order, a plan is made
+/// for the nodes that the requests up to its own change, and else for those that its own changes.
 pub fn plans_of(
     alloc: Global,
-    dag: &Dag,
-    many: u64,
+    job: &Job,
+    splits: u64,
+    ordered: bool,
     requests: &[Request],
 ) -> Result<Plans, NoMemory>
-    requires many { many < 2 ^ dag.now.nodes }
-    requires inside { All (λ (request : RequestIs). All (λ (change : ChangeIs). change.node < dag.now.nodes) request.changes) requests.now }
-    ensures { IfOk result (λ plans. ArePlansOf dag.now.edges many requests.now plans) }
+    requires splits { splits < 2 ^ length job.now.nodes }
+    requires inside { All (λ (request : RequestIs). All (λ (change : ChangeIs). change.node < length job.now.nodes) request.changes) requests.now }
+    ensures { IfOk result (λ plans. ArePlansOf (written job.now) splits ordered requests.now plans) }
 {
+    let copies = masks::copies(job.nodes.as_slice());
     let mut plans = Plans::new(alloc);
+    let mut so_far = 0u64;
     for request in requests {
-        let asked = masks::changed(dag.nodes(), request.changes.as_slice());
-        plans.push(plan(dag, many, asked))?;
+        let changed = masks::changed(job.dag.nodes(), request.changes.as_slice());
+        so_far |= changed;
+        let asked = planned(ordered, so_far, changed);
+        plans.push(plan(&job.dag, splits, copies, asked))?;
     }
     Ok(plans)
+}
+
+/// The set that is planned.
+fn planned(ordered: bool, so_far: u64, changed: u64) -> u64
+    ensures { result ≡ (if ordered then so_far else changed) }
+{
+    if ordered { so_far } else { changed }
 }

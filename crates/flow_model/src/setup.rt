@@ -1,9 +1,11 @@
-ghost use Rattle.std.specs.Prelude.{◌≡◌, ◌<◌, ◌+◌, Some, IfOk, length, slice_get};
+ghost use Rattle.std.specs.Prelude.{◌≡◌, ◌<◌, ◌+◌, true, false, Some, IfOk, length, slice_get};
 ghost use Rattle.jobs.specs.Job.{written};
 ghost use Rattle.flow_model.specs.Outline.{outline_of};
 ghost use Rattle.versions.specs.Judged.{AreAccepted};
 ghost use Rattle.flow_model.specs.Planned.{IsExact, IsPlanned};
+ghost use Rattle.flow_model.specs.Topology.{topology_of};
 
+use crate::topology::Topology;
 use crate::{masks, plans};
 use cover_planner::Plan;
 use operators::Job;
@@ -14,18 +16,24 @@ use versions::{Judged, accepted_requests_keep_kinds, accepted_requests_name_node
 /// The plans of the accepted requests, in their order.
 pub type Plans = Items<Plan>;
 
-/// What a run goes by: a job, the requests that were accepted, and the plan of each. Accepted requests are counted from 1.
+/// What a run goes by: a job with its topology, the requests that were accepted, and the plan of
+/// each. Accepted requests are counted from 1.
 ///
-/// Its type keeps that the accepted requests, judged by themselves, are all accepted, and that each has the planner's plan.
+/// Its type keeps that the topology is the job's, that the accepted requests, judged by themselves,
+/// are all accepted, and that each has the planner's plan.
 #[derive(Drop)]
 pub struct Setup {
     pub job: Job,
+    pub topology: Topology,
     pub judged: Judged,
     pub plans: Plans,
-    /// The mask of the nodes that may make several tuples of one.
-    pub many: u64,
+    /// The mask of the nodes that may make pieces of a tuple: those whose function, in the job or by a request, is a split.
+    pub splits: u64,
+    /// Whether rows and requests have one order: each plan is then made for all that the requests up to its own change.
+    pub ordered: bool,
+    ghost topology_is: { topology ≡ topology_of (written job) },
     ghost accepted: { AreAccepted (written job) judged.accepted },
-    ghost planned: { ∥ IsPlanned (outline_of (written job) judged.accepted plans many) ∥₁ },
+    ghost planned: { ∥ IsPlanned (outline_of (written job) judged.accepted plans splits ordered) ∥₁ },
 }
 
 impl Setup {
@@ -38,16 +46,42 @@ impl Setup {
         ensures job { IfOk result (λ setup. setup.job ≡ job) }
         ensures judged { IfOk result (λ setup. setup.judged ≡ judged) }
         ensures exact { IfOk result (λ setup. IsExact (outline setup)) }
+        ensures ordered { IfOk result (λ setup. setup.ordered ≡ false) }
+    {
+        Setup::planned(alloc, job, judged, false)
+    }
+
+    /// The same, with plans under which rows and requests have one order.
+    pub fn make_ordered(alloc: Global, job: Job, judged: Judged) -> Result<Setup, NoMemory>
+        requires { AreAccepted (written job) judged.accepted }
+        ensures job { IfOk result (λ setup. setup.job ≡ job) }
+        ensures judged { IfOk result (λ setup. setup.judged ≡ judged) }
+        ensures exact { IfOk result (λ setup. IsExact (outline setup)) }
+        ensures ordered { IfOk result (λ setup. setup.ordered ≡ true) }
+    {
+        Setup::planned(alloc, job, judged, true)
+    }
+
+    /// The setup with the plans of this mode.
+    fn planned(alloc: Global, job: Job, judged: Judged, ordered: bool) -> Result<Setup, NoMemory>
+        requires { AreAccepted (written job) judged.accepted }
+        ensures job { IfOk result (λ setup. setup.job ≡ job) }
+        ensures judged { IfOk result (λ setup. setup.judged ≡ judged) }
+        ensures exact { IfOk result (λ setup. IsExact (outline setup)) }
+        ensures ordered { IfOk result (λ setup. setup.ordered ≡ ordered) }
     {
         accepted_requests_name_nodes();
         accepted_requests_keep_kinds();
-        let many = masks::many(job.nodes.as_slice());
-        let plans = plans::plans_of(alloc, &job.dag, many, judged.accepted.as_slice())?;
+        let splits = masks::splits(job.nodes.as_slice(), judged.accepted.as_slice());
+        let plans = plans::plans_of(alloc, &job, splits, ordered, judged.accepted.as_slice())?;
+        let topology = Topology::of(alloc, &job)?;
         Ok(Setup {
             job,
+            topology,
             judged,
             plans,
-            many,
+            splits,
+            ordered,
         })
     }
 

@@ -1,10 +1,11 @@
 ghost use Rattle.std.specs.Prelude.{◌≡◌, ◌<◌, ◌≤◌, Some, length, option_copied, option_map, slice_get};
 ghost use Rattle.flow_model.specs.Outline.{Post as PostIs};
 ghost use Rattle.flow_model.specs.Setup.{outline};
-ghost use Rattle.flow_model.specs.Workers.{posts};
+ghost use Rattle.flow_model.specs.Topology.{worker_of};
+ghost use Rattle.flow_model.specs.Workers.{post_at, posts};
 ghost use Rattle.flow_model.specs.Covers.{covers, is_head, plan_of};
 
-use crate::Setup;
+use crate::{Setup, WorkerAt};
 use cover_planner::Plan;
 use flow_dag::has_bit;
 use jobs::worker_count;
@@ -18,21 +19,23 @@ impl Setup {
         worker_count(&self.job) as u32
     }
 
-    /// The node of a worker. Workers are numbered through the nodes in order. Takes no memory.
+    /// Where a worker is. Workers are numbered through the nodes in order. Takes no memory.
+    pub fn worker_at(&self, worker: u32) -> WorkerAt
+        requires { worker < length (posts (outline self.now).job) }
+        ensures at { result ≡ worker_of (post_at (outline self.now).job worker) }
+        ensures limit { result.node < length (outline self.now).job.nodes }
+    {
+        self.topology.workers.as_slice()[worker as usize]
+    }
+
+    /// The node of a worker. Takes no memory.
     pub fn node_of(&self, worker: u32) -> u32
         requires { worker < length (posts (outline self.now).job) }
         ensures node { option_map (λ (post : PostIs). post.node) (slice_get (posts (outline self.now).job) worker) ≡ Some result }
+        ensures at { result ≡ (post_at (outline self.now).job worker).node }
         ensures limit { result < 64 }
     {
-        let mut left = worker;
-        for (node, def) in self.job.nodes.as_slice().iter().enumerate() {
-            let journals = def.journals();
-            if left < journals {
-                return node as u32;
-            }
-            left -= journals;
-        }
-        unreachable!()
+        self.worker_at(worker).node
     }
 
     /// Whether a request covers the node of a worker. Requests are counted from 1. Takes no memory.

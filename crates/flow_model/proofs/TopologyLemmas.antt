@@ -1,0 +1,424 @@
+-- How the tables of a topology are made, one entry after another.
+use Rattle.std.proofs.Common.{◌≡◌, ◌<◌, ◌≤◌, ◌+◌, ◌*◌, ◌^◌, ◌==◌, ◌&&◌, ℕ, zero, suc, List, [], ◌∷◌, ◌++◌, Bool, true, false, cond, length, map, take, drop, get_or, Option, Some, None, refl, sym, ap, subst, ◌∙◌, arith, length-append, append_assoc}
+use Rattle.std.specs.Prelude.{filter, option_map, slice_get}
+use Rattle.std.specs.List.{enumerate_from, flat_map, range_with_len}
+use Rattle.std.proofs.lemmas.List.{append-nil, drop_all, drop_more, length-map, map-append, take_all, take_more}
+use Rattle.std.proofs.lemmas.List.Concat.{flat_map-append}
+use Rattle.std.proofs.lemmas.List.FromFn.{length-enumerate_from, length-map-range_with_len, map-range_with_len_more}
+use Rattle.std.proofs.lemmas.Option.{get_or_from_slice_get, same_Some, slice_get-get_or, slice_get-map, slice_get_within}
+use Rattle.flow_dag.specs.declared.edge.Edge.{Edge}
+use Rattle.jobs.specs.Law.{IsLawful}
+use Rattle.jobs.specs.Nodes.{is_source, is_source_node, workers_of}
+use Rattle.jobs.specs.declared.func.Func.{Func}
+use Rattle.jobs.specs.declared.func.NodeDef.{NodeDef}
+use Rattle.jobs.specs.Written.{Written}
+use Rattle.operators.specs.Lanes.{worker_along, worker_among, worker_at, worker_for}
+use Rattle.tuple_trace.specs.declared.tuple.Tuple.{Tuple}
+use Rattle.flow_model.specs.declared.topology.Lane.{Lane}
+use Rattle.flow_model.specs.declared.topology.OutEdge.{OutEdge}
+use Rattle.flow_model.specs.declared.topology.WorkerAt.{WorkerAt}
+use Rattle.flow_model.specs.Lanes.{first_on, lane_along, lanes, lanes_of, receiver_of, senders}
+use Rattle.flow_model.specs.Outline.{Post}
+use Rattle.flow_model.specs.Topology.{IsNumberOf, first_lane, first_with, first_worker, lanes_along, lanes_to, out_edge, out_edges, worker_of}
+use Rattle.flow_model.specs.Workers.{post_at, posts, posts_at, posts_from, posts_of}
+use Rattle.flow_model.proofs.ElementLemmas.{IsIn, in_of_place}
+use Rattle.flow_model.proofs.FitLemmas.{among_within}
+use Rattle.flow_model.proofs.LaneLemmas.{lane_is, lanes_from, sender_source, sender_worker}
+use Rattle.flow_model.proofs.LaneNumbers.{first_on-edge, get-lane, length-lanes_from, receiver_there}
+use Rattle.flow_model.proofs.PieceLemmas.{get-enumerate, length-all_pieces}
+use Rattle.flow_model.proofs.PostLemmas.{length-posts_of, post_by, posts_of-node}
+use Rattle.flow_model.proofs.PostPlaces.{get-post_at, get-posts_of}
+use Rattle.flow_model.proofs.SizeLemmas.{entered, first_worker-workers, lanes-few}
+use Rattle.flow_model.proofs.WorkerLemmas.{worker_with}
+
+-- ---- items by their places
+
+-- an item that the code reads
+pub item_read : {A : Type 0} (xs ys : List A) (i : ℕ) (x : A) → xs ≡ ys → i < length ys → x ≡ get_or xs i x → slice_get ys i ≡ Some x
+item_read xs ys i x same lt is = slice_get-get_or ys i x lt ∙ ap Some (ap (λ l. get_or l i x) (sym same) ∙ sym is)
+
+pub get-take : {A : Type 0} (xs : List A) (n i : ℕ) (x : A) → slice_get (take n xs) i ≡ Some x → slice_get xs i ≡ Some x
+get-take [] zero i x e = absurd (cc)
+get-take [] (suc n) i x e = absurd (cc)
+get-take (y ∷ ys) zero i x e = absurd (cc)
+get-take (y ∷ ys) (suc n) zero x e = e
+get-take (y ∷ ys) (suc n) (suc i) x e = get-take ys n i x e
+
+pub item_in_front : {A : Type 0} (xs ys : List A) (n i : ℕ) (x : A) → xs ≡ ys → i < length (take n xs) → x ≡ get_or (take n xs) i x → slice_get ys i ≡ Some x
+item_in_front xs ys n i x same lt is = ap (λ l. slice_get l i) (sym same) ∙ get-take xs n i x (slice_get-get_or (take n xs) i x lt ∙ ap Some (sym is))
+
+pub drop-at : {A : Type 0} (xs : List A) (i : ℕ) (x : A) → slice_get xs i ≡ Some x → drop i xs ≡ x ∷ drop (i + 1) xs
+drop-at xs i x e = drop_more xs i x (slice_get_within xs i x e) ∙ ap (λ y. y ∷ drop (i + 1) xs) (get_or_from_slice_get xs i x x e)
+
+pub take-next : {A : Type 0} (xs : List A) (i : ℕ) (x : A) → slice_get xs i ≡ Some x → take (i + 1) xs ≡ take i xs ++ x ∷ []
+take-next xs i x e = take_more xs i x (slice_get_within xs i x e) ∙ ap (λ y. take i xs ++ y ∷ []) (get_or_from_slice_get xs i x x e)
+
+-- ---- a list that grows by what passes a test, of numbered items
+
+pub numbered-skip : {A B : Type 0} (f : ℕ × A → B) (test : ℕ × A → Bool) (xs : List A) (i : ℕ) (x : A) (done all : List B) → slice_get xs i ≡ Some x → test (i, x) ≡ false
+    → done ++ map f (filter test (enumerate_from i (drop i xs))) ≡ all → done ++ map f (filter test (enumerate_from (i + 1) (drop (i + 1) xs))) ≡ all
+numbered-skip f test xs i x done all e t h =
+    ap (λ b. done ++ map f (cond b ((i, x) ∷ filter test (enumerate_from (i + 1) (drop (i + 1) xs))) (filter test (enumerate_from (i + 1) (drop (i + 1) xs))))) (sym t)
+    ∙ (ap (λ l. done ++ map f (filter test (enumerate_from i l))) (sym (drop-at xs i x e)) ∙ h)
+
+pub numbered-take : {A B : Type 0} (f : ℕ × A → B) (test : ℕ × A → Bool) (xs : List A) (i : ℕ) (x : A) (done more all : List B) (b : B) → slice_get xs i ≡ Some x → test (i, x) ≡ true
+    → b ≡ f (i, x) → more ≡ done ++ b ∷ []
+    → done ++ map f (filter test (enumerate_from i (drop i xs))) ≡ all → more ++ map f (filter test (enumerate_from (i + 1) (drop (i + 1) xs))) ≡ all
+numbered-take f test xs i x done more all b e t is grown h =
+    ap (λ l. l ++ map f (filter test (enumerate_from (i + 1) (drop (i + 1) xs)))) (grown ∙ ap (λ y. done ++ y ∷ []) is)
+    ∙ (append_assoc done (f (i, x) ∷ []) (map f (filter test (enumerate_from (i + 1) (drop (i + 1) xs))))
+    ∙ (ap (λ b. done ++ map f (cond b ((i, x) ∷ filter test (enumerate_from (i + 1) (drop (i + 1) xs))) (filter test (enumerate_from (i + 1) (drop (i + 1) xs))))) (sym t)
+    ∙ (ap (λ l. done ++ map f (filter test (enumerate_from i l))) (sym (drop-at xs i x e)) ∙ h)))
+
+pub numbered-end : {A B : Type 0} (f : ℕ × A → B) (test : ℕ × A → Bool) (xs : List A) (i : ℕ) (done all : List B) → length xs ≤ i
+    → done ++ map f (filter test (enumerate_from i (drop i xs))) ≡ all → done ≡ all
+numbered-end f test xs i done all le h =
+    sym (append-nil done) ∙ (ap (λ l. done ++ map f (filter test (enumerate_from i l))) (sym (drop_all i xs le)) ∙ h)
+
+-- a list that grows by what a function gives at each number
+pub pushed-range : {A : Type 0} (f : ℕ → A) (old now new : List A) (n : ℕ) (x : A) → now ≡ old ++ map f (range_with_len 0 n) → new ≡ now ++ x ∷ [] → x ≡ f n
+    → new ≡ old ++ map f (range_with_len 0 (n + 1))
+pushed-range f old now new n x is grown same =
+    grown ∙ (ap (λ l. l ++ x ∷ []) is
+    ∙ (append_assoc old (map f (range_with_len 0 n)) (x ∷ [])
+    ∙ (ap (λ a. old ++ (map f (range_with_len 0 n) ++ a ∷ [])) same
+    ∙ ap (λ l. old ++ l) (sym (map-range_with_len_more f 0 n n (omega arith))))))
+
+pub get-range : {A : Type 0} (f : ℕ → A) (a n i j : ℕ) (y : A) → a + i ≡ j → slice_get (map f (range_with_len a n)) i ≡ Some y → y ≡ f j
+get-range f a zero i j y e g = absurd (cc)
+get-range f a (suc n) zero j y e g = let same : f a ≡ y = cc in let z : a ≡ j = omega arith in sym same ∙ ap f z
+get-range f a (suc n) (suc i) j y e g = get-range f (a + 1) n i j y (omega arith) g
+
+-- ---- workers
+
+pub workers-at : (number node : ℕ) (f : Func) (place n : ℕ) → map worker_of (posts_at number node f place n) ≡ map (λ (p : ℕ). record { node = node; index = p }) (range_with_len place n)
+workers-at number node f place zero = refl
+workers-at number node f place (suc n) = ap (λ (l : List WorkerAt). record { node = node; index = place } ∷ l) (workers-at (number + 1) node f (place + 1) n)
+
+-- which node and index a worker has doesn't hang on its number
+pub workers-from : (a b node : ℕ) (nodes : List NodeDef) → map worker_of (posts_from a node nodes) ≡ map worker_of (posts_from b node nodes)
+workers-from a b node [] = refl
+workers-from a b node (def ∷ more) =
+    map-append worker_of (posts_at a node def.func 0 (workers_of def)) (posts_from (a + workers_of def) (node + 1) more)
+    ∙ (ap (λ (l : List WorkerAt). l ++ map worker_of (posts_from (a + workers_of def) (node + 1) more)) (workers-at a node def.func 0 (workers_of def) ∙ sym (workers-at b node def.func 0 (workers_of def)))
+    ∙ (ap (λ (l : List WorkerAt). map worker_of (posts_at b node def.func 0 (workers_of def)) ++ l) (workers-from (a + workers_of def) (b + workers_of def) (node + 1) more)
+    ∙ sym (map-append worker_of (posts_at b node def.func 0 (workers_of def)) (posts_from (b + workers_of def) (node + 1) more))))
+
+-- the workers of one node more
+pub workers-next : (nodes : List NodeDef) (i workers : ℕ) (def : NodeDef) (done more all : List WorkerAt) → slice_get nodes i ≡ Some def → workers ≡ workers_of def
+    → more ≡ done ++ map (λ (p : ℕ). record { node = i; index = p }) (range_with_len 0 workers)
+    → done ++ map worker_of (posts_from 0 i (drop i nodes)) ≡ all → more ++ map worker_of (posts_from 0 (i + 1) (drop (i + 1) nodes)) ≡ all
+workers-next nodes i workers def done more all e w grown h =
+    ap (λ (l : List WorkerAt). l ++ map worker_of (posts_from 0 (i + 1) (drop (i + 1) nodes))) (grown ∙ ap (λ (k : ℕ). done ++ map (λ (p : ℕ). record { node = i; index = p }) (range_with_len 0 k)) w)
+    ∙ (append_assoc done (map (λ (p : ℕ). record { node = i; index = p }) (range_with_len 0 (workers_of def))) (map worker_of (posts_from 0 (i + 1) (drop (i + 1) nodes)))
+    ∙ (ap (λ (l : List WorkerAt). done ++ (l ++ map worker_of (posts_from 0 (i + 1) (drop (i + 1) nodes)))) (sym (workers-at 0 i def.func 0 (workers_of def)))
+    ∙ (ap (λ (l : List WorkerAt). done ++ (map worker_of (posts_at 0 i def.func 0 (workers_of def)) ++ l)) (workers-from 0 (0 + workers_of def) (i + 1) (drop (i + 1) nodes))
+    ∙ (ap (λ (l : List WorkerAt). done ++ l) (sym (map-append worker_of (posts_at 0 i def.func 0 (workers_of def)) (posts_from (0 + workers_of def) (i + 1) (drop (i + 1) nodes))))
+    ∙ (ap (λ (l : List NodeDef). done ++ map worker_of (posts_from 0 i l)) (sym (drop-at nodes i def e)) ∙ h)))))
+
+-- ---- senders
+
+pub length-senders : (job : Written) (node : ℕ) (def : NodeDef) → slice_get job.nodes node ≡ Some def → is_source def.func ≡ false → length (senders job node) ≡ workers_of def
+length-senders job node def e none =
+    let t : is_source_node (slice_get job.nodes node) ≡ false = rw e none in
+    ap (λ (b : Bool). length (cond b (None ∷ []) (map (λ (post : Post). Some post.number) (posts_of job node)))) t
+    ∙ (length-map (posts_of job node) (λ (post : Post). Some post.number) ∙ length-posts_of job node def e)
+
+pub length-feeder : (job : Written) (node : ℕ) (def : NodeDef) → slice_get job.nodes node ≡ Some def → is_source def.func ≡ true → length (senders job node) ≡ 1
+length-feeder job node def e is =
+    let t : is_source_node (slice_get job.nodes node) ≡ true = rw e is in
+    ap (λ (b : Bool). length (cond b (None ∷ []) (map (λ (post : Post). Some post.number) (posts_of job node)))) t
+
+-- ---- edges and their lanes
+
+pub length-lanes_of : (job : Written) (number : ℕ) (edge : Edge) → length (lanes_of job number edge) ≡ length (senders job edge.from) * length (posts_of job edge.to)
+length-lanes_of job number edge = length-all_pieces (lanes_from job number edge) (length (posts_of job edge.to)) (length-lanes_from job number edge) (senders job edge.from)
+
+pub first_lane-next : (job : Written) (i : ℕ) (edge : Edge) → slice_get job.edges i ≡ Some edge → first_lane job (i + 1) ≡ first_lane job i + length (senders job edge.from) * length (posts_of job edge.to)
+first_lane-next job i edge e =
+    let at : slice_get (enumerate_from 0 job.edges) i ≡ Some (i, edge) = get-enumerate 0 job.edges i i edge e (omega arith) in
+    ap (λ (l : List (ℕ × Edge)). length (flat_map (lanes_along job) l)) (take-next (enumerate_from 0 job.edges) i (i, edge) at)
+    ∙ (ap (length {A = Lane}) (flat_map-append (lanes_along job) (take i (enumerate_from 0 job.edges)) ((i, edge) ∷ []))
+    ∙ (length-append (flat_map (lanes_along job) (take i (enumerate_from 0 job.edges))) (lanes_of job i edge ++ [])
+    ∙ (let a = ap (length {A = Lane}) (append-nil (lanes_of job i edge)) in omega (arith, a, length-lanes_of job i edge))))
+
+front_few : {A B : Type 0} (f : A → List B) (xs : List A) (k : ℕ) → length (flat_map f (take k xs)) ≤ length (flat_map f xs)
+front_few f [] zero = omega arith
+front_few f [] (suc k) = omega arith
+front_few f (x ∷ xs) zero = omega arith
+front_few f (x ∷ xs) (suc k) = let r = front_few f xs k in omega (arith, r, length-append (f x) (flat_map f (take k xs)), length-append (f x) (flat_map f xs))
+
+pub first_lane-few : (job : Written) (i : ℕ) → IsLawful job → first_lane job i < 2 ^ 32
+first_lane-few job i law = let a = front_few (lanes_along job) (enumerate_from 0 job.edges) i in let b = lanes-few job law in omega (arith, a, b)
+
+-- the entry of one edge more
+pub out_edges-next : (job : Written) (i : ℕ) (edge : Edge) (out : OutEdge) (done more : List OutEdge) → slice_get job.edges i ≡ Some edge → out ≡ out_edge job (i, edge) → more ≡ done ++ out ∷ []
+    → done ≡ map (out_edge job) (take i (enumerate_from 0 job.edges)) → more ≡ map (out_edge job) (take (i + 1) (enumerate_from 0 job.edges))
+out_edges-next job i edge out done more e is grown h =
+    let at : slice_get (enumerate_from 0 job.edges) i ≡ Some (i, edge) = get-enumerate 0 job.edges i i edge e (omega arith) in
+    grown ∙ (ap (λ (l : List OutEdge). l ++ out ∷ []) h
+    ∙ (ap (λ (x : OutEdge). map (out_edge job) (take i (enumerate_from 0 job.edges)) ++ x ∷ []) is
+    ∙ (sym (map-append (out_edge job) (take i (enumerate_from 0 job.edges)) ((i, edge) ∷ []))
+    ∙ ap (map (out_edge job)) (sym (take-next (enumerate_from 0 job.edges) i (i, edge) at)))))
+
+-- ---- lanes
+
+abbrev pub lane_with : ℕ → Option ℕ → ℕ → Lane
+lane_with edge sender receiver = record { edge = edge; sender = sender; receiver = receiver }
+
+lanes-at : (edge : ℕ) (sender : Option ℕ) (first number node : ℕ) (f : Func) (place n : ℕ) → number ≡ first + place
+    → map (λ (post : Post). lane_with edge sender post.number) (posts_at number node f place n) ≡ map (λ (p : ℕ). lane_with edge sender (first + p)) (range_with_len place n)
+lanes-at edge sender first number node f place zero e = refl
+lanes-at edge sender first number node f place (suc n) e =
+    ap (λ (l : List Lane). lane_with edge sender number ∷ l) (lanes-at edge sender first (number + 1) node f (place + 1) n (omega arith))
+    ∙ ap (λ (w : ℕ). lane_with edge sender w ∷ map (λ (p : ℕ). lane_with edge sender (first + p)) (range_with_len (place + 1) n)) e
+
+-- the lanes from one sender along an edge
+pub lanes_to-from : (job : Written) (number : ℕ) (edge : Edge) (sender : Option ℕ) (first workers : ℕ) → IsLawful job → slice_get job.edges number ≡ Some edge
+    → first ≡ first_worker job edge.to → workers ≡ length (posts_of job edge.to) → lanes_to number sender first workers ≡ lanes_from job number edge sender
+lanes_to-from job number edge sender first workers law e f w =
+    let to = entered job number edge law e in
+    ap (λ (m : ℕ). lanes_to number sender m workers) f
+    ∙ (ap (lanes_to number sender (first_worker job edge.to)) (w ∙ length-posts_of job edge.to to.def to.node_is)
+    ∙ (sym (lanes-at number sender (first_worker job edge.to) (first_worker job edge.to) edge.to to.def.func 0 (workers_of to.def) (omega arith))
+    ∙ ap (map (λ (post : Post). lane_with number sender post.number)) (sym (posts_of-node job edge.to to.def to.node_is))))
+
+-- the lanes of one sender more
+pub senders-next : (job : Written) (number : ℕ) (edge : Edge) (place : ℕ) (sender : Option ℕ) (old now new some : List Lane) → slice_get (senders job edge.from) place ≡ Some sender
+    → now ≡ old ++ flat_map (lanes_from job number edge) (take place (senders job edge.from)) → new ≡ now ++ some → some ≡ lanes_from job number edge sender
+    → new ≡ old ++ flat_map (lanes_from job number edge) (take (place + 1) (senders job edge.from))
+senders-next job number edge place sender old now new some at is grown same =
+    let front : List Lane = flat_map (lanes_from job number edge) (take place (senders job edge.from)) in
+    grown ∙ (ap (λ (l : List Lane). l ++ some) is
+    ∙ (append_assoc old front some
+    ∙ ap (λ (l : List Lane). old ++ l) (
+    ap (λ (l : List Lane). front ++ l) (same ∙ sym (append-nil (lanes_from job number edge sender)))
+    ∙ (sym (flat_map-append (lanes_from job number edge) (take place (senders job edge.from)) (sender ∷ []))
+    ∙ ap (flat_map (lanes_from job number edge)) (sym (take-next (senders job edge.from) place sender at))))))
+
+-- the lanes of one edge more
+pub lanes-next : (job : Written) (i : ℕ) (edge : Edge) (done more : List Lane) → slice_get job.edges i ≡ Some edge → more ≡ done ++ lanes_of job i edge
+    → done ≡ flat_map (lanes_along job) (take i (enumerate_from 0 job.edges)) → more ≡ flat_map (lanes_along job) (take (i + 1) (enumerate_from 0 job.edges))
+lanes-next job i edge done more e grown h =
+    let at : slice_get (enumerate_from 0 job.edges) i ≡ Some (i, edge) = get-enumerate 0 job.edges i i edge e (omega arith) in
+    let front : List (ℕ × Edge) = take i (enumerate_from 0 job.edges) in
+    grown ∙ (ap (λ (l : List Lane). l ++ lanes_of job i edge) h
+    ∙ (ap (λ (l : List Lane). flat_map (lanes_along job) front ++ l) (sym (append-nil (lanes_of job i edge)))
+    ∙ (sym (flat_map-append (lanes_along job) front ((i, edge) ∷ []))
+    ∙ ap (flat_map (lanes_along job)) (sym (take-next (enumerate_from 0 job.edges) i (i, edge) at)))))
+
+-- ---- where a tuple goes
+
+first_with-first : (job : Written) (node port : ℕ) (ps : List (ℕ × Edge))
+    → first_with port (map (out_edge job) (filter (λ (edge : ℕ × Edge). edge.1.from == node) ps)) ≡ option_map (out_edge job) (first_on node port ps)
+first_with-first job node port [] = refl
+first_with-first job node port (p ∷ ps) = go (p.1.from == node) (p.1.port == port) (first_with-first job node port ps)
+  where
+    rest : List OutEdge
+    rest = map (out_edge job) (filter (λ (edge : ℕ × Edge). edge.1.from == node) ps)
+
+    go : (a b : Bool) → first_with port (map (out_edge job) (filter (λ (edge : ℕ × Edge). edge.1.from == node) ps)) ≡ option_map (out_edge job) (first_on node port ps)
+        → first_with port (map (out_edge job) (cond a (p ∷ filter (λ (edge : ℕ × Edge). edge.1.from == node) ps) (filter (λ (edge : ℕ × Edge). edge.1.from == node) ps)))
+        ≡ option_map (out_edge job) (cond (a && (p.1.port == port)) (Some p) (first_on node port ps))
+    go true b h = by_port (p.1.port == port) h
+      where
+        by_port : (b : Bool) → first_with port rest ≡ option_map (out_edge job) (first_on node port ps)
+            → cond b (Some (out_edge job p)) (first_with port rest) ≡ option_map (out_edge job) (cond b (Some p) (first_on node port ps))
+        by_port true h = refl
+        by_port false h = h
+    go false b h = h
+
+-- what is known of an edge that was found by its port
+pub record IsOutEdge (job : Written) (node port : ℕ) (out : OutEdge) : Type 0 where
+  pub edge : Edge
+  pub edge_is : slice_get job.edges out.edge ≡ Some edge
+  pub from_is : edge.from ≡ node
+  pub made : out ≡ out_edge job (out.edge, edge)
+  pub first : first_on node port (enumerate_from 0 job.edges) ≡ Some (out.edge, edge)
+
+pub found_out : (job : Written) (node port : ℕ) (outs : List OutEdge) (out : OutEdge) → outs ≡ out_edges job node → Some out ≡ first_with port outs → IsOutEdge job node port out
+found_out job node port outs out same is = go (first_on node port (enumerate_from 0 job.edges)) refl all
+  where
+    all : option_map (out_edge job) (first_on node port (enumerate_from 0 job.edges)) ≡ Some out
+    all = sym (first_with-first job node port (enumerate_from 0 job.edges)) ∙ (ap (first_with port) (sym same) ∙ sym is)
+
+    go : (o : Option (ℕ × Edge)) → first_on node port (enumerate_from 0 job.edges) ≡ o → option_map (out_edge job) o ≡ Some out → IsOutEdge job node port out
+    go None g e = absurd (cc)
+    go (Some p) g e =
+        let made : out_edge job p ≡ out = same_Some (out_edge job p) out e in
+        let num : p.0 ≡ out.edge = ap (λ (x : OutEdge). x.edge) made in
+        let r = first_on-edge node port 0 job.edges p g in
+        let at : r.0 ≡ out.edge = omega (arith, r.1, num) in
+        record {
+          edge = p.1;
+          edge_is = ap (slice_get job.edges) (sym at) ∙ r.2;
+          from_is = r.3;
+          made = sym made ∙ ap (λ (m : ℕ). out_edge job (m, p.1)) num;
+          first = g ∙ ap (λ (m : ℕ). Some (m, p.1)) num;
+        }
+
+pub no_out : (job : Written) (node port : ℕ) (outs : List OutEdge) → outs ≡ out_edges job node → None ≡ first_with port outs → first_on node port (enumerate_from 0 job.edges) ≡ None
+no_out job node port outs same is = go (first_on node port (enumerate_from 0 job.edges)) (sym (first_with-first job node port (enumerate_from 0 job.edges)) ∙ (ap (first_with port) (sym same) ∙ sym is))
+  where
+    go : (o : Option (ℕ × Edge)) → option_map (out_edge job) o ≡ None → o ≡ None
+    go None e = refl
+    go (Some p) e = absurd (cc)
+
+-- the worker that a tuple reaches along an edge
+pub record IsReached (job : Written) (edge : Edge) (tuple : Tuple) (worker : ℕ) : Type 0 where
+  pub def : NodeDef
+  pub node_is : slice_get job.nodes edge.to ≡ Some def
+  pub below : worker < workers_of def
+  pub reached : receiver_of job edge tuple ≡ Some (post_by (first_worker job edge.to + worker) edge.to def.func worker)
+
+pub is_reached : (job : Written) (number : ℕ) (edge : Edge) (tuple : Tuple) (worker : ℕ) → IsLawful job → slice_get job.edges number ≡ Some edge → worker ≡ worker_along job number tuple
+    → IsReached job edge tuple worker
+is_reached job number edge tuple worker law e is =
+    let to = entered job number edge law e in
+    let at : worker ≡ worker_among job.columns to.def.func to.def.workers tuple = is ∙ (ap (λ (o : Option Edge). worker_for job o tuple) e ∙ ap (λ (o : Option NodeDef). worker_at job.columns o tuple) to.node_is) in
+    let b = among_within job to.def.func to.def.workers tuple to.some in
+    let below : worker < workers_of to.def = omega (arith, at, b, to.all) in
+    record {
+      def = to.def;
+      node_is = to.node_is;
+      below = below;
+      reached =
+          ap (λ (o : Option NodeDef). slice_get (posts_of job edge.to) (worker_at job.columns o tuple)) to.node_is
+          ∙ (ap (slice_get (posts_of job edge.to)) (sym at) ∙ get-posts_of job edge.to to.def worker to.node_is below);
+    }
+
+pub lane_made : (job : Written) (out : OutEdge) (edge : Edge) (node place worker : ℕ) (tuple : Tuple) (sender : Option ℕ) (number : ℕ) → IsLawful job → slice_get job.edges out.edge ≡ Some edge → edge.from ≡ node
+    → out ≡ out_edge job (out.edge, edge) → slice_get (senders job node) place ≡ Some sender → worker ≡ worker_along job out.edge tuple
+    → number ≡ out.first_lane + place * out.receivers + worker
+    → IsNumberOf job (lane_along job sender (Some (out.edge, edge)) tuple) number
+lane_made job out edge node place worker tuple sender number law e from made sends is number_is = (
+  record { edge = out.edge; sender = sender; receiver = first_worker job edge.to + worker },
+  ap (option_map (λ (post : Post). record { edge = out.edge; sender = sender; receiver = post.number })) reached.reached,
+  get-lane job out.edge edge place worker sender (post_by (first_worker job edge.to + worker) edge.to reached.def.func worker) number e
+      (ap (λ (n : ℕ). slice_get (senders job n) place) from ∙ sends) (get-posts_of job edge.to reached.def worker reached.node_is reached.below)
+      (number_is ∙ ap (λ (x : OutEdge). x.first_lane + place * x.receivers + worker) made),
+)
+  where
+    reached : IsReached job edge tuple worker
+    reached = is_reached job out.edge edge tuple worker law e is
+
+-- the number is that of a lane
+pub lane_fits : (job : Written) (out : OutEdge) (edge : Edge) (node place worker : ℕ) (tuple : Tuple) → IsLawful job → slice_get job.edges out.edge ≡ Some edge → edge.from ≡ node
+    → out ≡ out_edge job (out.edge, edge) → place < length (senders job node) → worker ≡ worker_along job out.edge tuple
+    → out.first_lane + place * out.receivers + worker < 2 ^ 32
+lane_fits job out edge node place worker tuple law e from made lt is =
+    let sender = get_or (senders job node) place None in
+    let (lane, along, numbered) = lane_made job out edge node place worker tuple sender (out.first_lane + place * out.receivers + worker) law e from made (slice_get-get_or (senders job node) place None lt) is refl in
+    let within = slice_get_within (lanes job) (out.first_lane + place * out.receivers + worker) lane numbered in
+    omega (arith, within, lanes-few job law)
+
+-- a node with senders is a node of the job
+pub sends_within : (job : Written) (node place : ℕ) → place < length (senders job node) → node < length job.nodes
+sends_within job node place lt =
+    let there = slice_get-get_or (senders job node) place None lt in
+    go (get_or (senders job node) place None) (in_of_place _ (senders job node) place there)
+  where
+    found : (o : Option NodeDef) → slice_get job.nodes node ≡ o → is_source_node o ≡ true → node < length job.nodes
+    found None e s = absurd (cc)
+    found (Some def) e s = slice_get_within job.nodes node def e
+
+    go : (sender : Option ℕ) → IsIn sender (senders job node) → node < length job.nodes
+    go None i = found (slice_get job.nodes node) refl (sender_source job node i)
+    go (Some w) i =
+        let (post, at, number, node_is) = sender_worker job node w i in
+        let is = (worker_with job w post at).1 in
+        slice_get_within job.nodes node is.def (subst (λ (n : ℕ). slice_get job.nodes n ≡ Some is.def) node_is is.node_is)
+
+-- a row of a table that the code reads
+pub row_at : {A : Type 0} (f : ℕ → List A) (n i : ℕ) (table all : List (List A)) (row result : List A) → table ≡ map f (range_with_len 0 n) → all ≡ table → i < n
+    → row ≡ get_or all i row → result ≡ row → result ≡ f i
+row_at f n i table all row result is same lt read made =
+    let long = ap length is ∙ length-map-range_with_len f 0 n in
+    let at = item_read all table i row same (omega (arith, lt, long)) read in
+    made ∙ get-range f 0 n i i row (omega arith) (ap (λ l. slice_get l i) (sym is) ∙ at)
+
+-- a place of a table that the code may read
+pub row_within : {A : Type 0} (f : ℕ → List A) (n i : ℕ) (table all : List (List A)) → table ≡ map f (range_with_len 0 n) → all ≡ table → i < n → i < length all
+row_within f n i table all is same lt = let long = ap length (same ∙ is) ∙ length-map-range_with_len f 0 n in omega (arith, lt, long)
+
+-- a lane that the code reads
+abbrev pub lane_read : List Lane → ℕ → Lane
+lane_read all n = get_or all n (record { edge = 0; sender = None; receiver = 0 })
+
+pub lane_limits : (job : Written) (all : List Lane) (n : ℕ) → IsLawful job → all ≡ lanes job → n < length (lanes job) → ((lane_read all n).edge < 128) × ((lane_read all n).receiver < length (posts job))
+lane_limits job all n law same lt =
+    let at : slice_get (lanes job) n ≡ Some (lane_read all n) =
+    ap (λ (l : List Lane). slice_get l n) (sym same) ∙ slice_get-get_or all n (record { edge = 0; sender = None; receiver = 0 }) (let e = ap (length {A = Lane}) same in omega (arith, lt, e)) in
+    let is = lane_is job n (lane_read all n) at in (
+      (let e = slice_get_within job.edges (lane_read all n).edge is.edge is.edge_is in let m = law.limits.edges in omega (arith, e, m)),
+      slice_get_within (posts job) (lane_read all n).receiver is.to (receiver_there job (lane_read all n) is),
+    )
+
+pub out_edge_at : (job : Written) (all : List OutEdge) (i : ℕ) (edge : Edge) (d : OutEdge) → all ≡ map (out_edge job) (enumerate_from 0 job.edges) → slice_get job.edges i ≡ Some edge
+    → get_or all i d ≡ out_edge job (i, edge)
+out_edge_at job all i edge d same e =
+    get_or_from_slice_get all i (out_edge job (i, edge)) d
+    (ap (λ (l : List OutEdge). slice_get l i) same ∙ (slice_get-map (out_edge job) (enumerate_from 0 job.edges) i
+    ∙ ap (option_map (out_edge job)) (get-enumerate 0 job.edges i i edge e (omega arith))))
+
+pub out_edges-long : (job : Written) (all : List OutEdge) → all ≡ map (out_edge job) (enumerate_from 0 job.edges) → length all ≡ length job.edges
+out_edges-long job all same = ap (length {A = OutEdge}) same ∙ (length-map (enumerate_from 0 job.edges) (out_edge job) ∙ length-enumerate_from 0 job.edges)
+
+-- an edge that the code reads
+abbrev pub edge_read : List Edge → ℕ → Edge
+edge_read edges i = get_or edges i (record { from = 0; port = 0; to = 0 })
+
+pub get-edge_read : (xs edges : List Edge) (i : ℕ) → xs ≡ edges → i < length xs → slice_get edges i ≡ Some (edge_read xs i)
+get-edge_read xs edges i same lt = ap (λ (l : List Edge). slice_get l i) (sym same) ∙ slice_get-get_or xs i (record { from = 0; port = 0; to = 0 }) lt
+
+-- what all workers of the node where an edge ends are numbered below
+pub workers_fit : (job : Written) (number : ℕ) (edge : Edge) (first workers : ℕ) → IsLawful job → slice_get job.edges number ≡ Some edge
+    → first ≡ first_worker job edge.to → workers ≡ length (posts_of job edge.to) → first + workers ≤ 64
+workers_fit job number edge first workers law e f w =
+    let to = entered job number edge law e in
+    let long = length-posts_of job edge.to to.def to.node_is in
+    omega (arith, first_worker-workers job edge.to to.def law to.node_is, long, f, w)
+
+pub take-all_edges : (edges : List Edge) (i : ℕ) → length edges ≤ i → take i (enumerate_from 0 edges) ≡ enumerate_from 0 edges
+take-all_edges edges i le = take_all i (enumerate_from 0 edges) (let l = length-enumerate_from 0 edges in omega (arith, l))
+
+pub lane_grows : (job : Written) (i : ℕ) (edge : Edge) (lane sends workers : ℕ) → slice_get job.edges i ≡ Some edge → lane ≡ first_lane job i → sends ≡ length (senders job edge.from)
+    → workers ≡ length (posts_of job edge.to) → lane + sends * workers ≡ first_lane job (i + 1)
+lane_grows job i edge lane sends workers e l s w =
+    ap (λ (n : ℕ). n + sends * workers) l
+    ∙ (ap (λ (n : ℕ). first_lane job i + n * workers) s ∙ (ap (λ (n : ℕ). first_lane job i + length (senders job edge.from) * n) w ∙ sym (first_lane-next job i edge e)))
+
+abbrev pub out_edge_with : ℕ → ℕ → ℕ → ℕ → ℕ → OutEdge
+out_edge_with port edge lane worker workers = record { port = port; edge = edge; first_lane = lane; first_receiver = worker; receivers = workers }
+
+pub out_edge_made : (job : Written) (i : ℕ) (edge : Edge) (lane first workers : ℕ) → lane ≡ first_lane job i → first ≡ first_worker job edge.to → workers ≡ length (posts_of job edge.to)
+    → out_edge_with edge.port i lane first workers ≡ out_edge job (i, edge)
+out_edge_made job i edge lane first workers l f w =
+    ap (λ (n : ℕ). out_edge_with edge.port i n first workers) l
+    ∙ (ap (λ (n : ℕ). out_edge_with edge.port i (first_lane job i) n workers) f ∙ ap (λ (n : ℕ). out_edge_with edge.port i (first_lane job i) (first_worker job edge.to) n) w)
+
+-- a sender that the code makes
+pub sender_made : (job : Written) (node place first : ℕ) (def : NodeDef) → slice_get job.nodes node ≡ Some def → is_source def.func ≡ false → place < length (senders job node)
+    → first ≡ first_worker job node → slice_get (senders job node) place ≡ Some (Some (first + place))
+sender_made job node place first def e none lt f =
+    let t : is_source_node (slice_get job.nodes node) ≡ false = rw e none in
+    let within : place < workers_of def = let l = length-senders job node def e none in omega (arith, lt, l) in
+    rw t (slice_get-map (λ (post : Post). Some post.number) (posts_of job node) place
+    ∙ (ap (option_map (λ (post : Post). Some post.number)) (get-posts_of job node def place e within)
+    ∙ ap (λ (n : ℕ). Some (Some (n + place))) (sym f)))
+
+pub feeder_made : (job : Written) (node place : ℕ) (def : NodeDef) → slice_get job.nodes node ≡ Some def → is_source def.func ≡ true → place < length (senders job node)
+    → slice_get (senders job node) place ≡ Some None
+feeder_made job node place def e is lt =
+    let t : is_source_node (slice_get job.nodes node) ≡ true = rw e is in
+    let zero_is : place ≡ 0 = let l = length-feeder job node def e is in omega (arith, lt, l) in
+    ap (slice_get (senders job node)) zero_is ∙ rw t refl
+
+-- a worker that the code reads
+abbrev pub worker_read : List WorkerAt → ℕ → WorkerAt
+worker_read all w = get_or all w (record { node = 0; index = 0 })
+
+pub worker_is_at : (job : Written) (all : List WorkerAt) (w : ℕ) → all ≡ map worker_of (posts job) → w < length (posts job) → worker_read all w ≡ worker_of (post_at job w)
+worker_is_at job all w same lt =
+    get_or_from_slice_get all w (worker_of (post_at job w)) (record { node = 0; index = 0 })
+    (ap (λ (l : List WorkerAt). slice_get l w) same ∙ (slice_get-map worker_of (posts job) w ∙ ap (option_map worker_of) (get-post_at job w lt)))

@@ -1,0 +1,65 @@
+// The next request that covers a worker.
+ghost use Rattle.std.specs.Prelude.{◌≡◌, ℕ, ◌<◌, ◌↔◌, IsTrue, Some, length, slice_get};
+ghost use Rattle.flow_dag.specs.Masks.{Has, has};
+ghost use Rattle.flow_model.specs.Dues.{IsDueAfter, edges_in, is_on};
+ghost use Rattle.flow_model.specs.Setup.{outline};
+ghost use Rattle.flow_model.specs.Workers.{post_at, posts};
+
+use crate::Setup;
+use cover_planner::Plan;
+use flow_dag::{has_bit, has_wide_bit, with_wide_bit};
+use marker_align::{Due, LaneSet};
+
+impl Setup {
+    /// Returns the first request after `last` that covers a worker. Looks at the requests from there
+    /// on, up to the one that it finds. Takes no memory.
+    pub fn due_after(&self, worker: u32, last: u64) -> Option<Due>
+        requires { worker < length (posts (outline self.now).job) }
+        ensures { IsDueAfter (outline self.now) (post_at (outline self.now).job worker).node
+            (edges_in (outline self.now).job worker) last result }
+    {
+        let node = self.node_of(worker);
+        let plans = self.plans.as_slice();
+        for place in last..plans.len() as u64 {
+            let plan = &plans[place as usize];
+            if has_bit(plan.nodes, node) {
+                return Some(self.due_of(plan, place + 1, worker));
+            }
+        }
+        None
+    }
+
+    // The due of a plan's request at a worker.
+    fn due_of(&self, plan: &Plan, request: u64, worker: u32) -> Due
+        requires { worker < length (posts (outline self.now).job) }
+        ensures request { result.request ≡ request }
+        ensures head { result.head
+            ≡ has plan.now.heads (post_at (outline self.now).job worker).node }
+        ensures cover { result.cover ≡ plan.now.nodes }
+        ensures lanes { (place edge : ℕ)
+            → slice_get (edges_in (outline self.now).job worker) place ≡ Some edge
+            → has result.lanes place ≡ has plan.now.edges edge }
+    {
+        Due {
+            request,
+            head: has_bit(plan.heads, self.node_of(worker)),
+            lanes: self.places_on(plan.edges, worker),
+            cover: plan.nodes,
+        }
+    }
+
+    // The places of the worker's lanes in that are on one of these edges.
+    fn places_on(&self, edges: u128, worker: u32) -> LaneSet
+        requires { worker < length (posts (outline self.now).job) }
+        ensures { (place : ℕ) → Has result place
+            ↔ IsTrue (is_on edges (slice_get (edges_in (outline self.now).job worker) place)) }
+    {
+        let mut places = 0u128;
+        for (place, number) in self.lanes_in(worker).iter().enumerate() {
+            if has_wide_bit(edges, self.lane(*number).edge) {
+                places = with_wide_bit(places, place as u32);
+            }
+        }
+        places
+    }
+}
