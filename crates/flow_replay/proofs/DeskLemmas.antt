@@ -1,9 +1,8 @@
 -- What a worker does at its desk, in the words of the replay.
-use Rattle.std.proofs.Common.{◌≡◌, ◌<◌, ◌≤◌, ◌+◌, ◌==◌, ℕ, List, [], ◌∷◌, ◌++◌, Bool, true, false, cond, length, map, drop, get_or, Option, Some, None, refl, sym, ap, subst, ◌∙◌, arith, append_assoc}
+use Rattle.std.proofs.Common.{◌≡◌, ◌<◌, ◌≤◌, ◌+◌, ◌==◌, ◌&&◌, ℕ, List, [], ◌∷◌, ◌++◌, Bool, true, false, cond, length, map, drop, get_or, Option, Some, None, inl, inr, refl, sym, ap, subst, ◌∙◌, arith, append_assoc}
 use Rattle.std.specs.Prelude.{filter, option_map, slice_get, slice_index_or}
 use Rattle.std.specs.List.{enumerate_from}
 use Rattle.std.proofs.lemmas.List.{append-nil, drop_all, drop_more, length-map}
-use Rattle.std.proofs.lemmas.Simd.{map-map}
 use Rattle.std.proofs.lemmas.Option.{get_or_from_slice_get, same_Some, slice_get-get_or, slice_get-map, slice_get_within}
 use Rattle.keyed_state.specs.Counts.{Counts}
 use Rattle.jobs.specs.Law.{IsLawful}
@@ -17,58 +16,40 @@ use Rattle.sink_journal.specs.declared.journal.Entry.TheVariants as entry
 use Rattle.tuple_trace.specs.declared.tuple.Tuple.{Tuple}
 use Rattle.tuple_trace.specs.declared.tuple.Visit.{Visit}
 use Rattle.flow_model.specs.Covers.{covers, covers_edge}
-use Rattle.flow_model.specs.Lanes.{lanes, lanes_in, marked_lanes, senders}
-use Rattle.flow_model.specs.Outline.{Lane, Outline, Post}
+use Rattle.flow_model.specs.Lanes.{lane_at, lanes, lanes_in, marked_lanes, no_lane, senders}
+use Rattle.flow_model.specs.declared.topology.Lane.{Lane}
+use Rattle.flow_model.specs.Outline.{Outline, Post}
 use Rattle.flow_model.specs.Replay.{Local, after, after_all, visit_at}
 use Rattle.flow_model.specs.Requests.{change_of, func_with}
-use Rattle.flow_model.specs.Workers.{posts}
-use Rattle.flow_replay.specs.declared.wiring.Inlet.{Inlet}
-use Rattle.flow_replay.specs.declared.wiring.Seat.{Seat}
-use Rattle.flow_replay.specs.declared.wiring.Wiring.{Wiring}
+use Rattle.flow_model.specs.Workers.{post_at, posts}
 use Rattle.flow_replay.specs.declared.worker.Desk.{Desk}
-use Rattle.flow_replay.specs.Desks.{IsGain, IsTurned, end_block, ends, local_of, made_at, marks, post_at, turn_block, turn_entries}
-use Rattle.flow_replay.specs.Tables.{IsWired, inlet_of, inlets_of, seat_of}
-use Rattle.flow_model.proofs.ElementLemmas.{in_filter, in_of_place}
-use Rattle.flow_model.proofs.LaneLemmas.{in_enumerate, lane_is}
-use Rattle.flow_replay.proofs.LaneLemmas.{sends}
-use Rattle.flow_replay.proofs.PieceLemmas.{filter_of_map, filter_twice}
-use Rattle.flow_replay.proofs.SeatLemmas.{get-post_at, node_below, worker_at}
-use Rattle.flow_replay.proofs.TableLemmas.{item_at}
+use Rattle.flow_replay.specs.Desks.{IsGain, IsTurned, end_block, ends, local_of, made_at, marks, turn_block, turn_entries}
+use Rattle.flow_model.specs.declared.topology.WorkerAt.{WorkerAt}
+use Rattle.flow_model.specs.Topology.{worker_of}
+use Rattle.flow_model.proofs.ElementLemmas.{IsIn}
+use Rattle.flow_model.proofs.LaneLemmas.{in_enumerate}
+use Rattle.flow_model.proofs.LaneNumbers.{sends}
+use Rattle.flow_model.proofs.PostPlaces.{get-post_at, node_below, worker_at}
 
--- ---- a worker's seat
+-- ---- where a worker is
 
--- a seat that the code reads
-abbrev pub seat_read : List Seat → ℕ → Seat
-seat_read all w = get_or all w (record { node = 0; place = 0 })
-
-pub seat_is : (job : Written) (wiring : Wiring) (all : List Seat) (w : ℕ) → IsWired job wiring → all ≡ wiring.seats → w < length (posts job) → seat_read all w ≡ seat_of (post_at job w)
-seat_is job wiring all w wired same lt =
-    get_or_from_slice_get all w (seat_of (post_at job w)) (record { node = 0; place = 0 })
-    (ap (λ (l : List Seat). slice_get l w) (same ∙ wired.seats) ∙ (slice_get-map seat_of (posts job) w ∙ ap (option_map seat_of) (get-post_at job w lt)))
-
-pub seats-long : (job : Written) (wiring : Wiring) → IsWired job wiring → length wiring.seats ≡ length (posts job)
-seats-long job wiring wired = ap (length {A = Seat}) wired.seats ∙ length-map (posts job) seat_of
-
-pub seat_node : (job : Written) (w : ℕ) (seat : Seat) → w < length (posts job) → seat ≡ seat_of (post_at job w) → seat.node < length job.nodes
-seat_node job w seat lt e = subst (λ (s : Seat). s.node < length job.nodes) (sym e) (node_below job w lt)
-
-pub seat_sends : (job : Written) (w : ℕ) (seat : Seat) → w < length (posts job) → seat ≡ seat_of (post_at job w) → slice_get (senders job seat.node) seat.place ≡ Some (Some w)
-seat_sends job w seat lt is = subst (λ (s : Seat). slice_get (senders job s.node) s.place ≡ Some (Some w)) (sym is) (sends job w (post_at job w) (get-post_at job w lt))
+pub worker_sends : (job : Written) (w : ℕ) (at : WorkerAt) → w < length (posts job) → at ≡ worker_of (post_at job w) → slice_get (senders job at.node) at.index ≡ Some (Some w)
+worker_sends job w at lt is = subst (λ (a : WorkerAt). slice_get (senders job a.node) a.index ≡ Some (Some w)) (sym is) (sends job w (post_at job w) (get-post_at job w lt))
 
 -- ---- a meeting
 
 abbrev pub visit_by : ℕ → ℕ → ℕ → Visit
 visit_by node worker last = record { node = node; worker = worker; last = last }
 
-pub visited_at : (setup : Outline) (post : Post) (desk : Desk) (seat : Seat) → seat ≡ seat_of post → visit_by seat.node seat.place desk.last ≡ visit_at post (local_of setup post desk)
-visited_at setup post desk seat e = ap (λ (s : Seat). visit_by s.node s.place desk.last) e
+pub visited_at : (setup : Outline) (post : Post) (desk : Desk) (at : WorkerAt) → at ≡ worker_of post → visit_by at.node at.index desk.last ≡ visit_at post (local_of setup post desk)
+visited_at setup post desk at e = ap (λ (a : WorkerAt). visit_by a.node a.index desk.last) e
 
-pub func_at : (setup : Outline) (w : ℕ) (desk : Desk) (seat : Seat) (f : Func) → w < length (posts setup.job) → seat ≡ seat_of (post_at setup.job w)
-    → ((def : NodeDef) → slice_get setup.job.nodes seat.node ≡ Some def → f ≡ func_with (change_of setup desk.changed_by seat.node) def.func)
+pub func_at : (setup : Outline) (w : ℕ) (desk : Desk) (at : WorkerAt) (f : Func) → w < length (posts setup.job) → at ≡ worker_of (post_at setup.job w)
+    → ((def : NodeDef) → slice_get setup.job.nodes at.node ≡ Some def → f ≡ func_with (change_of setup desk.changed_by at.node) def.func)
     → f ≡ (local_of setup (post_at setup.job w) desk).func
-func_at setup w desk seat f lt e is =
+func_at setup w desk at f lt e is =
     let (number, p) = worker_at setup.job w lt in
-    let node : seat.node ≡ (post_at setup.job w).node = ap (λ (s : Seat). s.node) e in
+    let node : at.node ≡ (post_at setup.job w).node = ap (λ (a : WorkerAt). a.node) e in
     is p.def (ap (slice_get setup.job.nodes) node ∙ p.node_is)
     ∙ (ap (λ (n : ℕ). func_with (change_of setup desk.changed_by n) p.def.func) node ∙ ap (func_with (change_of setup desk.changed_by (post_at setup.job w).node)) (sym p.func_is))
 
@@ -91,82 +72,80 @@ met_outs setup post desk visit f tuple outs v is e =
 
 -- ---- lanes in
 
--- the edge of a lane in is an edge of the job
-pub inlet_edge : (job : Written) (w k : ℕ) (inlet : Inlet) → IsLawful job → slice_get (inlets_of job w) k ≡ Some inlet → inlet.edge < 128
-inlet_edge job w k inlet law e = go (slice_get (filter (λ (lane : ℕ × Lane). lane.1.receiver == w) (enumerate_from 0 (lanes job))) k) refl
-    (sym (slice_get-map inlet_of (filter (λ (lane : ℕ × Lane). lane.1.receiver == w) (enumerate_from 0 (lanes job))) k) ∙ e)
+-- the numbers of the lanes in that bring the marker of a request, by a test of the numbers
+numbers_passing : (R C : Lane → Bool) (test : ℕ → Bool) (ps : List (ℕ × Lane)) → ((p : ℕ × Lane) → IsIn p ps → test p.0 ≡ C p.1)
+    → filter test (map (λ (p : ℕ × Lane). p.0) (filter (λ (p : ℕ × Lane). R p.1) ps)) ≡ map (λ (p : ℕ × Lane). p.0) (filter (λ (p : ℕ × Lane). R p.1 && C p.1) ps)
+numbers_passing R C test [] same = refl
+numbers_passing R C test (p ∷ ps) same = go (R p.1) (numbers_passing R C test ps (λ q i. same q (inr i)))
   where
-    go : (o : Option (ℕ × Lane)) → slice_get (filter (λ (lane : ℕ × Lane). lane.1.receiver == w) (enumerate_from 0 (lanes job))) k ≡ o → option_map inlet_of o ≡ Some inlet → inlet.edge < 128
-    go None g h = absurd (cc)
-    go (Some p) g h =
-        let among = in_of_place p (filter (λ (lane : ℕ × Lane). lane.1.receiver == w) (enumerate_from 0 (lanes job))) k g in
-        let (n, at, there) = in_enumerate 0 (lanes job) p (in_filter (λ (lane : ℕ × Lane). lane.1.receiver == w) p (enumerate_from 0 (lanes job)) among).0 in
-        let is = lane_is job n p.1 there in
-        let within = slice_get_within job.edges p.1.edge is.edge is.edge_is in
-        let same : p.1.edge ≡ inlet.edge = ap (λ (i : Inlet). i.edge) (same_Some (inlet_of p) inlet h) in
-        omega (arith, within, same, law.limits.edges)
+    rest : List ℕ
+    rest = map (λ (p : ℕ × Lane). p.0) (filter (λ (p : ℕ × Lane). R p.1 && C p.1) ps)
 
--- the numbers of the lanes in
-pub inlets-lanes : (job : Written) (w : ℕ) → map (λ (i : Inlet). i.lane) (inlets_of job w) ≡ lanes_in job w
-inlets-lanes job w = map-map (λ (i : Inlet). i.lane) inlet_of (filter (λ (p : ℕ × Lane). p.1.receiver == w) (enumerate_from 0 (lanes job)))
+    go : (b : Bool) → filter test (map (λ (p : ℕ × Lane). p.0) (filter (λ (p : ℕ × Lane). R p.1) ps)) ≡ rest
+        → filter test (map (λ (p : ℕ × Lane). p.0) (cond b (p ∷ filter (λ (p : ℕ × Lane). R p.1) ps) (filter (λ (p : ℕ × Lane). R p.1) ps)))
+        ≡ map (λ (p : ℕ × Lane). p.0) (cond (b && C p.1) (p ∷ filter (λ (p : ℕ × Lane). R p.1 && C p.1) ps) (filter (λ (p : ℕ × Lane). R p.1 && C p.1) ps))
+    go true h = rw (same p (inl refl)) (by_test (C p.1) h)
+      where
+        by_test : (c : Bool) → filter test (map (λ (p : ℕ × Lane). p.0) (filter (λ (p : ℕ × Lane). R p.1) ps)) ≡ rest
+            → cond c (p.0 ∷ filter test (map (λ (p : ℕ × Lane). p.0) (filter (λ (p : ℕ × Lane). R p.1) ps))) (filter test (map (λ (p : ℕ × Lane). p.0) (filter (λ (p : ℕ × Lane). R p.1) ps)))
+            ≡ map (λ (p : ℕ × Lane). p.0) (cond c (p ∷ filter (λ (p : ℕ × Lane). R p.1 && C p.1) ps) (filter (λ (p : ℕ × Lane). R p.1 && C p.1) ps))
+        by_test true h = ap (λ (l : List ℕ). p.0 ∷ l) h
+        by_test false h = h
+    go false h = h
 
-pub inlets-marked : (setup : Outline) (w r : ℕ) → map (λ (i : Inlet). i.lane) (filter (λ (i : Inlet). covers_edge setup r i.edge) (inlets_of setup.job w)) ≡ marked_lanes setup w r
-inlets-marked setup w r =
-    ap (map (λ (i : Inlet). i.lane)) (filter_of_map (λ (i : Inlet). covers_edge setup r i.edge) inlet_of among)
-    ∙ (map-map (λ (i : Inlet). i.lane) inlet_of (filter (λ (p : ℕ × Lane). covers_edge setup r p.1.edge) among)
-    ∙ ap (map (λ (p : ℕ × Lane). p.0)) (filter_twice (λ (p : ℕ × Lane). p.1.receiver == w) (λ (p : ℕ × Lane). covers_edge setup r p.1.edge) (enumerate_from 0 (lanes setup.job))))
-  where
-    among : List (ℕ × Lane)
-    among = filter (λ (p : ℕ × Lane). p.1.receiver == w) (enumerate_from 0 (lanes setup.job))
+abbrev pub marks_lane : Outline → ℕ → ℕ → Bool
+marks_lane setup r number = covers_edge setup r (lane_at setup.job number).edge
 
-abbrev no_inlet : Inlet
-no_inlet = record { lane = 0; edge = 0 }
-
--- the lanes in of a worker that the code reads
-pub inlets_read : (job : Written) (wiring : Wiring) (all : List (List Inlet)) (row result : List Inlet) (w : ℕ) → IsWired job wiring → all ≡ wiring.inlets → w < length (posts job)
-    → row ≡ get_or all w row → result ≡ row → result ≡ inlets_of job w
-inlets_read job wiring all row result w wired same lt is made =
-    made ∙ wired.inlets w row (item_at all wiring.inlets w row same (omega (arith, lt, wired.each_worker)) is)
+lanes-marked : (setup : Outline) (w r : ℕ) → filter (marks_lane setup r) (lanes_in setup.job w) ≡ marked_lanes setup w r
+lanes-marked setup w r =
+    numbers_passing (λ (lane : Lane). lane.receiver == w) (λ (lane : Lane). covers_edge setup r lane.edge) (marks_lane setup r) (enumerate_from 0 (lanes setup.job)) (λ p i.
+    let (n, at, there) = in_enumerate 0 (lanes setup.job) p i in
+    let same : p.0 ≡ n = omega (arith, at) in
+    ap (λ (l : Lane). covers_edge setup r l.edge) (get_or_from_slice_get (lanes setup.job) p.0 p.1 no_lane (ap (slice_get (lanes setup.job)) same ∙ there)))
 
 -- ---- the markers, one after another
 
-abbrev pub marks_of : Outline → ℕ → List Inlet → List Entry
-marks_of setup r inlets = marks r (map (λ (i : Inlet). i.lane) (filter (λ (i : Inlet). covers_edge setup r i.edge) inlets))
+abbrev pub marks_of : Outline → ℕ → List ℕ → List Entry
+marks_of setup r numbers = marks r (filter (marks_lane setup r) numbers)
 
-pub marks-take : (setup : Outline) (r i : ℕ) (inlets : List Inlet) (done more all : List Entry) → i < length inlets → covers_edge setup r (get_or inlets i no_inlet).edge ≡ true
-    → more ≡ done ++ entry.Marked (get_or inlets i no_inlet).lane r ∷ []
-    → done ++ marks_of setup r (drop i inlets) ≡ all → more ++ marks_of setup r (drop (i + 1) inlets) ≡ all
-marks-take setup r i inlets done more all lt t grown h =
-    ap (λ (l : List Entry). l ++ marks_of setup r (drop (i + 1) inlets)) grown
-    ∙ (append_assoc done (entry.Marked (get_or inlets i no_inlet).lane r ∷ []) (marks_of setup r (drop (i + 1) inlets))
-    ∙ (ap (λ (b : Bool). done ++ marks r (map (λ (i : Inlet). i.lane) (cond b (get_or inlets i no_inlet ∷ filter (λ (i : Inlet). covers_edge setup r i.edge) (drop (i + 1) inlets)) (filter (λ (i : Inlet). covers_edge setup r i.edge) (drop (i + 1) inlets))))) (sym t)
-    ∙ (ap (λ (l : List Inlet). done ++ marks_of setup r l) (sym (drop_more inlets i no_inlet lt)) ∙ h)))
+pub marks-take : (setup : Outline) (r i : ℕ) (numbers : List ℕ) (done more all : List Entry) → i < length numbers → marks_lane setup r (get_or numbers i 0) ≡ true
+    → more ≡ done ++ entry.Marked (get_or numbers i 0) r ∷ []
+    → done ++ marks_of setup r (drop i numbers) ≡ all → more ++ marks_of setup r (drop (i + 1) numbers) ≡ all
+marks-take setup r i numbers done more all lt t grown h =
+    ap (λ (l : List Entry). l ++ marks_of setup r (drop (i + 1) numbers)) grown
+    ∙ (append_assoc done (entry.Marked (get_or numbers i 0) r ∷ []) (marks_of setup r (drop (i + 1) numbers))
+    ∙ (ap (λ (b : Bool). done ++ marks r (cond b (get_or numbers i 0 ∷ filter (marks_lane setup r) (drop (i + 1) numbers)) (filter (marks_lane setup r) (drop (i + 1) numbers)))) (sym t)
+    ∙ (ap (λ (l : List ℕ). done ++ marks_of setup r l) (sym (drop_more numbers i 0 lt)) ∙ h)))
 
-pub marks-end : (setup : Outline) (w r i : ℕ) (inlets : List Inlet) (old done : List Entry) → length inlets ≤ i → inlets ≡ inlets_of setup.job w
-    → done ++ marks_of setup r (drop i inlets) ≡ old ++ marks_of setup r inlets → done ≡ old ++ marks r (marked_lanes setup w r)
-marks-end setup w r i inlets old done le is h =
+pub marks-skip : (setup : Outline) (r i : ℕ) (numbers : List ℕ) (done all : List Entry) → i < length numbers → marks_lane setup r (get_or numbers i 0) ≡ false
+    → done ++ marks_of setup r (drop i numbers) ≡ all → done ++ marks_of setup r (drop (i + 1) numbers) ≡ all
+marks-skip setup r i numbers done all lt t h =
+    ap (λ (b : Bool). done ++ marks r (cond b (get_or numbers i 0 ∷ filter (marks_lane setup r) (drop (i + 1) numbers)) (filter (marks_lane setup r) (drop (i + 1) numbers)))) (sym t)
+    ∙ (ap (λ (l : List ℕ). done ++ marks_of setup r l) (sym (drop_more numbers i 0 lt)) ∙ h)
+
+pub marks-end : (setup : Outline) (w r i : ℕ) (numbers : List ℕ) (old done : List Entry) → length numbers ≤ i → numbers ≡ lanes_in setup.job w
+    → done ++ marks_of setup r (drop i numbers) ≡ old ++ marks_of setup r numbers → done ≡ old ++ marks r (marked_lanes setup w r)
+marks-end setup w r i numbers old done le is h =
     sym (append-nil done)
-    ∙ (ap (λ (l : List Inlet). done ++ marks_of setup r l) (sym (drop_all i inlets le))
-    ∙ (h ∙ (ap (λ (l : List Inlet). old ++ marks_of setup r l) is ∙ ap (λ (l : List ℕ). old ++ marks r l) (inlets-marked setup w r))))
+    ∙ (ap (λ (l : List ℕ). done ++ marks_of setup r l) (sym (drop_all i numbers le))
+    ∙ (h ∙ (ap (λ (l : List ℕ). old ++ marks_of setup r l) is ∙ ap (λ (l : List ℕ). old ++ marks r l) (lanes-marked setup w r))))
+
+-- the edge that the code reads of a lane
+pub edge_marks : (setup : Outline) (r number edge : ℕ) (lane : Lane) (b : Bool) → slice_get (lanes setup.job) number ≡ Some lane → edge ≡ lane.edge → b ≡ covers_edge setup r edge → marks_lane setup r number ≡ b
+edge_marks setup r number edge lane b there is told =
+    ap (λ (l : Lane). covers_edge setup r l.edge) (get_or_from_slice_get (lanes setup.job) number lane no_lane there) ∙ (ap (covers_edge setup r) (sym is) ∙ sym told)
 
 -- ---- the ends
 
-pub ends-next : (i : ℕ) (inlets : List Inlet) (done more all : List Entry) → i < length inlets → more ≡ done ++ entry.Ended (get_or inlets i no_inlet).lane ∷ []
-    → done ++ ends (drop i inlets) ≡ all → more ++ ends (drop (i + 1) inlets) ≡ all
-ends-next i inlets done more all lt grown h =
-    ap (λ (l : List Entry). l ++ ends (drop (i + 1) inlets)) grown
-    ∙ (append_assoc done (entry.Ended (get_or inlets i no_inlet).lane ∷ []) (ends (drop (i + 1) inlets))
-    ∙ (ap (λ (l : List Inlet). done ++ ends l) (sym (drop_more inlets i no_inlet lt)) ∙ h))
+pub ends-next : (i : ℕ) (numbers : List ℕ) (done more all : List Entry) → i < length numbers → more ≡ done ++ entry.Ended (get_or numbers i 0) ∷ []
+    → done ++ ends (drop i numbers) ≡ all → more ++ ends (drop (i + 1) numbers) ≡ all
+ends-next i numbers done more all lt grown h =
+    ap (λ (l : List Entry). l ++ ends (drop (i + 1) numbers)) grown
+    ∙ (append_assoc done (entry.Ended (get_or numbers i 0) ∷ []) (ends (drop (i + 1) numbers))
+    ∙ (ap (λ (l : List ℕ). done ++ ends l) (sym (drop_more numbers i 0 lt)) ∙ h))
 
-pub ends-end : (i : ℕ) (inlets : List Inlet) (old done : List Entry) → length inlets ≤ i → done ++ ends (drop i inlets) ≡ old ++ ends inlets → done ≡ old ++ ends inlets
-ends-end i inlets old done le h = sym (append-nil done) ∙ (ap (λ (l : List Inlet). done ++ ends l) (sym (drop_all i inlets le)) ∙ h)
-
--- the ends of a worker's lanes, by the tables
-pub ends-block : (job : Written) (wiring : Wiring) (w : ℕ) → IsWired job wiring → w < length (posts job) → ends (slice_index_or wiring.inlets w []) ≡ end_block job w
-ends-block job wiring w wired lt =
-    let row : List Inlet = slice_index_or wiring.inlets w [] in
-    let is : row ≡ inlets_of job w = wired.inlets w row (slice_get-get_or wiring.inlets w [] (omega (arith, lt, wired.each_worker))) in
-    ap ends is ∙ (sym (map-map (λ (lane : ℕ). entry.Ended lane) (λ (i : Inlet). i.lane) (inlets_of job w)) ∙ ap (map (λ (lane : ℕ). entry.Ended lane)) (inlets-lanes job w))
+pub ends-end : (i : ℕ) (numbers : List ℕ) (old done : List Entry) → length numbers ≤ i → done ++ ends (drop i numbers) ≡ old ++ ends numbers → done ≡ old ++ ends numbers
+ends-end i numbers old done le h = sym (append-nil done) ∙ (ap (λ (l : List ℕ). done ++ ends l) (sym (drop_all i numbers le)) ∙ h)
 
 -- ---- a turn
 
@@ -198,7 +177,3 @@ uncovered_gain setup w r desk t =
 pub cover_answer : (setup : Outline) (w r : ℕ) (b : Bool) → w < length (posts setup.job) → option_map (λ (post : Post). covers setup r post.node) (slice_get (posts setup.job) w) ≡ Some b → covers setup r (post_at setup.job w).node ≡ b
 cover_answer setup w r b lt e =
     same_Some (covers setup r (post_at setup.job w).node) b (sym (ap (option_map (λ (post : Post). covers setup r post.node)) (get-post_at setup.job w lt)) ∙ e)
-
-pub inlet_read : (job : Written) (w i : ℕ) (inlets : List Inlet) → IsLawful job → inlets ≡ inlets_of job w → i < length inlets → (get_or inlets i no_inlet).edge < 128
-inlet_read job w i inlets law is lt =
-    inlet_edge job w i (get_or inlets i no_inlet) law (ap (λ (l : List Inlet). slice_get l i) (sym is) ∙ slice_get-get_or inlets i no_inlet lt)

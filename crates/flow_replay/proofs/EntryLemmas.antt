@@ -6,7 +6,8 @@ use Rattle.sink_journal.specs.declared.journal.Entry.TheVariants as entry
 use Rattle.tuple_trace.specs.declared.tuple.Item.{Item}
 use Rattle.tuple_trace.specs.declared.tuple.Tuple.{Tuple}
 use Rattle.flow_model.specs.Lanes.{lanes_out}
-use Rattle.flow_model.specs.Outline.{Lane, Outline, Post}
+use Rattle.flow_model.specs.declared.topology.Lane.{Lane}
+use Rattle.flow_model.specs.Outline.{Outline, Post}
 use Rattle.flow_model.specs.Replay.{Local, after, after_all, items_on, puts, sent, with_change}
 use Rattle.flow_model.specs.Requests.{change_of}
 use Rattle.versions.specs.declared.request.Change.{Change}

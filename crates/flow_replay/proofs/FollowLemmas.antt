@@ -10,14 +10,16 @@ use Rattle.jobs.specs.Written.{Written}
 use Rattle.flow_model.specs.Covers.{covers, covers_edge}
 use Rattle.flow_model.specs.Lanes.{lanes, lanes_in, lanes_that, marked_lanes}
 use Rattle.flow_model.specs.Law.{IsExecution, IsFinished, IsInTime, Progress, Station, initial, next_due, progress_after}
-use Rattle.flow_model.specs.Outline.{Lane, Outline, Post}
+use Rattle.flow_model.specs.declared.topology.Lane.{Lane}
+use Rattle.flow_model.specs.Outline.{Outline, Post}
 use Rattle.flow_model.specs.Station.{numbers_from, station}
 use Rattle.flow_model.proofs.ElementLemmas.{AreDistinct, IsIn, all_of_at, contains_of_in, distinct_filter, distinct_map, in_filter, in_of_contains}
 use Rattle.flow_model.proofs.JournalLemmas.{IsExecution-append, progress_after-append}
 use Rattle.flow_model.proofs.LaneLemmas.{enumerate_distinct, in_enumerate}
-use Rattle.flow_replay.specs.Desks.{end_block, marks, post_at, turn_block, turn_entries}
+use Rattle.flow_replay.specs.Desks.{end_block, marks, turn_block, turn_entries}
 use Rattle.flow_replay.specs.Rest.{waiting}
 use Rattle.flow_replay.specs.Ways.{IsMeeting}
+use Rattle.flow_model.specs.Workers.{post_at}
 
 -- ---- the numbers of lanes
 

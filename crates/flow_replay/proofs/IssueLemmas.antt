@@ -14,7 +14,7 @@ use Rattle.flow_model.specs.Requests.{afters}
 use Rattle.flow_model.proofs.FreshLemmas.{order_rises}
 use Rattle.flow_model.proofs.PlaceLemmas.{map_place}
 use Rattle.flow_replay.specs.Rest.{AreIssuedBefore, issues}
-use Rattle.flow_replay.proofs.TableLemmas.{drop-at}
+use Rattle.flow_model.proofs.TopologyLemmas.{drop-at}
 
 -- ---- the order of requests
 

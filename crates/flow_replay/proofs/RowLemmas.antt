@@ -10,14 +10,14 @@ use Rattle.operators.specs.Lanes.{worker_along}
 use Rattle.tuple_trace.specs.declared.row.Row.{Row}
 use Rattle.tuple_trace.specs.declared.tuple.Tuple.{Tuple}
 use Rattle.flow_model.specs.Lanes.{lane_along, lane_of, senders}
-use Rattle.flow_model.specs.Outline.{Lane, Outline, Post}
-use Rattle.flow_replay.specs.declared.wiring.Hop.{Hop}
+use Rattle.flow_model.specs.declared.topology.Lane.{Lane}
+use Rattle.flow_model.specs.Outline.{Outline, Post}
 use Rattle.flow_replay.specs.declared.worker.Desk.{Desk}
-use Rattle.flow_replay.specs.Tables.{IsHopAlong, first_worker}
 use Rattle.flow_replay.specs.Ways.{IsBrought, IsFed}
 use Rattle.flow_model.proofs.FitLemmas.{HasPortEdge, port_edge, source_port}
-use Rattle.flow_replay.proofs.TableLemmas.{is_reached, length-feeder}
-use Rattle.flow_replay.proofs.WayLemmas.{lane_there}
+use Rattle.flow_model.proofs.TopologyLemmas.{is_reached, length-feeder}
+use Rattle.flow_replay.proofs.WayLemmas.{found_lane}
+use Rattle.flow_model.specs.Topology.{IsNumberOf, first_worker}
 
 -- a node that is a source
 record IsSource (job : Written) (node : ℕ) : Type 0 where
@@ -56,13 +56,13 @@ lane_from_source job node tuple law e none = go (is_source_at job node e)
     go : IsSource job node → ⊥
     go is = nowhere (port_edge job.edges node 0 0 (source_port job.edges node is.def.func is.source (law.ports node is.def is.node_is)))
 
-pub row_fed : (setup : Outline) (rank : ℕ → ℕ) (row : Row) (issued : ℕ) (hop : Hop) (copy : Tuple) (old new : List Desk) → IsHopAlong setup.job (lane_of setup.job None row.source 0 row.tuple) hop → copy ≡ row.tuple
-    → IsBrought setup rank hop.lane (record copy { issued = issued }) old new → IsFed setup rank row issued old new
-row_fed setup rank row issued hop copy old new (lane, along, is) same brought =
-    let at = lane_there setup.job hop.lane lane is.numbered in
+pub row_fed : (setup : Outline) (rank : ℕ → ℕ) (row : Row) (issued n : ℕ) (copy : Tuple) (old new : List Desk) → IsNumberOf setup.job (lane_of setup.job None row.source 0 row.tuple) n → copy ≡ row.tuple
+    → IsBrought setup rank n (record copy { issued = issued }) old new → IsFed setup rank row issued old new
+row_fed setup rank row issued n copy old new found same brought =
+    let (there, along) = found_lane setup.job (lane_of setup.job None row.source 0 row.tuple) n found in
     record {
-      n = hop.lane;
-      there = is.numbered ∙ ap Some (sym at);
-      along = along ∙ ap Some (sym at);
-      brought = subst (λ (t : Tuple). IsBrought setup rank hop.lane (record t { issued = issued }) old new) same brought;
+      n = n;
+      there = there;
+      along = along;
+      brought = subst (λ (t : Tuple). IsBrought setup rank n (record t { issued = issued }) old new) same brought;
     }

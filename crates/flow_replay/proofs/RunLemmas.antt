@@ -17,28 +17,26 @@ use Rattle.tuple_trace.specs.declared.tuple.Item.{Item}
 use Rattle.tuple_trace.specs.declared.tuple.Item.TheVariants as item
 use Rattle.flow_model.specs.Begin.{at_first}
 use Rattle.flow_model.specs.Feeding.{fed_put, fed_puts, fed_tuple, feed_from, row_at}
-use Rattle.flow_model.specs.Lanes.{is_same_lane, lane_of, lanes, lanes_in}
+use Rattle.flow_model.specs.Lanes.{is_same_lane, lane_at, lane_of, lanes, lanes_in}
 use Rattle.flow_model.specs.Law.{IsExecution, IsFinished, Progress, Station, initial, progress_after}
-use Rattle.flow_model.specs.Outline.{Lane, Outline, Post}
+use Rattle.flow_model.specs.declared.topology.Lane.{Lane}
+use Rattle.flow_model.specs.Outline.{Outline, Post}
 use Rattle.flow_model.specs.Replay.{Local, Put, after, after_all, item_on, items_on, shown}
 use Rattle.flow_model.specs.Requests.{afters}
 use Rattle.flow_model.specs.Run.{IsRun, IsWorked, put_by, sent_by as sent_from}
 use Rattle.flow_model.specs.Station.{station}
-use Rattle.flow_model.specs.Workers.{posts}
+use Rattle.flow_model.specs.Workers.{nobody, post_at, posts}
 use Rattle.flow_model.proofs.JournalLemmas.{IsExecution-append, after_all-append, progress_after-append}
 use Rattle.flow_model.proofs.LaneLemmas.{same_lane}
 use Rattle.flow_model.proofs.PlaceLemmas.{map_place}
-use Rattle.flow_replay.specs.declared.wiring.Wiring.{Wiring}
 use Rattle.flow_replay.specs.declared.worker.Desk.{Desk}
-use Rattle.flow_replay.specs.Desks.{AllEnded, AllGain, AreInForce, AreTied, desk_at, empty_desk, end_block, first_local, journal_at, local_of, nobody, nothing, post_at, put_so_far, turn_block, with_item}
+use Rattle.flow_replay.specs.Desks.{AllEnded, AllGain, AreInForce, AreTied, desk_at, empty_desk, end_block, first_local, journal_at, local_of, nothing, put_so_far, turn_block, with_item}
 use Rattle.flow_replay.specs.Rest.{AreEmpty, IsSoFar, count_issued, told_by, waiting}
-use Rattle.flow_replay.specs.Tables.{IsWired}
-use Rattle.flow_replay.specs.Ways.{IsFed, lane_at}
-use Rattle.flow_replay.proofs.CoverLemmas.{AreCovering}
-use Rattle.flow_replay.proofs.DeskLemmas.{ends-block}
+use Rattle.flow_replay.specs.Ways.{IsFed}
+use Rattle.flow_model.proofs.CoverLemmas.{AreCovering}
 use Rattle.flow_replay.proofs.FollowLemmas.{ended_all, finishes, meetings-follow, turn-follows}
-use Rattle.flow_replay.proofs.LaneLemmas.{is_lane_of}
-use Rattle.flow_replay.proofs.SeatLemmas.{get-post_at, post_at-get, worker_at}
+use Rattle.flow_model.proofs.LaneNumbers.{is_lane_of}
+use Rattle.flow_model.proofs.PostPlaces.{get-post_at, post_at-get, worker_at}
 use Rattle.flow_replay.proofs.TieLemmas.{sent_by}
 use Rattle.flow_replay.proofs.TurnLemmas.{IsSending, is_sending, sent_ended, shown_ended, turns_tie}
 use Rattle.flow_replay.proofs.WayLemmas.{receiver_below}
@@ -207,9 +205,9 @@ at_start ps w counts e = sym (map_place (λ (post : Post). empty) ps w counts e)
 get_start : (ps : List Post) (w : ℕ) → w < length ps → slice_get (starts ps) w ≡ Some empty
 get_start ps w lt = slice_get-map (λ (post : Post). empty) ps w ∙ ap (option_map (λ (post : Post). empty)) (slice_get-get_or ps w nobody lt)
 
-pub stop_step : (setup : Outline) (wiring : Wiring) (rows : List Row) (feeds : List Feed) (old new : List Desk) → AreCovering setup → IsWired setup.job wiring → IsSoFar setup rows feeds (length setup.plans) old
-    → AllEnded wiring.inlets old new → feeds ++ feed.Stopped ∷ [] ≡ feed_from 0 0 (afters setup.requests) (length rows) → IsRun setup rows (told_by setup (feeds ++ feed.Stopped ∷ []) new)
-stop_step setup wiring rows feeds old new covering wired far gain fed_is = record {
+pub stop_step : (setup : Outline) (rows : List Row) (feeds : List Feed) (old new : List Desk) → AreCovering setup → IsSoFar setup rows feeds (length setup.plans) old
+    → AllEnded setup.job old new → feeds ++ feed.Stopped ∷ [] ≡ feed_from 0 0 (afters setup.requests) (length rows) → IsRun setup rows (told_by setup (feeds ++ feed.Stopped ∷ []) new)
+stop_step setup rows feeds old new covering far gain fed_is = record {
   setup_is = refl;
   run = record {
     feed = fed_is;
@@ -225,7 +223,7 @@ stop_step setup wiring rows feeds old new covering wired far gain fed_is = recor
     below w b = let l = far.rest.long in omega (arith, b, l)
 
     ended : (w : ℕ) → w < length (posts setup.job) → journal_at new w ≡ journal_at old w ++ end_block setup.job w
-    ended w b = (gain.each w (below w b)).journal ∙ ap (λ (xs : List Entry). journal_at old w ++ xs) (ends-block setup.job wiring w wired b)
+    ended w b = (gain.each w (below w b)).journal
 
     counted : (w : ℕ) → w < length (posts setup.job) → (desk_at new w).counts ≡ (after_all setup (post_at setup.job w) (first_local setup (post_at setup.job w)) (journal_at new w)).counts
     counted w b =

@@ -3,12 +3,12 @@ use Rattle.std.proofs.Common.{arith}
 use Rattle.jobs.specs.Job.{written}
 use Rattle.flow_model.specs.declared.setup.Setup.{Setup}
 use Rattle.flow_replay.specs.Ways.{rank_in}
-use Rattle.flow_replay.proofs.JobLemmas.{rank-below, rank-forward}
 use Rattle.flow_replay.proofs.WayLemmas.{IsRanked}
-use Rattle.flow_replay.proofs.CoverLemmas.{AreCovering, covering}
+use Rattle.flow_model.proofs.CoverLemmas.{AreCovering, covering}
 use Rattle.flow_model.specs.Setup.{outline}
 use Rattle.versions.specs.Kept.{AreInOrder}
 use Rattle.versions.proofs.KeptLemmas.{accepted-order}
+use Rattle.flow_replay.proofs.RankLemmas.{rank-below, rank-forward}
 
 pub ranked : (setup : Setup) → IsRanked (written setup.job) (rank_in setup)
 ranked setup = record {

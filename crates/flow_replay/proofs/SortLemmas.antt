@@ -21,19 +21,16 @@ use Rattle.flow_model.specs.Lanes.{lanes_in, marked_lanes}
 use Rattle.flow_model.specs.Outline.{Outline, Post}
 use Rattle.flow_model.specs.Requests.{request_at}
 use Rattle.flow_model.specs.Whole.{after_turn, before_turn, is_turn, met_tuples}
-use Rattle.flow_model.specs.Workers.{posts}
+use Rattle.flow_model.specs.Workers.{post_at, posts}
 use Rattle.flow_replay.specs.Order.{IsInOrder, IsOfEarlierRow, TurnsInOrder}
-use Rattle.flow_replay.specs.declared.wiring.Wiring.{Wiring}
 use Rattle.flow_replay.specs.declared.worker.Desk.{Desk}
-use Rattle.flow_replay.specs.Desks.{AllEnded, AllGain, end_block, journal_at, marks, post_at, turn_block, turn_entries}
+use Rattle.flow_replay.specs.Desks.{AllEnded, AllGain, end_block, journal_at, marks, turn_block, turn_entries}
 use Rattle.flow_replay.specs.Rest.{AreEmpty, AreSorted, IsSorted, has_turn, told_by}
-use Rattle.flow_replay.specs.Tables.{IsWired}
 use Rattle.flow_replay.specs.Ways.{IsFed, IsMeeting, Meets}
 use Rattle.flow_model.proofs.PlannedLemmas.{covers_within}
-use Rattle.flow_replay.proofs.DeskLemmas.{ends-block}
 use Rattle.flow_replay.proofs.FollowLemmas.{ended_all}
 use Rattle.flow_replay.proofs.RunLemmas.{at_desk}
-use Rattle.flow_replay.proofs.SeatLemmas.{post_at-get}
+use Rattle.flow_model.proofs.PostPlaces.{post_at-get}
 
 -- ---- turns in two parts of a journal
 
@@ -247,9 +244,9 @@ first_sorted setup rows desks none w b =
       left = λ r lt. refl;
     })
 
-pub ends_sorted : (setup : Outline) (wiring : Wiring) (rows : ℕ) (feeds : List Feed) (old new : List Desk) → IsWired setup.job wiring → length old ≡ length (posts setup.job) → AllEnded wiring.inlets old new
+pub ends_sorted : (setup : Outline) (rows : ℕ) (feeds : List Feed) (old new : List Desk) → length old ≡ length (posts setup.job) → AllEnded setup.job old new
     → AreSorted setup rows rows (length setup.plans) old → IsInOrder rows (told_by setup feeds new)
-ends_sorted setup wiring rows feeds old new wired long gain is w post journal ep ej r covered =
+ends_sorted setup rows feeds old new long gain is w post journal ep ej r covered =
     let b = slice_get_within (posts setup.job) w post ep in
     let c : w < length old = omega (arith, b, long) in
     let at : post_at setup.job w ≡ post = post_at-get setup.job w post ep in
@@ -259,7 +256,7 @@ ends_sorted setup wiring rows feeds old new wired long gain is w post journal ep
     let there = sorted.there r known.0 known.1 cover in
     let past = sorted.past r known.0 known.1 cover in
     let ends = end_block setup.job w in
-    let grown : journal_at new w ≡ journal_at old w ++ end_block setup.job w = (gain.each w c).journal ∙ ap (λ (xs : List Entry). journal_at old w ++ xs) (ends-block setup.job wiring w wired b) in
+    let grown : journal_at new w ≡ journal_at old w ++ end_block setup.job w = (gain.each w c).journal in
     let is_journal : journal_at new w ≡ journal = at_desk (λ (desk : Desk). desk.journal) new w journal ej in
     subst (TurnsInOrder setup rows r) (sym grown ∙ is_journal) (record {
       before = subst (λ (l : List Entry). All (IsOfEarlierRow setup rows r) (met_tuples l)) (sym (before-turned r (journal_at old w) ends there)) past.before;

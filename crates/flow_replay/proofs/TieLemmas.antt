@@ -13,13 +13,16 @@ use Rattle.tuple_trace.specs.declared.tuple.Item.{Item}
 use Rattle.tuple_trace.specs.declared.tuple.Item.TheVariants as item
 use Rattle.tuple_trace.specs.declared.tuple.Tuple.{Tuple}
 use Rattle.flow_model.specs.Lanes.{is_same_lane, lane_of, lanes}
-use Rattle.flow_model.specs.Outline.{Lane, Outline, Post}
+use Rattle.flow_model.specs.declared.topology.Lane.{Lane}
+use Rattle.flow_model.specs.Outline.{Outline, Post}
 use Rattle.flow_model.specs.Replay.{Local, Put, after, after_all, items_on, put_out, puts, sent, shown}
 use Rattle.flow_model.proofs.JournalLemmas.{after_all-append, sent-append, shown-append}
 use Rattle.flow_model.proofs.LaneLemmas.{lane_self, same_lane, same_number}
 use Rattle.flow_replay.specs.declared.worker.Desk.{Desk}
-use Rattle.flow_replay.specs.Desks.{AreInForce, AreTied, IsQuiet, IsStep, desk_at, first_local, from_node, journal_at, local_of, made_at, post_at, put_so_far, with_item}
-use Rattle.flow_replay.proofs.LaneLemmas.{from_node-is, is_lane_of}
+use Rattle.flow_replay.specs.Desks.{AreInForce, AreTied, IsQuiet, IsStep, desk_at, first_local, from_node, journal_at, local_of, made_at, put_so_far, with_item}
+use Rattle.flow_model.proofs.LaneNumbers.{is_lane_of}
+use Rattle.flow_replay.proofs.RankLemmas.{from_node-is}
+use Rattle.flow_model.specs.Workers.{post_at}
 
 -- ---- the lanes of what a worker makes
 

@@ -14,19 +14,20 @@ use Rattle.tuple_trace.specs.declared.tuple.Item.{Item}
 use Rattle.tuple_trace.specs.declared.tuple.Item.TheVariants as item
 use Rattle.flow_model.specs.Covers.{covers, covers_edge}
 use Rattle.flow_model.specs.Lanes.{is_sender, lanes, lanes_in, lanes_out, lanes_that, marked_lanes, senders}
-use Rattle.flow_model.specs.Outline.{Lane, Outline, Post}
+use Rattle.flow_model.specs.declared.topology.Lane.{Lane}
+use Rattle.flow_model.specs.Outline.{Outline, Post}
 use Rattle.flow_model.specs.Replay.{Local, Put, after, after_all, came_in, item_on, items_on, marker, put_on_each, puts, sent, shown}
-use Rattle.flow_model.specs.Workers.{posts}
+use Rattle.flow_model.specs.Workers.{post_at, posts}
 use Rattle.flow_model.proofs.ElementLemmas.{AreDistinct, IsIn, distinct_filter, filter_in, in_filter, in_of_place}
 use Rattle.flow_model.proofs.JournalLemmas.{sent-append, shown-append}
-use Rattle.flow_model.proofs.LaneLemmas.{LaneIs, in_lanes_that, lane_is, lanes_that_in}
+use Rattle.flow_model.proofs.LaneLemmas.{LaneIs, in_lanes_that, lane_is, lanes_that_in, sender_source, sender_worker}
 use Rattle.flow_replay.specs.declared.worker.Desk.{Desk}
-use Rattle.flow_replay.specs.Desks.{AllGain, AreTied, end_block, first_local, journal_at, marks, nothing, post_at, put_so_far, turn_block, turn_entries}
-use Rattle.flow_replay.proofs.CoverLemmas.{AreCovering}
+use Rattle.flow_replay.specs.Desks.{AllGain, AreTied, end_block, first_local, journal_at, marks, nothing, put_so_far, turn_block, turn_entries}
+use Rattle.flow_model.proofs.CoverLemmas.{AreCovering}
 use Rattle.flow_replay.proofs.FoldLemmas.{none_on, one_on, out_distinct}
 use Rattle.flow_replay.proofs.FollowLemmas.{ended_all, lanes_that-distinct}
-use Rattle.flow_replay.proofs.LaneLemmas.{receiver_node, sender_source, sender_worker}
-use Rattle.flow_replay.proofs.SeatLemmas.{post_at-get}
+use Rattle.flow_model.proofs.LaneNumbers.{receiver_node}
+use Rattle.flow_model.proofs.PostPlaces.{post_at-get}
 use Rattle.flow_replay.proofs.TieLemmas.{sent_by}
 use Rattle.flow_replay.proofs.WayLemmas.{receiver_below}
 

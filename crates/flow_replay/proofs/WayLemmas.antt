@@ -15,19 +15,19 @@ use Rattle.sink_journal.specs.declared.journal.Entry.TheVariants as entry
 use Rattle.tuple_trace.specs.declared.tuple.Item.{Item}
 use Rattle.tuple_trace.specs.declared.tuple.Item.TheVariants as item
 use Rattle.tuple_trace.specs.declared.tuple.Tuple.{Tuple}
-use Rattle.flow_model.specs.Lanes.{is_same_lane, lane_of, lanes, lanes_in}
-use Rattle.flow_model.specs.Outline.{Lane, Outline, Post}
+use Rattle.flow_model.specs.Lanes.{is_same_lane, lane_at, lane_of, lanes, lanes_in, no_lane}
+use Rattle.flow_model.specs.declared.topology.Lane.{Lane}
+use Rattle.flow_model.specs.Outline.{Outline, Post}
 use Rattle.flow_model.specs.Replay.{items_on, shown, visit_at}
-use Rattle.flow_model.specs.Workers.{posts}
+use Rattle.flow_model.specs.Workers.{post_at, posts}
 use Rattle.flow_model.proofs.ElementLemmas.{all_of, contains_of_in, place_of_in}
 use Rattle.flow_model.proofs.LaneLemmas.{lane_is, lanes_that_in}
-use Rattle.flow_replay.specs.declared.wiring.Hop.{Hop}
 use Rattle.flow_replay.specs.declared.worker.Desk.{Desk}
-use Rattle.flow_replay.specs.Desks.{AreTied, IsQuiet, IsStep, desk_at, from_node, journal_at, local_of, made_at, post_at, with_item}
-use Rattle.flow_replay.specs.Tables.{IsHop, IsHopAlong}
-use Rattle.flow_replay.specs.Ways.{IsBrought, IsMeeting, IsOfRow, IsUnderWay, Meets, lane_at, no_lane, rank_behind}
-use Rattle.flow_replay.proofs.LaneLemmas.{is_lane_of, receiver_node, receiver_there}
-use Rattle.flow_replay.proofs.SeatLemmas.{node_below, post_at-get}
+use Rattle.flow_replay.specs.Desks.{AreTied, IsQuiet, IsStep, desk_at, from_node, journal_at, local_of, made_at, with_item}
+use Rattle.flow_model.specs.Topology.{IsNumberOf}
+use Rattle.flow_replay.specs.Ways.{IsBrought, IsMeeting, IsOfRow, IsUnderWay, Meets, rank_behind}
+use Rattle.flow_model.proofs.LaneNumbers.{is_lane_of, receiver_node, receiver_there}
+use Rattle.flow_model.proofs.PostPlaces.{node_below, post_at-get}
 use Rattle.flow_replay.proofs.TieLemmas.{in_force_step, meet_tied, mine, out_puts}
 
 -- each edge leads to a higher rank, and ranks are below 64
@@ -168,60 +168,57 @@ way_skips setup rank n t out outs old now way none = record {
 
 -- ---- the same, by what the code knows
 
-pub way_at : (setup : Outline) (rank : ℕ → ℕ) (hop : Hop) (t : Tuple) (old new : List Desk) (outs : List Output) → IsHop setup.job (lane_at setup.job hop.lane) hop → length old ≡ length (posts setup.job)
-    → IsStep setup hop.worker (entry.Met hop.lane t) old new → outs ≡ made_at setup (post_at setup.job hop.worker) (desk_at old hop.worker) t → IsUnderWay setup rank hop.lane t outs old new
-way_at setup rank hop t old new outs is long step are =
-    let w : ℕ = (lane_at setup.job hop.lane).receiver in
-    let below = receiver_below setup.job hop.lane (lane_at setup.job hop.lane) is.numbered in
-    way_begins setup rank hop.lane t old new is.numbered (omega (arith, below, long))
-    (subst (λ (x : ℕ). IsStep setup x (entry.Met hop.lane t) old new) (sym is.received) step) outs
-    (are ∙ ap (λ (x : ℕ). made_at setup (post_at setup.job x) (desk_at old x) t) (sym is.received))
+-- the lane that the code reads is the lane with this number
+pub read_lane : (job : Written) (n : ℕ) (lane : Lane) → slice_get (lanes job) n ≡ Some lane → (slice_get (lanes job) n ≡ Some (lane_at job n)) × (lane.receiver ≡ (lane_at job n).receiver)
+read_lane job n lane there = let same = lane_there job n lane there in (there ∙ ap Some (sym same), ap (λ (l : Lane). l.receiver) (sym same))
 
--- the lane of a hop, as the lane with its number
-pub hop_at : (job : Written) (lane : Lane) (hop : Hop) → IsHop job lane hop → IsHop job (lane_at job hop.lane) hop
-hop_at job lane hop is = subst (λ (l : Lane). IsHop job l hop) (sym (lane_there job hop.lane lane is.numbered)) is
+-- the lane that was found for an output
+pub found_lane : (job : Written) (found : Option Lane) (next : ℕ) → IsNumberOf job found next → (slice_get (lanes job) next ≡ Some (lane_at job next)) × (found ≡ Some (lane_at job next))
+found_lane job found next (lane, along, numbered) = let at = sym (lane_there job next lane numbered) in (numbered ∙ ap Some at, along ∙ ap Some at)
 
-pub falls_at : (job : Written) (rank : ℕ → ℕ) (hop next : Hop) (node : ℕ) (out : Output) → IsRanked job rank → IsLawful job → IsHop job (lane_at job hop.lane) hop
-    → node ≡ (post_at job hop.worker).node → IsHopAlong job (lane_of job (Some hop.worker) node out.port out.tuple) next
-    → 64 - rank_behind job rank next.lane < 64 - rank_behind job rank hop.lane
-falls_at job rank hop next node out ranked law is node_is (lane, along, is_next) =
-    let at = lane_there job next.lane lane is_next.numbered in
-    let g : slice_get (lanes job) next.lane ≡ Some (lane_at job next.lane) = is_next.numbered ∙ ap Some (sym at) in
-    let post : Post = post_at job (lane_at job hop.lane).receiver in
-    let same : post_at job hop.worker ≡ post = ap (post_at job) (sym is.received) in
-    let number : post.number ≡ hop.worker = receiver_number job hop.lane (lane_at job hop.lane) is.numbered ∙ is.received in
-    let way : lane_of job (Some post.number) post.node out.port out.tuple ≡ Some (lane_at job next.lane) =
+pub way_at : (setup : Outline) (rank : ℕ → ℕ) (n w : ℕ) (t : Tuple) (old new : List Desk) (outs : List Output) → slice_get (lanes setup.job) n ≡ Some (lane_at setup.job n) → w ≡ (lane_at setup.job n).receiver
+    → length old ≡ length (posts setup.job) → IsStep setup w (entry.Met n t) old new → outs ≡ made_at setup (post_at setup.job w) (desk_at old w) t → IsUnderWay setup rank n t outs old new
+way_at setup rank n w t old new outs there received long step are =
+    let below = receiver_below setup.job n (lane_at setup.job n) there in
+    way_begins setup rank n t old new there (omega (arith, below, long))
+    (subst (λ (x : ℕ). IsStep setup x (entry.Met n t) old new) received step) outs
+    (are ∙ ap (λ (x : ℕ). made_at setup (post_at setup.job x) (desk_at old x) t) received)
+
+-- where an output goes, as the worker at the end of a lane sends it
+sent_from : (job : Written) (n w node : ℕ) (out : Output) → slice_get (lanes job) n ≡ Some (lane_at job n) → w ≡ (lane_at job n).receiver → node ≡ (post_at job w).node
+    → lane_of job (Some (post_at job (lane_at job n).receiver).number) (post_at job (lane_at job n).receiver).node out.port out.tuple ≡ lane_of job (Some w) node out.port out.tuple
+sent_from job n w node out there received node_is =
+    let post : Post = post_at job (lane_at job n).receiver in
+    let same : post_at job w ≡ post = ap (post_at job) received in
+    let number : post.number ≡ w = receiver_number job n (lane_at job n) there ∙ sym received in
     ap (λ (k : ℕ). lane_of job (Some k) post.node out.port out.tuple) number
-    ∙ (ap (λ (v : ℕ). lane_of job (Some hop.worker) v out.port out.tuple) (ap (λ (p : Post). p.node) (sym same) ∙ sym node_is) ∙ (along ∙ ap Some (sym at))) in
-    let up = rises job rank post next.lane out ranked g way in
-    let below = node_below job (lane_at job next.lane).receiver (receiver_below job next.lane (lane_at job next.lane) g) in
-    let b = ranked.below (post_at job (lane_at job next.lane).receiver).node below in
+    ∙ ap (λ (v : ℕ). lane_of job (Some w) v out.port out.tuple) (ap (λ (p : Post). p.node) (sym same) ∙ sym node_is)
+
+pub falls_at : (job : Written) (rank : ℕ → ℕ) (n w next node : ℕ) (out : Output) → IsRanked job rank → IsLawful job → slice_get (lanes job) n ≡ Some (lane_at job n) → w ≡ (lane_at job n).receiver
+    → node ≡ (post_at job w).node → IsNumberOf job (lane_of job (Some w) node out.port out.tuple) next
+    → 64 - rank_behind job rank next < 64 - rank_behind job rank n
+falls_at job rank n w next node out ranked law there received node_is found =
+    let (g, along) = found_lane job (lane_of job (Some w) node out.port out.tuple) next found in
+    let post : Post = post_at job (lane_at job n).receiver in
+    let way : lane_of job (Some post.number) post.node out.port out.tuple ≡ Some (lane_at job next) = sent_from job n w node out there received node_is ∙ along in
+    let up = rises job rank post next out ranked g way in
+    let below = node_below job (lane_at job next).receiver (receiver_below job next (lane_at job next) g) in
+    let b = ranked.below (post_at job (lane_at job next).receiver).node below in
     omega (arith, up, b)
 
-pub goes_at : (setup : Outline) (rank : ℕ → ℕ) (hop next : Hop) (t : Tuple) (all : List Output) (out : Output) (outs : List Output) (node : ℕ) (old now new : List Desk) → IsRanked setup.job rank
-    → IsHop setup.job (lane_at setup.job hop.lane) hop → node ≡ (post_at setup.job hop.worker).node → all ≡ out ∷ outs → IsUnderWay setup rank hop.lane t all old now
-    → IsHopAlong setup.job (lane_of setup.job (Some hop.worker) node out.port out.tuple) next → IsBrought setup rank next.lane out.tuple now new → IsUnderWay setup rank hop.lane t outs old new
-goes_at setup rank hop next t all out outs node old now new ranked is node_is a way (lane, along, is_next) brought =
-    let at = lane_there setup.job next.lane lane is_next.numbered in
-    let g : slice_get (lanes setup.job) next.lane ≡ Some (lane_at setup.job next.lane) = is_next.numbered ∙ ap Some (sym at) in
-    let post : Post = post_at setup.job (lane_at setup.job hop.lane).receiver in
-    let same : post_at setup.job hop.worker ≡ post = ap (post_at setup.job) (sym is.received) in
-    let num = receiver_number setup.job hop.lane (lane_at setup.job hop.lane) is.numbered in
-    let goes : lane_of setup.job (Some post.number) post.node out.port out.tuple ≡ Some (lane_at setup.job next.lane) =
-    ap (λ (k : ℕ). lane_of setup.job (Some k) post.node out.port out.tuple) (num ∙ is.received)
-    ∙ (ap (λ (v : ℕ). lane_of setup.job (Some hop.worker) v out.port out.tuple) (ap (λ (p : Post). p.node) (sym same) ∙ sym node_is) ∙ (along ∙ ap Some (sym at))) in
-    way_goes setup rank hop.lane t out outs next.lane old now new ranked num (subst (λ (xs : List Output). IsUnderWay setup rank hop.lane t xs old now) a way) g goes brought
+pub goes_at : (setup : Outline) (rank : ℕ → ℕ) (n w next : ℕ) (t : Tuple) (all : List Output) (out : Output) (outs : List Output) (node : ℕ) (old now new : List Desk) → IsRanked setup.job rank
+    → slice_get (lanes setup.job) n ≡ Some (lane_at setup.job n) → w ≡ (lane_at setup.job n).receiver → node ≡ (post_at setup.job w).node → all ≡ out ∷ outs → IsUnderWay setup rank n t all old now
+    → IsNumberOf setup.job (lane_of setup.job (Some w) node out.port out.tuple) next → IsBrought setup rank next out.tuple now new → IsUnderWay setup rank n t outs old new
+goes_at setup rank n w next t all out outs node old now new ranked there received node_is a way found brought =
+    let (g, along) = found_lane setup.job (lane_of setup.job (Some w) node out.port out.tuple) next found in
+    let num = receiver_number setup.job n (lane_at setup.job n) there in
+    way_goes setup rank n t out outs next old now new ranked num (subst (λ (xs : List Output). IsUnderWay setup rank n t xs old now) a way) g (sent_from setup.job n w node out there received node_is ∙ along) brought
 
-pub skips_at : (setup : Outline) (rank : ℕ → ℕ) (hop : Hop) (t : Tuple) (all : List Output) (out : Output) (outs : List Output) (node : ℕ) (old now : List Desk)
-    → IsHop setup.job (lane_at setup.job hop.lane) hop → node ≡ (post_at setup.job hop.worker).node → all ≡ out ∷ outs → IsUnderWay setup rank hop.lane t all old now
-    → lane_of setup.job (Some hop.worker) node out.port out.tuple ≡ None → IsUnderWay setup rank hop.lane t outs old now
-skips_at setup rank hop t all out outs node old now is node_is a way none =
-    let post : Post = post_at setup.job (lane_at setup.job hop.lane).receiver in
-    let same : post_at setup.job hop.worker ≡ post = ap (post_at setup.job) (sym is.received) in
-    let num = receiver_number setup.job hop.lane (lane_at setup.job hop.lane) is.numbered in
-    way_skips setup rank hop.lane t out outs old now (subst (λ (xs : List Output). IsUnderWay setup rank hop.lane t xs old now) a way)
-    (ap (λ (k : ℕ). lane_of setup.job (Some k) post.node out.port out.tuple) (num ∙ is.received)
-    ∙ (ap (λ (v : ℕ). lane_of setup.job (Some hop.worker) v out.port out.tuple) (ap (λ (p : Post). p.node) (sym same) ∙ sym node_is) ∙ none))
+pub skips_at : (setup : Outline) (rank : ℕ → ℕ) (n w : ℕ) (t : Tuple) (all : List Output) (out : Output) (outs : List Output) (node : ℕ) (old now : List Desk)
+    → slice_get (lanes setup.job) n ≡ Some (lane_at setup.job n) → w ≡ (lane_at setup.job n).receiver → node ≡ (post_at setup.job w).node → all ≡ out ∷ outs → IsUnderWay setup rank n t all old now
+    → lane_of setup.job (Some w) node out.port out.tuple ≡ None → IsUnderWay setup rank n t outs old now
+skips_at setup rank n w t all out outs node old now there received node_is a way none =
+    way_skips setup rank n t out outs old now (subst (λ (xs : List Output). IsUnderWay setup rank n t xs old now) a way) (sent_from setup.job n w node out there received node_is ∙ none)
 
 pub ends_at : (setup : Outline) (rank : ℕ → ℕ) (n : ℕ) (t : Tuple) (all : List Output) (old new : List Desk) → all ≡ [] → IsUnderWay setup rank n t all old new → IsBrought setup rank n t old new
 ends_at setup rank n t all old new a way =

@@ -1,7 +1,6 @@
 -- What the workers have done so far.
 use Rattle.std.specs.Prelude.{◌≡◌, ◌≢◌, ◌<◌, ◌≤◌, ◌++◌, ℕ, List, [], ◌∷◌, length, map, Option, Some, None, slice_get, slice_index_or, if◌then◌else◌}
 use Rattle.std.specs.FinMap.{empty}
-use Rattle.jobs.specs.declared.func.Func.TheVariants as func
 use Rattle.jobs.specs.Written.{Written}
 use Rattle.sink_journal.specs.declared.journal.Entry.{Entry}
 use Rattle.sink_journal.specs.declared.journal.Entry.TheVariants as entry
@@ -12,19 +11,12 @@ use Rattle.operators.specs.declared.output.Output.{Output}
 use Rattle.flow_model.specs.Begin.{local_at}
 use Rattle.flow_model.specs.Covers.{covers}
 use Rattle.flow_model.specs.Lanes.{is_same_lane, lanes, lanes_in, marked_lanes}
-use Rattle.flow_model.specs.Outline.{Lane, Outline, Post}
+use Rattle.flow_model.specs.declared.topology.Lane.{Lane}
+use Rattle.flow_model.specs.Outline.{Outline, Post}
 use Rattle.flow_model.specs.Replay.{Local, Put, after, after_all, items_on, sent, shown, visit_at}
 use Rattle.flow_model.specs.Requests.{change_of, func_with}
-use Rattle.flow_model.specs.Workers.{posts}
-use Rattle.flow_replay.specs.declared.wiring.Inlet.{Inlet}
+use Rattle.flow_model.specs.Workers.{post_at, posts}
 use Rattle.flow_replay.specs.declared.worker.Desk.{Desk}
-
--- the worker with a number; past the last one, a worker of no node
-abbrev pub nobody : Post
-nobody = record { number = 0; node = 0; place = 0; func = func.Source }
-
-abbrev pub post_at : Written → ℕ → Post
-post_at job worker = slice_index_or (posts job) worker nobody
 
 abbrev pub empty_desk : Desk
 empty_desk = record { journal = []; counts = empty; last = 0; changed_by = 0 }
@@ -102,22 +94,22 @@ abbrev pub turn_block : Outline → ℕ → ℕ → List Entry
 turn_block setup request w = if covers setup request (post_at setup.job w).node then turn_entries setup request w else []
 
 -- the ends of these lanes
-abbrev pub ends : List Inlet → List Entry
-ends inlets = map (λ (inlet : Inlet). entry.Ended inlet.lane) inlets
-
--- a desk gained the ends of these lanes
-pub record IsEnded (inlets : List Inlet) (old new : Desk) : Type 0 where
-  pub journal : new.journal ≡ old.journal ++ ends inlets
-  pub counts : new.counts ≡ old.counts
-
--- each desk gained the ends of its lanes
-pub record AllEnded (inlets : List (List Inlet)) (old new : List Desk) : Type 0 where
-  pub long : length new ≡ length old
-  pub each : (w : ℕ) → w < length old → IsEnded (slice_index_or inlets w []) (desk_at old w) (desk_at new w)
+abbrev pub ends : List ℕ → List Entry
+ends lanes = map (λ (lane : ℕ). entry.Ended lane) lanes
 
 -- what a worker notes at the end: the end of each lane in
 abbrev pub end_block : Written → ℕ → List Entry
-end_block job w = map (λ (lane : ℕ). entry.Ended lane) (lanes_in job w)
+end_block job w = ends (lanes_in job w)
+
+-- a desk gained the ends of these lanes
+pub record IsEnded (lanes : List ℕ) (old new : Desk) : Type 0 where
+  pub journal : new.journal ≡ old.journal ++ ends lanes
+  pub counts : new.counts ≡ old.counts
+
+-- each desk gained the ends of its lanes
+pub record AllEnded (job : Written) (old new : List Desk) : Type 0 where
+  pub long : length new ≡ length old
+  pub each : (w : ℕ) → w < length old → IsEnded (lanes_in job w) (desk_at old w) (desk_at new w)
 
 -- ---- what is on the lanes
 

@@ -1,60 +1,54 @@
 -- Replays, entry by entry.
-use Rattle.std.specs.Prelude.{◌≡◌, ◌+◌, ◌*◌, ◌==◌, ◌++◌, ⊤, ℕ, Bool, true, List, [], ◌∷◌, map, Option, Some, None, slice_get, if◌then◌else◌}
-use Rattle.std.specs.List.{range_with_len}
+use Rattle.std.specs.Prelude.{◌≡◌, ◌==◌, ◌++◌, ⊤, ℕ, Bool, true, List, [], ◌∷◌, map, Option, Some, None, slice_get, if◌then◌else◌}
 use Rattle.cover_planner.specs.declared.cover.Plan.{Plan}
 use Rattle.jobs.specs.Written.{Written}
 use Rattle.sink_journal.specs.declared.journal.Entry.{Entry}
 use Rattle.tuple_trace.specs.declared.tuple.Item.{Item}
 use Rattle.tuple_trace.specs.declared.tuple.Item.TheVariants as item
 use Rattle.flow_model.specs.Covers.{covers_edge, plan_of}
-use Rattle.flow_model.specs.Lanes.{lanes, lanes_out}
-use Rattle.flow_model.specs.Outline.{Lane, Outline, Post}
+use Rattle.flow_model.specs.Lanes.{lane_at, lanes, lanes_out}
+use Rattle.flow_model.specs.declared.topology.Lane.{Lane}
+use Rattle.flow_model.specs.Outline.{Outline, Post}
 use Rattle.flow_model.specs.Replay.{Local, Put, after, after_all, items_on, puts, sent}
 use Rattle.flow_replay.specs.declared.folds.Fold.{Fold}
 use Rattle.flow_replay.specs.declared.folds.Onto.{Onto}
 use Rattle.flow_replay.specs.declared.folds.Onto.TheVariants as onto
-use Rattle.flow_replay.specs.declared.folds.Outlet.{Outlet}
-use Rattle.flow_replay.specs.declared.wiring.Exit.{Exit}
 use Rattle.flow_replay.specs.Desks.{first_local, local_of}
 
 -- what the replay of a journal sends on each lane out, from the beginning of all on
 abbrev pub all_sent : Outline → Post → List Entry → List (List Item)
 all_sent setup post journal = map (λ (lane : Lane). sent setup post (first_local setup post) lane journal) (lanes_out setup.job post.number)
 
--- the outlets are those of these lanes, by their numbers
-abbrev pub AreOutlets : Written → List Lane → List Outlet → Type 0
-AreOutlets job [] [] = ⊤
-AreOutlets job [] (outlet ∷ outlets) = ⊥
-AreOutlets job (lane ∷ lanes') [] = ⊥
-AreOutlets job (lane ∷ lanes') (outlet ∷ outlets) = (slice_get (lanes job) outlet.lane ≡ Some lane) × (outlet.edge ≡ lane.edge) × AreOutlets job lanes' outlets
+-- these are the numbers of these lanes
+abbrev pub AreNumbersOf : Written → List Lane → List ℕ → Type 0
+AreNumbersOf job [] [] = ⊤
+AreNumbersOf job [] (number ∷ numbers) = ⊥
+AreNumbersOf job (lane ∷ lanes') [] = ⊥
+AreNumbersOf job (lane ∷ lanes') (number ∷ numbers) = (slice_get (lanes job) number ≡ Some lane) × AreNumbersOf job lanes' numbers
 
--- the lanes of the sender at a place along one edge
-abbrev pub outlets_from : Exit → ℕ → List Outlet
-outlets_from exit place = map (λ (receiver : ℕ). record { lane = exit.lane + place * exit.workers + receiver; edge = exit.edge }) (range_with_len 0 exit.workers)
-
--- an outlet is among those that an item is put on
-abbrev pub reaches : Outline → Onto → Outlet → Bool
-reaches setup (onto.Lane lane) outlet = outlet.lane == lane
-reaches setup (onto.Covered request) outlet = covers_edge setup request outlet.edge
-reaches setup onto.All outlet = true
+-- the lane with this number is among those that an item is put on
+abbrev pub reaches : Outline → Onto → ℕ → Bool
+reaches setup (onto.Lane lane) number = number == lane
+reaches setup (onto.Covered request) number = covers_edge setup request (lane_at setup.job number).edge
+reaches setup onto.All number = true
 
 -- a list, with an item at the end or not
 abbrev pub item_if : Bool → Item → List Item → List Item
 item_if reached item list = if reached then list ++ item ∷ [] else list
 
--- the lists of the outlets, with an item at the end of those that pass the test
-abbrev pub with_item : (Outlet → Bool) → Item → List Outlet → List (List Item) → List (List Item)
+-- the lists of these lanes, with an item at the end of those that pass the test
+abbrev pub with_item : (ℕ → Bool) → Item → List ℕ → List (List Item) → List (List Item)
 with_item test item [] lists = []
-with_item test item (outlet ∷ outlets) [] = []
-with_item test item (outlet ∷ outlets) (list ∷ lists) = item_if (test outlet) item list ∷ with_item test item outlets lists
+with_item test item (number ∷ numbers) [] = []
+with_item test item (number ∷ numbers) (list ∷ lists) = item_if (test number) item list ∷ with_item test item numbers lists
 
--- the lists of the outlets, with the marker of a request on those that it covers
-abbrev pub with_marker_of : Outline → ℕ → Option Plan → List Outlet → List (List Item) → List (List Item)
-with_marker_of setup request None outlets lists = lists
-with_marker_of setup request (Some plan) outlets lists = with_item (reaches setup (onto.Covered request)) (item.Mark request plan.nodes) outlets lists
+-- the lists of these lanes, with the marker of a request on those that it covers
+abbrev pub with_marker_of : Outline → ℕ → Option Plan → List ℕ → List (List Item) → List (List Item)
+with_marker_of setup request None numbers lists = lists
+with_marker_of setup request (Some plan) numbers lists = with_item (reaches setup (onto.Covered request)) (item.Mark request plan.nodes) numbers lists
 
-abbrev pub with_markers : Outline → ℕ → List Outlet → List (List Item) → List (List Item)
-with_markers setup request outlets lists = with_marker_of setup request (plan_of setup request) outlets lists
+abbrev pub with_markers : Outline → ℕ → List ℕ → List (List Item) → List (List Item)
+with_markers setup request numbers lists = with_marker_of setup request (plan_of setup request) numbers lists
 
 -- the lists of these lanes, each with what is put on its lane at the end
 abbrev pub with_puts : List Lane → List Put → List (List Item) → List (List Item)

@@ -1,5 +1,4 @@
 pub mod Order
-pub mod Tables
 pub mod Desks
 pub mod Ways
 pub mod Rest

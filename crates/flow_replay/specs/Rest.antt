@@ -16,9 +16,9 @@ use Rattle.flow_model.specs.Requests.{afters, request_at}
 use Rattle.flow_model.specs.Run.{Ran, ran_as}
 use Rattle.flow_model.specs.Station.{dues_after, station}
 use Rattle.flow_model.specs.Whole.{is_turn, met_tuples}
-use Rattle.flow_model.specs.Workers.{posts}
+use Rattle.flow_model.specs.Workers.{post_at, posts}
 use Rattle.flow_replay.specs.declared.worker.Desk.{Desk}
-use Rattle.flow_replay.specs.Desks.{AreInForce, AreTied, desk_at, empty_desk, journal_at, nothing, post_at}
+use Rattle.flow_replay.specs.Desks.{AreInForce, AreTied, desk_at, empty_desk, journal_at, nothing}
 use Rattle.flow_replay.specs.Order.{TurnsInOrder}
 
 -- how far the journal of a worker has come that has turned the first requests and nothing else

@@ -1,5 +1,5 @@
 -- The way of a tuple through the job, with all that is made of it.
-use Rattle.std.specs.Prelude.{◌≡◌, ◌++◌, ℕ, List, Contains, length, map, slice_get, slice_index_or, None, Some}
+use Rattle.std.specs.Prelude.{◌≡◌, ◌++◌, ℕ, List, Contains, length, map, slice_get, None, Some}
 use Rattle.std.specs.List.{AllByRecursion}
 use Rattle.flow_dag.specs.Order.{place_of}
 use Rattle.operators.specs.declared.output.Output.{Output}
@@ -11,23 +11,18 @@ use Rattle.tuple_trace.specs.declared.tuple.Item.TheVariants as item
 use Rattle.tuple_trace.specs.declared.tuple.Tuple.{Tuple}
 use Rattle.flow_model.specs.declared.setup.Setup.{Setup}
 use Rattle.flow_model.specs.Feeding.{fed_tuple}
-use Rattle.flow_model.specs.Lanes.{lane_of, lanes, lanes_in}
-use Rattle.flow_model.specs.Outline.{Lane, Outline}
+use Rattle.flow_model.specs.Lanes.{lane_at, lane_of, lanes, lanes_in}
+use Rattle.flow_model.specs.declared.topology.Lane.{Lane}
+use Rattle.flow_model.specs.Outline.{Outline}
 use Rattle.flow_model.specs.Replay.{Put, items_on, put_out}
 use Rattle.jobs.specs.Written.{Written}
 use Rattle.flow_replay.specs.declared.worker.Desk.{Desk}
-use Rattle.flow_replay.specs.Desks.{AreInForce, AreTied, IsQuiet, journal_at, post_at, with_item}
+use Rattle.flow_model.specs.Workers.{post_at}
+use Rattle.flow_replay.specs.Desks.{AreInForce, AreTied, IsQuiet, journal_at, with_item}
 
 -- the place of a node in the order of the graph: each edge leads to a higher one
 abbrev pub rank_in : Setup → ℕ → ℕ
 rank_in setup node = place_of setup.job.dag.order node
-
-abbrev pub no_lane : Lane
-no_lane = record { edge = 0; sender = None; receiver = 0 }
-
--- the lane with this number
-abbrev pub lane_at : Written → ℕ → Lane
-lane_at job n = slice_index_or (lanes job) n no_lane
 
 -- the rank of the node to which a lane leads
 abbrev pub rank_behind : Written → (ℕ → ℕ) → ℕ → ℕ

@@ -1,22 +1,16 @@
 // The replay of a journal.
-ghost use Rattle.std.specs.Prelude.{◌≡◌, ◌<◌, ◌++◌, ◌+◌, ◌*◌, ◌-◌, ◌^◌, [], All, IfOk, OnOk, length, map, replicate};
+ghost use Rattle.std.specs.Prelude.{◌≡◌, ◌<◌, ◌-◌, ◌^◌, ℕ, [], All, IfOk, OnOk, length, map, replicate};
 ghost use Rattle.std.specs.FinMap.{empty};
-ghost use Rattle.jobs.specs.Job.{written};
 ghost use Rattle.flow_model.specs.Begin.{at_first};
-ghost use Rattle.flow_model.specs.Lanes.{lanes_out};
+ghost use Rattle.flow_model.specs.Lanes.{lanes, lanes_out};
 ghost use Rattle.flow_model.specs.Replay.{put_out};
 ghost use Rattle.flow_model.specs.Run.{final_counts};
 ghost use Rattle.flow_model.specs.Setup.{outline};
-ghost use Rattle.flow_model.specs.Workers.{posts};
-ghost use Rattle.flow_replay.specs.declared.folds.Outlet.{Outlet as OutletIs};
-ghost use Rattle.flow_replay.specs.Desks.{post_at};
-ghost use Rattle.flow_replay.specs.Folds.{AreOutlets, IsEntered, IsFolded, all_sent, item_if, outlets_from, reaches, with_item, with_markers, with_puts};
-ghost use Rattle.flow_replay.specs.Tables.{IsWired};
+ghost use Rattle.flow_model.specs.Workers.{post_at, posts};
+ghost use Rattle.flow_replay.specs.Folds.{AreNumbersOf, IsEntered, IsFolded, all_sent, item_if, reaches, with_item, with_markers, with_puts};
 
-use crate::wiring::{Exit, Seat, Wiring};
-use crate::worker::{Desk, covers_edge, make, put_in_force};
+use crate::worker::{Desk, make, put_in_force};
 use flow_model::Setup;
-use jobs::Job;
 use keyed_state::Keyed;
 use operators::Outs;
 use sink_journal::{Entry, Journal};
@@ -50,8 +44,7 @@ pub fn replay(
     ensures state { IfOk result (λ done. done.state ≡ final_counts (outline setup.now) (at_first (outline setup.now)) (post_at (outline setup.now).job worker) empty journal.now) }
     ensures sent { IfOk result (λ done. done.sent ≡ all_sent (outline setup.now) (post_at (outline setup.now).job worker) journal.now) }
 {
-    let wiring = Wiring::of(alloc, &setup.job)?;
-    let Fold { desk, lists, .. } = folded(alloc, setup, &wiring, worker, journal)?;
+    let Fold { desk, lists, .. } = folded(alloc, setup, worker, journal)?;
     let Desk { counts, .. } = desk;
     Ok(Replayed {
         state: counts,
@@ -59,34 +52,20 @@ pub fn replay(
     })
 }
 
-fn folded(
-    alloc: Global,
-    setup: &Setup,
-    wiring: &Wiring,
-    worker: u32,
-    journal: &Journal,
-) -> Result<Fold, NoMemory>
-    requires wired { IsWired (outline setup.now).job wiring.now }
-    requires worker { worker < length (posts (outline setup.now).job) }
+fn folded(alloc: Global, setup: &Setup, worker: u32, journal: &Journal) -> Result<Fold, NoMemory>
+    requires { worker < length (posts (outline setup.now).job) }
     ensures { IfOk result (IsFolded (outline setup.now) (post_at (outline setup.now).job worker) journal.now) }
 {
-    let outlets = outlets_of(alloc, &setup.job, wiring, worker)?;
+    let numbers = setup.lanes_out(worker);
     let mut fold = Fold {
         desk: Desk::new(alloc),
         ended: 0,
-        lists: empty_lists(alloc, outlets.len())?,
+        lists: empty_lists(alloc, numbers.len())?,
     };
     for entry in journal.as_slice() {
-        fold.enter(alloc, setup, wiring, outlets.as_slice(), worker, entry)?;
+        fold.enter(alloc, setup, numbers, worker, entry)?;
     }
     Ok(fold)
-}
-
-/// A lane as its sender sees it: its number, and that of its edge.
-#[derive(Clone, Copy, Debug, PartialEq, Eq)]
-struct Outlet {
-    lane: u32,
-    edge: u32,
 }
 
 /// A worker in the middle of a replay.
@@ -106,35 +85,33 @@ impl Fold {
         &mut self,
         alloc: Global,
         setup: &Setup,
-        wiring: &Wiring,
-        outlets: &[Outlet],
+        numbers: &[u32],
         worker: u32,
         entry: &Entry,
     ) -> Result<(), NoMemory>
-        requires wired { IsWired (outline setup.now).job wiring.now }
         requires worker { worker < length (posts (outline setup.now).job) }
-        requires outlets { AreOutlets (outline setup.now).job (lanes_out (outline setup.now).job worker) outlets.now }
-        requires long { length self.old.lists.items ≡ length outlets.now }
+        requires numbers { AreNumbersOf (outline setup.now).job (lanes_out (outline setup.now).job worker) numbers.now }
+        requires long { length self.old.lists.items ≡ length numbers.now }
         requires few { self.old.ended < 2 ^ 64 - 1 }
         ensures { OnOk result (IsEntered (outline setup.now) (post_at (outline setup.now).job worker) entry.now self.old self.new) }
     {
         let lists = self.lists.as_mut_slice();
         match entry {
             Entry::Met { tuple, .. } => {
-                let outs = make(alloc, setup, wiring, &mut self.desk, worker, tuple)?;
-                send(setup, wiring, outlets, lists, worker, outs)?;
+                let outs = make(alloc, setup, &mut self.desk, worker, tuple)?;
+                send(setup, numbers, lists, worker, outs)?;
                 Ok(())
             }
             Entry::Marked { .. } => Ok(()),
             Entry::Turned { request } => {
-                mark(setup, outlets, lists, *request)?;
+                mark(setup, numbers, lists, *request)?;
                 put_in_force(setup, &mut self.desk, setup.node_of(worker), *request);
                 Ok(())
             }
             Entry::Ended { .. } => {
                 self.ended += 1;
-                if self.ended == wiring.inlets.as_slice()[worker as usize].len() {
-                    put(setup, outlets, lists, Onto::All, &Item::Last)?;
+                if self.ended == setup.lanes_in(worker).len() {
+                    put(setup, numbers, lists, Onto::All, &Item::Last)?;
                 }
                 Ok(())
             }
@@ -155,18 +132,18 @@ enum Onto {
 // Puts an item on some of the lanes out.
 fn put(
     setup: &Setup,
-    outlets: &[Outlet],
+    numbers: &[u32],
     lists: &mut [LaneItems],
     onto: Onto,
     item: &Item,
 ) -> Result<(), NoMemory>
-    requires edges { All (λ (outlet : OutletIs). outlet.edge < 128) outlets.now }
-    requires long { length lists.old ≡ length outlets.now }
-    ensures { OnOk result (lists.new ≡ with_item (reaches (outline setup.now) onto) item.now outlets.now lists.old) }
+    requires numbers { All (λ (number : ℕ). number < length (lanes (outline setup.now).job)) numbers.now }
+    requires long { length lists.old ≡ length numbers.now }
+    ensures { OnOk result (lists.new ≡ with_item (reaches (outline setup.now) onto) item.now numbers.now lists.old) }
 {
-    for (place, outlet) in outlets.iter().enumerate() {
+    for (place, number) in numbers.iter().enumerate() {
         let list = &mut lists[place];
-        put_if(list, is_reached(setup, onto, *outlet), item)?;
+        put_if(list, is_reached(setup, onto, *number), item)?;
     }
     Ok(())
 }
@@ -180,13 +157,13 @@ fn put_if(list: &mut LaneItems, reached: bool, item: &Item) -> Result<(), NoMemo
     Ok(())
 }
 
-fn is_reached(setup: &Setup, onto: Onto, outlet: Outlet) -> bool
-    requires { outlet.edge < 128 }
-    ensures { result ≡ reaches (outline setup.now) onto outlet }
+fn is_reached(setup: &Setup, onto: Onto, number: u32) -> bool
+    requires { number < length (lanes (outline setup.now).job) }
+    ensures { result ≡ reaches (outline setup.now) onto number }
 {
     match onto {
-        Onto::Lane(lane) => outlet.lane == lane,
-        Onto::Covered(request) => covers_edge(setup, request, outlet.edge),
+        Onto::Lane(lane) => number == lane,
+        Onto::Covered(request) => setup.covers_edge(request, setup.lane(number).edge),
         Onto::All => true,
     }
 }
@@ -207,26 +184,24 @@ fn copy_of(item: &Item) -> Result<Item, NoMemory>
 // Puts the outputs of a worker on its lanes out.
 fn send(
     setup: &Setup,
-    wiring: &Wiring,
-    outlets: &[Outlet],
+    numbers: &[u32],
     lists: &mut [LaneItems],
     worker: u32,
     outs: Outs,
 ) -> Result<(), NoMemory>
-    requires wired { IsWired (outline setup.now).job wiring.now }
     requires worker { worker < length (posts (outline setup.now).job) }
-    requires outlets { AreOutlets (outline setup.now).job (lanes_out (outline setup.now).job worker) outlets.now }
-    requires long { length lists.old ≡ length outlets.now }
+    requires numbers { AreNumbersOf (outline setup.now).job (lanes_out (outline setup.now).job worker) numbers.now }
+    requires long { length lists.old ≡ length numbers.now }
     ensures { OnOk result (lists.new ≡ with_puts (lanes_out (outline setup.now).job worker) (map (put_out (outline setup.now).job (post_at (outline setup.now).job worker)) outs) lists.old) }
 {
-    let seat = wiring.seats.as_slice()[worker as usize];
+    let at = setup.worker_at(worker);
     for output in outs.into_vec() {
-        match wiring.hop(&setup.job, seat, output.port, &output.tuple) {
-            Some(hop) => put(
+        match setup.route(at, output.port, &output.tuple) {
+            Some(lane) => put(
                 setup,
-                outlets,
+                numbers,
                 lists,
-                Onto::Lane(hop.lane),
+                Onto::Lane(lane),
                 &Item::Carry(output.tuple),
             )?,
             None => {}
@@ -238,13 +213,13 @@ fn send(
 // Puts the marker of a request on the lanes out that it covers.
 fn mark(
     setup: &Setup,
-    outlets: &[Outlet],
+    numbers: &[u32],
     lists: &mut [LaneItems],
     request: u64,
 ) -> Result<(), NoMemory>
-    requires edges { All (λ (outlet : OutletIs). outlet.edge < 128) outlets.now }
-    requires long { length lists.old ≡ length outlets.now }
-    ensures { OnOk result (lists.new ≡ with_markers (outline setup.now) request outlets.now lists.old) }
+    requires numbers { All (λ (number : ℕ). number < length (lanes (outline setup.now).job)) numbers.now }
+    requires long { length lists.old ≡ length numbers.now }
+    ensures { OnOk result (lists.new ≡ with_markers (outline setup.now) request numbers.now lists.old) }
 {
     match setup.plan_of(request) {
         Some(plan) => {
@@ -252,43 +227,10 @@ fn mark(
                 request,
                 cover: plan.nodes,
             };
-            put(setup, outlets, lists, Onto::Covered(request), &marker)
+            put(setup, numbers, lists, Onto::Covered(request), &marker)
         }
         None => Ok(()),
     }
-}
-
-// The lanes out of a worker, in the order of their numbers.
-fn outlets_of(
-    alloc: Global,
-    job: &Job,
-    wiring: &Wiring,
-    worker: u32,
-) -> Result<Items<Outlet>, NoMemory>
-    requires wired { IsWired (written job.now) wiring.now }
-    requires worker { worker < length (posts (written job.now)) }
-    ensures { IfOk result (AreOutlets (written job.now) (lanes_out (written job.now) worker)) }
-{
-    let seat = wiring.seats.as_slice()[worker as usize];
-    let mut outlets = Items::new(alloc);
-    for exit in wiring.exits.as_slice()[seat.node as usize].as_slice() {
-        push_outlets(&mut outlets, *exit, seat.place)?;
-    }
-    Ok(outlets)
-}
-
-// The lanes of the sender at a place along one edge.
-fn push_outlets(outlets: &mut Items<Outlet>, exit: Exit, place: u32) -> Result<(), NoMemory>
-    requires { exit.lane + place * exit.workers + exit.workers < 2 ^ 32 }
-    ensures { OnOk result (outlets.new ≡ outlets.old ++ outlets_from exit place) }
-{
-    for receiver in 0..exit.workers {
-        outlets.push(Outlet {
-            lane: exit.lane + place * exit.workers + receiver,
-            edge: exit.edge,
-        })?;
-    }
-    Ok(())
 }
 
 fn empty_lists(alloc: Global, lanes: usize) -> Result<Vec<LaneItems>, NoMemory>

@@ -7,17 +7,9 @@ mod bring;
 mod folds;
 mod one_row;
 mod plain;
-#[cfg(test)]
-mod tests_folds;
-#[cfg(test)]
-mod tests_one_row;
-#[cfg(test)]
-mod tests_plain;
-mod wiring;
 mod worker;
 
 pub use flow_model::{Landing, Landings, Plans, RunRecord, Setup, States};
 pub use folds::{LaneItems, LaneLists, Replayed, replay};
 pub use one_row::{FuncTable, alone};
 pub use plain::plain_run;
-pub use wiring::{Exit, Exits, Hop, Inlet, Inlets, Seat, Wiring};

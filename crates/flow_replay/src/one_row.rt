@@ -12,7 +12,7 @@ use flow_dag::Edge;
 use flow_model::{Landing, Landings};
 use jobs::{Func, Job};
 use keyed_state::Keyed;
-use operators::{Outs, apply};
+use operators::{Outs, apply, out_ports};
 use std::alloc::Global;
 use tuple_trace::{Items, NoMemory, Row, Tuple, Visit};
 
@@ -114,7 +114,17 @@ fn outputs(
     };
     let mut counts = Keyed::new(alloc);
     let mut outs = Outs::new(alloc);
-    apply(alloc, job, visit, func, &mut counts, tuple, &mut outs)?;
+    let ports = out_ports(alloc, job, node)?;
+    apply(
+        alloc,
+        job,
+        ports.as_slice(),
+        visit,
+        func,
+        &mut counts,
+        tuple,
+        &mut outs,
+    )?;
     Ok(outs)
 }
 

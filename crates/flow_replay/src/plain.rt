@@ -9,15 +9,13 @@ ghost use Rattle.flow_model.specs.Run.{IsRun};
 ghost use Rattle.flow_model.specs.Setup.{outline};
 ghost use Rattle.flow_model.specs.Workers.{posts};
 ghost use Rattle.flow_replay.specs.Order.{IsInOrder};
-ghost use Rattle.flow_replay.specs.Tables.{IsWired};
 ghost use Rattle.flow_replay.specs.Rest.{AreEmpty, AreIssued, AreIssuedBefore, told_by};
 ghost use Rattle.flow_replay.specs.Desks.{empty_desk};
 ghost use Rattle.flow_replay.specs.Ways.{IsFed, rank_in};
 
 use crate::bring::bring;
-use crate::wiring::{Seat, Wiring};
 use crate::worker::{Desk, end_all, turn_all};
-use flow_model::{RunRecord, Setup, States, runs_are_consistent};
+use flow_model::{RunRecord, Setup, States, WorkerAt, runs_are_consistent};
 use sink_journal::{Feed, Feeds, Journals};
 use std::alloc::Global;
 use tuple_trace::{NoMemory, Row, Rows};
@@ -31,15 +29,14 @@ pub fn plain_run(alloc: Global, setup: Setup, rows: &Rows) -> Result<RunRecord, 
     ensures run { IfOk result (λ ran. IsRun (outline setup) rows.now (told ran)) }
     ensures order { IfOk result (λ ran. IsInOrder (length rows.now) (told ran)) }
     ensures consistent { IfOk result (λ ran. IsConsistent rows.now (told ran)) }
+    ensures same { IfOk result (λ ran. ran.setup ≡ setup) }
 {
     runs_are_consistent(&setup, rows);
-    let wiring = Wiring::of(alloc, &setup.job)?;
-    let mut desks = empty_desks(alloc, wiring.seats.len())?;
+    let mut desks = empty_desks(alloc, setup.workers() as usize)?;
     let mut feeds = Feeds::new(alloc);
     run_rows(
         alloc,
         &setup,
-        &wiring,
         desks.as_mut_slice(),
         &mut feeds,
         rows.as_slice(),
@@ -61,12 +58,10 @@ fn empty_desks(alloc: Global, workers: usize) -> Result<Vec<Desk>, NoMemory>
 fn run_rows(
     alloc: Global,
     setup: &Setup,
-    wiring: &Wiring,
     desks: &mut [Desk],
     feeds: &mut Feeds,
     rows: &[Row],
 ) -> Result<(), NoMemory>
-    requires wired { IsWired (written setup.now.job) wiring.now }
     requires rows { AreRows rows.now }
     requires sources { AreFromSources (written setup.now.job) rows.now }
     requires desks { AreEmpty (outline setup.now) desks.old }
@@ -75,13 +70,13 @@ fn run_rows(
     ensures order { OnOk result (IsInOrder (length rows.now) (told_by (outline setup.now) feeds.new desks.new)) }
 {
     let count = rows.len() as u64;
-    let mut issued = issue_behind(setup, wiring, desks, feeds, 0, count, 0)?;
+    let mut issued = issue_behind(setup, desks, feeds, 0, count, 0)?;
     for (place, row) in rows.iter().enumerate() {
-        feed_row(alloc, setup, wiring, desks, feeds, row, issued)?;
+        feed_row(alloc, setup, desks, feeds, row, issued)?;
         let number = place as u64 + 1;
-        issued = issue_behind(setup, wiring, desks, feeds, number, count, issued)?;
+        issued = issue_behind(setup, desks, feeds, number, count, issued)?;
     }
-    end_all(wiring, desks)?;
+    end_all(setup, desks)?;
     feeds.push(Feed::Stopped)?;
     Ok(())
 }
@@ -90,13 +85,11 @@ fn run_rows(
 fn feed_row(
     alloc: Global,
     setup: &Setup,
-    wiring: &Wiring,
     desks: &mut [Desk],
     feeds: &mut Feeds,
     row: &Row,
     issued: usize,
 ) -> Result<(), NoMemory>
-    requires wired { IsWired (written setup.now.job) wiring.now }
     requires desks { length desks.old ≡ length (posts (written setup.now.job)) }
     requires source { IsSourceOf (written setup.now.job) row.now.source }
     ensures feeds { OnOk result (feeds.new ≡ feeds.old ++ Feed.Fed row.now.tuple.row ∷ []) }
@@ -105,12 +98,12 @@ fn feed_row(
     feeds.push(Feed::Fed(row.tuple.row))?;
     let mut tuple = row.tuple.copy()?;
     tuple.issued = issued as u64;
-    let seat = Seat {
+    let feeder = WorkerAt {
         node: row.source,
-        place: 0,
+        index: 0,
     };
-    match wiring.hop(&setup.job, seat, 0, &row.tuple) {
-        Some(hop) => bring(alloc, setup, wiring, desks, hop, tuple)?,
+    match setup.route(feeder, 0, &row.tuple) {
+        Some(lane) => bring(alloc, setup, desks, lane, tuple)?,
         None => {}
     }
     Ok(())
@@ -119,14 +112,12 @@ fn feed_row(
 // Issues the requests that wait for a row up to this one, where so many were issued before, and answers how many are issued now.
 fn issue_behind(
     setup: &Setup,
-    wiring: &Wiring,
     desks: &mut [Desk],
     feeds: &mut Feeds,
     row: u64,
     rows: u64,
     issued: usize,
 ) -> Result<usize, NoMemory>
-    requires wired { IsWired (written setup.now.job) wiring.now }
     requires desks { length desks.old ≡ length (posts (written setup.now.job)) }
     requires issued { AreIssuedBefore (afters (outline setup.now).requests) rows row issued }
     ensures { IfOk result (λ now. AreIssued (outline setup.now) rows row issued now feeds.old feeds.new desks.old desks.new) }
@@ -137,7 +128,7 @@ fn issue_behind(
         }
         let request = place as u64 + 1;
         feeds.push(Feed::Issued(request))?;
-        turn_all(setup, wiring, desks, request)?;
+        turn_all(setup, desks, request)?;
     }
     Ok(setup.requests())
 }
@@ -148,7 +139,8 @@ fn record(
     feeds: Feeds,
     desks: Vec<Desk>,
 ) -> Result<RunRecord, NoMemory>
-    ensures { IfOk result (λ ran. told ran ≡ told_by (outline setup) feeds desks.items) }
+    ensures told { IfOk result (λ ran. told ran ≡ told_by (outline setup) feeds desks.items) }
+    ensures same { IfOk result (λ ran. ran.setup ≡ setup) }
 {
     let mut journals = Journals::new(alloc);
     let mut states = States::new(alloc);

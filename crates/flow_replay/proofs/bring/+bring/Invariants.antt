@@ -6,12 +6,12 @@ use Rattle.flow_replay.specs.Ways.{IsUnderWay, rank_behind, rank_in}
 use Rattle.flow_replay.proofs.bring.+bring.Given as goal
 
 abbrev pub decreases-bring : goal.decreases-bring
-decreases-bring l = 64 - rank_behind (written l.setup.now.job) (rank_in l.setup.now) l.hop.lane
+decreases-bring l = 64 - rank_behind (written l.setup.now.job) (rank_in l.setup.now) l.lane
 
 abbrev pub invariant-loop-out : goal.invariant-loop-out
 invariant-loop-out l = record {
   may : (goal.iterator-loop-out).can_next l.out-iterator;
   finite : (goal.iterator-loop-out).is_finite l.out-iterator;
   counted : into_iter_len l.out-iterator ≡ length (into_iter_items l.out-iterator);
-  way : IsUnderWay (outline l.setup) (rank_in l.setup) l.fn.hop.lane l.fn.tuple (into_iter_items l.out-iterator) l.fn.desks l.desks;
+  way : IsUnderWay (outline l.setup) (rank_in l.setup) l.fn.lane l.fn.tuple (into_iter_items l.out-iterator) l.fn.desks l.desks;
 }

@@ -11,6 +11,6 @@ loop-place-preserved c = record {
   gained =
       let i = c.loop-place.place in
       let inside : i < length c.loop-place.lists = omega (arith, c.loop-place-test.true, c.loop-place.invariant.long) in
-      with_item-more (reaches (outline c.args.setup.now) c.args.onto) c.args.item.now c.args.outlets.now c.loop-place.lists i (record { lane = 0; edge = 0 }) c.index-lists-place.result c.put_if.new.list c.loop-place-test.true inside (c.in_ok-put_if.ensures ∙ ap (λ b. item_if b c.args.item.now (get_or c.loop-place.lists i c.index-lists-place.result)) c.is_reached.ensures)
+      with_item-more (reaches (outline c.args.setup.now) c.args.onto) c.args.item.now c.args.numbers.now c.loop-place.lists i 0 c.index-lists-place.result c.put_if.new.list c.loop-place-test.true inside (c.in_ok-put_if.ensures ∙ ap (λ b. item_if b c.args.item.now (get_or c.loop-place.lists i c.index-lists-place.result)) c.is_reached.ensures)
       ∙ c.loop-place.invariant.gained;
 }

@@ -1,38 +1,41 @@
-use Rattle.std.proofs.Common.{◌≡◌, ◌∙◌, ℕ, [], ◌∷◌, List, Option, None, Some, length, map, refl, sym, ap, subst, arith}
-use Rattle.std.specs.List.{slice_get}
+use Rattle.std.proofs.Common.{◌≡◌, ◌∙◌, ◌<◌, ℕ, [], ◌∷◌, List, Option, None, Some, length, map, refl, sym, ap, subst, arith}
 use Rattle.std.specs.Vec.Iter.{into_iter_items}
 use Rattle.std.proofs.lemmas.List.{nil_from_length}
+use Rattle.std.proofs.lemmas.Option.{slice_get_within}
+use Rattle.jobs.specs.Written.{Written}
 use Rattle.operators.specs.declared.output.Output.{Output}
 use Rattle.tuple_trace.specs.declared.tuple.Item.{Item}
 use Rattle.tuple_trace.specs.declared.tuple.Item.TheVariants as item
+use Rattle.flow_model.specs.declared.topology.Lane.{Lane}
+use Rattle.flow_model.specs.declared.topology.WorkerAt.{WorkerAt}
 use Rattle.flow_model.specs.Lanes.{lane_of, lanes_out, senders}
-use Rattle.flow_model.specs.Outline.{Lane}
 use Rattle.flow_model.specs.Replay.{Put, put_out}
 use Rattle.flow_model.specs.Setup.{outline}
-use Rattle.flow_replay.specs.declared.wiring.Seat.{Seat}
-use Rattle.flow_replay.specs.Desks.{post_at}
+use Rattle.flow_model.specs.Topology.{worker_of}
+use Rattle.flow_model.specs.Workers.{post_at, posts}
+use Rattle.flow_model.proofs.PostPlaces.{worker_at}
 use Rattle.flow_replay.specs.Folds.{with_puts}
-use Rattle.flow_replay.specs.Tables.{IsHopAlong}
-use Rattle.flow_replay.proofs.DeskLemmas.{seat_is}
-use Rattle.flow_replay.proofs.FoldLemmas.{length-outlets, length-with_puts, outlets-small, put_on, with_puts-append, with_puts-same}
-use Rattle.flow_replay.proofs.OutletLemmas.{place_below, sends_at}
-use Rattle.flow_replay.proofs.SeatLemmas.{node_below}
+use Rattle.flow_replay.proofs.DeskLemmas.{worker_sends}
+use Rattle.flow_replay.proofs.FoldLemmas.{length-numbers, length-with_puts, numbers-within, put_on, with_puts-append, with_puts-same}
 use Rattle.flow_replay.proofs.folds.send.Goals as goal
 
-pub hop-requires-clause-place : goal.hop-requires-clause-place
-hop-requires-clause-place c =
+pub route-requires : goal.route-requires
+route-requires c =
     let job = (outline c.args.setup.now).job in
-    rw (seat_is job c.args.wiring.now c.as_slice.result.now c.args.worker c.requires.wired c.as_slice.ensures c.requires.worker) (place_below job c.args.worker c.requires.worker)
+    let at = c.worker_at-at.result in
+    slice_get_within (senders job at.node) at.index (Some c.args.worker) (worker_sends job c.args.worker at c.requires.worker c.worker_at-at.ensures.at)
 
-pub hop-requires-clause-node : goal.hop-requires-clause-node
-hop-requires-clause-node c =
+pub put-requires-clause-numbers : goal.put-requires-clause-numbers
+put-requires-clause-numbers c =
     let job = (outline c.args.setup.now).job in
-    rw (seat_is job c.args.wiring.now c.as_slice.result.now c.args.worker c.requires.wired c.as_slice.ensures c.requires.worker) (node_below job c.args.worker c.requires.worker)
+    numbers-within job (lanes_out job c.args.worker) c.args.numbers.now c.requires.numbers
 
-pub put-requires-clause-edges : goal.put-requires-clause-edges
-put-requires-clause-edges c =
-    let job = (outline c.args.setup.now).job in
-    outlets-small job (lanes_out job c.args.worker) c.args.outlets.now c.args.setup.now.job.lawful c.requires.outlets
+-- the lane of an output, as its worker puts it
+lane_put : (job : Written) (w : ℕ) (at : WorkerAt) (output : Output) → w < length (posts job) → at ≡ worker_of (post_at job w)
+    → (put_out job (post_at job w) output).lane ≡ lane_of job (Some w) at.node output.port output.tuple
+lane_put job w at output lt is =
+    ap (λ (k : ℕ). lane_of job (Some k) (post_at job w).node output.port output.tuple) (worker_at job w lt).0
+    ∙ ap (λ (a : WorkerAt). lane_of job (Some w) a.node output.port output.tuple) (sym is)
 
 -- the rest of the outputs is put behind the first one
 goes_on : (lanes' : List Lane) (puts : Output → Put) (output : Output) (items rest : List Output) (lists new goal' : List (List Item)) → items ≡ output ∷ rest → new ≡ with_puts lanes' (puts output ∷ []) lists
@@ -40,18 +43,17 @@ goes_on : (lanes' : List Lane) (puts : Output → Put) (output : Output) (items 
 goes_on lanes' puts output items rest lists new goal' are is whole =
     ap (with_puts lanes' (map puts rest)) is ∙ sym (with_puts-append lanes' (puts output ∷ []) (map puts rest) lists) ∙ ap (λ (x : List Output). with_puts lanes' (map puts x) lists) (sym are) ∙ whole
 
-pub loop-output-preserved-in_ok-put-in-Some-hop : goal.loop-output-preserved-in_ok-put-in-Some-hop
-loop-output-preserved-in_ok-put-in-Some-hop c =
+pub loop-output-preserved-in_ok-put-in-Some-route : goal.loop-output-preserved-in_ok-put-in-Some-route
+loop-output-preserved-in_ok-put-in-Some-route c =
     let job = (outline c.args.setup.now).job in
     let post = post_at job c.args.worker in
     let w = c.args.worker in
     let output = c.in-Some.output in
-    let seat = seat_is job c.args.wiring.now c.as_slice.result.now w c.requires.wired c.as_slice.ensures c.requires.worker in
-    let along = subst (λ (s : Seat). (sender : Option ℕ) → slice_get (senders job s.node) s.place ≡ Some sender → IsHopAlong job (lane_of job sender s.node output.port output.tuple) c.in-Some-hop.hop) seat
-    c.in-Some-hop.ensures.some (Some post.number) (sends_at job w c.requires.worker) in
-    let (lane, found, is) = along in
-    let gained = c.in_ok-put-in-Some-hop.ensures ∙ put_on job (lanes_out job w) c.args.outlets.now c.loop-output.lists (put_out job post output).lane (item.Carry output.tuple) c.in-Some-hop.hop.lane lane c.requires.outlets found is.numbered in
-    let long = length-outlets job (lanes_out job w) c.args.outlets.now c.requires.outlets in
+    let at = c.worker_at-at.result in
+    let (lane, found, there) = c.in-Some-route.ensures.some (Some w) (worker_sends job w at c.requires.worker c.worker_at-at.ensures.at) in
+    let goes = lane_put job w at output c.requires.worker c.worker_at-at.ensures.at ∙ found in
+    let gained = c.in_ok-put-in-Some-route.ensures ∙ put_on job (lanes_out job w) c.args.numbers.now c.loop-output.lists (put_out job post output).lane (item.Carry output.tuple) c.in-Some-route.lane lane c.requires.numbers goes there in
+    let long = length-numbers job (lanes_out job w) c.args.numbers.now c.requires.numbers in
     record {
       may = tt;
       finite = tt;
@@ -66,9 +68,9 @@ loop-output-preserved c =
     let post = post_at job c.args.worker in
     let w = c.args.worker in
     let output = c.in-Some.output in
-    let seat = seat_is job c.args.wiring.now c.as_slice.result.now w c.requires.wired c.as_slice.ensures c.requires.worker in
-    let nowhere = subst (λ (s : Seat). (sender : Option ℕ) → lane_of job sender s.node output.port output.tuple ≡ None) seat c.in-None-hop.ensures.none (Some post.number) in
-    let long = length-outlets job (lanes_out job w) c.args.outlets.now c.requires.outlets in
+    let at = c.worker_at-at.result in
+    let nowhere : (put_out job post output).lane ≡ None = lane_put job w at output c.requires.worker c.worker_at-at.ensures.at ∙ c.in-None-route.ensures.none (Some w) in
+    let long = length-numbers job (lanes_out job w) c.args.numbers.now c.requires.numbers in
     let same : with_puts (lanes_out job w) (put_out job post output ∷ []) c.loop-output.lists ≡ c.loop-output.lists =
     with_puts-same (lanes_out job w) (put_out job post output ∷ []) c.loop-output.lists (c.loop-output.invariant.long ∙ long) (λ lane. rw nowhere refl) in
     record {
@@ -84,7 +86,7 @@ returns c =
     let job = (outline c.args.setup.now).job in
     let post = post_at job c.args.worker in
     let none = nil_from_length (into_iter_items c.loop-output.output-iterator) (omega (arith, c.in-None.ensures.steps.0, c.loop-output.invariant.counted)) in
-    let long = length-outlets job (lanes_out job c.args.worker) c.args.outlets.now c.requires.outlets in
+    let long = length-numbers job (lanes_out job c.args.worker) c.args.numbers.now c.requires.numbers in
     sym (with_puts-same (lanes_out job c.args.worker) [] c.loop-output.lists (c.loop-output.invariant.long ∙ long) (λ lane. refl))
     ∙ ap (λ (x : List Output). with_puts (lanes_out job c.args.worker) (map (put_out job post) x) c.loop-output.lists) (sym none)
     ∙ c.loop-output.invariant.put

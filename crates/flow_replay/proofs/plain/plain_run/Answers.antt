@@ -21,7 +21,7 @@ returns-clause-order c =
     let back = written_back c.in_ok-desks.desks.len c.run_rows.new.desks (drop (length c.run_rows.new.desks) c.in_ok-desks.desks.items) (omega (arith, c.run_rows.auto.desks, c.as_mut_slice.ensures.len, ap (length {A = Desk}) c.as_mut_slice.ensures.value, c.in_ok-desks.desks.ok.0)) in
     IfOk-weaker c.record.result (λ (ran : RunRecord). told ran ≡ told_by (outline c.args.setup) c.run_rows.new.feeds (take c.in_ok-desks.desks.len (c.run_rows.new.desks ++ drop (length c.run_rows.new.desks) c.in_ok-desks.desks.items)))
     (λ (ran : RunRecord). IsInOrder (length c.args.rows.now) (told ran))
-    (λ (ran : RunRecord) is. subst (λ (x : Ran). IsInOrder (length c.args.rows.now) x) (sym (is ∙ ap (told_by (outline c.args.setup) c.run_rows.new.feeds) back)) order) c.record.ensures
+    (λ (ran : RunRecord) is. subst (λ (x : Ran). IsInOrder (length c.args.rows.now) x) (sym (is ∙ ap (told_by (outline c.args.setup) c.run_rows.new.feeds) back)) order) c.record.ensures.told
 
 pub returns-clause-consistent : goal.returns-clause-consistent
 returns-clause-consistent c =
@@ -31,4 +31,4 @@ returns-clause-consistent c =
     let back = written_back c.in_ok-desks.desks.len c.run_rows.new.desks (drop (length c.run_rows.new.desks) c.in_ok-desks.desks.items) (omega (arith, c.run_rows.auto.desks, c.as_mut_slice.ensures.len, ap (length {A = Desk}) c.as_mut_slice.ensures.value, c.in_ok-desks.desks.ok.0)) in
     IfOk-weaker c.record.result (λ (ran : RunRecord). told ran ≡ told_by (outline c.args.setup) c.run_rows.new.feeds (take c.in_ok-desks.desks.len (c.run_rows.new.desks ++ drop (length c.run_rows.new.desks) c.in_ok-desks.desks.items)))
     (λ (ran : RunRecord). IsConsistent c.args.rows.now (told ran))
-    (λ (ran : RunRecord) is. subst (λ (x : Ran). IsConsistent c.args.rows.now x) (sym (is ∙ ap (told_by (outline c.args.setup) c.run_rows.new.feeds) back)) consistent) c.record.ensures
+    (λ (ran : RunRecord) is. subst (λ (x : Ran). IsConsistent c.args.rows.now x) (sym (is ∙ ap (told_by (outline c.args.setup) c.run_rows.new.feeds) back)) consistent) c.record.ensures.told

@@ -57,7 +57,7 @@ returns-clause-run c =
     let far = subst (λ (n : ℕ). IsSoFar setup rows c.loop-place.feeds n c.loop-place.desks) all c.loop-place.invariant.far in
     let fed = feed_last setup (length rows) c.loop-place.place c.loop-place.feeds c.push.new.self (feed_from 0 0 (afters setup.requests) (length rows)) c.loop-place-test.false c.in_ok-push.ensures.ok c.loop-place.invariant.feeds in
     subst (λ (fs : List Feed). IsRun setup rows (told_by setup fs c.end_all.new.desks)) (sym c.in_ok-push.ensures.ok)
-    (stop_step setup c.args.wiring.now rows c.loop-place.feeds c.loop-place.desks c.end_all.new.desks (covered c.args.setup.now) c.requires.wired far c.in_ok-end_all.ensures (sym c.in_ok-push.ensures.ok ∙ fed))
+    (stop_step setup rows c.loop-place.feeds c.loop-place.desks c.end_all.new.desks (covered c.args.setup.now) far c.in_ok-end_all.ensures (sym c.in_ok-push.ensures.ok ∙ fed))
 
 pub returns-clause-order : goal.returns-clause-order
 returns-clause-order c =
@@ -69,4 +69,4 @@ returns-clause-order c =
     all_issued (afters setup.requests) (length rows) c.loop-place.issued waits ∙ (length-map setup.requests (λ (request : Request). request.after) ∙ sym (covered c.args.setup.now).plan_each) in
     let sorted = subst (λ (n : ℕ). AreSorted setup (length rows) n (length setup.plans) c.loop-place.desks) end
     (subst (λ (n : ℕ). AreSorted setup (length rows) c.loop-place.place n c.loop-place.desks) all c.loop-place.invariant.sorted) in
-    ends_sorted setup c.args.wiring.now (length rows) c.push.new.self c.loop-place.desks c.end_all.new.desks c.requires.wired c.loop-place.invariant.far.rest.long c.in_ok-end_all.ensures sorted
+    ends_sorted setup (length rows) c.push.new.self c.loop-place.desks c.end_all.new.desks c.loop-place.invariant.far.rest.long c.in_ok-end_all.ensures sorted

@@ -1,6 +1,6 @@
 use Rattle.std.proofs.Common.{sym}
 use Rattle.flow_model.specs.Setup.{outline}
-use Rattle.flow_replay.proofs.ChangeLemmas.{change-carry}
+use Rattle.flow_model.proofs.ChangeLemmas.{change-carry}
 use Rattle.flow_replay.proofs.worker.put_in_force.Goals as goal
 
 pub carry-requires : goal.carry-requires

@@ -1,8 +1,9 @@
 use Rattle.std.proofs.Common.{◌≡◌, ◌<◌, ◌≤◌, ℕ, length}
 use Rattle.jobs.specs.Job.{written}
 use Rattle.flow_model.specs.Setup.{outline}
-use Rattle.flow_replay.specs.Desks.{IsGain, desk_at, post_at, turn_block}
+use Rattle.flow_replay.specs.Desks.{IsGain, desk_at, turn_block}
 use Rattle.flow_replay.proofs.worker.turn_all.Given as goal
+use Rattle.flow_model.specs.Workers.{post_at}
 
 abbrev pub invariant-loop-worker : goal.invariant-loop-worker
 invariant-loop-worker l = record {

@@ -2,25 +2,21 @@ use Rattle.std.proofs.Common.{◌≡◌, ◌∙◌, ◌+◌, ◌<◌, ◌==◌, 
 use Rattle.std.specs.Prelude.{option_map}
 use Rattle.std.proofs.lemmas.Bool.{eq-eqb}
 use Rattle.std.proofs.lemmas.Bool.Decides.{eqb_tells}
-use Rattle.std.proofs.lemmas.List.{length-map}
 use Rattle.std.proofs.lemmas.Option.{same_Some}
-use Rattle.jobs.specs.Written.{Written}
-use Rattle.flow_model.specs.Workers.{posts}
+use Rattle.flow_model.specs.Workers.{post_at, posts}
 use Rattle.flow_replay.specs.declared.folds.Onto.TheVariants as onto
-use Rattle.flow_replay.specs.declared.wiring.Inlet.{Inlet}
-use Rattle.flow_replay.specs.declared.wiring.Wiring.{Wiring}
-use Rattle.flow_replay.specs.Tables.{IsWired, inlets_of}
 use Rattle.tuple_trace.specs.declared.tuple.Item.TheVariants as item
 use Rattle.operators.specs.declared.output.Output.{Output}
 use Rattle.tuple_trace.specs.declared.tuple.Item.{Item}
 use Rattle.flow_model.specs.Covers.{covers_edge}
 use Rattle.flow_model.specs.Lanes.{lanes_in, lanes_out}
-use Rattle.flow_model.specs.Outline.{Lane, Post}
+use Rattle.flow_model.specs.declared.topology.Lane.{Lane}
+use Rattle.flow_model.specs.Outline.{Post}
 use Rattle.flow_model.specs.Replay.{Put, marker, put_on_each, put_out, puts}
 use Rattle.flow_model.specs.Setup.{outline}
-use Rattle.flow_replay.specs.Desks.{made_at, post_at}
+use Rattle.flow_replay.specs.Desks.{made_at}
 use Rattle.flow_replay.specs.Folds.{IsEntered, local_in, reaches, with_item, with_markers, with_puts}
-use Rattle.flow_replay.proofs.FoldLemmas.{ends_on, length-outlets, length-with_puts, markers_on, outlets-small, with_puts-same}
+use Rattle.flow_replay.proofs.FoldLemmas.{ends_on, length-numbers, length-with_puts, markers_on, numbers-within, with_puts-same}
 use Rattle.sink_journal.specs.declared.journal.Entry.{Entry}
 use Rattle.sink_journal.specs.declared.journal.Entry.TheVariants as entry
 use Rattle.flow_replay.proofs.EntryLemmas.{entered, made_in, turned_in}
@@ -29,15 +25,14 @@ use Rattle.std.specs.Global.{Global}
 use Rattle.std.proofs.Common.{Vec}
 use Rattle.std.proofs.lemmas.List.{with_items_is}
 use Rattle.flow_replay.specs.declared.folds.Fold.{Fold}
-use Rattle.flow_replay.proofs.DeskLemmas.{inlets-lanes, inlets_read}
-use Rattle.flow_replay.proofs.SeatLemmas.{get-post_at, worker_at}
+use Rattle.flow_model.proofs.PostPlaces.{get-post_at, worker_at}
 use Rattle.flow_replay.proofs.folds.Fold.enter.Goals as goal
 
-pub mark-requires-clause-edges : goal.mark-requires-clause-edges
-mark-requires-clause-edges c = outlets-small (outline c.args.setup.now).job (lanes_out (outline c.args.setup.now).job c.args.worker) c.args.outlets.now c.args.setup.now.job.lawful c.requires.outlets
+pub mark-requires-clause-numbers : goal.mark-requires-clause-numbers
+mark-requires-clause-numbers c = numbers-within (outline c.args.setup.now).job (lanes_out (outline c.args.setup.now).job c.args.worker) c.args.numbers.now c.requires.numbers
 
-pub put-requires-clause-edges : goal.put-requires-clause-edges
-put-requires-clause-edges c = outlets-small (outline c.args.setup.now).job (lanes_out (outline c.args.setup.now).job c.args.worker) c.args.outlets.now c.args.setup.now.job.lawful c.requires.outlets
+pub put-requires-clause-numbers : goal.put-requires-clause-numbers
+put-requires-clause-numbers c = numbers-within (outline c.args.setup.now).job (lanes_out (outline c.args.setup.now).job c.args.worker) c.args.numbers.now c.requires.numbers
 
 -- the lists of a vector that was written through its slice
 kept : (v : Vec (List Item) Global) (ws lists : List (List Item)) → ws ≡ lists → length lists ≡ v.len → (with_items v ws).items ≡ lists
@@ -50,7 +45,7 @@ returns-in-Marked c =
     let number = (worker_at setup.job c.args.worker c.requires.worker).0 in
     let lists = c.as_mut_slice-lists.ensures in
     let new : Fold = record { desk = c.args.self.now.desk; ended = c.args.self.now.ended; lists = with_items c.args.self.now.lists c.as_mut_slice-lists.result.now } in
-    let long = c.requires.long ∙ length-outlets setup.job (lanes_out setup.job c.args.worker) c.args.outlets.now c.requires.outlets in
+    let long = c.requires.long ∙ length-numbers setup.job (lanes_out setup.job c.args.worker) c.args.numbers.now c.requires.numbers in
     subst (λ (e : Entry). IsEntered setup post e c.args.self.now new) (sym c.in-Marked.is) (
     entered setup post c.args.worker (entry.Marked c.in-Marked.lane c.in-Marked.request) c.args.self.now new number refl (
     with_items_is c.args.self.now.lists c.as_mut_slice-lists.result.now lists.len ∙ lists.value
@@ -62,7 +57,7 @@ returns-in_ok-send-in-Met c =
     let post = post_at setup.job c.args.worker in
     let number = (worker_at setup.job c.args.worker c.requires.worker).0 in
     let lanes' = lanes_out setup.job c.args.worker in
-    let outs = length-outlets setup.job lanes' c.args.outlets.now c.requires.outlets in
+    let outs = length-numbers setup.job lanes' c.args.numbers.now c.requires.numbers in
     let long : length c.args.self.now.lists.items ≡ length lanes' = c.requires.long ∙ outs in
     let new : Fold = record { desk = c.make.new.desk; ended = c.args.self.now.ended; lists = with_items c.args.self.now.lists c.send.new.lists } in
     let this : List Put = map (put_out setup.job post) (made_at setup post c.args.self.now.desk c.in-Met.tuple) in
@@ -82,15 +77,15 @@ returns-in_ok-mark-in-Turned c =
     let post = post_at setup.job c.args.worker in
     let number = (worker_at setup.job c.args.worker c.requires.worker).0 in
     let lanes' = lanes_out setup.job c.args.worker in
-    let outs = length-outlets setup.job lanes' c.args.outlets.now c.requires.outlets in
+    let outs = length-numbers setup.job lanes' c.args.numbers.now c.requires.numbers in
     let long : length c.args.self.now.lists.items ≡ length lanes' = c.requires.long ∙ outs in
     let node : post.node ≡ c.node_of.result =
     same_Some post.node c.node_of.result (sym (ap (option_map (λ (p : Post). p.node)) (get-post_at setup.job c.args.worker c.requires.worker)) ∙ c.node_of.ensures.node) in
     let new : Fold = record { desk = c.put_in_force.new.desk; ended = c.args.self.now.ended; lists = with_items c.args.self.now.lists c.mark.new.lists } in
     let this : List Put = puts setup post (local_in setup post c.args.self.now) (entry.Turned c.in-Turned.request) in
     let marks : c.mark.new.lists ≡ with_puts lanes' this c.args.self.now.lists.items =
-    c.in_ok-mark-in-Turned.ensures ∙ (ap (with_markers setup c.in-Turned.request c.args.outlets.now) c.as_mut_slice-lists.ensures.value
-    ∙ (markers_on setup c.args.worker c.in-Turned.request c.args.outlets.now c.args.self.now.lists.items c.requires.outlets long
+    c.in_ok-mark-in-Turned.ensures ∙ (ap (with_markers setup c.in-Turned.request c.args.numbers.now) c.as_mut_slice-lists.ensures.value
+    ∙ (markers_on setup c.args.worker c.in-Turned.request c.args.numbers.now c.args.self.now.lists.items c.requires.numbers long
     ∙ ap (λ (n : ℕ). with_puts lanes' (flat_map (λ mark. put_on_each mark (filter (λ (lane : Lane). covers_edge setup c.in-Turned.request lane.edge) (lanes_out setup.job n))) (marker setup c.in-Turned.request)) c.args.self.now.lists.items) (sym number))) in
     let len : length (with_puts lanes' this c.args.self.now.lists.items) ≡ c.args.self.now.lists.len =
     length-with_puts lanes' this c.args.self.now.lists.items long ∙ (sym long ∙ (ap length (sym c.as_mut_slice-lists.ensures.value) ∙ c.as_mut_slice-lists.ensures.len)) in
@@ -102,28 +97,21 @@ returns-in_ok-mark-in-Turned c =
 differ : (a b : ℕ) → (a ≡ b → ⊥) → (a == b) ≡ false
 differ a b ne = elim (eqb_tells a b) [ inl same ↦ absurd (ne same.1) | inr other ↦ other.0 ]
 
--- how many lanes the tables have into a worker
-inlets_long : (job : Written) (wiring : Wiring) (all : List (List Inlet)) (row : List Inlet) (w n : ℕ) → IsWired job wiring → all ≡ wiring.inlets → w < length (posts job) → row ≡ get_or all w row → n ≡ length row
-    → n ≡ length (lanes_in job w)
-inlets_long job wiring all row w n wired same lt is counted =
-    counted ∙ (ap length (inlets_read job wiring all row row w wired same lt is refl)
-    ∙ (sym (length-map (inlets_of job w) (λ (i : Inlet). i.lane)) ∙ ap length (inlets-lanes job w)))
-
 pub returns-in_ok-put-in-Ended : goal.returns-in_ok-put-in-Ended
 returns-in_ok-put-in-Ended c =
     let setup = outline c.args.setup.now in
     let post = post_at setup.job c.args.worker in
     let number = (worker_at setup.job c.args.worker c.requires.worker).0 in
     let lanes' = lanes_out setup.job c.args.worker in
-    let outs = length-outlets setup.job lanes' c.args.outlets.now c.requires.outlets in
+    let outs = length-numbers setup.job lanes' c.args.numbers.now c.requires.numbers in
     let long : length c.args.self.now.lists.items ≡ length lanes' = c.requires.long ∙ outs in
     let new : Fold = record { desk = c.args.self.now.desk; ended = c.args.self.now.ended + 1; lists = with_items c.args.self.now.lists c.put.new.lists } in
-    let many = inlets_long setup.job c.args.wiring.now c.as_slice.result.now c.index-as_slice-worker.result c.args.worker c.len.result c.requires.wired c.as_slice.ensures c.requires.worker c.index-as_slice-worker.is c.len.ensures in
+    let many : length c.lanes_in.result.now ≡ length (lanes_in setup.job c.args.worker) = ap length c.lanes_in.ensures in
     let last : (c.args.self.now.ended + 1 == length (lanes_in setup.job post.number)) ≡ true =
-    eq-eqb (c.args.self.now.ended + 1) (length (lanes_in setup.job post.number)) (c.if-self-len.true ∙ (many ∙ ap (λ (n : ℕ). length (lanes_in setup.job n)) (sym number))) in
+    eq-eqb (c.args.self.now.ended + 1) (length (lanes_in setup.job post.number)) (c.if-self-lanes_in.true ∙ (many ∙ ap (λ (n : ℕ). length (lanes_in setup.job n)) (sym number))) in
     let this : List Put = put_on_each item.Last lanes' in
     let ends : c.put.new.lists ≡ with_puts lanes' this c.args.self.now.lists.items =
-    c.in_ok-put-in-Ended.ensures ∙ (ap (with_item (reaches setup onto.All) item.Last c.args.outlets.now) c.as_mut_slice-lists.ensures.value ∙ ends_on setup c.args.worker c.args.outlets.now c.args.self.now.lists.items c.requires.outlets) in
+    c.in_ok-put-in-Ended.ensures ∙ (ap (with_item (reaches setup onto.All) item.Last c.args.numbers.now) c.as_mut_slice-lists.ensures.value ∙ ends_on setup c.args.worker c.args.numbers.now c.args.self.now.lists.items c.requires.numbers) in
     let len : length (with_puts lanes' this c.args.self.now.lists.items) ≡ c.args.self.now.lists.len =
     length-with_puts lanes' this c.args.self.now.lists.items long ∙ (sym long ∙ (ap length (sym c.as_mut_slice-lists.ensures.value) ∙ c.as_mut_slice-lists.ensures.len)) in
     subst (λ (e : Entry). IsEntered setup post e c.args.self.now new) (sym c.in-Ended.is) (
@@ -131,17 +119,17 @@ returns-in_ok-put-in-Ended c =
     kept c.args.self.now.lists c.put.new.lists (with_puts lanes' this c.args.self.now.lists.items) ends len
     ∙ ap (λ (x : List Put). with_puts lanes' x c.args.self.now.lists.items) (rw last (ap (λ (n : ℕ). put_on_each item.Last (lanes_out setup.job n)) (sym number)))))
 
-pub returns-else-self-len : goal.returns-else-self-len
-returns-else-self-len c =
+pub returns-else-self-lanes_in : goal.returns-else-self-lanes_in
+returns-else-self-lanes_in c =
     let setup = outline c.args.setup.now in
     let post = post_at setup.job c.args.worker in
     let number = (worker_at setup.job c.args.worker c.requires.worker).0 in
     let lanes' = lanes_out setup.job c.args.worker in
-    let long : length c.args.self.now.lists.items ≡ length lanes' = c.requires.long ∙ length-outlets setup.job lanes' c.args.outlets.now c.requires.outlets in
+    let long : length c.args.self.now.lists.items ≡ length lanes' = c.requires.long ∙ length-numbers setup.job lanes' c.args.numbers.now c.requires.numbers in
     let new : Fold = record { desk = c.args.self.now.desk; ended = c.args.self.now.ended + 1; lists = with_items c.args.self.now.lists c.as_mut_slice-lists.result.now } in
-    let many = inlets_long setup.job c.args.wiring.now c.as_slice.result.now c.index-as_slice-worker.result c.args.worker c.len.result c.requires.wired c.as_slice.ensures c.requires.worker c.index-as_slice-worker.is c.len.ensures in
+    let many : length c.lanes_in.result.now ≡ length (lanes_in setup.job c.args.worker) = ap length c.lanes_in.ensures in
     let early : (c.args.self.now.ended + 1 == length (lanes_in setup.job post.number)) ≡ false =
-    differ (c.args.self.now.ended + 1) (length (lanes_in setup.job post.number)) (λ e. c.if-self-len.false (e ∙ (ap (λ (n : ℕ). length (lanes_in setup.job n)) number ∙ sym many))) in
+    differ (c.args.self.now.ended + 1) (length (lanes_in setup.job post.number)) (λ e. c.if-self-lanes_in.false (e ∙ (ap (λ (n : ℕ). length (lanes_in setup.job n)) number ∙ sym many))) in
     subst (λ (e : Entry). IsEntered setup post e c.args.self.now new) (sym c.in-Ended.is) (
     entered setup post c.args.worker (entry.Ended c.in-Ended.lane) c.args.self.now new number refl (
     with_items_is c.args.self.now.lists c.as_mut_slice-lists.result.now c.as_mut_slice-lists.ensures.len ∙ c.as_mut_slice-lists.ensures.value
