@@ -1,0 +1,81 @@
+use crate::tests::texts::AFTER_4;
+use crate::tests::{ran, setup};
+use flow_replay::{RunRecord, States};
+use savepoint::{first_of, join};
+use sink_journal::{Entry, Feed, Feeds, Journal, Journals};
+use std::alloc::Global;
+use tuple_trace::NoMemory;
+
+/// A second part without rows: the feeder stops, and the journal of each of `workers` workers has
+/// one end.
+fn ends(alloc: Global, workers: usize) -> Result<(Feeds, Journals), NoMemory> {
+    let mut feeds = Feeds::new(alloc);
+    feeds.push(Feed::Stopped)?;
+    let mut journals = Journals::new(alloc);
+    for _worker in 0..workers {
+        let mut journal = Journal::new(alloc);
+        journal.push(Entry::Ended { lane: 0 })?;
+        journals.push(journal)?;
+    }
+    Ok((feeds, journals))
+}
+
+fn end_of_run(alloc: Global) -> Option<RunRecord> {
+    let setup = setup(alloc, AFTER_4)?;
+    let workers = setup.workers() as usize;
+    let Ok((feeds, journals)) = ends(alloc, workers) else {
+        return None;
+    };
+    Some(RunRecord {
+        setup,
+        feeds,
+        journals,
+        states: States::new(alloc),
+    })
+}
+
+/// The stops and all entries of the feed; the ends and all other entries of the journals.
+fn counts(ran: &RunRecord) -> [usize; 4] {
+    let feeds = ran.feeds.as_slice();
+    let stops = feeds.iter().filter(|feed| **feed == Feed::Stopped).count();
+    let (mut ends, mut others) = (0usize, 0usize);
+    for journal in ran.journals.as_slice() {
+        for entry in journal.as_slice() {
+            if matches!(entry, Entry::Ended { .. }) {
+                ends = ends.saturating_add(1);
+            } else {
+                others = others.saturating_add(1);
+            }
+        }
+    }
+    [stops, feeds.len(), ends, others]
+}
+
+fn joined(alloc: Global) -> Option<RunRecord> {
+    let setup = setup(alloc, AFTER_4)?;
+    let (first, _rows) = ran(alloc, AFTER_4)?;
+    match join(alloc, setup, first, end_of_run(alloc)?) {
+        Ok(ran) => Some(ran),
+        Err(_) => None,
+    }
+}
+
+#[test]
+fn a_run_is_joined_to_its_end(rt: HostRuntime) {
+    let counted = match joined(rt.alloc()) {
+        Some(ran) => counts(&ran),
+        None => [0, 0, 0, 0],
+    };
+    assert!(rt; counted == [1, 12, 8, 40]);
+}
+
+/// How many requests and plans are left of a setup with one request.
+fn left(alloc: Global) -> Option<(usize, usize)> {
+    let setup = first_of(setup(alloc, AFTER_4)?, 0);
+    Some((setup.requests(), setup.plans.len()))
+}
+
+#[test]
+fn no_request_is_left(rt: HostRuntime) {
+    assert!(rt; left(rt.alloc()) == Some((0, 0)));
+}

@@ -1,0 +1,184 @@
+-- The beginning that the text of a savepoint tells.
+use Rattle.std.specs.Prelude.{◌≡◌, ◌<◌, ◌≤◌, ◌+◌, ◌-◌, ◌^◌, ◌==◌, ◌&&◌, ◌||◌, ℕ, ℤ, All, Bool, FitsSigned, pos, negsuc, true, false, List, [], ◌∷◌, Option, Some, None, Result, Ok, Err, length, map, filter, codes, nat_eq, nat_le, nat_lt, option_map, position, slice_get, if◌then◌else◌}
+use Rattle.std.specs.Cmp.Lexicographic.{pointwise, slice_cmp}
+use Rattle.std.specs.FinMap.{entries, from_entries}
+use Rattle.std.specs.Int.{w64}
+use Rattle.std.specs.Ordering.{nat_cmp}
+use Rattle.std.specs.Ordering.{is_lt}
+use Rattle.csv.specs.Reading.{default_config, records, strip_bom}
+use Rattle.tuple_trace.specs.Digits.{at_most, digits_of}
+use Rattle.jobs.specs.Nodes.{is_count}
+use Rattle.jobs.specs.Written.{Written}
+use Rattle.keyed_state.specs.Counts.{Counts}
+use Rattle.payments.specs.Reading.{text_max}
+use Rattle.payments.specs.Spelling.{number_of}
+use Rattle.flow_model.specs.Begin.{Begin}
+use Rattle.flow_model.specs.Outline.{Outline, Post}
+use Rattle.flow_model.specs.Requests.{afters}
+use Rattle.flow_model.specs.Workers.{posts}
+use Rattle.savepoint.specs.Parts.{issued_up_to}
+use Rattle.savepoint.specs.SaveText.{name_of}
+use Rattle.savepoint.specs.declared.fault.SaveFault.{SaveFault}
+use Rattle.savepoint.specs.declared.fault.SaveFault.TheVariants as fault
+
+-- ---- records and what they spell
+
+abbrev pub is_text : List ℕ → List ℕ → Bool
+is_text wanted cell = pointwise nat_eq cell wanted
+
+-- a number of the first record: digits, below 2^63
+abbrev pub head_number : List ℕ → Option ℕ
+head_number cell = at_most (2 ^ 63 - 1) (digits_of cell)
+
+abbrev pub both : {A B : Type 0} → Option A → Option B → Option (A × B)
+both None second = None
+both (Some a) None = None
+both (Some a) (Some b) = Some (a, b)
+
+-- the row and the number of requests of a first record
+abbrev pub head_of : List (List ℕ) → Option (ℕ × ℕ)
+head_of (fries ∷ save ∷ row ∷ turned ∷ []) =
+    if is_text (codes "fries") fries && is_text (codes "save") save
+    then both (head_number row) (head_number turned) else None
+head_of _ = None
+
+-- A count as it is spelled: the node's name, the worker's place, the key and the number.
+pub record Spelled : Type 0 where
+  pub name : List ℕ
+  pub place : ℤ
+  pub key : List ℕ
+  pub count : ℤ
+
+abbrev pub spelled_by : List ℕ → List ℕ → Option (ℤ × ℤ) → Option Spelled
+spelled_by name key None = None
+spelled_by name key (Some (place, count)) =
+    Some (record { name = name; place = place; key = key; count = count })
+
+-- what a later record spells
+abbrev pub spelled_of : List (List ℕ) → Option Spelled
+spelled_of (name ∷ place ∷ key ∷ count ∷ []) =
+    spelled_by name key (both (number_of place) (number_of count))
+spelled_of _ = None
+
+abbrev pub one_more : {A : Type 0} → A → Result (List A) SaveFault → Result (List A) SaveFault
+one_more first (Err fault) = Err fault
+one_more first (Ok later) = Ok (first ∷ later)
+
+-- what a record spells, followed by the later ones; or the first that isn't of the form
+abbrev pub one_spelled :
+    ℕ → Option Spelled → Result (List Spelled) SaveFault → Result (List Spelled) SaveFault
+one_spelled number None later = Err (fault.Shape number)
+one_spelled number (Some spelled) later = one_more spelled later
+
+-- what these records spell; the first has this number
+abbrev pub spelled_from : ℕ → List (List (List ℕ)) → Result (List Spelled) SaveFault
+spelled_from number [] = Ok []
+spelled_from number (first ∷ later) =
+    one_spelled number (spelled_of first) (spelled_from (number + 1) later)
+
+-- ---- counts and their workers
+
+-- A count in its place: the worker's number, the key and the number.
+pub record Placed : Type 0 where
+  pub worker : ℕ
+  pub key : List ℕ
+  pub count : ℤ
+
+-- the number is this place
+abbrev pub is_place : ℤ → ℕ → Bool
+is_place (pos n) place = n == place
+is_place (negsuc n) place = false
+
+-- the worker counts, and is the one that is named
+abbrev pub is_named_by : Written → Spelled → Post → Bool
+is_named_by job spelled post =
+    is_count post.func
+    && (is_text (name_of (slice_get job.nodes post.node)) spelled.name
+    && is_place spelled.place post.place)
+
+-- the count at the worker with this number
+abbrev pub placed_by : Spelled → ℕ → Placed
+placed_by spelled worker = record { worker = worker; key = spelled.key; count = spelled.count }
+
+-- a count in its place, if the named worker counts and the key isn't too long
+abbrev pub placed_of : Written → Spelled → Option Placed
+placed_of job spelled =
+    if nat_le (length spelled.key) text_max
+    then option_map (placed_by spelled) (position (is_named_by job spelled) (posts job)) else None
+
+-- the count comes after the one before it: at a later worker, or with a later key by its bytes
+abbrev pub stands_behind : Option Placed → Placed → Bool
+stands_behind None placed = true
+stands_behind (Some before) placed =
+    nat_lt before.worker placed.worker
+    || ((before.worker == placed.worker) && is_lt (slice_cmp nat_cmp before.key placed.key))
+
+abbrev pub one_placed :
+    ℕ → Option Placed → Option Placed → (Placed → Result (List Placed) SaveFault) →
+    Result (List Placed) SaveFault
+one_placed number before None later = Err (fault.State number)
+one_placed number before (Some placed) later =
+    if stands_behind before placed then one_more placed (later placed) else Err (fault.State number)
+
+-- these counts in their places; the first has this number and comes after `before`
+abbrev pub placed_from :
+    Written → ℕ → Option Placed → List Spelled → Result (List Placed) SaveFault
+placed_from job number before [] = Ok []
+placed_from job number before (first ∷ later) =
+    one_placed number before (placed_of job first)
+    (λ placed. placed_from job (number + 1) (Some placed) later)
+
+-- ---- the beginning
+
+-- the counts of a worker
+abbrev pub counts_at : List Placed → Post → Counts
+counts_at placed post =
+    from_entries (map (λ (p : Placed). (p.key, p.count))
+    (filter (λ (p : Placed). p.worker == post.number) placed))
+
+-- the beginning with these counts
+abbrev pub begin_with : Written → ℕ → ℕ → Result (List Placed) SaveFault → Result Begin SaveFault
+begin_with job row turned (Err fault) = Err fault
+begin_with job row turned (Ok placed) =
+    Ok (record { row = row; turned = turned; states = map (counts_at placed) (posts job) })
+
+-- the beginning after this row and these many requests, of `rows` rows
+abbrev pub begin_at : Outline → ℕ → ℕ × ℕ → List Spelled → Result Begin SaveFault
+begin_at setup rows (row, turned) spelled =
+    if nat_lt rows row then Err (fault.Past row) else
+    (if turned == issued_up_to row rows (afters setup.requests)
+    then begin_with setup.job row turned (placed_from setup.job 1 None spelled)
+    else Err (fault.Count (issued_up_to row rows (afters setup.requests))))
+
+abbrev pub begin_by :
+    Outline → ℕ → Option (ℕ × ℕ) → Result (List Spelled) SaveFault → Result Begin SaveFault
+begin_by setup rows None later = Err (fault.Shape 0)
+begin_by setup rows (Some head) (Err fault) = Err fault
+begin_by setup rows (Some head) (Ok spelled) = begin_at setup rows head spelled
+
+-- the beginning that these records tell; their form is judged first, then the row, the number of
+-- requests and the counts
+abbrev pub begin_in : Outline → ℕ → List (List (List ℕ)) → Result Begin SaveFault
+begin_in setup rows [] = Err (fault.Shape 0)
+begin_in setup rows (head ∷ later) = begin_by setup rows (head_of head) (spelled_from 1 later)
+
+-- the beginning that a text tells, or the text's first fault
+abbrev pub save_of : Outline → ℕ → List ℕ → Result Begin SaveFault
+save_of setup rows bytes = begin_in setup rows (records default_config (strip_bom bytes))
+
+-- What can be saved and read again: the row is one of the rows, and the requests are those that
+-- are issued up to it. Each worker has counts of short keys that fit 64 bits. A worker that doesn't
+-- count has none.
+pub record CanSave (setup : Outline) (rows : ℕ) (begin : Begin) : Type 0 where
+  pub within : begin.row ≤ rows
+  pub row : begin.row < 2 ^ 63
+  pub turned : begin.turned < 2 ^ 63
+  pub issued : begin.turned ≡ issued_up_to begin.row rows (afters setup.requests)
+  pub one_each : length begin.states ≡ length (posts setup.job)
+  pub counts :
+      (w : ℕ) (post : Post) (counts : Counts) → slice_get (posts setup.job) w ≡ Some post →
+      slice_get begin.states w ≡ Some counts → is_count post.func ≡ false → entries counts ≡ []
+  pub short :
+      All (λ (counts : Counts).
+      All (λ (e : List ℕ × ℤ). (length e.0 ≤ text_max) × FitsSigned w64 e.1) (entries counts))
+      begin.states

@@ -1,0 +1,122 @@
+ghost use Rattle.std.specs.Prelude.{◌≡◌, ◌≤◌, ◌++◌, ℕ, IfOk, List, length, map};
+ghost use Rattle.std.specs.List.{zip};
+ghost use Rattle.tuple_trace.specs.Rows.{AreRows};
+ghost use Rattle.tuple_trace.specs.declared.row.Row.{Row};
+ghost use Rattle.flow_model.specs.Record.{told};
+ghost use Rattle.flow_model.specs.Run.{IsRun};
+ghost use Rattle.flow_model.specs.Setup.{outline};
+ghost use Rattle.savepoint.specs.Parts.{
+  AreParts,
+  first_of as first_of_is,
+  is_end as is_end_of,
+  is_stop as is_stop_of,
+  joined,
+  joined_journal,
+  unstopped,
+};
+
+use flow_model::{RunRecord, Setup};
+use sink_journal::{Entry, Feed, Feeds, Journal, Journals};
+use std::alloc::Global;
+use tuple_trace::{Items, NoMemory};
+
+/// Keeps only the first `turned` accepted requests of a setup and their plans. Takes no memory.
+///
+/// The job, its topology, the refused requests, the mask of the splits and the mode stay.
+pub fn first_of(setup: Setup, turned: u64) -> Setup
+    requires { turned ≤ length (outline setup).requests }
+    ensures cut { outline result ≡ first_of_is (outline setup) turned }
+    ensures job { result.job ≡ setup.job }
+    ensures refused { result.judged.refused ≡ setup.judged.refused }
+{
+    let Setup {
+        job,
+        topology,
+        mut judged,
+        mut plans,
+        splits,
+        ordered,
+    } = setup;
+    judged.accepted.truncate(turned as usize);
+    plans.truncate(turned as usize);
+    Setup {
+        job,
+        topology,
+        judged,
+        plans,
+        splits,
+        ordered,
+    }
+}
+
+/// Joins two records to one. If they are parts of a run, the result is the whole run.
+///
+/// The first feed loses its stop and is followed by the second. Each first journal loses the ends
+/// of its lanes and is followed by the second. The counts are those of the second record. The only
+/// error is out of memory; the setup and both records are then lost.
+pub fn join(
+    alloc: Global,
+    setup: Setup,
+    first: RunRecord,
+    second: RunRecord,
+) -> Result<RunRecord, NoMemory>
+    ensures told { IfOk result (λ ran.
+        told ran ≡ joined (outline setup) (told first) (told second)) }
+    ensures same { IfOk result (λ ran. ran.setup ≡ setup) }
+    ensures run { IfOk result (λ ran. (rows : List Row) (row : ℕ) → AreRows rows →
+        AreParts (outline setup) rows row (told first) (told second) →
+        IsRun (outline setup) rows (told ran)) }
+{
+    Ok(RunRecord {
+        setup,
+        feeds: joined_feeds(first.feeds, second.feeds)?,
+        journals: joined_journals(alloc, first.journals, second.journals)?,
+        states: second.states,
+    })
+}
+
+fn joined_feeds(first: Feeds, second: Feeds) -> Result<Feeds, NoMemory>
+    ensures { IfOk result (λ feeds. feeds ≡ unstopped first ++ second) }
+{
+    let mut feeds = first.into_vec();
+    feeds.retain(|feed| !is_stop(feed));
+    let mut more = second.into_vec();
+    feeds.append(&mut more)?;
+    Ok(Items::from_vec(feeds))
+}
+
+fn joined_journals(alloc: Global, first: Journals, second: Journals) -> Result<Journals, NoMemory>
+    ensures { IfOk result (λ journals. journals ≡ map joined_journal (zip first second)) }
+{
+    let mut journals = Journals::new(alloc);
+    for (one, more) in first
+        .into_vec()
+        .into_iter()
+        .zip(second.into_vec().into_iter())
+    {
+        journals.push(joined_one(one, more)?)?;
+    }
+    Ok(journals)
+}
+
+fn joined_one(first: Journal, second: Journal) -> Result<Journal, NoMemory>
+    ensures { IfOk result (λ journal. journal ≡ joined_journal (first, second)) }
+{
+    let mut journal = first.into_vec();
+    journal.retain(|entry| !is_end(entry));
+    let mut more = second.into_vec();
+    journal.append(&mut more)?;
+    Ok(Items::from_vec(journal))
+}
+
+fn is_end(entry: &Entry) -> bool
+    ensures { result ≡ is_end_of entry.now }
+{
+    matches!(entry, Entry::Ended { .. })
+}
+
+fn is_stop(feed: &Feed) -> bool
+    ensures { result ≡ is_stop_of feed.now }
+{
+    matches!(feed, Feed::Stopped)
+}

@@ -1,0 +1,4 @@
+pub mod NumberedLemmas
+pub mod NewLemmas
+pub mod TableLemmas
+pub mod LineLemmas

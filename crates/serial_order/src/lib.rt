@@ -1,0 +1,14 @@
+//! The one order of rows and requests of a run in ordered mode.
+//!
+//! Every row of such a run comes after the first k accepted requests and before all later ones.
+//! This crate tells k for each row, the functions after k requests, and how many rows have each k.
+#![tactic(auto)]
+
+mod line;
+mod places;
+mod serial_rows;
+mod table;
+
+pub use line::{push_serial_line, rows_after};
+pub use serial_rows::{Serial, serial};
+pub use table::{FuncTable, table_at};
