@@ -1,0 +1,182 @@
+-- The lanes of a worker that stands at its place.
+use Rattle.std.proofs.Common.{◌≡◌, ◌∙◌, ◌==◌, ◌&&◌, ◌<◌, ℕ, inl, inr, None, List, [], ◌∷◌, Bool, true, false, cond, filter, length, map, refl, sym, ap, subst, arith, Some, slice_get, append-nil}
+use Rattle.std.specs.List.{cons_option, enumerate_from, flat_map}
+use Rattle.std.proofs.lemmas.Bool.{and_parts, eq-eqb, eqb-true}
+use Rattle.jobs.specs.Written.{Written}
+use Rattle.tuple_trace.specs.declared.tuple.Item.{Item}
+use Rattle.tuple_trace.specs.declared.tuple.Item.TheVariants.{Mark}
+use Rattle.std.proofs.lemmas.Option.{same_Some, slice_get_within}
+use Rattle.flow_dag.specs.declared.graph.Graph.{Graph}
+use Rattle.flow_model.specs.Covers.{covers_edge}
+use Rattle.flow_model.specs.Dues.{edges_in}
+use Rattle.flow_worker.specs.Pairs.{Each}
+use Rattle.flow_model.specs.Lanes.{is_same_lane, is_sender, lanes, lanes_out, lanes_that, marked_lanes}
+use Rattle.flow_model.specs.declared.topology.Lane.{Lane}
+use Rattle.flow_model.specs.Outline.{Outline, Post}
+use Rattle.flow_model.specs.Workers.{post_at, posts}
+use Rattle.flow_model.specs.Replay.{items_on, marker, put_on_each}
+use Rattle.flow_model.proofs.ElementLemmas.{AreDistinct, IsIn, distinct_filter, distinct_map, filter_in, in_filter, in_of_place, map_in, place_of_in}
+use Rattle.flow_model.proofs.LaneLemmas.{enumerate_distinct, in_enumerate, in_lanes_that, lane_self, lanes_distinct, lanes_that_in, same_lane}
+use Rattle.flow_model.proofs.PostPlaces.{node_below, post_at-get}
+use Rattle.flow_model.proofs.WorkerLemmas.{worker_with}
+use Rattle.flow_worker.specs.Endpoints.{LaneInIs, LaneOutIs}
+use Rattle.flow_worker.specs.Worker.{IsEndpointIn, IsEndpointOut, IsPlaced, WorkerIs, edges_of, numbers_in}
+use Rattle.flow_worker.proofs.Pairs.{each_at, each_map, each_of, get_map}
+
+-- the numbered lanes that pass a test, with their numbers
+abbrev pub passing : (Lane → Bool) → Written → List (ℕ × Lane)
+passing test job = filter (λ (p : ℕ × Lane). test p.1) (enumerate_from 0 (lanes job))
+
+-- each is the lane with its number, and passes the test
+passes : (test : Lane → Bool) (job : Written) → Each (λ (p : ℕ × Lane). (slice_get (lanes job) p.0 ≡ Some p.1) × (test p.1 ≡ true)) (passing test job)
+passes test job = each_of (λ (p : ℕ × Lane). (slice_get (lanes job) p.0 ≡ Some p.1) × (test p.1 ≡ true)) (passing test job) (λ p i.
+    let f = in_filter (λ (p : ℕ × Lane). test p.1) p (enumerate_from 0 (lanes job)) i in
+    let q = in_enumerate 0 (lanes job) p f.0 in
+    (subst (λ n. slice_get (lanes job) n ≡ Some p.1) (let a = q.1 in omega arith) q.2, f.1))
+
+-- the edges of lanes at their places are those of the lanes with their numbers
+edges_among : (setup : Outline) (graph : Graph) (ins : List LaneInIs) (ps : List (ℕ × Lane)) → numbers_in ins ≡ map (λ (p : ℕ × Lane). p.0) ps → Each (IsEndpointIn setup graph) ins
+    → Each (λ (p : ℕ × Lane). slice_get (lanes setup.job) p.0 ≡ Some p.1) ps → edges_of ins ≡ map (λ (p : ℕ × Lane). p.1.edge) ps
+edges_among setup graph [] [] n e t = refl
+edges_among setup graph [] (p ∷ ps) n e t = absurd (cc)
+edges_among setup graph (a ∷ more) [] n e t = absurd (cc)
+edges_among setup graph (a ∷ more) (p ∷ ps) n e t =
+    let number : a.number ≡ p.0 = cc in
+    let numbers : numbers_in more ≡ map (λ (p : ℕ × Lane). p.0) ps = cc in
+    let there : slice_get (lanes setup.job) a.number ≡ Some p.1 = subst (λ k. slice_get (lanes setup.job) k ≡ Some p.1) (sym number) t.0 in
+    let same : e.0.lane ≡ p.1 = same_Some e.0.lane p.1 (sym e.0.numbered ∙ there) in
+    let here : a.edge ≡ p.1.edge = e.0.edge_is ∙ ap (λ (l : Lane). l.edge) same in
+    ap (λ (k : ℕ). k ∷ edges_of more) here ∙ ap (λ (ks : List ℕ). p.1.edge ∷ ks) (edges_among setup graph more ps numbers e.1 t.1)
+
+pub lanes_that_distinct : (test : Lane → Bool) (job : Written) → AreDistinct (lanes_that test job)
+lanes_that_distinct test job =
+    distinct_map (λ (p : ℕ × Lane). p.0) (filter (λ (p : ℕ × Lane). test p.1) (enumerate_from 0 (lanes job))) same
+    (distinct_filter (λ (p : ℕ × Lane). test p.1) (enumerate_from 0 (lanes job)) (enumerate_distinct (lanes job)))
+  where
+    same : (p q : ℕ × Lane) → IsIn p (filter (λ (p : ℕ × Lane). test p.1) (enumerate_from 0 (lanes job))) → IsIn q (filter (λ (p : ℕ × Lane). test p.1) (enumerate_from 0 (lanes job)))
+        → p.0 ≡ q.0 → p ≡ q
+    same p q i j e =
+        let x = in_enumerate 0 (lanes job) p (in_filter (λ (p : ℕ × Lane). test p.1) p (enumerate_from 0 (lanes job)) i).0 in
+        let y = in_enumerate 0 (lanes job) q (in_filter (λ (p : ℕ × Lane). test p.1) q (enumerate_from 0 (lanes job)) j).0 in
+        let k : x.0 ≡ y.0 = omega (arith, x.1, y.1, e) in
+        let u = x.2 in
+        let v : slice_get (lanes job) x.0 ≡ Some q.1 = subst (λ n. slice_get (lanes job) n ≡ Some q.1) (sym k) y.2 in
+        let f : p.1 ≡ q.1 = cc in
+        λ i. (e i, f i)
+
+module _ (setup : Outline) (post : Post) (w : WorkerIs) (k : IsPlaced setup post w) where
+  pub number_is : post.number ≡ w.number
+  number_is = (worker_with setup.job w.number post k.post_is).0
+
+  pub ins_distinct : AreDistinct (numbers_in w.ins)
+  ins_distinct = subst AreDistinct (sym k.ins_are) (lanes_that_distinct (λ (lane : Lane). lane.receiver == w.number) setup.job)
+
+  -- a lane in hand leads to the worker
+  pub in_receives : (a : LaneInIs) → IsIn a w.ins → (e : IsEndpointIn setup k.graph a) → e.lane.receiver ≡ post.number
+  in_receives a i e =
+      let r = in_lanes_that (λ (lane : Lane). lane.receiver == w.number) setup.job a.number (subst (IsIn a.number) k.ins_are (map_in (λ (a : LaneInIs). a.number) a w.ins i)) in
+      let x = e.numbered in
+      let y = r.1 in
+      let same : r.0 ≡ e.lane = cc in
+      sym (ap (λ (l : Lane). l.receiver) same) ∙ (eqb-true r.0.receiver w.number r.2 ∙ sym number_is)
+
+  pub in_end : (a : LaneInIs) → IsIn a w.ins → IsEndpointIn setup k.graph a
+  in_end a i = each_at (IsEndpointIn setup k.graph) a w.ins k.ends_in i
+
+  -- it brings the marker where its edge is covered
+  pub in_marked : (r : ℕ) (a : LaneInIs) → IsIn a w.ins → covers_edge setup r a.edge ≡ true → IsIn a.number (marked_lanes setup post.number r)
+  in_marked r a i c =
+      let e = in_end a i in
+      let there : (e.lane.receiver == post.number) ≡ true = eq-eqb e.lane.receiver post.number (in_receives a i e) in
+      let on : covers_edge setup r e.lane.edge ≡ true = subst (λ n. covers_edge setup r n ≡ true) e.edge_is c in
+      lanes_that_in (λ (lane : Lane). (lane.receiver == post.number) && covers_edge setup r lane.edge) setup.job a.number e.lane e.numbered (rw (there, on) refl)
+
+  -- and a lane that brings it is in some hand, on a covered edge
+  pub marked_in : (r n : ℕ) → IsIn n (marked_lanes setup post.number r)
+      → (place : ℕ) × ((a : LaneInIs) × (slice_get w.ins place ≡ Some a) × (n ≡ a.number) × (covers_edge setup r a.edge ≡ true))
+  marked_in r n i =
+      let q = in_lanes_that (λ (lane : Lane). (lane.receiver == post.number) && covers_edge setup r lane.edge) setup.job n i in
+      let parts = and_parts (q.0.receiver == post.number) (covers_edge setup r q.0.edge) q.2 in
+      let there : (q.0.receiver == w.number) ≡ true = subst (λ m. (q.0.receiver == m) ≡ true) number_is parts.0 in
+      let among : IsIn n (numbers_in w.ins) = subst (IsIn n) (sym k.ins_are) (lanes_that_in (λ (lane : Lane). lane.receiver == w.number) setup.job n q.0 q.1 there) in
+      let place = place_of_in n (numbers_in w.ins) among in
+      let at = get_map (λ (a : LaneInIs). a.number) w.ins place.0 n place.1 in
+      let e = in_end at.0 (in_of_place at.0 w.ins place.0 at.1) in
+      let x : slice_get (lanes setup.job) n ≡ Some e.lane = subst (λ m. slice_get (lanes setup.job) m ≡ Some e.lane) (sym at.2) e.numbered in
+      let y = q.1 in
+      let same : q.0 ≡ e.lane = cc in
+      let edge : q.0.edge ≡ at.0.edge = ap (λ (l : Lane). l.edge) same ∙ sym e.edge_is in
+      (place.0, (at.0, at.1, at.2, subst (λ m. covers_edge setup r m ≡ true) edge parts.1))
+
+  -- a lane out leads from the worker
+  pub out_sends : (o : LaneOutIs) → IsIn o w.outs → (lane : Lane) → slice_get (lanes setup.job) o.number ≡ Some lane → IsIn lane (lanes_out setup.job post.number)
+  out_sends o i lane g =
+      let r = in_lanes_that (λ (lane : Lane). is_sender w.number lane.sender) setup.job o.number (subst (IsIn o.number) k.outs_are (map_in (λ (o : LaneOutIs). o.number) o w.outs i)) in
+      let y = r.1 in
+      let same : r.0 ≡ lane = cc in
+      let sends : is_sender post.number lane.sender ≡ true = subst (λ (l : Lane). is_sender post.number l.sender ≡ true) same (subst (λ m. is_sender m r.0.sender ≡ true) (sym number_is) r.2) in
+      filter_in (λ (lane : Lane). is_sender post.number lane.sender) lane (lanes setup.job) (in_of_place lane (lanes setup.job) o.number g) sends
+
+  pub out_lane_edge : (o : LaneOutIs) → IsIn o w.outs → (lane : Lane) → slice_get (lanes setup.job) o.number ≡ Some lane → lane.edge ≡ o.edge
+  out_lane_edge o i lane g =
+      let e = each_at (IsEndpointOut setup k.graph w.node) o w.outs k.ends_out i in
+      let x = e.numbered in
+      let same : e.lane ≡ lane = cc in
+      ap (λ (l : Lane). l.edge) (sym same) ∙ sym e.edge_is
+
+-- the edges of the lanes in are those of the setup
+pub placed_edges : (setup : Outline) (post : Post) (w : WorkerIs) → IsPlaced setup post w → edges_of w.ins ≡ edges_in setup.job w.number
+placed_edges setup post w k =
+    edges_among setup k.graph w.ins (passing (λ (lane : Lane). lane.receiver == w.number) setup.job) k.ins_are k.ends_in
+    (each_map _ _ (passing (λ (lane : Lane). lane.receiver == w.number) setup.job) (λ p h. h.0) (passes (λ (lane : Lane). lane.receiver == w.number) setup.job))
+
+-- and so is its node
+pub placed_node : (setup : Outline) (post : Post) (w : WorkerIs) → IsPlaced setup post w → (post_at setup.job w.number).node ≡ w.node
+placed_node setup post w k = ap (λ (p : Post). p.node) (post_at-get setup.job w.number post k.post_is) ∙ sym k.node_is
+
+pub placed_within : (setup : Outline) (post : Post) (w : WorkerIs) → IsPlaced setup post w → w.number < length (posts setup.job)
+placed_within setup post w k = slice_get_within (posts setup.job) w.number post k.post_is
+
+pub placed_below : (setup : Outline) (post : Post) (w : WorkerIs) → IsPlaced setup post w → w.node < length setup.job.nodes
+placed_below setup post w k = subst (λ n. n < length setup.job.nodes) (placed_node setup post w k) (node_below setup.job w.number (placed_within setup post w k))
+
+-- ---- an item on each of some lanes
+
+pub none_on : (item : Item) (lane : Lane) (xs : List Lane) → ¬ IsIn lane xs → items_on lane (put_on_each item xs) ≡ []
+none_on item lane [] out = refl
+none_on item lane (x ∷ xs) out = go (is_same_lane (Some x) lane) refl (none_on item lane xs (λ i. out (inr i)))
+  where
+    go : (b : Bool) → is_same_lane (Some x) lane ≡ b → items_on lane (put_on_each item xs) ≡ [] → cons_option (cond b (Some item) None) (items_on lane (put_on_each item xs)) ≡ []
+    go true same rest = absurd (out (inl (sym (same_Some x lane (same_lane (Some x) lane same)))))
+    go false other rest = rest
+
+-- of distinct lanes, each gets the item once
+pub one_on : (item : Item) (lane : Lane) (xs : List Lane) → AreDistinct xs → IsIn lane xs → items_on lane (put_on_each item xs) ≡ item ∷ []
+one_on item lane [] distinct there = absurd there
+one_on item lane (x ∷ xs) distinct there = go (is_same_lane (Some x) lane) refl there (one_on item lane xs distinct.1)
+  where
+    go : (b : Bool) → is_same_lane (Some x) lane ≡ b → IsIn lane (x ∷ xs) → (IsIn lane xs → items_on lane (put_on_each item xs) ≡ item ∷ [])
+        → cons_option (cond b (Some item) None) (items_on lane (put_on_each item xs)) ≡ item ∷ []
+    go true same i rest =
+        let equal : x ≡ lane = same_Some x lane (same_lane (Some x) lane same) in
+        ap (λ (later : List Item). item ∷ later) (none_on item lane xs (subst (λ (l : Lane). ¬ IsIn l xs) equal distinct.0))
+    go false other (inl equal) rest = absurd (let same : is_same_lane (Some x) lane ≡ true = subst (λ (l : Lane). is_same_lane (Some l) lane ≡ true) equal (lane_self lane) in cc)
+    go false other (inr i) rest = rest i
+
+pub out_distinct : (job : Written) (w : ℕ) → AreDistinct (lanes_out job w)
+out_distinct job w = distinct_filter (λ (lane : Lane). is_sender w lane.sender) (lanes job) (lanes_distinct job)
+
+pub on_passing : (test : Lane → Bool) (item : Item) (lane : Lane) (xs : List Lane) → AreDistinct xs → IsIn lane xs → items_on lane (put_on_each item (filter test xs)) ≡ cond (test lane) (item ∷ []) []
+on_passing test item lane xs distinct there = go (test lane) refl
+  where
+    go : (b : Bool) → test lane ≡ b → items_on lane (put_on_each item (filter test xs)) ≡ cond b (item ∷ []) []
+    go true is = one_on item lane (filter test xs) (distinct_filter test xs distinct) (filter_in test lane xs there is)
+    go false is = none_on item lane (filter test xs) (λ i. let passes = (in_filter test lane xs i).1 in cc)
+
+-- what a turn puts on a lane out
+pub turn_puts : (setup : Outline) (w r cover : ℕ) (lane : Lane) → marker setup r ≡ Mark r cover ∷ [] → IsIn lane (lanes_out setup.job w)
+    → items_on lane (flat_map (λ mark. put_on_each mark (filter (λ (lane : Lane). covers_edge setup r lane.edge) (lanes_out setup.job w))) (marker setup r))
+    ≡ cond (covers_edge setup r lane.edge) (Mark r cover ∷ []) []
+turn_puts setup w r cover lane m i =
+    rw (m, append-nil (put_on_each (Mark r cover) (filter (λ (lane : Lane). covers_edge setup r lane.edge) (lanes_out setup.job w))))
+    (on_passing (λ (lane : Lane). covers_edge setup r lane.edge) (Mark r cover) lane (lanes_out setup.job w) (out_distinct setup.job w) i)

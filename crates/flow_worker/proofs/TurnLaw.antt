@@ -1,0 +1,283 @@
+-- A turn of a request keeps the law.
+use Rattle.std.proofs.Common.{◌≡◌, ◌∙◌, ℕ, suc, ◌+◌, ◌<◌, List, [], ◌∷◌, ◌++◌, Bool, true, false, cond, map, length, refl, sym, ap, subst, arith, Some, None, Option, slice_get, append_assoc, append-nil, length-append}
+use Rattle.std.specs.Prelude.{Contains, IfSome}
+use Rattle.flow_dag.specs.Masks.{has}
+use Rattle.flow_dag.specs.declared.graph.Graph.{Graph}
+use Rattle.marker_align.specs.declared.decision.Due.{Due}
+use Rattle.marker_align.specs.declared.held.Hand.TheVariants.{Empty}
+use Rattle.sink_journal.specs.declared.journal.Entry.{Entry}
+use Rattle.sink_journal.specs.declared.journal.Entry.TheVariants.{Turned}
+use Rattle.tuple_trace.specs.declared.tuple.Item.{Item}
+use Rattle.tuple_trace.specs.declared.tuple.Item.TheVariants.{Mark}
+use Rattle.versions.specs.declared.request.Change.{Change}
+use Rattle.flow_model.specs.Begin.{Begin, local_at}
+use Rattle.flow_model.specs.Covers.{covers_edge}
+use Rattle.flow_model.specs.Lanes.{lanes, lanes_out, marked_lanes}
+use Rattle.flow_model.specs.Law.{IsEnabled, IsExecution, Progress, Station, initial, later_dues, next_due, progress_after}
+use Rattle.flow_model.specs.declared.topology.Lane.{Lane}
+use Rattle.flow_model.specs.Outline.{Outline, Post}
+use Rattle.flow_model.specs.Points.{turned}
+use Rattle.flow_model.specs.Replay.{Local, after, after_all, items_on, puts, sent, shown, with_change}
+use Rattle.flow_model.specs.Requests.{change_of, func_with}
+use Rattle.flow_model.specs.Run.{IsLawfulFrom}
+use Rattle.flow_model.specs.Station.{dues_after, station}
+use Rattle.flow_model.proofs.ElementLemmas.{AreDistinct, IsIn, all_of_at, contains_of_in, in_of_place}
+use Rattle.flow_model.proofs.JournalLemmas.{IsExecution-append, after_all-append, progress_after-append, sent-append, shown-append}
+use Rattle.flow_worker.specs.Pairs.{Each}
+use Rattle.flow_worker.specs.Endpoints.{Gains, LaneInIs, IsSteadyIn, IsSteadyOut, LaneOutIs, planned}
+use Rattle.flow_model.specs.Dues.{AreDues, IsDueOf}
+use Rattle.flow_model.specs.InForce.{counts_with, func_in}
+use Rattle.flow_worker.specs.Worker.{IsEndpointIn, IsEndpointOut, IsPlaced, IsWorker, Sends, ShowsTaken, WorkerIs, edges_of, local_now, numbers_in, progress_now}
+use Rattle.flow_worker.specs.Steps.{HasTurned, emptied, marked_entries, marker_on}
+use Rattle.flow_worker.proofs.Pairs.{each_both, each_of, get_mapped, pairs_each, pairs_keep, pairs_length}
+use Rattle.flow_worker.proofs.Marking.{AreMarked, HoldMarker, at_onto, local_marks, marks_follow, marks_onto, progress_marks, sent_marks, show_marker, shown_marks, takes_marked, turned-append, turned_marks}
+use Rattle.flow_worker.proofs.PlaceLemmas.{in_marked, ins_distinct, marked_in, number_is, out_lane_edge, out_sends, placed_edges, turn_puts}
+use Rattle.flow_worker.proofs.Steadying.{KeepsSteady, steady_by}
+
+-- ---- what stays of the lanes in
+
+pub mapped_emptied : {B : Type 0} (f : LaneInIs → B) (mask i : ℕ) (ins : List LaneInIs) → ((a : LaneInIs) → f (record a { hand = Empty }) ≡ f a) → map f (emptied mask i ins) ≡ map f ins
+mapped_emptied f mask i [] same = refl
+mapped_emptied f mask i (a ∷ more) same = go (has mask i) (mapped_emptied f mask (i + 1) more same)
+  where
+    go : (b : Bool) → map f (emptied mask (i + 1) more) ≡ map f more → f (cond b (record a { hand = Empty }) a) ∷ map f (emptied mask (i + 1) more) ≡ f a ∷ map f more
+    go true h = let e = same a in cc
+    go false h = ap (λ ys. f a ∷ ys) h
+
+pub each_emptied : (P : LaneInIs → Type 0) (mask i : ℕ) (ins : List LaneInIs) → ((a : LaneInIs) → P a → P (record a { hand = Empty })) → Each P ins → Each P (emptied mask i ins)
+each_emptied P mask i [] f e = tt
+each_emptied P mask i (a ∷ more) f e = (go (has mask i), each_emptied P mask (i + 1) more f e.1)
+  where
+    go : (b : Bool) → P (cond b (record a { hand = Empty }) a)
+    go true = f a e.0
+    go false = e.0
+
+pub length_emptied : (mask i : ℕ) (ins : List LaneInIs) → length (emptied mask i ins) ≡ length ins
+length_emptied mask i [] = refl
+length_emptied mask i (a ∷ more) = ap suc (length_emptied mask (i + 1) more)
+
+pub end_emptied : (setup : Outline) (graph : Graph) (a : LaneInIs) → IsEndpointIn setup graph a → IsEndpointIn setup graph (record a { hand = Empty })
+end_emptied setup graph a e = record { lane = e.lane; edge = e.edge; numbered = e.numbered; edge_is = e.edge_is; edge_there = e.edge_there; origin_is = e.origin_is }
+
+pub end_gains : (setup : Outline) (graph : Graph) (node : ℕ) (items : LaneOutIs → List Item) (a b : LaneOutIs) → Gains items a b → IsEndpointOut setup graph node a → IsEndpointOut setup graph node b
+end_gains setup graph node items a b g e =
+    subst (IsEndpointOut setup graph node) (sym g) (record { lane = e.lane; numbered = e.numbered; edge_is = e.edge_is; origin_is = e.origin_is })
+
+are_marked : (st : Station) (r mask i : ℕ) (ins : List LaneInIs) → ((k : ℕ) (a : LaneInIs) → slice_get ins k ≡ Some a → has mask (i + k) ≡ true → IsIn a.number (st.marked_lanes r)) → AreMarked st r mask i ins
+are_marked st r mask i [] f = tt
+are_marked st r mask i (a ∷ more) f = (
+  (λ h. f 0 a refl (subst (λ n. has mask n ≡ true) (omega arith) h)),
+  are_marked st r mask (i + 1) more (λ k b g h. f (suc k) b g (subst (λ n. has mask n ≡ true) (omega arith) h)),
+)
+
+from_zero : (mask k : ℕ) → has mask (0 + k) ≡ true → has mask k ≡ true
+from_zero mask k h = subst (λ n. has mask n ≡ true) (omega arith) h
+
+to_zero : (mask k : ℕ) → has mask k ≡ true → has mask (0 + k) ≡ true
+to_zero mask k h = subst (λ n. has mask n ≡ true) (omega arith) h
+
+-- ---- the journal with its markers, and then the turn
+
+module _ (setup : Outline) (begin : Begin) (keeps : KeepsSteady setup) (due : Due) (w : WorkerIs) (h : IsWorker setup begin w) (open_ : w.closed ≡ false)
+    (due_is : w.due ≡ Some due) (held : HoldMarker due.lanes due.request due.cover 0 w.ins)
+  where
+    abbrev post : Post
+    post = h.post
+
+    abbrev st : Station
+    st = station setup begin.turned h.post
+
+    abbrev marks : List Entry
+    marks = marked_entries due.lanes due.request 0 w.ins
+
+    abbrev turned_journal : List Entry
+    turned_journal = (w.journal ++ marks) ++ Turned due.request ∷ []
+
+    abbrev progress : Progress
+    progress = progress_now setup begin h.post w.journal
+
+    abbrev local : Local
+    local = local_now setup begin h.post h.begun w.journal
+
+    is : IsDueOf setup w.node (edges_of w.ins) due
+    is = subst (λ (o : Option Due). IfSome o (IsDueOf setup w.node (edges_of w.ins))) due_is h.due_is
+
+    dues : progress.dues ≡ due.request ∷ dues_after setup due.request w.node
+    dues = subst (AreDues setup w.node progress.dues) due_is h.dues_are
+
+    is_next : next_due progress.dues ≡ Some due.request
+    is_next = ap next_due dues
+
+    number : post.number ≡ w.number
+    number = number_is setup h.post w h.placed
+
+    distinct : AreDistinct (numbers_in w.ins)
+    distinct = ins_distinct setup h.post w h.placed
+
+    -- the mask has the places of the lanes that bring the marker
+    mask_marks : (k : ℕ) (a : LaneInIs) → slice_get w.ins k ≡ Some a → has due.lanes (0 + k) ≡ true → IsIn a.number (marked_lanes setup post.number due.request)
+    mask_marks k a g b =
+        in_marked setup h.post w h.placed due.request a (in_of_place a w.ins k g)
+        (sym (is.lanes k a.edge (get_mapped (λ (a : LaneInIs). a.edge) w.ins k a g)) ∙ from_zero due.lanes k b)
+
+    marks_lawful : IsExecution st progress marks
+    marks_lawful = marks_follow st due.request due.lanes 0 progress w.ins is_next (h.unended open_) distinct
+        (λ n i. absurd (subst (IsIn n) h.lawful.no_open_turn i))
+        (are_marked st due.request due.lanes 0 w.ins mask_marks)
+
+    abbrev onto : List ℕ
+    onto = marks_onto due.lanes 0 w.ins progress.marked
+
+    covered : (n : ℕ) → IsIn n (marked_lanes setup post.number due.request) → IsIn n onto
+    covered n i =
+        let m = marked_in setup h.post w h.placed due.request n i in
+        let a : LaneInIs = m.1.0 in
+        let there : has due.lanes m.0 ≡ true = is.lanes m.0 a.edge (get_mapped (λ (a : LaneInIs). a.edge) w.ins m.0 a m.1.1) ∙ m.1.3 in
+        rw m.1.2 (at_onto due.lanes 0 m.0 a w.ins progress.marked m.1.1 (to_zero due.lanes m.0 there))
+
+    turn_enabled : IsEnabled st (progress_after progress marks) (Turned due.request)
+    turn_enabled =
+        subst (λ (p : Progress). IsEnabled st p (Turned due.request)) (sym (progress_marks due.lanes due.request 0 progress w.ins))
+        (is_next, all_of_at (Contains onto) (marked_lanes setup post.number due.request) (λ n i. contains_of_in n onto (covered n i)), h.unended open_)
+
+    all_progress : progress_now setup begin h.post turned_journal ≡ record progress { dues = later_dues progress.dues; marked = [] }
+    all_progress =
+        progress_after-append (initial st) (w.journal ++ marks) (Turned due.request ∷ [])
+        ∙ (ap (λ (p : Progress). record p { dues = later_dues p.dues; marked = [] }) (progress_after-append (initial st) w.journal marks ∙ progress_marks due.lanes due.request 0 progress w.ins))
+
+    turned_lawful : IsLawfulFrom setup begin h.post turned_journal
+    turned_lawful = record {
+      execution = (IsExecution-append st (initial st) (w.journal ++ marks) (Turned due.request ∷ [])).1 (
+        (IsExecution-append st (initial st) w.journal marks).1 (h.lawful.execution, marks_lawful),
+        (subst (λ (p : Progress). IsEnabled st p (Turned due.request)) (sym (progress_after-append (initial st) w.journal marks)) turn_enabled, tt),
+      );
+      no_open_turn = ap (λ (p : Progress). p.marked) all_progress;
+    }
+
+    turned_local : local_now setup begin h.post h.begun turned_journal ≡ after setup h.post local (Turned due.request)
+    turned_local =
+        after_all-append setup h.post (local_at setup begin.turned h.post h.begun) (w.journal ++ marks) (Turned due.request ∷ [])
+        ∙ ap (λ (l : Local). after setup h.post l (Turned due.request))
+        (after_all-append setup h.post (local_at setup begin.turned h.post h.begun) w.journal marks ∙ local_marks setup h.post due.lanes due.request 0 local w.ins)
+
+    shown_split : (n : ℕ) → shown setup n turned_journal ≡ shown setup n w.journal ++ shown setup n marks
+    shown_split n = shown-append setup n (w.journal ++ marks) (Turned due.request ∷ []) ∙ (append-nil (shown setup n (w.journal ++ marks)) ∙ shown-append setup n w.journal marks)
+
+    turned_takes : Each (ShowsTaken setup turned_journal) (emptied due.lanes 0 w.ins)
+    turned_takes = takes_marked setup due.lanes due.request due.cover 0 w.journal turned_journal marks w.ins is.marker_is shown_split
+        (show_marker setup due.lanes due.request 0 marks w.ins (λ k a q. shown_marks setup due.lanes due.request 0 k a w.ins distinct q)) held h.takes
+
+    turned_sent : (lane : Lane) → IsIn lane (lanes_out setup.job post.number)
+        → sent setup h.post (local_at setup begin.turned h.post h.begun) lane turned_journal
+        ≡ sent setup h.post (local_at setup begin.turned h.post h.begun) lane w.journal ++ cond (covers_edge setup due.request lane.edge) (Mark due.request due.cover ∷ []) []
+    turned_sent lane i =
+        let first : Local = local_at setup begin.turned h.post h.begun in
+        sent-append setup h.post first lane (w.journal ++ marks) (Turned due.request ∷ [])
+        ∙ (ap (λ xs. xs ++ (items_on lane (puts setup h.post (after_all setup h.post first (w.journal ++ marks)) (Turned due.request)) ++ []))
+        (sent-append setup h.post first lane w.journal marks
+        ∙ (ap (λ xs. sent setup h.post first lane w.journal ++ xs) (sent_marks setup h.post due.lanes due.request 0 lane local w.ins) ∙ append-nil (sent setup h.post first lane w.journal)))
+        ∙ ap (λ xs. sent setup h.post first lane w.journal ++ xs)
+        (append-nil (items_on lane (puts setup h.post (after_all setup h.post first (w.journal ++ marks)) (Turned due.request)))
+        ∙ turn_puts setup post.number due.request due.cover lane is.marker_is i))
+
+    turned_turns : length (turned turned_journal) ≡ length (turned w.journal) + 1
+    turned_turns =
+        let one : turned turned_journal ≡ turned (w.journal ++ marks) ++ due.request ∷ [] = turned-append (w.journal ++ marks) (Turned due.request ∷ []) in
+        let two : turned (w.journal ++ marks) ≡ turned w.journal = turned-append w.journal marks ∙ (ap (λ xs. turned w.journal ++ xs) (turned_marks due.lanes due.request 0 w.ins) ∙ append-nil (turned w.journal)) in
+        ap length (one ∙ ap (λ xs. xs ++ due.request ∷ []) two) ∙ length-append (turned w.journal) (due.request ∷ [])
+
+    abbrev marker_of : LaneOutIs → List Item
+    marker_of = marker_on setup due.request due.cover
+
+    turned_out : (a b : LaneOutIs) → Gains marker_of a b → Sends setup begin h.post h.begun w.journal a × IsIn a w.outs → Sends setup begin h.post h.begun turned_journal b
+    turned_out a b e q lane g =
+        let here : slice_get (lanes setup.job) a.number ≡ Some lane = subst (λ (o : LaneOutIs). slice_get (lanes setup.job) o.number ≡ Some lane) e g in
+        let edge : lane.edge ≡ a.edge = out_lane_edge setup h.post w h.placed a q.1 lane here in
+        ap planned e
+        ∙ (sym (append_assoc a.sent a.waiting (marker_of a))
+        ∙ (ap (λ xs. xs ++ marker_of a) (q.0 lane here)
+        ∙ (ap (λ n. sent setup h.post (local_at setup begin.turned h.post h.begun) lane w.journal ++ cond (covers_edge setup due.request n) (Mark due.request due.cover ∷ []) []) (sym edge)
+        ∙ sym (turned_sent lane (out_sends setup h.post w h.placed a q.1 lane here)))))
+
+    func_turned : (o : Option Change) (l : Local) → func_with o l.func ≡ (with_change o l).func
+    func_turned None l = refl
+    func_turned (Some change) l = refl
+
+    counts_turned : (o : Option Change) (l : Local) → counts_with o l.counts ≡ (with_change o l).counts
+    counts_turned None l = refl
+    counts_turned (Some change) l = refl
+
+    pub turned_law : (v : WorkerIs) → HasTurned setup due w v → IsWorker setup begin v
+    turned_law v t =
+        let k = h.placed in
+        let node : w.node ≡ post.node = k.node_is in
+        let numbers : numbers_in v.ins ≡ numbers_in w.ins = rw t.ins (mapped_emptied (λ (a : LaneInIs). a.number) due.lanes 0 w.ins (λ a. refl)) in
+        let edges : edges_of v.ins ≡ edges_of w.ins = rw t.ins (mapped_emptied (λ (a : LaneInIs). a.edge) due.lanes 0 w.ins (λ a. refl)) in
+        let ends : Each (IsEndpointIn setup k.graph) v.ins = rw t.ins (each_emptied (IsEndpointIn setup k.graph) due.lanes 0 w.ins (end_emptied setup k.graph) k.ends_in) in
+        let long : length v.ins ≡ length w.ins = rw t.ins (length_emptied due.lanes 0 w.ins) in
+        let outs_long : length v.outs ≡ length w.outs = pairs_length (Gains marker_of) w.outs v.outs t.outs in
+        let takes : Each (ShowsTaken setup v.journal) v.ins = rw (t.journal, t.ins) turned_takes in
+        let steady : Each IsSteadyIn v.ins = rw t.ins (each_emptied IsSteadyIn due.lanes 0 w.ins (λ a q. q) h.steady_in) in
+        let lawful : IsLawfulFrom setup begin h.post v.journal = rw t.journal turned_lawful in
+        let sends : Each (Sends setup begin h.post h.begun v.journal) v.outs = rw t.journal
+        (pairs_each (Gains marker_of) (λ o. Sends setup begin h.post h.begun w.journal o × IsIn o w.outs) (Sends setup begin h.post h.begun turned_journal) w.outs v.outs turned_out t.outs
+        (each_both (Sends setup begin h.post h.begun w.journal) (λ o. IsIn o w.outs) w.outs h.sends (each_of (λ o. IsIn o w.outs) w.outs (λ o i. i)))) in
+        let placed : IsPlaced setup h.post v = subst (IsPlaced setup h.post) (sym t.rest) (record {
+          post_is = k.post_is;
+          node_is = k.node_is;
+          place_is = k.place_is;
+          graph = k.graph;
+          graph_is = k.graph_is;
+          ins_are = numbers ∙ k.ins_are;
+          ends_in = ends;
+          some_in = rw long k.some_in;
+          few_in = rw long k.few_in;
+          outs_are = pairs_keep (Gains marker_of) (λ (o : LaneOutIs). o.number) w.outs v.outs (λ a b f. ap (λ (o : LaneOutIs). o.number) f) t.outs ∙ k.outs_are;
+          ends_out = pairs_each (Gains marker_of) (IsEndpointOut setup k.graph w.node) (IsEndpointOut setup k.graph w.node) w.outs v.outs (end_gains setup k.graph w.node marker_of) t.outs k.ends_out;
+          room_in = rw long k.room_in;
+          room_out = rw outs_long k.room_out;
+        }) in
+        let all_dues : (progress_now setup begin h.post v.journal).dues ≡ dues_after setup due.request w.node = rw t.journal (ap (λ (p : Progress). p.dues) all_progress ∙ ap later_dues dues) in
+        let change : change_of setup due.request w.node ≡ change_of setup due.request post.node = ap (change_of setup due.request) node in
+        let now : Local = local_now setup begin h.post h.begun v.journal in
+        let now_is : now ≡ after setup h.post local (Turned due.request) = rw t.journal turned_local in
+        let func : func_in setup w.node v.in_force ≡ Some now.func =
+        t.func local.func h.func_is
+        ∙ ap Some (ap (λ (o : Option Change). func_with o local.func) change ∙ (func_turned (change_of setup due.request post.node) local ∙ sym (ap (λ (l : Local). l.func) now_is))) in
+        let counts : v.counts ≡ now.counts =
+        t.counts ∙ (ap (counts_with (change_of setup due.request w.node)) h.counts_is
+        ∙ (ap (λ (o : Option Change). counts_with o local.counts) change ∙ (counts_turned (change_of setup due.request post.node) local ∙ sym (ap (λ (l : Local). l.counts) now_is)))) in
+        let last : v.last ≡ now.last = t.last ∙ sym (ap (λ (l : Local). l.last) now_is) in
+        let few : IfSome v.due (λ (d : Due). v.owner.turned < d.request) = few_after v.due t.later.later (t.turned) in
+        let turns : v.owner.turned ≡ length (turned v.journal) = rw t.journal (t.turned ∙ (ap (λ n. n + 1) h.turned_is ∙ sym turned_turns)) in
+        let steady_out : Each IsSteadyOut v.outs = steady_by setup begin h.post h.begun v keeps placed lawful takes steady sends in
+        let ended : (progress_now setup begin h.post v.journal).ended ≡ [] = rw t.journal (ap (λ (p : Progress). p.ended) all_progress ∙ h.unended open_) in
+        let same_node : v.node ≡ w.node = ap (λ (x : WorkerIs). x.node) t.rest in
+        let closed : v.closed ≡ false = ap (λ (x : WorkerIs). x.closed) t.rest ∙ open_ in
+        record {
+          post = h.post;
+          placed = placed;
+          begun = h.begun;
+          begun_is = rw (ap (λ (x : WorkerIs). x.number) t.rest) h.begun_is;
+          lawful = lawful;
+          func_is = rw same_node func;
+          counts_is = counts;
+          last_is = last;
+          takes = takes;
+          steady_in = steady;
+          sends = sends;
+          steady_out = steady_out;
+          turned_is = turns;
+          dues_are = rw same_node (subst (λ (ds : List ℕ). AreDues setup w.node ds v.due) (sym all_dues) t.later.dues);
+          due_is = rw (same_node, edges) (subst (λ (es : List ℕ). IfSome v.due (IsDueOf setup w.node es)) (sym (placed_edges setup h.post w k)) t.later.is_due);
+          few_turned = few;
+          unended = λ c. ended;
+          finished = λ c. absurd (cc (c, closed));
+          put_down = λ c. absurd (cc (c, closed));
+        }
+      where
+        few_after : (o : Option Due) → IfSome o (λ (d : Due). due.request < d.request) → v.owner.turned ≡ w.owner.turned + 1 → IfSome o (λ (d : Due). v.owner.turned < d.request)
+        few_after None l e = tt
+        few_after (Some d) l e =
+            let before : w.owner.turned < due.request = subst (λ (o : Option Due). IfSome o (λ (d : Due). w.owner.turned < d.request)) due_is h.few_turned in
+            omega (arith, l, e, before)

@@ -1,0 +1,624 @@
+-- What the steps of a turn come to.
+use Rattle.std.proofs.Common.{◌≡◌, ◌∙◌, ◌⊎◌, inl, inr, ℕ, zero, suc, ◌+◌, ◌<◌, ◌≤◌, List, [], ◌∷◌, ◌++◌, Bool, true, false, ◌||◌, cond, drop, length, refl, sym, ap, subst, arith, Option, Some, None, slice_get, append_assoc, append-nil, length-append}
+use Rattle.std.specs.Prelude.{◌↔◌, Contains, IfSome, IsTrue}
+use Rattle.std.specs.List.{list_any}
+use Rattle.std.proofs.lemmas.Bool.Decides.{nat_tests}
+use Rattle.control_box.specs.Ends.{OwnerIs}
+use Rattle.flow_dag.specs.Masks.{has}
+use Rattle.marker_align.specs.Decision.{decided, is_aligned, may_turn}
+use Rattle.marker_align.specs.Hands.{is_issued}
+use Rattle.marker_align.specs.declared.decision.Act.{Act}
+use Rattle.marker_align.specs.declared.decision.Act.TheVariants.{Turn, Process, Close, Nothing}
+use Rattle.marker_align.specs.declared.decision.Due.{Due}
+use Rattle.marker_align.specs.declared.held.Hand.TheVariants.{Empty}
+use Rattle.sink_journal.specs.declared.journal.Entry.{Entry}
+use Rattle.sink_journal.specs.declared.journal.Entry.TheVariants.{Met, Marked, Turned}
+use Rattle.tuple_trace.specs.declared.tuple.Item.{Item}
+use Rattle.tuple_trace.specs.declared.tuple.Tuple.{Tuple}
+use Rattle.flow_model.specs.Begin.{Begin}
+use Rattle.flow_model.specs.Outline.{Outline, Post}
+use Rattle.flow_model.specs.Planned.{IsPlanned}
+use Rattle.flow_model.proofs.ElementLemmas.{IsIn, contains_of_in, in_cases, in_of_contains, in_right}
+use Rattle.flow_worker.specs.Pairs.{Each, EachPair, total}
+use Rattle.flow_worker.specs.Endpoints.{Filled, Flushed, Gains, LaneInIs, LaneOutIs, SameButMemory, SameIn, SameOut, all_sent, all_taken, is_waiting, planned}
+use Rattle.flow_model.specs.Dues.{IsDueOf}
+use Rattle.flow_worker.specs.Worker.{IsPlaced, IsWorker, WorkerIs, edges_of, hands}
+use Rattle.flow_worker.specs.Steps.{HasClosed, HasProcessed, HasTurned, MemoryOnly, PollsOnly, PutsOnly, TakesOnly, all_emptied, emptied, ended_entries, laid_down, marked_entries}
+use Rattle.flow_worker.specs.Turning.{DryWhereEmpty, FullWhereWaiting, HasCause, HasDone, IsDone, IsHeld, IsTurn, NotEarly, Overtakes, Polled, SameEndpoints, TurnsAtPost, added, moves}
+use Rattle.flow_worker.specs.declared.worker.Turn as turn_type
+use Rattle.flow_worker.specs.declared.worker.Turn.TheVariants as turn
+use Rattle.flow_worker.proofs.Pairs.{each_same, pairs_keep, pairs_then}
+use Rattle.flow_worker.proofs.Keeping.{keeps_memory, keeps_poll, keeps_puts, keeps_takes}
+use Rattle.flow_worker.proofs.Steadying.{KeepsAgreement, KeepsSteady, worker_agreement}
+use Rattle.flow_worker.proofs.Deciding.{all_hands, turn_first, turns_if}
+use Rattle.flow_worker.proofs.Acting.{done_law, head_places}
+
+-- ---- pairs
+
+pairs_map : {A : Type 0} (R Q : A → A → Type 0) (xs ys : List A) → ((x y : A) → R x y → Q x y) → EachPair R xs ys → EachPair Q xs ys
+pairs_map R Q [] [] h r = tt
+pairs_map R Q [] (y ∷ ys) h r = absurd r
+pairs_map R Q (x ∷ xs) [] h r = absurd r
+pairs_map R Q (x ∷ xs) (y ∷ ys) h r = (h x y r.0, pairs_map R Q xs ys h r.1)
+
+total_grows : {A : Type 0} (R : A → A → Type 0) (f : A → ℕ) (xs ys : List A) → ((x y : A) → R x y → f x ≤ f y) → EachPair R xs ys → total f xs ≤ total f ys
+total_grows R f [] [] h r = omega arith
+total_grows R f [] (y ∷ ys) h r = absurd r
+total_grows R f (x ∷ xs) [] h r = absurd r
+total_grows R f (x ∷ xs) (y ∷ ys) h r = let a = h x y r.0 in let b = total_grows R f xs ys h r.1 in omega arith
+
+total_same : {A : Type 0} (R : A → A → Type 0) (f : A → ℕ) (xs ys : List A) → ((x y : A) → R x y → f x ≡ f y) → EachPair R xs ys → total f xs ≡ total f ys
+total_same R f [] [] h r = refl
+total_same R f [] (y ∷ ys) h r = absurd r
+total_same R f (x ∷ xs) [] h r = absurd r
+total_same R f (x ∷ xs) (y ∷ ys) h r = let a = h x y r.0 in let b = total_same R f xs ys h r.1 in omega (arith, a, b)
+
+same_in : (a : LaneInIs) → SameIn a a
+same_in a = (refl, refl, refl, refl)
+
+same_out : (a : LaneOutIs) → SameOut a a
+same_out a = (refl, refl, refl, refl)
+
+in_then : (a b c : LaneInIs) → SameIn a b → SameIn b c → SameIn a c
+in_then a b c p q = (q.0 ∙ p.0, q.1 ∙ p.1, q.2 ∙ p.2, q.3 ∙ p.3)
+
+out_then : (a b c : LaneOutIs) → SameOut a b → SameOut b c → SameOut a c
+out_then a b c p q = (q.0 ∙ p.0, q.1 ∙ p.1, q.2 ∙ p.2, q.3 ∙ p.3)
+
+gains_same : (f : LaneOutIs → List Item) (a b : LaneOutIs) → Gains f a b → SameOut a b
+gains_same f a b g = (ap (λ (o : LaneOutIs). o.lane) g, ap (λ (o : LaneOutIs). o.number) g, ap (λ (o : LaneOutIs). o.origin) g, ap (λ (o : LaneOutIs). o.edge) g)
+
+memory_same : (a b : LaneOutIs) → SameButMemory a b → SameOut a b
+memory_same a b g = (ap (λ (o : LaneOutIs). o.lane) g, ap (λ (o : LaneOutIs). o.number) g, ap (λ (o : LaneOutIs). o.origin) g, ap (λ (o : LaneOutIs). o.edge) g)
+
+-- ---- what waits
+
+pub waiting_some : (outs : List LaneOutIs) → list_any is_waiting outs ≡ true → Each (λ (o : LaneOutIs). o.waiting ≡ []) outs → ⊥
+waiting_some [] e n = cc
+waiting_some (o ∷ more) e n = waiting_some more (go (is_waiting o) (idle o n.0) e) n.1
+  where
+    idle : (o : LaneOutIs) → o.waiting ≡ [] → is_waiting o ≡ false
+    idle o q = rw q refl
+
+    go : (b : Bool) → b ≡ false → b || list_any is_waiting more ≡ true → list_any is_waiting more ≡ true
+    go true q e = absurd (cc)
+    go false q e = e
+
+pub waiting_none : (outs : List LaneOutIs) → list_any is_waiting outs ≡ false → Each (λ (o : LaneOutIs). o.waiting ≡ []) outs
+waiting_none [] e = tt
+waiting_none (o ∷ more) e = let p = parts (is_waiting o) (list_any is_waiting more) e in (none o.waiting refl p.0, waiting_none more p.1)
+  where
+    parts : (x y : Bool) → (x || y) ≡ false → (x ≡ false) × (y ≡ false)
+    parts true y e = absurd (cc)
+    parts false y e = (refl, e)
+
+    none : (items : List Item) → o.waiting ≡ items → is_waiting o ≡ false → o.waiting ≡ []
+    none [] q e = q
+    none (x ∷ xs) q e = absurd (let l : 0 < length o.waiting = rw q (omega arith) in let t : is_waiting o ≡ true = grind (arith, nat_tests) in cc)
+
+-- ---- what was added
+
+drop_front : (xs ys : List Entry) → drop (length xs) (xs ++ ys) ≡ ys
+drop_front [] ys = refl
+drop_front (x ∷ xs) ys = drop_front xs ys
+
+added_is : (w v : WorkerIs) (new : List Entry) → v.journal ≡ w.journal ++ new → added w v ≡ new
+added_is w v new e = ap (drop (length w.journal)) e ∙ drop_front w.journal new
+
+none_added : (w v : WorkerIs) (x : Entry) → v.journal ≡ w.journal → Contains (added w v) x → ⊥
+none_added w v x e c = subst (IsIn x) (added_is w v [] (e ∙ sym (append-nil w.journal))) (in_of_contains x (added w v) c)
+
+one_longer : (xs : List ℕ) (n : ℕ) → xs ≡ xs ++ n ∷ [] → ⊥
+one_longer [] n e = cc
+one_longer (x ∷ xs) n e = one_longer xs n (let r : xs ≡ xs ++ n ∷ [] = cc in r)
+
+no_met_marks : (l : ℕ) (t : Tuple) (mask r i : ℕ) (ins : List LaneInIs) → IsIn (Met l t) (marked_entries mask r i ins) → ⊥
+no_met_marks l t mask r i [] h = h
+no_met_marks l t mask r i (a ∷ more) h = go (has mask i) (λ k. no_met_marks l t mask r (i + 1) more k) h
+  where
+    go : (b : Bool) → (IsIn (Met l t) (marked_entries mask r (i + 1) more) → ⊥) → IsIn (Met l t) (cond b (Marked a.number r ∷ []) [] ++ marked_entries mask r (i + 1) more) → ⊥
+    go true f (inl e) = cc
+    go true f (inr k) = f k
+    go false f k = f k
+
+no_met_turn : (l : ℕ) (t : Tuple) (mask r : ℕ) (ins : List LaneInIs) → IsIn (Met l t) (marked_entries mask r 0 ins ++ Turned r ∷ []) → ⊥
+no_met_turn l t mask r ins h = go (in_cases (Met l t) (marked_entries mask r 0 ins) (Turned r ∷ []) h)
+  where
+    go : IsIn (Met l t) (marked_entries mask r 0 ins) ⊎ IsIn (Met l t) (Turned r ∷ []) → ⊥
+    go (inl k) = no_met_marks l t mask r 0 ins k
+    go (inr (inl e)) = cc
+    go (inr (inr k)) = k
+
+no_met_ends : (l : ℕ) (t : Tuple) (ins : List LaneInIs) → IsIn (Met l t) (ended_entries ins) → ⊥
+no_met_ends l t [] h = h
+no_met_ends l t (a ∷ more) (inl e) = cc
+no_met_ends l t (a ∷ more) (inr h) = no_met_ends l t more h
+
+no_turned_ends : (r : ℕ) (ins : List LaneInIs) → IsIn (Turned r) (ended_entries ins) → ⊥
+no_turned_ends r [] h = h
+no_turned_ends r (a ∷ more) (inl e) = cc
+no_turned_ends r (a ∷ more) (inr h) = no_turned_ends r more h
+
+turned_marks_is : (q mask r i : ℕ) (ins : List LaneInIs) → IsIn (Turned q) (marked_entries mask r i ins) → ⊥
+turned_marks_is q mask r i [] h = h
+turned_marks_is q mask r i (a ∷ more) h = go (has mask i) (λ k. turned_marks_is q mask r (i + 1) more k) h
+  where
+    go : (b : Bool) → (IsIn (Turned q) (marked_entries mask r (i + 1) more) → ⊥) → IsIn (Turned q) (cond b (Marked a.number r ∷ []) [] ++ marked_entries mask r (i + 1) more) → ⊥
+    go true f (inl e) = cc
+    go true f (inr k) = f k
+    go false f k = f k
+
+turned_turn_is : (q mask r : ℕ) (ins : List LaneInIs) → IsIn (Turned q) (marked_entries mask r 0 ins ++ Turned r ∷ []) → q ≡ r
+turned_turn_is q mask r ins h = go (in_cases (Turned q) (marked_entries mask r 0 ins) (Turned r ∷ []) h)
+  where
+    go : IsIn (Turned q) (marked_entries mask r 0 ins) ⊎ IsIn (Turned q) (Turned r ∷ []) → q ≡ r
+    go (inl k) = absurd (turned_marks_is q mask r 0 ins k)
+    go (inr (inl e)) = cc
+    go (inr (inr k)) = absurd k
+
+emptied_none : (mask i : ℕ) (ins : List LaneInIs) → ((k : ℕ) (a : LaneInIs) → slice_get ins k ≡ Some a → has mask (i + k) ≡ true → ⊥) → emptied mask i ins ≡ ins
+emptied_none mask i [] f = refl
+emptied_none mask i (a ∷ more) f =
+    go (has mask i) refl (emptied_none mask (i + 1) more (λ k b g h. f (suc k) b g (subst (λ n. has mask n ≡ true) (omega arith) h)))
+  where
+    go : (b : Bool) → has mask i ≡ b → emptied mask (i + 1) more ≡ more → cond b (record a { hand = Empty }) a ∷ emptied mask (i + 1) more ≡ a ∷ more
+    go true e r = absurd (f 0 a refl (subst (λ n. has mask n ≡ true) (omega arith) e))
+    go false e r = ap (λ xs. a ∷ xs) r
+
+-- ---- what an act leaves
+
+pairs_emptied : (mask i : ℕ) (ins : List LaneInIs) → EachPair SameIn ins (emptied mask i ins)
+pairs_emptied mask i [] = tt
+pairs_emptied mask i (a ∷ more) = (go (has mask i), pairs_emptied mask (i + 1) more)
+  where
+    go : (b : Bool) → SameIn a (cond b (record a { hand = Empty }) a)
+    go true = (refl, refl, refl, refl)
+    go false = (refl, refl, refl, refl)
+
+pairs_laid : (k : ℕ) (ins : List LaneInIs) → EachPair SameIn ins (laid_down k ins)
+pairs_laid k [] = tt
+pairs_laid zero (a ∷ more) = ((refl, refl, refl, refl), each_same SameIn more same_in)
+pairs_laid (suc k) (a ∷ more) = (same_in a, pairs_laid k more)
+
+pairs_ended : (ins : List LaneInIs) → EachPair SameIn ins (all_emptied ins)
+pairs_ended [] = tt
+pairs_ended (a ∷ more) = ((refl, refl, refl, refl), pairs_ended more)
+
+taken_emptied : (mask i : ℕ) (ins : List LaneInIs) → all_taken (emptied mask i ins) ≡ all_taken ins
+taken_emptied mask i [] = refl
+taken_emptied mask i (a ∷ more) = go (has mask i) (taken_emptied mask (i + 1) more)
+  where
+    go : (b : Bool) → all_taken (emptied mask (i + 1) more) ≡ all_taken more → all_taken (cond b (record a { hand = Empty }) a ∷ emptied mask (i + 1) more) ≡ all_taken (a ∷ more)
+    go true h = ap (λ n. length a.taken + n) h
+    go false h = ap (λ n. length a.taken + n) h
+
+taken_laid : (k : ℕ) (ins : List LaneInIs) → all_taken (laid_down k ins) ≡ all_taken ins
+taken_laid k [] = refl
+taken_laid zero (a ∷ more) = refl
+taken_laid (suc k) (a ∷ more) = ap (λ n. length a.taken + n) (taken_laid k more)
+
+taken_ended : (ins : List LaneInIs) → all_taken (all_emptied ins) ≡ all_taken ins
+taken_ended [] = refl
+taken_ended (a ∷ more) = ap (λ n. length a.taken + n) (taken_ended more)
+
+long_ended : (ins : List LaneInIs) → length (ended_entries ins) ≡ length ins
+long_ended [] = refl
+long_ended (a ∷ more) = ap suc (long_ended more)
+
+sent_gains : (f : LaneOutIs → List Item) (xs ys : List LaneOutIs) → EachPair (Gains f) xs ys → all_sent ys ≡ all_sent xs
+sent_gains f xs ys p = sym (total_same (Gains f) (λ (o : LaneOutIs). length o.sent) xs ys (λ a b g. sym (ap (λ (o : LaneOutIs). length o.sent) g)) p)
+
+whole_turn : (setup : Outline) (due : Due) (w v : WorkerIs) → HasTurned setup due w v → v.journal ≡ w.journal ++ (marked_entries due.lanes due.request 0 w.ins ++ Turned due.request ∷ [])
+whole_turn setup due w v t = t.journal ∙ append_assoc w.journal (marked_entries due.lanes due.request 0 w.ins) (Turned due.request ∷ [])
+
+-- the box is as after the poll, but for a turn
+polls_done : (setup : Outline) (post : Post) (due : Option Due) (act : Act) (w v : WorkerIs) → HasDone setup post due act w v → v.owner.polls ≡ w.owner.polls
+polls_done setup post None (Turn r) w v d = absurd d
+polls_done setup post (Some due) (Turn r) w v d = d.polls
+polls_done setup post None (Process place) w v d = ap (λ (x : WorkerIs). x.owner.polls) d.rest
+polls_done setup post (Some due) (Process place) w v d = ap (λ (x : WorkerIs). x.owner.polls) d.rest
+polls_done setup post None Close w v d = ap (λ (x : WorkerIs). x.owner.polls) d.rest
+polls_done setup post (Some due) Close w v d = ap (λ (x : WorkerIs). x.owner.polls) d.rest
+polls_done setup post None Nothing w v d = absurd d
+polls_done setup post (Some due) Nothing w v d = absurd d
+
+turn_ends : (setup : Outline) (due : Due) (w v : WorkerIs) → HasTurned setup due w v → SameEndpoints w v
+turn_ends setup due w v d = record {
+  number = ap (λ (x : WorkerIs). x.number) d.rest;
+  ins = rw d.ins (pairs_emptied due.lanes 0 w.ins);
+  outs = pairs_map (Gains _) SameOut w.outs v.outs (gains_same _) d.outs;
+  within = d.within;
+}
+
+process_ends : (setup : Outline) (post : Post) (place : ℕ) (w v : WorkerIs) → HasProcessed setup post place w v → SameEndpoints w v
+process_ends setup post place w v d = record {
+  number = ap (λ (x : WorkerIs). x.number) d.rest;
+  ins = rw d.ins (pairs_laid place w.ins);
+  outs = pairs_map (Gains _) SameOut w.outs v.outs (gains_same _) d.outs;
+  within = ap (λ (x : WorkerIs). x.owner.within) d.rest;
+}
+
+close_ends : (w v : WorkerIs) → HasClosed w v → SameEndpoints w v
+close_ends w v d = record {
+  number = ap (λ (x : WorkerIs). x.number) d.rest;
+  ins = rw d.ins (pairs_ended w.ins);
+  outs = pairs_map (Gains _) SameOut w.outs v.outs (gains_same _) d.outs;
+  within = ap (λ (x : WorkerIs). x.owner.within) d.rest;
+}
+
+ends_done : (setup : Outline) (post : Post) (due : Option Due) (act : Act) (w v : WorkerIs) → HasDone setup post due act w v → SameEndpoints w v
+ends_done setup post None (Turn r) w v d = absurd d
+ends_done setup post (Some due) (Turn r) w v d = turn_ends setup due w v d
+ends_done setup post None (Process place) w v d = process_ends setup post place w v d
+ends_done setup post (Some due) (Process place) w v d = process_ends setup post place w v d
+ends_done setup post None Close w v d = close_ends w v d
+ends_done setup post (Some due) Close w v d = close_ends w v d
+ends_done setup post None Nothing w v d = absurd d
+ends_done setup post (Some due) Nothing w v d = absurd d
+
+turn_grew : (setup : Outline) (due : Due) (w v : WorkerIs) → HasTurned setup due w v → moves w < moves v
+turn_grew setup due w v d =
+    let es : List Entry = marked_entries due.lanes due.request 0 w.ins ++ Turned due.request ∷ [] in
+    let j : length v.journal ≡ length w.journal + length es = ap length (whole_turn setup due w v d) ∙ length-append w.journal es in
+    let e : length es ≡ length (marked_entries due.lanes due.request 0 w.ins) + 1 = length-append (marked_entries due.lanes due.request 0 w.ins) (Turned due.request ∷ []) in
+    let t : all_taken v.ins ≡ all_taken w.ins = ap all_taken d.ins ∙ taken_emptied due.lanes 0 w.ins in
+    let s : all_sent v.outs ≡ all_sent w.outs = sent_gains _ w.outs v.outs d.outs in
+    omega (arith, j, e, t, s)
+
+process_grew : (setup : Outline) (post : Post) (place : ℕ) (w v : WorkerIs) → HasProcessed setup post place w v → moves w < moves v
+process_grew setup post place w v d =
+    let j : length v.journal ≡ length w.journal + 1 = ap length d.journal ∙ length-append w.journal (Met d.at.number d.tuple ∷ []) in
+    let t : all_taken v.ins ≡ all_taken w.ins = ap all_taken d.ins ∙ taken_laid place w.ins in
+    let s : all_sent v.outs ≡ all_sent w.outs = sent_gains _ w.outs v.outs d.outs in
+    omega (arith, j, t, s)
+
+close_grew : (w v : WorkerIs) → HasClosed w v → 0 < length w.ins → moves w < moves v
+close_grew w v d l =
+    let j : length v.journal ≡ length w.journal + length (ended_entries w.ins) = ap length d.journal ∙ length-append w.journal (ended_entries w.ins) in
+    let e : length (ended_entries w.ins) ≡ length w.ins = long_ended w.ins in
+    let t : all_taken v.ins ≡ all_taken w.ins = ap all_taken d.ins ∙ taken_ended w.ins in
+    let s : all_sent v.outs ≡ all_sent w.outs = sent_gains _ w.outs v.outs d.outs in
+    omega (arith, j, e, t, s, l)
+
+grew_done : (setup : Outline) (post : Post) (due : Option Due) (act : Act) (w v : WorkerIs) → 0 < length w.ins → HasDone setup post due act w v → moves w < moves v
+grew_done setup post None (Turn r) w v l d = absurd d
+grew_done setup post (Some due) (Turn r) w v l d = turn_grew setup due w v d
+grew_done setup post None (Process place) w v l d = process_grew setup post place w v d
+grew_done setup post (Some due) (Process place) w v l d = process_grew setup post place w v d
+grew_done setup post None Close w v l d = close_grew w v d l
+grew_done setup post (Some due) Close w v l d = close_grew w v d l
+grew_done setup post None Nothing w v l d = absurd d
+grew_done setup post (Some due) Nothing w v l d = absurd d
+
+-- a tuple was met only where the act was one
+met_done : (setup : Outline) (post : Post) (due : Option Due) (act : Act) (w v : WorkerIs) (before : WorkerIs) (l : ℕ) (t : Tuple) → w.journal ≡ before.journal → HasDone setup post due act w v
+    → Contains (added before v) (Met l t) → (place : ℕ) × (act ≡ Process place)
+met_done setup post None (Turn r) w v b l t j d c = absurd d
+met_done setup post (Some due) (Turn r) w v b l t j d c =
+    absurd (no_met_turn l t due.lanes due.request w.ins
+    (subst (IsIn (Met l t)) (added_is b v _ (whole_turn setup due w v d ∙ ap (λ xs. xs ++ (marked_entries due.lanes due.request 0 w.ins ++ Turned due.request ∷ [])) j)) (in_of_contains (Met l t) (added b v) c)))
+met_done setup post None (Process place) w v b l t j d c = (place, refl)
+met_done setup post (Some due) (Process place) w v b l t j d c = (place, refl)
+met_done setup post None Close w v b l t j d c =
+    absurd (no_met_ends l t w.ins (subst (IsIn (Met l t)) (added_is b v (ended_entries w.ins) (d.journal ∙ ap (λ xs. xs ++ ended_entries w.ins) j)) (in_of_contains (Met l t) (added b v) c)))
+met_done setup post (Some due) Close w v b l t j d c =
+    absurd (no_met_ends l t w.ins (subst (IsIn (Met l t)) (added_is b v (ended_entries w.ins) (d.journal ∙ ap (λ xs. xs ++ ended_entries w.ins) j)) (in_of_contains (Met l t) (added b v) c)))
+met_done setup post None Nothing w v b l t j d c = absurd d
+met_done setup post (Some due) Nothing w v b l t j d c = absurd d
+
+-- a request was turned only where the act was its turn
+turned_done : (setup : Outline) (post : Post) (due : Option Due) (act : Act) (w v : WorkerIs) (before : WorkerIs) (r : ℕ) → w.journal ≡ before.journal → HasDone setup post due act w v
+    → Contains (added before v) (Turned r) → (its : Due) × (due ≡ Some its) × (r ≡ its.request) × ((q : ℕ) × (act ≡ Turn q)) × HasTurned setup its w v
+turned_done setup post None (Turn q) w v b r j d c = absurd d
+turned_done setup post (Some due) (Turn q) w v b r j d c = (
+  due,
+  refl,
+  turned_turn_is r due.lanes due.request w.ins
+      (subst (IsIn (Turned r)) (added_is b v _ (whole_turn setup due w v d ∙ ap (λ xs. xs ++ (marked_entries due.lanes due.request 0 w.ins ++ Turned due.request ∷ [])) j)) (in_of_contains (Turned r) (added b v) c)),
+  (q, refl),
+  d,
+)
+turned_done setup post None (Process place) w v b r j d c =
+    absurd (not_met r d.at.number d.tuple (subst (IsIn (Turned r)) (added_is b v (Met d.at.number d.tuple ∷ []) (d.journal ∙ ap (λ xs. xs ++ Met d.at.number d.tuple ∷ []) j)) (in_of_contains (Turned r) (added b v) c)))
+  where
+    not_met : (r l : ℕ) (t : Tuple) → IsIn (Turned r) (Met l t ∷ []) → ⊥
+    not_met r l t (inl e) = cc
+    not_met r l t (inr e) = e
+turned_done setup post (Some due) (Process place) w v b r j d c =
+    absurd (not_met r d.at.number d.tuple (subst (IsIn (Turned r)) (added_is b v (Met d.at.number d.tuple ∷ []) (d.journal ∙ ap (λ xs. xs ++ Met d.at.number d.tuple ∷ []) j)) (in_of_contains (Turned r) (added b v) c)))
+  where
+    not_met : (r l : ℕ) (t : Tuple) → IsIn (Turned r) (Met l t ∷ []) → ⊥
+    not_met r l t (inl e) = cc
+    not_met r l t (inr e) = e
+turned_done setup post None Close w v b r j d c =
+    absurd (no_turned_ends r w.ins (subst (IsIn (Turned r)) (added_is b v (ended_entries w.ins) (d.journal ∙ ap (λ xs. xs ++ ended_entries w.ins) j)) (in_of_contains (Turned r) (added b v) c)))
+turned_done setup post (Some due) Close w v b r j d c =
+    absurd (no_turned_ends r w.ins (subst (IsIn (Turned r)) (added_is b v (ended_entries w.ins) (d.journal ∙ ap (λ xs. xs ++ ended_entries w.ins) j)) (in_of_contains (Turned r) (added b v) c)))
+turned_done setup post None Nothing w v b r j d c = absurd d
+turned_done setup post (Some due) Nothing w v b r j d c = absurd d
+
+-- where the act is the turn of the due, it was turned
+done_turned : (setup : Outline) (post : Post) (due : Option Due) (its : Due) (act : Act) (w v : WorkerIs) (before : WorkerIs) → w.journal ≡ before.journal → due ≡ Some its → act ≡ Turn its.request
+    → HasDone setup post due act w v → Contains (added before v) (Turned its.request)
+done_turned setup post due its act w v b j e is d =
+    let t : HasTurned setup its w v = subst (λ (o : Option Due). HasDone setup post o (Turn its.request) w v) e (subst (λ (a : Act). HasDone setup post due a w v) is d) in
+    let es : List Entry = marked_entries its.lanes its.request 0 w.ins ++ Turned its.request ∷ [] in
+    let a : added b v ≡ es = added_is b v es (whole_turn setup its w v t ∙ ap (λ xs. xs ++ es) j) in
+    contains_of_in (Turned its.request) (added b v) (subst (IsIn (Turned its.request)) (sym a) (in_right (Turned its.request) (marked_entries its.lanes its.request 0 w.ins) (Turned its.request ∷ []) (inl refl)))
+
+-- ---- a worker that has closed
+
+module _ (setup : Outline) (agrees : KeepsAgreement setup) (w v : WorkerIs) (law : (begin : Begin) × IsWorker setup begin w) (p : PutsOnly w v) (closed : w.closed ≡ true) where
+  same_journal : v.journal ≡ w.journal
+  same_journal = ap (λ (x : WorkerIs). x.journal) p.rest
+
+  still : v.closed ≡ true
+  still = ap (λ (x : WorkerIs). x.closed) p.rest ∙ closed
+
+  no_poll : (n : ℕ) → Polled w v n → ⊥
+  no_poll n q = one_longer w.owner.polls n (sym (ap (λ (x : WorkerIs). x.owner.polls) p.rest) ∙ q)
+
+  pub closed_turn : (result : turn_type.Turn) → HasCause result w v → IsTurn setup result w v
+  closed_turn result cause = record {
+    law = λ begin h. keeps_puts setup begin w v p h;
+    agreement = worker_agreement setup law.0 v agrees (keeps_puts setup law.0 w v p law.1);
+    ends = record {
+      number = ap (λ (x : WorkerIs). x.number) p.rest;
+      ins = subst (EachPair SameIn w.ins) (sym (ap (λ (x : WorkerIs). x.ins) p.rest)) (each_same SameIn w.ins same_in);
+      outs = pairs_map Flushed SameOut w.outs v.outs (λ a b f. f.same) p.outs;
+      within = ap (λ (x : WorkerIs). x.owner.within) p.rest;
+    };
+    overtakes = λ l t c. absurd (none_added w v (Met l t) same_journal c);
+    at_post = λ ne n due q. absurd (no_poll n q);
+    early = λ r due c. absurd (none_added w v (Turned r) same_journal c);
+    cause = cause;
+  }
+
+  pub closed_done : list_any is_waiting v.outs ≡ false → IsTurn setup turn.Done w v
+  closed_done e = closed_turn turn.Done (still, waiting_none v.outs e)
+
+  pub closed_moved : list_any is_waiting v.outs ≡ true → all_sent w.outs < all_sent v.outs → IsTurn setup turn.Moved w v
+  closed_moved e more =
+      closed_turn turn.Moved (
+        let j : length v.journal ≡ length w.journal = ap length same_journal in
+            let t : all_taken v.ins ≡ all_taken w.ins = ap all_taken (ap (λ (x : WorkerIs). x.ins) p.rest) in omega (arith, j, t, more),
+        λ d. waiting_some v.outs e d.1,
+      )
+
+  pub closed_idle : list_any is_waiting v.outs ≡ true → IsTurn setup turn.Idle w v
+  closed_idle e = closed_turn turn.Idle
+      ((λ c. absurd (cc (c, closed))), (λ c. pairs_map Flushed FullWhereWaiting w.outs v.outs (λ a b f. f.full) p.outs), (λ d. waiting_some v.outs e d.1))
+
+-- ---- a worker that has not
+
+module _ (setup : Outline) (agrees : KeepsAgreement setup) (keeps : KeepsSteady setup) (planned_is : ∥ IsPlanned setup ∥₁) (w w1 w2 w3 : WorkerIs) (n : ℕ) (posted : Bool)
+    (law : (begin : Begin) × IsWorker setup begin w) (open_ : w.closed ≡ false) (puts : PutsOnly w w1) (takes : TakesOnly w1 w2) (polls : PollsOnly w2 w3 n)
+    (posted_is : IsTrue posted ↔ (w2.owner.turned < n))
+  where
+    rest3 : w3 ≡ record w { outs = w1.outs; ins = w2.ins; owner = w3.owner }
+    rest3 = polls.rest ∙ ap (λ (x : WorkerIs). record x { owner = w3.owner }) (takes.rest ∙ ap (λ (x : WorkerIs). record x { ins = w2.ins }) puts.rest)
+
+    closed3 : w3.closed ≡ false
+    closed3 = ap (λ (x : WorkerIs). x.closed) rest3 ∙ open_
+
+    journal3 : w3.journal ≡ w.journal
+    journal3 = ap (λ (x : WorkerIs). x.journal) rest3
+
+    due3 : w3.due ≡ w.due
+    due3 = ap (λ (x : WorkerIs). x.due) rest3
+
+    owner2 : w2.owner ≡ w.owner
+    owner2 = ap (λ (x : WorkerIs). x.owner) takes.rest ∙ ap (λ (x : WorkerIs). x.owner) puts.rest
+
+    turned3 : w3.owner.turned ≡ w.owner.turned
+    turned3 = polls.turned ∙ ap (λ (o : OwnerIs). o.turned) owner2
+
+    polls3 : Polled w w3 n
+    polls3 = polls.polls ∙ ap (λ (o : OwnerIs). o.polls ++ n ∷ []) owner2
+
+    ins3 : w3.ins ≡ w2.ins
+    ins3 = ap (λ (x : WorkerIs). x.ins) polls.rest
+
+    outs3 : w3.outs ≡ w1.outs
+    outs3 = ap (λ (x : WorkerIs). x.outs) polls.rest ∙ ap (λ (x : WorkerIs). x.outs) takes.rest
+
+    filled : EachPair Filled w.ins w3.ins
+    filled = subst (λ xs. EachPair Filled xs w3.ins) (ap (λ (x : WorkerIs). x.ins) puts.rest) (subst (EachPair Filled w1.ins) (sym ins3) takes.ins)
+
+    flushed : EachPair Flushed w.outs w3.outs
+    flushed = subst (EachPair Flushed w.outs) (sym outs3) puts.outs
+
+    yes_posted : w.owner.turned < n → posted ≡ true
+    yes_posted l = posted_is.1 (subst (λ (o : OwnerIs). o.turned < n) (sym owner2) l)
+
+    was_posted : posted ≡ true → w.owner.turned < n
+    was_posted e = subst (λ (o : OwnerIs). o.turned < n) owner2 (posted_is.0 e)
+
+    pub law3 : (begin : Begin) → IsWorker setup begin w → IsWorker setup begin w3
+    law3 begin h =
+        keeps_poll setup begin w2 w3 n polls
+        (keeps_takes setup begin w1 w2 takes (ap (λ (x : WorkerIs). x.closed) puts.rest ∙ open_) (keeps_puts setup begin w w1 puts h))
+
+    ends3 : SameEndpoints w w3
+    ends3 = record {
+      number = ap (λ (x : WorkerIs). x.number) rest3;
+      ins = pairs_map Filled SameIn w.ins w3.ins (λ a b f. f.same) filled;
+      outs = pairs_map Flushed SameOut w.outs w3.outs (λ a b f. f.same) flushed;
+      within = polls.within ∙ ap (λ (o : OwnerIs). o.within) owner2;
+    }
+
+    ends_then : (v : WorkerIs) → SameEndpoints w3 v → SameEndpoints w v
+    ends_then v e = record {
+      number = e.number ∙ ends3.number;
+      ins = pairs_then SameIn SameIn SameIn w.ins w3.ins v.ins in_then ends3.ins e.ins;
+      outs = pairs_then SameOut SameOut SameOut w.outs w3.outs v.outs out_then ends3.outs e.outs;
+      within = e.within ∙ ends3.within;
+    }
+
+    moves_least : moves w ≤ moves w3
+    moves_least =
+        let j : length w3.journal ≡ length w.journal = ap length journal3 in
+        let t = total_grows Filled (λ (a : LaneInIs). length a.taken) w.ins w3.ins (λ a b f. f.grew) filled in
+        let s = total_grows Flushed (λ (o : LaneOutIs). length o.sent) w.outs w3.outs (λ a b f. f.grew) flushed in
+        omega (arith, j, t, s)
+
+    pub moves_put : all_sent w.outs < all_sent w1.outs → moves w < moves w3
+    moves_put more =
+        let j : length w3.journal ≡ length w.journal = ap length journal3 in
+        let t = total_grows Filled (λ (a : LaneInIs). length a.taken) w.ins w3.ins (λ a b f. f.grew) filled in
+        let s : all_sent w3.outs ≡ all_sent w1.outs = ap all_sent outs3 in
+        omega (arith, j, t, s, more)
+
+    pub moves_took : all_taken w1.ins < all_taken w2.ins → moves w < moves w3
+    moves_took more =
+        let j : length w3.journal ≡ length w.journal = ap length journal3 in
+        let s = total_grows Flushed (λ (o : LaneOutIs). length o.sent) w.outs w3.outs (λ a b f. f.grew) flushed in
+        let t : all_taken w3.ins ≡ all_taken w2.ins = ap all_taken ins3 in
+        let u : all_taken w1.ins ≡ all_taken w.ins = ap all_taken (ap (λ (x : WorkerIs). x.ins) puts.rest) in
+        omega (arith, j, t, s, u, more)
+
+    -- where the poll shows a due of a head, the decision is its turn
+    head_turns : (due : Due) → w.due ≡ Some due → due.head ≡ true → w.owner.turned < n → decided (hands w3) w3.due posted w3.next ≡ Turn due.request
+    head_turns due e head l =
+        let yes : posted ≡ true = yes_posted l in
+        let may : may_turn (hands w3) due posted ≡ true = rw (head, yes) refl in
+        subst (λ (o : Option Due). decided (hands w3) o posted w3.next ≡ Turn due.request) (sym (due3 ∙ e)) (turn_first (hands w3) due posted w3.next may)
+
+    -- ---- want of memory
+
+    pub starved_turn : (v : WorkerIs) → MemoryOnly w3 v → IsTurn setup turn.NoMemory w v
+    starved_turn v m =
+        let same : v.journal ≡ w.journal = ap (λ (x : WorkerIs). x.journal) m.rest ∙ journal3 in
+        record {
+          law = λ begin h. keeps_memory setup begin w3 v m (law3 begin h);
+          agreement = worker_agreement setup law.0 v agrees (keeps_memory setup law.0 w3 v m (law3 law.0 law.1));
+          ends = ends_then v (record {
+            number = ap (λ (x : WorkerIs). x.number) m.rest;
+            ins = subst (EachPair SameIn w3.ins) (sym (ap (λ (x : WorkerIs). x.ins) m.rest)) (each_same SameIn w3.ins same_in);
+            outs = pairs_map SameButMemory SameOut w3.outs v.outs memory_same m.outs;
+            within = ap (λ (x : WorkerIs). x.owner.within) m.rest;
+          });
+          overtakes = λ l t c. absurd (none_added w v (Met l t) same c);
+          at_post = λ ne. absurd (ne refl);
+          early = λ r due c. absurd (none_added w v (Turned r) same c);
+          cause = record {
+            journal = same;
+            in_force = ap (λ (x : WorkerIs). x.in_force) m.rest ∙ ap (λ (x : WorkerIs). x.in_force) rest3;
+            counts = ap (λ (x : WorkerIs). x.counts) m.rest ∙ ap (λ (x : WorkerIs). x.counts) rest3;
+            planned_is = pairs_keep SameButMemory planned w3.outs v.outs (λ a b e. ap planned e) m.outs ∙ pairs_keep Flushed planned w.outs w3.outs (λ a b f. f.planned_is) flushed;
+            unclosed = ap (λ (x : WorkerIs). x.closed) m.rest ∙ closed3;
+          };
+        }
+
+    -- ---- no act
+
+    not_done : IsDone w3 → ⊥
+    not_done d = let a = d.0 in let b = closed3 in cc
+
+    held_turn : (result : turn_type.Turn) → IsHeld (decided (hands w3) w3.due posted w3.next) w3 → HasCause result w w3 → IsTurn setup result w w3
+    held_turn result held cause = record {
+      law = law3;
+      agreement = worker_agreement setup law.0 w3 agrees (law3 law.0 law.1);
+      ends = ends3;
+      overtakes = λ l t c. absurd (none_added w w3 (Met l t) journal3 c);
+      at_post = λ ne m due q e head l. absurd (subst (λ (a : Act). IsHeld a w3) (head_turns due e head (same_poll m q l)) held);
+      early = λ r due c. absurd (none_added w w3 (Turned r) journal3 c);
+      cause = cause;
+    }
+      where
+        same_poll : (m : ℕ) → Polled w w3 m → w.owner.turned < m → w.owner.turned < n
+        same_poll m q l = let same : m ≡ n = last_same w.owner.polls m n (sym q ∙ polls3) in subst (λ k. w.owner.turned < k) same l
+          where
+            last_same : (xs : List ℕ) (a b : ℕ) → xs ++ a ∷ [] ≡ xs ++ b ∷ [] → a ≡ b
+            last_same [] a b e = cc
+            last_same (x ∷ xs) a b e = last_same xs a b (let r : xs ++ a ∷ [] ≡ xs ++ b ∷ [] = cc in r)
+
+    pub held_moved : IsHeld (decided (hands w3) w3.due posted w3.next) w3 → moves w < moves w3 → IsTurn setup turn.Moved w w3
+    held_moved held more = held_turn turn.Moved held (more, not_done)
+
+    pub held_idle : IsHeld (decided (hands w3) w3.due posted w3.next) w3 → IsTurn setup turn.Idle w w3
+    held_idle held = held_turn turn.Idle held (
+      (λ c. record {
+        dry = pairs_map Filled DryWhereEmpty w.ins w3.ins (λ a b f. f.dry) filled;
+        full = pairs_map Flushed FullWhereWaiting w.outs w3.outs (λ a b f. f.full) flushed;
+        number = n;
+        polled = polls3;
+        no_head = λ s. subst (λ (a : Act). IsHeld a w3) (head_turns s.0 s.1 s.2 s.3) held;
+        posted = posted;
+        posted_is = (was_posted, yes_posted);
+        nothing = held;
+      }),
+      (λ c. absurd (cc (c, open_))),
+      not_done,
+    )
+
+    -- ---- an act
+
+    module _ (v : WorkerIs) (act : Act) (acted : (post : Post) → IsPlaced setup post w3 → HasDone setup post w3.due act w3 v) (is : act ≡ decided (hands w3) w3.due posted w3.next) where
+      h3 : IsWorker setup law.0 w3
+      h3 = law3 law.0 law.1
+
+      done : HasDone setup h3.post w3.due act w3 v
+      done = acted h3.post h3.placed
+
+      polled : Polled w v n
+      polled = polls_done setup h3.post w3.due act w3 v done ∙ polls3
+
+      same_poll : (m : ℕ) → Polled w v m → m ≡ n
+      same_poll m q = last_same w.owner.polls m n (sym q ∙ polled)
+        where
+          last_same : (xs : List ℕ) (a b : ℕ) → xs ++ a ∷ [] ≡ xs ++ b ∷ [] → a ≡ b
+          last_same [] a b e = cc
+          last_same (x ∷ xs) a b e = last_same xs a b (let r : xs ++ a ∷ [] ≡ xs ++ b ∷ [] = cc in r)
+
+      law_v : (begin : Begin) → IsWorker setup begin w → IsWorker setup begin v
+      law_v begin h = let k = law3 begin h in done_law setup begin w3 v act posted keeps planned_is k closed3 is (acted k.post k.placed)
+
+      overtakes_v : Overtakes w v
+      overtakes_v l t c =
+          let p = met_done setup h3.post w3.due act w3 v w l t journal3 done c in
+          (n, polled, λ s. let turns : decided (hands w3) w3.due posted w3.next ≡ Turn s.0.request = head_turns s.0 s.1 s.2 s.3 in let met = p.1 in cc)
+
+      at_post_v : TurnsAtPost w v
+      at_post_v m due q e head l =
+          let less : w.owner.turned < n = subst (λ k. w.owner.turned < k) (same_poll m q) l in
+          done_turned setup h3.post w3.due due act w3 v w journal3 (due3 ∙ e) (is ∙ head_turns due e head less) done
+
+      early_v : NotEarly w v
+      early_v r due c e head =
+          let t = turned_done setup h3.post w3.due act w3 v w r journal3 done c in
+          let its : Due = t.0 in
+          let x = t.1 in
+          let same : its ≡ due = let y : w3.due ≡ Some due = due3 ∙ e in cc in
+          let at : decided (hands w3) (Some its) posted w3.next ≡ Turn t.3.0 = subst (λ (o : Option Due). decided (hands w3) o posted w3.next ≡ Turn t.3.0) t.1 (sym is ∙ t.3.1) in
+          let may : may_turn (hands w3) its posted ≡ true = (turns_if (hands w3) its posted w3.next t.3.0 at).0 in
+          let its_head : its.head ≡ true = ap (λ (d : Due). d.head) same ∙ head in
+          let either : posted || list_any (is_issued its.request) (hands w3) ≡ true =
+          subst (λ (b : Bool). cond b (posted || list_any (is_issued its.request) (hands w3)) (is_aligned its (hands w3)) ≡ true) its_head may in
+          let its_due : IsDueOf setup w3.node (edges_of w3.ins) its = subst (λ (o : Option Due). IfSome o (IsDueOf setup w3.node (edges_of w3.ins))) t.1 h3.due_is in
+          let ins : v.ins ≡ w3.ins = t.4.ins ∙ emptied_none its.lanes 0 w3.ins
+          (λ k a g b. head_places setup h3.post w3 its planned_is h3.placed its_due its_head k a g (subst (λ m. has its.lanes m ≡ true) (omega arith) b)) in
+          go posted refl its either (ap all_hands ins) t.2
+        where
+          go : (b : Bool) → posted ≡ b → (its : Due) → b || list_any (is_issued its.request) (hands w3) ≡ true → hands v ≡ hands w3 → r ≡ its.request
+              → ((m : ℕ) × Polled w v m × (w.owner.turned < m)) ⊎ IsTrue (list_any (is_issued r) (hands v))
+          go true p its either ins q = inl (n, polled, was_posted p)
+          go false p its either ins q = inr (rw (ins, q) either)
+
+      pub did_turn : (result : turn_type.Turn) → HasCause result w v → IsTurn setup result w v
+      did_turn result cause = record {
+        law = law_v;
+        agreement = worker_agreement setup law.0 v agrees (law_v law.0 law.1);
+        ends = ends_then v (ends_done setup h3.post w3.due act w3 v done);
+        overtakes = overtakes_v;
+        at_post = λ ne. at_post_v;
+        early = early_v;
+        cause = cause;
+      }
+
+      pub did_moved : (IsDone v → ⊥) → IsTurn setup turn.Moved w v
+      did_moved not = did_turn turn.Moved
+          ((let grew = grew_done setup h3.post w3.due act w3 v (let s = h3.placed.some_in in omega arith) done in let least = moves_least in omega (arith, grew, least)), not)
+
+      pub did_done : v.closed ≡ true → list_any is_waiting v.outs ≡ false → IsTurn setup turn.Done w v
+      did_done closed e = did_turn turn.Done (closed, waiting_none v.outs e)

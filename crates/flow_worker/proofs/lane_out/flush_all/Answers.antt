@@ -1,0 +1,31 @@
+use Rattle.std.proofs.Common.{◌<◌, length, sym, ◌∙◌, subst, arith, add-one}
+use Rattle.flow_worker.specs.Endpoints.{LaneOutIs, Flushed, IsSteadyOut}
+use Rattle.flow_worker.proofs.Pairs.{first_more, first_all, first_next, sum_grows, sum_rises, each_get}
+use Rattle.flow_worker.proofs.lane_out.flush_all.Goals as goal
+use Rattle.flow_worker.proofs.lane_out.flush_all.Goals.{then-flush, else-flush}
+
+pub loop-out-preserved : goal.loop-out-preserved
+loop-out-preserved g c =
+    let n = c.loop-out.out-index in
+    let items = c.loop-out.out-items in
+    let d = c.out-item.result in
+    let z = c.flush.new.self in
+    let lt : n < length items = omega arith in
+    let same = sum_grows (λ (o : LaneOutIs). length o.sent) items n d z lt c.flush.ensures.flushed.grew in
+    record {
+      pairs = rw add-one (first_more Flushed n c.args.outs.now items d z c.loop-out.invariant.pairs lt c.flush.ensures.flushed);
+      grew = omega arith;
+      moved = elim c.if-flush.branch [
+        | then-flush w ↦ λ h. omega (arith, sum_rises (λ (o : LaneOutIs). length o.sent) items n d z lt (c.flush.ensures.moved w.if-flush.true))
+        | else-flush w ↦ λ h. omega (arith, c.loop-out.invariant.moved (sym w.moved-is ∙ h))
+      ];
+    }
+
+pub returns-clause-flushed : goal.returns-clause-flushed
+returns-clause-flushed g c = first_all Flushed c.loop-out.out-index c.args.outs.now c.loop-out.out-items c.loop-out.invariant.pairs (omega arith)
+
+pub flush-requires-clause-steady : goal.flush-requires-clause-steady
+flush-requires-clause-steady g c κs up =
+    let n = c.loop-out.out-index in
+    let d = c.out-item.result in
+    subst IsSteadyOut (sym (first_next Flushed n c.args.outs.now c.loop-out.out-items d c.loop-out.invariant.pairs)) (each_get IsSteadyOut c.args.outs.now n d c.requires.steady (omega arith))

@@ -1,0 +1,21 @@
+use Rattle.std.proofs.Common.{arith}
+use Rattle.jobs.specs.Job.{written}
+use Rattle.flow_worker.proofs.OutputLemmas.{edge_within, outs_few}
+use Rattle.flow_worker.proofs.outputs.place_of.Goals as goal
+
+pub lane_of-requires : goal.lane_of-requires
+lane_of-requires c = edge_within (written c.args.job.now) c.args.node c.loop-edge.edge-index c.args.edges.now _ c.requires c.loop-edge-test.true
+
+pub overflow_add-result : goal.overflow_add-result
+overflow_add-result c =
+    let few = outs_few (written c.args.job.now) c.args.node c.args.edges.now c.args.job.now.lawful c.requires in
+    let small = c.loop-edge.invariant.small in
+    let here = c.loop-edge-test.true in
+    omega arith
+
+pub overflow_add-first : goal.overflow_add-first
+overflow_add-first c =
+    let few = outs_few (written c.args.job.now) c.args.node c.args.edges.now c.args.job.now.lawful c.requires in
+    let small = c.loop-edge.invariant.small in
+    let here = c.loop-edge-test.true in
+    omega arith

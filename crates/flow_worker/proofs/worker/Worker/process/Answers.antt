@@ -1,0 +1,178 @@
+use Rattle.flow_model.specs.Lanes.{out_numbers}
+use Rattle.std.proofs.Common.{◌≡◌, ℕ, refl, sym, ap, ◌∙◌, subst, List, [], ◌∷◌, ◌++◌, ◌+◌, ◌≤◌, ◌<◌, length, map, Some, slice_get, arith}
+use Rattle.std.specs.Option.{option_copied}
+use Rattle.std.proofs.lemmas.List.{with_items_is}
+use Rattle.std.specs.Vec.{with_items}
+use Rattle.jobs.specs.declared.func.Func.{Func}
+use Rattle.operators.specs.Meaning.{step}
+use Rattle.operators.specs.Ports.{most_outputs, out_ports}
+use Rattle.operators.specs.declared.output.Output.{Output}
+use Rattle.sink_journal.specs.declared.journal.Entry.{Entry}
+use Rattle.sink_journal.specs.declared.journal.Entry.TheVariants.{Met}
+use Rattle.tuple_trace.specs.Reserved.{ReservedIs}
+use Rattle.keyed_state.specs.Counts.{Counts}
+use Rattle.tuple_trace.specs.declared.tuple.Item.{Item}
+use Rattle.tuple_trace.specs.declared.tuple.Tuple.{Tuple}
+use Rattle.tuple_trace.specs.declared.tuple.Visit.{Visit}
+use Rattle.flow_model.specs.Outline.{Outline, Post}
+use Rattle.flow_model.specs.Replay.{Local, put_out, puts, visit_at}
+use Rattle.flow_model.specs.Setup.{outline}
+use Rattle.flow_model.specs.Workers.{posts}
+use Rattle.flow_model.proofs.WorkerLemmas.{worker_with}
+use Rattle.flow_worker.specs.Endpoints.{Appended, Gains, HasRoom, LaneInIs, LaneOutIs, Reserved, SameButMemory}
+use Rattle.flow_worker.specs.Pairs.{Each, EachPair}
+use Rattle.flow_worker.specs.Steps.{HasTuple, items_at, laid_down}
+use Rattle.flow_worker.specs.Worker.{IsPlaced, IsSenderAt, WorkerIs, numbers_out}
+use Rattle.flow_worker.proofs.Gaining.{appended_by, gains, room}
+use Rattle.flow_worker.proofs.Pairs.{each_same, pairs_length}
+use Rattle.flow_worker.proofs.PlaceLemmas.{placed_below}
+use Rattle.flow_worker.proofs.Results.{err_fact, ok_fact}
+use Rattle.flow_worker.proofs.Taking.{same_tuple}
+use Rattle.flow_worker.proofs.worker.Worker.process.Goals as goal
+
+-- room for as many is room for fewer
+fewer : (n m : ℕ) (xs : List LaneOutIs) → m ≤ n → Each (HasRoom n) xs → Each (HasRoom m) xs
+fewer n m [] l e = tt
+fewer n m (x ∷ xs) l e = ((let r : length x.waiting + n ≤ x.memory = e.0 in omega (arith, r)), fewer n m xs l e.1)
+
+-- the sender stays where it is while its lanes take memory
+numbers_kept : (n : ℕ) (xs ys : List LaneOutIs) → EachPair (Reserved n) xs ys → numbers_out ys ≡ numbers_out xs
+numbers_kept n [] [] p = refl
+numbers_kept n [] (y ∷ ys) p = absurd p
+numbers_kept n (x ∷ xs) [] p = absurd p
+numbers_kept n (x ∷ xs) (y ∷ ys) p = rw (ap (λ (o : LaneOutIs). o.number) p.0.0, numbers_kept n xs ys p.1) refl
+
+sender : (setup : Outline) (post : Post) (w : WorkerIs) → IsPlaced setup post w → IsSenderAt setup.job w.node post (numbers_out w.outs)
+sender setup post w p =
+    let n = (worker_with setup.job w.number post p.post_is).0 in
+    record {
+      there = subst (λ m. slice_get (posts setup.job) m ≡ Some post) (sym n) p.post_is;
+      node_is = sym p.node_is;
+      numbers_are = p.outs_are ∙ ap (out_numbers setup.job) (sym n);
+    }
+
+only_memory : (n : ℕ) (xs ys : List LaneOutIs) → EachPair (Reserved n) xs ys → EachPair SameButMemory xs ys
+only_memory n [] [] p = tt
+only_memory n [] (y ∷ ys) p = absurd p
+only_memory n (x ∷ xs) [] p = absurd p
+only_memory n (x ∷ xs) (y ∷ ys) p = (p.0.0, only_memory n xs ys p.1)
+
+-- what is made, behind an empty list
+made_is : (made fresh outs : List Output) → made ≡ fresh ++ outs → fresh ≡ [] → made ≡ outs
+made_is made fresh outs e h = e ∙ ap (λ xs. xs ++ outs) h
+
+visits : (node place : ℕ) (post : Post) (local : Local) → node ≡ post.node → place ≡ post.place → ◌≡◌ {A = Visit} (record { node = node; worker = place; last = local.last }) (visit_at post local)
+visits node place post local a b = ap {B = Visit} (λ m. record { node = m; worker = place; last = local.last }) a ∙ ap {B = Visit} (λ m. record { node = post.node; worker = m; last = local.last }) b
+
+pub returns-then-is_err-clause-err : goal.returns-then-is_err-clause-err
+returns-then-is_err-clause-err g c =
+    rw (← c.self.view_is) (record { rest = rw c.reserve.ensures.items refl; outs = each_same _ _ (λ x. refl) })
+
+pub out_edges-edges-requires : goal.out_edges-edges-requires
+out_edges-edges-requires g c =
+    subst (λ (w : WorkerIs). w.node < length (outline c.args.setup.now).job.nodes) (sym c.self.view_is) (placed_below (outline c.args.setup.now) c.requires.placed.0 c.args.self.now c.requires.placed.1)
+
+pub apply-requires : goal.apply-requires
+apply-requires g c = c.ports-ports.ensures
+
+pub ports-ports-requires : goal.ports-ports-requires
+ports-ports-requires g c =
+    subst (λ (w : WorkerIs). w.node < length (outline c.args.setup.now).job.nodes) (sym c.self.view_is) (placed_below (outline c.args.setup.now) c.requires.placed.0 c.args.self.now c.requires.placed.1)
+
+pub enqueue_outputs-requires-clause-edges : goal.enqueue_outputs-requires-clause-edges
+enqueue_outputs-requires-clause-edges g c κs up =
+    c.out_edges-edges.ensures
+
+pub returns-then-is_err-3-clause-err : goal.returns-then-is_err-3-clause-err
+returns-then-is_err-3-clause-err g c =
+    let was = c.self.inside.outs in
+    let now = c.reserve_each.new.outs in
+    let n = c.most_outputs-most.result in
+    let p : EachPair (Reserved n) was.items now = subst (λ xs. EachPair (Reserved n) xs now) c.deref_mut.ensures.value (ok_fact c.reserve_each.result (sym c.is_err-2.ensures.value ∙ c.if-is_err-2.false) c.reserve_each.ensures.ok) in
+    let q : (with_items was now).items ≡ now = with_items_is was now (pairs_length (Reserved n) was.items now p ∙ sym was.ok.0) in
+    rw (← c.self.view_is) (record { rest = rw (c.reserve.ensures.items, err_fact c.apply.result (sym c.is_err-3.ensures.value ∙ c.if-is_err-3.true) c.apply.ensures.err_counts) refl; outs = rw q (only_memory n was.items now p) })
+
+pub enqueue_outputs-requires-clause-post : goal.enqueue_outputs-requires-clause-post
+enqueue_outputs-requires-clause-post g c κs up =
+    let was = c.self.inside.outs in
+    let now = c.reserve_each.new.outs in
+    let n = c.most_outputs-most.result in
+    let p : EachPair (Reserved n) was.items now = subst (λ xs. EachPair (Reserved n) xs now) c.deref_mut.ensures.value (ok_fact c.reserve_each.result (sym c.is_err-2.ensures.value ∙ c.if-is_err-2.false) c.reserve_each.ensures.ok) in
+    let q : (with_items was now).items ≡ now = with_items_is was now (pairs_length (Reserved n) was.items now p ∙ sym was.ok.0) in
+    let job = (outline c.args.setup.now).job in
+    let post = c.requires.placed.0 in
+    let is : IsSenderAt job c.self.inside.node post (numbers_out was.items) =
+    subst (λ (w : WorkerIs). IsSenderAt job w.node post (numbers_out w.outs)) (sym c.self.view_is) (sender (outline c.args.setup.now) post c.args.self.now c.requires.placed.1) in
+    (post, subst (λ ns. IsSenderAt job c.self.inside.node post ns) (sym (ap numbers_out (c.deref_mut-3.ensures.value ∙ q) ∙ numbers_kept n was.items now p)) is)
+
+pub enqueue_outputs-requires-clause-room : goal.enqueue_outputs-requires-clause-room
+enqueue_outputs-requires-clause-room g c κs up =
+    let was = c.self.inside.outs in
+    let now = c.reserve_each.new.outs in
+    let n = c.most_outputs-most.result in
+    let p : EachPair (Reserved n) was.items now = subst (λ xs. EachPair (Reserved n) xs now) c.deref_mut.ensures.value (ok_fact c.reserve_each.result (sym c.is_err-2.ensures.value ∙ c.if-is_err-2.false) c.reserve_each.ensures.ok) in
+    let q : (with_items was now).items ≡ now = with_items_is was now (pairs_length (Reserved n) was.items now p ∙ sym was.ok.0) in
+    let o = ok_fact c.apply.result (sym c.is_err-3.ensures.value ∙ c.if-is_err-3.false) c.apply.ensures.outputs in
+    let job = (outline c.args.setup.now).job in
+    let visit : Visit = record { node = c.self.inside.node; worker = c.self.inside.place; last = c.self.inside.last } in
+    let most : most_outputs c.in-Some.func.now (out_ports job.edges c.self.inside.node) ≡ n = sym (c.most_outputs-most.ensures ∙ ap (most_outputs c.in-Some.func.now) c.ports-ports.ensures) in
+    let few : length (step job visit c.in-Some.func.now c.self.inside.counts c.tuple_at-tuple.result.now).1 ≤ n =
+    subst (λ m. length (step job visit c.in-Some.func.now c.self.inside.counts c.tuple_at-tuple.result.now).1 ≤ m) most (c.outputs_are_few.ensures job visit c.in-Some.func.now c.self.inside.counts c.tuple_at-tuple.result.now) in
+    let long : length c.apply.new.out ≤ n = subst (λ m. m ≤ n) (sym (ap length (made_is _ _ _ o c.new-made.ensures))) few in
+    rw (c.deref_mut-3.ensures.value, q) (fewer n (length c.apply.new.out) now long (room n was.items now p))
+
+pub next_place-self-inside-requires-clause-within : goal.next_place-self-inside-requires-clause-within
+next_place-self-inside-requires-clause-within g c =
+    let l : c.args.place < length c.self.inside.ins.items = subst (λ (w : WorkerIs). c.args.place < length w.ins) (sym c.self.view_is) c.requires.within in
+    omega (arith, c.len.ensures, c.self.inside.ins.ok.0, l)
+
+pub next_place-self-inside-requires-clause-few : goal.next_place-self-inside-requires-clause-few
+next_place-self-inside-requires-clause-few g c =
+    let l : length c.self.inside.ins.items ≤ 127 = subst (λ (w : WorkerIs). length w.ins ≤ 127) (sym c.self.view_is) c.requires.placed.1.few_in in
+    omega (arith, c.len.ensures, c.self.inside.ins.ok.0, l)
+
+pub returns-clause-ok : goal.returns-clause-ok
+returns-clause-ok g c post placed =
+    let was = c.self.inside.outs in
+    let now = c.reserve_each.new.outs in
+    let n = c.most_outputs-most.result in
+    let p : EachPair (Reserved n) was.items now = subst (λ xs. EachPair (Reserved n) xs now) c.deref_mut.ensures.value (ok_fact c.reserve_each.result (sym c.is_err-2.ensures.value ∙ c.if-is_err-2.false) c.reserve_each.ensures.ok) in
+    let q : (with_items was now).items ≡ now = with_items_is was now (pairs_length (Reserved n) was.items now p ∙ sym was.ok.0) in
+    let last = c.enqueue_outputs.new.outs in
+    let setup = outline c.args.setup.now in
+    let job = setup.job in
+    let held : HasTuple c.self.inside.ins.items c.args.place = subst (λ (w : WorkerIs). HasTuple w.ins c.args.place) (sym c.self.view_is) c.requires.held in
+    let a : LaneInIs = held.0 in
+    let t : Tuple = c.take_tuple-lane.result.1 in
+    let tk = c.take_tuple-lane.ensures.tuple a (subst (λ (xs : List LaneInIs). slice_get xs c.args.place ≡ Some a) (sym c.deref_mut-2.ensures.value) held.2) in
+    let at = c.tuple_at-tuple.ensures a (subst (λ (xs : List LaneInIs). slice_get xs c.args.place ≡ Some a) (sym c.deref.ensures.value) held.2) in
+    let same : c.tuple_at-tuple.result.now ≡ t = same_tuple a c.tuple_at-tuple.result.now t at tk.1 in
+    let func : Func = c.in-Some.func.now in
+    let counts : Counts = c.self.inside.counts in
+    let local : Local = record { func = func; counts = counts; last = c.self.inside.last; ended = 0 } in
+    let vis = visits c.self.inside.node c.self.inside.place post local (subst (λ (w : WorkerIs). w.node ≡ post.node) (sym c.self.view_is) placed.node_is) (subst (λ (w : WorkerIs). w.place ≡ post.place) (sym c.self.view_is) placed.place_is) in
+    let e = ap (λ (v : Visit). step job v func counts c.tuple_at-tuple.result.now) vis ∙ ap (λ (u : Tuple). step job (visit_at post local) func counts u) same in
+    let o = ok_fact c.apply.result (sym c.is_err-3.ensures.value ∙ c.if-is_err-3.false) c.apply.ensures.outputs in
+    let made : c.apply.new.out ≡ (step job (visit_at post local) func counts t).1 = made_is _ _ _ o c.new-made.ensures ∙ ap (λ (s : Counts × List Output). s.1) e in
+    let is : IsSenderAt job c.self.inside.node post (numbers_out was.items) = subst (λ (w : WorkerIs). IsSenderAt job w.node post (numbers_out w.outs)) (sym c.self.view_is) (sender setup post c.args.self.now placed) in
+    let is' : IsSenderAt job c.self.inside.node post (numbers_out c.deref_mut-3.result.now) = subst (λ ns. IsSenderAt job c.self.inside.node post ns) (sym (ap numbers_out (c.deref_mut-3.ensures.value ∙ q) ∙ numbers_kept n was.items now p)) is in
+    let f : LaneOutIs → List Item = λ out. items_at job (map (put_out job post) c.apply.new.out) out.number in
+    let h : LaneOutIs → List Item = λ out. items_at job (puts setup post local (Met a.number t)) out.number in
+    let d : EachPair (Appended f) now last = subst (λ xs. EachPair (Appended f) xs last) (c.deref_mut-3.ensures.value ∙ q) (c.enqueue_outputs.ensures post is') in
+    let b : EachPair (Appended h) now last = appended_by f h now last (λ out. ap (λ (os : List Output). items_at job (map (put_out job post) os) out.number) made) d in
+    let all : EachPair (Gains h) was.items last = gains h n was.items now last (λ x m. refl) p b in
+    let r : (with_items (with_items was now) last).items ≡ last = with_items_is (with_items was now) last (pairs_length _ was.items last all ∙ sym was.ok.0) in
+    rw (← c.self.view_is) (record {
+      tuple = t;
+      at = a;
+      func = func;
+      here = held.2;
+      held = tk.1;
+      func_is = sym c.func_in.ensures ∙ ap option_copied c.in-Some.is;
+      journal = rw (ap (λ (j : ReservedIs Entry). j.items) c.push_reserved.ensures, c.reserve.ensures.items, tk.0) refl;
+      ins = with_items_is c.self.inside.ins c.take_tuple-lane.new.ins (c.take_tuple-lane.auto.ins ∙ (ap length c.deref_mut-2.ensures.value ∙ sym c.self.inside.ins.ok.0)) ∙ (c.take_tuple-lane.ensures.ins ∙ ap (laid_down c.args.place) c.deref_mut-2.ensures.value);
+      outs = rw r all;
+      counts = ok_fact c.apply.result (sym c.is_err-3.ensures.value ∙ c.if-is_err-3.false) c.apply.ensures.counts ∙ ap (λ (s : Counts × List Output). s.0) e;
+      next = subst (λ (n : ℕ). c.next_place-self-inside.result < n) (c.len.ensures ∙ c.self.inside.ins.ok.0) c.next_place-self-inside.ensures;
+      rest = refl;
+    })

@@ -1,0 +1,139 @@
+-- What one turn of a worker promises.
+use Rattle.std.specs.Prelude.{◌≡◌, ◌≢◌, ◌⊎◌, ◌↔◌, ⊤, ℕ, ◌+◌, ◌<◌, List, [], ◌∷◌, ◌++◌, Bool, true, false, length, map, Option, Some, None, IsTrue, Contains, drop}
+use Rattle.std.specs.List.{list_any}
+use Rattle.tuple_trace.specs.Counts.{Rose}
+use Rattle.tuple_trace.specs.declared.tuple.Tuple.{Tuple}
+use Rattle.marker_align.specs.Decision.{decided}
+use Rattle.marker_align.specs.Hands.{is_issued}
+use Rattle.marker_align.specs.declared.decision.Act.{Act}
+use Rattle.marker_align.specs.declared.decision.Act.TheVariants.{Turn, Process, Close, Nothing}
+use Rattle.marker_align.specs.declared.decision.Due.{Due}
+use Rattle.marker_align.specs.declared.held.Hand.TheVariants.{Empty}
+use Rattle.sink_journal.specs.declared.journal.Entry.{Entry}
+use Rattle.sink_journal.specs.declared.journal.Entry.TheVariants.{Met, Turned}
+use Rattle.flow_model.specs.Agreement.{Agreement}
+use Rattle.flow_model.specs.Begin.{Begin}
+use Rattle.flow_model.specs.Outline.{Outline, Post}
+use Rattle.flow_worker.specs.Pairs.{Each, EachPair}
+use Rattle.flow_worker.specs.Endpoints.{LaneInIs, LaneOutIs, SameIn, SameOut, all_sent, all_taken, planned}
+use Rattle.flow_worker.specs.Worker.{IsWorker, WorkerIs, hands}
+use Rattle.flow_worker.specs.Steps.{HasClosed, HasProcessed, HasTurned, MemoryOnly}
+use Rattle.flow_worker.specs.declared.worker.acting.Acted.{Acted}
+use Rattle.flow_worker.specs.declared.worker.acting.Acted.TheVariants.{Did, Held, Starved}
+use Rattle.flow_worker.specs.declared.worker.Turn as turn_type
+use Rattle.flow_worker.specs.declared.worker.Turn.TheVariants as turn
+
+-- what a turn added to the journal
+abbrev pub added : WorkerIs → WorkerIs → List Entry
+added w v = drop (length w.journal) v.journal
+
+-- the box was polled once, and the poll returned this number
+abbrev pub Polled : WorkerIs → WorkerIs → ℕ → Type 0
+Polled w v n = v.owner.polls ≡ w.owner.polls ++ n ∷ []
+
+-- the number shows the worker's next due, which it heads
+abbrev pub ShowsHead : WorkerIs → ℕ → Type 0
+ShowsHead w n = (due : Due) × (w.due ≡ Some due) × (due.head ≡ true) × (w.owner.turned < n)
+
+-- control overtakes: a turn that processes a tuple has polled, and the poll showed no due of a
+-- head
+abbrev pub Overtakes : WorkerIs → WorkerIs → Type 0
+Overtakes w v = (lane : ℕ) (tuple : Tuple) → Contains (added w v) (Met lane tuple) →
+    (n : ℕ) × Polled w v n × ¬ ShowsHead w n
+
+-- if the poll shows a due of a head, the turn turns it
+abbrev pub TurnsAtPost : WorkerIs → WorkerIs → Type 0
+TurnsAtPost w v = (n : ℕ) (due : Due) → Polled w v n → w.due ≡ Some due → due.head ≡ true →
+    w.owner.turned < n → Contains (added w v) (Turned due.request)
+
+-- not early: a head turns only if the poll shows its due, or a hand holds a tuple that was fed
+-- after the request was issued
+abbrev pub NotEarly : WorkerIs → WorkerIs → Type 0
+NotEarly w v = (r : ℕ) (due : Due) → Contains (added w v) (Turned r) →
+    w.due ≡ Some due → due.head ≡ true →
+    ((n : ℕ) × Polled w v n × (w.owner.turned < n)) ⊎ IsTrue (list_any (is_issued r) (hands v))
+
+-- a number that rises with each item that is sent or taken, and with each entry
+abbrev pub moves : WorkerIs → ℕ
+moves w = length w.journal + (all_taken w.ins + all_sent w.outs)
+
+abbrev pub DryWhereEmpty : LaneInIs → LaneInIs → Type 0
+DryWhereEmpty a b = b.hand ≡ Empty → Rose a.dry b.dry
+
+abbrev pub FullWhereWaiting : LaneOutIs → LaneOutIs → Type 0
+FullWhereWaiting a b = (b.waiting ≡ []) ⊎ Rose a.full b.full
+
+abbrev pub NothingWaits : WorkerIs → Type 0
+NothingWaits w = Each (λ (out : LaneOutIs). out.waiting ≡ []) w.outs
+
+-- the worker has closed, and nothing waits
+abbrev pub IsDone : WorkerIs → Type 0
+IsDone w = (w.closed ≡ true) × NothingWaits w
+
+-- there is no act, or one that has to wait until no output waits
+abbrev pub IsHeld : Act → WorkerIs → Type 0
+IsHeld (Turn r) w = ⊥
+IsHeld (Process place) w = ¬ NothingWaits w
+IsHeld Close w = ¬ NothingWaits w
+IsHeld Nothing w = ⊤
+
+-- there was nothing to do
+pub record IsIdle (w v : WorkerIs) : Type 0 where
+  pub dry : EachPair DryWhereEmpty w.ins v.ins
+  pub full : EachPair FullWhereWaiting w.outs v.outs
+  pub number : ℕ
+  pub polled : Polled w v number
+  pub no_head : ¬ ShowsHead w number
+  pub posted : Bool
+  pub posted_is : posted ≡ true ↔ w.owner.turned < number
+  pub nothing : IsHeld (decided (hands v) v.due posted v.next) v
+
+-- out of memory: journal, function, counts and planned items are as before, and the worker has
+-- not closed
+pub record IsAsBefore (w v : WorkerIs) : Type 0 where
+  pub journal : v.journal ≡ w.journal
+  pub in_force : v.in_force ≡ w.in_force
+  pub counts : v.counts ≡ w.counts
+  pub planned_is : map planned v.outs ≡ map planned w.outs
+  pub unclosed : v.closed ≡ false
+
+-- the cause of each outcome
+abbrev pub HasCause : turn_type.Turn → WorkerIs → WorkerIs → Type 0
+HasCause turn.Moved w v = (moves w < moves v) × ¬ IsDone v
+HasCause turn.Idle w v = (w.closed ≡ false → IsIdle w v) × (w.closed ≡ true → EachPair FullWhereWaiting w.outs v.outs) × ¬ IsDone v
+HasCause turn.Done w v = IsDone v
+HasCause turn.NoMemory w v = IsAsBefore w v
+
+-- the worker keeps its number, its box, and the endpoints of its lanes
+pub record SameEndpoints (w v : WorkerIs) : Type 0 where
+  pub number : v.number ≡ w.number
+  pub ins : EachPair SameIn w.ins v.ins
+  pub outs : EachPair SameOut w.outs v.outs
+  pub within : v.owner.within ≡ w.owner.within
+
+-- what one turn promises
+pub record IsTurn (setup : Outline) (result : turn_type.Turn) (w v : WorkerIs) : Type 0 where
+  -- the law holds after the turn, from every beginning from which it held before
+  pub law : (begin : Begin) → IsWorker setup begin w → IsWorker setup begin v
+  -- the visits of the processed tuples agree with the turns
+  pub agreement : Agreement setup v.journal
+  pub ends : SameEndpoints w v
+  pub overtakes : Overtakes w v
+  pub at_post : result ≢ turn.NoMemory → TurnsAtPost w v
+  pub early : NotEarly w v
+  pub cause : HasCause result w v
+
+-- ---- the parts of a turn
+
+-- the act was done
+abbrev pub HasDone : Outline → Post → Option Due → Act → WorkerIs → WorkerIs → Type 0
+HasDone setup post None (Turn r) w v = ⊥
+HasDone setup post (Some due) (Turn r) w v = HasTurned setup due w v
+HasDone setup post due (Process place) w v = HasProcessed setup post place w v
+HasDone setup post due Close w v = HasClosed w v
+HasDone setup post due Nothing w v = ⊥
+
+abbrev pub HasActed : Outline → Post → Option Due → Act → Acted → WorkerIs → WorkerIs → Type 0
+HasActed setup post due act Did w v = HasDone setup post due act w v
+HasActed setup post due act Held w v = (v ≡ w) × IsHeld act w
+HasActed setup post due act Starved w v = MemoryOnly w v

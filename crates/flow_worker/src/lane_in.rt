@@ -1,0 +1,142 @@
+ghost use Rattle.std.specs.Prelude.{◌≡◌, ◌≢◌, ℕ, ◌+◌, ◌<◌, ◌≤◌, [], IsTrue, length};
+ghost use Rattle.marker_align.specs.declared.held.Hand.TheVariants.{Empty};
+ghost use Rattle.flow_worker.specs.Pairs.{EachPair};
+ghost use Rattle.flow_worker.specs.Endpoints.{Filled, LaneInIs, all_taken};
+ghost use Rattle.flow_worker.specs.Parts.{endpoint_in};
+
+use lane_core::{Lanes, Rx};
+use marker_align::{Hand, Holder};
+use std::marker::Model;
+use std::mem;
+
+/// A lane into a worker: its receiving endpoint, the item in hand, its number and its edge.
+#[derive(Drop)]
+pub struct LaneIn<L: Lanes> {
+    end: L::Rx,
+    hand: Hand,
+    number: u32,
+    edge: u32,
+}
+
+impl<L: Lanes> Model for LaneIn<L> {
+    ghost use Rattle.std.specs.Prelude.{◌≡◌};
+    ghost use Rattle.flow_worker.specs.Endpoints.{LaneInIs};
+
+    ghost Value = { LaneInIs };
+
+    ghost view = { λ o. record {
+      lane = L.Rx.lane o.end;
+      number = o.number;
+      origin = L.Rx.origin o.end;
+      edge = o.edge;
+      taken = L.Rx.taken o.end;
+      dry = L.Rx.dry o.end;
+      hand = o.hand;
+    } };
+
+    ghost invariant = { λ o. L.Rx.number o.end ≡ o.number };
+}
+
+impl<L: Lanes> Holder for LaneIn<L> {
+    ghost hand = { λ a. a.hand };
+
+    fn hand(&self) -> &Hand {
+        &self.hand
+    }
+}
+
+impl<L: Lanes> LaneIn<L> {
+    /// Makes the lane of an endpoint, with an empty hand.
+    pub fn new(end: L::Rx, number: u32, edge: u32) -> LaneIn<L>
+        requires { L.Rx.number end ≡ number }
+        ensures { result ≡ record {
+          lane = L.Rx.lane end;
+          number = L.Rx.number end;
+          origin = L.Rx.origin end;
+          edge = edge;
+          taken = L.Rx.taken end;
+          dry = L.Rx.dry end;
+          hand = Empty;
+        } }
+    {
+        LaneIn {
+            end,
+            hand: Hand::Empty,
+            number,
+            edge,
+        }
+    }
+
+    /// Returns the number of the lane.
+    pub fn number(&self) -> u32
+        ensures { result ≡ self.now.number }
+    {
+        self.number
+    }
+
+    /// Returns the number of its edge.
+    pub fn edge(&self) -> u32
+        ensures { result ≡ self.now.edge }
+    {
+        self.edge
+    }
+
+    /// Takes the next item into the hand if the hand is empty. Returns whether it took one.
+    pub fn fill(&mut self, need: &mut L::Need) -> bool
+        ensures filled { Filled self.old self.new }
+        ensures moved { IsTrue result → length self.old.taken < length self.new.taken }
+    {
+        if let Hand::Holds(_) = &self.hand {
+            return false;
+        }
+        match self.end.take(need) {
+            Some(item) => {
+                self.hand = Hand::Holds(item);
+                true
+            }
+            None => false,
+        }
+    }
+
+    /// Empties the hand, and returns what it held.
+    pub fn empty(&mut self) -> Hand
+        ensures hand { result ≡ self.old.hand }
+        ensures rest { self.new ≡ record self.old { hand = Empty } }
+    {
+        mem::replace(&mut self.hand, Hand::Empty)
+    }
+
+    /// Empties the hand.
+    pub fn clear(&mut self)
+        ensures { self.new ≡ record self.old { hand = Empty } }
+    {
+        self.hand = Hand::Empty;
+    }
+
+    /// Returns the endpoint.
+    pub fn end(self) -> L::Rx
+        ensures { record {
+          lane = L.Rx.lane result;
+          number = L.Rx.number result;
+          origin = L.Rx.origin result;
+          items = L.Rx.taken result;
+        } ≡ endpoint_in self }
+    {
+        let LaneIn { end, .. } = self;
+        end
+    }
+}
+
+/// Takes into each empty hand. Returns whether any took an item.
+pub fn fill_all<L: Lanes>(ins: &mut [LaneIn<L>], need: &mut L::Need) -> bool
+    ensures filled { EachPair Filled ins.old ins.new }
+    ensures moved { IsTrue result → all_taken ins.old < all_taken ins.new }
+{
+    let mut moved = false;
+    for lane in ins {
+        if lane.fill(need) {
+            moved = true;
+        }
+    }
+    moved
+}

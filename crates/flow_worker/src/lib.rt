@@ -1,0 +1,26 @@
+//! A worker of a node: its lanes, its hands, its journal, and one turn after another.
+//!
+//! [`Worker::make`] makes it over the endpoints of its lanes, in any form. [`Worker::turn`] puts what
+//! waits, takes into empty hands, polls the control box, decides, and does at most one act: it turns
+//! for a request, processes a tuple, or closes. After [`Turn::Done`] it is taken apart by
+//! [`Worker::finish`]. A worker knows no thread and no other worker.
+//!
+//! Alignment of markers, heads that turn at a control message, and functions that change with the
+//! markers are those of the Fries paper (PVLDB 2022).
+//!
+//! ```
+//! let mut need = lanes.need();
+//! let mut worker = Worker::make(alloc, &setup, 0, ins, outs, owner)?;
+//! let turn = worker.turn(&mut need, &setup, &OpenGate);
+//! ```
+#![tactic(auto)]
+
+mod acts;
+mod lane_in;
+mod lane_out;
+mod outputs;
+mod parts;
+mod worker;
+
+pub use parts::{Opened, Parts, Worked};
+pub use worker::{Turn, Worker};

@@ -1,0 +1,56 @@
+// The lanes of a function's outputs.
+ghost use Rattle.std.specs.Prelude.{◌≡◌, length, map};
+ghost use Rattle.jobs.specs.Job.{written};
+ghost use Rattle.flow_model.specs.Outline.{Post as PostIs};
+ghost use Rattle.flow_model.specs.Replay.{put_out};
+ghost use Rattle.flow_model.specs.Topology.{out_edges};
+ghost use Rattle.flow_worker.specs.Pairs.{Each, EachPair};
+ghost use Rattle.flow_worker.specs.Endpoints.{Appended, HasRoom, LaneOutIs};
+ghost use Rattle.flow_worker.specs.Steps.{items_at, place_from};
+ghost use Rattle.flow_worker.specs.Worker.{IsSenderAt, numbers_out};
+
+use crate::lane_out::LaneOut;
+use flow_model::OutEdge;
+use lane_core::Lanes;
+use operators::{Job, Outs, lane_of};
+use tuple_trace::{Item, Tuple};
+
+// Returns the place, among the lanes out, of a tuple's lane on a port; `None` if no edge leaves
+// the node on that port. Takes no memory.
+fn place_of(job: &Job, node: u32, edges: &[OutEdge], port: u32, tuple: &Tuple) -> Option<usize>
+    requires { edges.now ≡ out_edges (written job.now) node }
+    ensures { result ≡ place_from (written job.now) 0 edges.now port tuple.now }
+{
+    let mut first = 0;
+    for edge in edges {
+        if edge.port == port {
+            return Some(first + lane_of(job, edge.edge, tuple) as usize);
+        }
+        first += edge.receivers as usize;
+    }
+    None
+}
+
+/// Adds each output to the waiting items of its lane, in order.
+pub fn enqueue_outputs<L: Lanes>(
+    job: &Job,
+    node: u32,
+    edges: &[OutEdge],
+    outs: &mut [LaneOut<L>],
+    made: Outs,
+)
+    requires post { (post : PostIs)
+        × IsSenderAt (written job.now) node post (numbers_out outs.old) }
+    requires edges { edges.now ≡ out_edges (written job.now) node }
+    requires room { Each (HasRoom (length made)) outs.old }
+    ensures { (post : PostIs) → IsSenderAt (written job.now) node post (numbers_out outs.old)
+        → EachPair (Appended (λ (out : LaneOutIs). items_at (written job.now)
+        (map (put_out (written job.now) post) made) out.number)) outs.old outs.new }
+{
+    for output in made.into_vec() {
+        if let Some(place) = place_of(job, node, edges, output.port, &output.tuple) {
+            let out = &mut outs[place];
+            out.push(Item::Carry(output.tuple));
+        }
+    }
+}

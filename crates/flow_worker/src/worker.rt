@@ -1,0 +1,277 @@
+mod acting;
+
+ghost use Rattle.std.specs.Prelude.{◌≡◌, ℕ, ◌<◌, ◌≤◌, ◌↔◌, IfOk, IsTrue, false, length, map};
+ghost use Rattle.std.specs.List.{list_any};
+ghost use Rattle.std.specs.Option.{option_copied};
+ghost use Rattle.marker_align.specs.Decision.{decided};
+ghost use Rattle.flow_model.specs.Begin.{Begin, at_first};
+ghost use Rattle.flow_model.specs.Setup.{outline};
+ghost use Rattle.flow_model.specs.Workers.{posts};
+ghost use Rattle.flow_worker.specs.Endpoints.{IsSteadyOut, all_sent, all_taken, is_waiting};
+ghost use Rattle.flow_worker.specs.Pairs.{Each};
+ghost use Rattle.flow_worker.specs.Parts.{AreNewEndpoints, endpoint_in, endpoint_out, endpoints};
+ghost use Rattle.flow_worker.specs.Steps.{PollsOnly, PutsOnly, TakesOnly};
+ghost use Rattle.flow_worker.specs.Turning.{IsDone, IsTurn};
+ghost use Rattle.flow_worker.specs.Worker.{IsWorker, hands};
+
+use crate::lane_in::{LaneIn, fill_all};
+use crate::lane_out::{LaneOut, flush_all};
+use crate::parts::{Parts, Worked, new_ins, new_outs, part_ins, part_outs};
+use crate::worker::acting::Acted;
+use control_box::Owner;
+use flow_model::{InForce, Setup, workers_keep_steady};
+use keyed_state::Keyed;
+use lane_core::Lanes;
+use marker_align::{Act, Due, decide_among};
+use sink_journal::Entry;
+use std::alloc::Global;
+use std::marker::Model;
+use tuple_trace::{Gate, NoMemory, Reserved};
+
+/// The outcome of a turn.
+#[derive(Clone, Copy, Debug, PartialEq, Eq)]
+pub enum Turn {
+    /// An item was put or taken, or an act was done.
+    Moved,
+    /// There was nothing to do: see `IsIdle` in specs/Turning.antt.
+    Idle,
+    /// The worker has closed, and nothing waits.
+    Done,
+    /// Memory ran out. The turn may be called again.
+    NoMemory,
+}
+
+/// A worker of a node: its lanes with the items in hand and the items that wait, its journal, and
+/// the function and counts in force.
+///
+/// It is generic over the form of lane, and knows no thread.
+#[derive(Drop)]
+pub struct Worker<L: Lanes> {
+    alloc: Global,
+    number: u32,
+    node: u32,
+    place: u32,
+    journal: Reserved<Entry>,
+    in_force: InForce,
+    counts: Keyed,
+    // The latest request turned, 0 for none.
+    last: u64,
+    due: Option<Due>,
+    ins: Vec<LaneIn<L>>,
+    outs: Vec<LaneOut<L>>,
+    owner: Owner,
+    closed: bool,
+    // The place at which its search for a tuple begins.
+    next: u32,
+    // How many tuples it has processed.
+    met: u64,
+    // Memory in which `finish` hands the endpoints back.
+    spare_ins: Vec<L::Rx>,
+    spare_outs: Vec<L::Tx>,
+}
+
+impl<L: Lanes> Model for Worker<L> {
+    ghost use Rattle.std.specs.Prelude.{◌≡◌, []};
+    ghost use Rattle.std.specs.Vec.{vec_capacity};
+    ghost use Rattle.flow_worker.specs.Worker.{WorkerIs};
+
+    ghost Value = { WorkerIs };
+
+    ghost use Rattle.std.specs.Coded.{codes};
+    ghost use Rattle.keyed_state.specs.Counts.{counts_code};
+
+    ghost coded = { Prim.hlevel (codes, counts_code) };
+
+    ghost view = { λ w. record {
+      number = w.number;
+      node = w.node;
+      place = w.place;
+      journal = w.journal.items;
+      memory = w.journal.memory;
+      in_force = w.in_force;
+      counts = w.counts;
+      last = w.last;
+      due = w.due;
+      ins = w.ins.items;
+      outs = w.outs.items;
+      owner = w.owner;
+      closed = w.closed;
+      next = w.next;
+      spare_in = vec_capacity w.spare_ins;
+      spare_out = vec_capacity w.spare_outs;
+    } };
+
+    ghost invariant = { λ w. (w.spare_ins.items ≡ []) × (w.spare_outs.items ≡ []) };
+}
+
+impl<L: Lanes> Worker<L> {
+    /// Makes the worker with this number, at the beginning of a run.
+    ///
+    /// `ins` and `outs` are the endpoints of the worker's lanes, in the order of the lanes' numbers.
+    /// `owner` is its end of a new box. The one error is out of memory; it gives the endpoints up.
+    pub fn make(
+        alloc: Global,
+        setup: &Setup,
+        number: u32,
+        ins: Vec<L::Rx>,
+        outs: Vec<L::Tx>,
+        owner: Owner,
+    ) -> Result<Worker<L>, NoMemory>
+        requires there { number < length (posts (outline setup.now).job) }
+        requires ends { AreNewEndpoints (outline setup.now).job number
+            (endpoints L.Rx.lane L.Rx.number L.Rx.origin L.Rx.taken ins.items)
+            (endpoints L.Tx.lane L.Tx.number L.Tx.origin L.Tx.sent outs.items) }
+        requires owner { owner.turned ≡ 0 }
+        ensures law { IfOk result (IsWorker (outline setup.now) (at_first (outline setup.now))) }
+        ensures ins { IfOk result (λ w. map endpoint_in w.ins
+            ≡ endpoints L.Rx.lane L.Rx.number L.Rx.origin L.Rx.taken ins.items) }
+        ensures outs { IfOk result (λ w. map endpoint_out w.outs
+            ≡ endpoints L.Tx.lane L.Tx.number L.Tx.origin L.Tx.sent outs.items) }
+        ensures owner { IfOk result (λ w. w.owner ≡ owner) }
+    {
+        let at = setup.worker_at(number);
+        let room_in = Vec::with_capacity(alloc, ins.len())?;
+        let spare_ins = Vec::with_capacity(alloc, ins.len())?;
+        let room_out = Vec::with_capacity(alloc, outs.len())?;
+        let spare_outs = Vec::with_capacity(alloc, outs.len())?;
+        let ins = new_ins(setup, ins, setup.lanes_in(number), room_in);
+        let outs = new_outs(alloc, setup, outs, setup.lanes_out(number), room_out);
+        let due = setup.due_after(number, 0);
+        Ok(Worker {
+            alloc,
+            number,
+            node: at.node,
+            place: at.index,
+            journal: Reserved::new(alloc),
+            in_force: InForce::Own,
+            counts: Keyed::new(alloc),
+            last: 0,
+            due,
+            ins,
+            outs,
+            owner,
+            closed: false,
+            next: 0,
+            met: 0,
+            spare_ins,
+            spare_outs,
+        })
+    }
+
+    /// Returns what a worker that is done leaves, and its endpoints in the order of
+    /// [`Worker::make`]. Takes no memory.
+    pub fn finish(self) -> Parts<L>
+        requires done { IsDone self }
+        requires room_in { length self.ins ≤ self.spare_in }
+        requires room_out { length self.outs ≤ self.spare_out }
+        ensures worked { result.worked
+            ≡ record { number = self.number; journal = self.journal; state = self.counts } }
+        ensures ins { endpoints L.Rx.lane L.Rx.number L.Rx.origin L.Rx.taken result.ins.items
+            ≡ map endpoint_in self.ins }
+        ensures outs { endpoints L.Tx.lane L.Tx.number L.Tx.origin L.Tx.sent result.outs.items
+            ≡ map endpoint_out self.outs }
+    {
+        let Worker {
+            number,
+            journal,
+            counts,
+            ins,
+            outs,
+            spare_ins,
+            spare_outs,
+            ..
+        } = self;
+        Parts {
+            worked: Worked::of(number, journal.into_items(), counts),
+            ins: part_ins(ins, spare_ins),
+            outs: part_outs(outs, spare_outs),
+        }
+    }
+
+    /// Takes one turn, in this order: it puts waiting items, lane by lane; takes into the empty
+    /// hands; polls the box; decides; and does at most one act. A closed worker only puts.
+    ///
+    /// `setup` is the one that the worker was made for. `gate` is called directly before a tuple is
+    /// processed, with the node, the worker's place there, and the number of earlier tuples.
+    ///
+    /// After [`Turn::NoMemory`] the journal, function, counts and planned items are as before the
+    /// turn, and what was taken is in the hands. The turn may be called again.
+    pub fn turn<G: Gate>(&mut self, need: &mut L::Need, setup: &Setup, gate: &G) -> Turn
+        requires law { (begin : Begin) × IsWorker (outline setup.now) begin self.old }
+        ensures { IsTurn (outline setup.now) result self.old self.new }
+    {
+        workers_keep_steady(setup);
+        let put = self.put_waiting(need);
+        if self.is_closed() {
+            if !self.waits() {
+                return Turn::Done;
+            }
+            return if put { Turn::Moved } else { Turn::Idle };
+        }
+        let took = self.take_into_hands(need);
+        let posted = self.poll();
+        let due = self.due();
+        let act = self.choose(due.as_ref(), posted);
+        match self.act(setup, gate, due, act) {
+            Acted::Starved => Turn::NoMemory,
+            Acted::Held => { if put || took { Turn::Moved } else { Turn::Idle } }
+            Acted::Did => {
+                if self.is_closed() && !self.waits() {
+                    Turn::Done
+                } else {
+                    Turn::Moved
+                }
+            }
+        }
+    }
+
+    fn put_waiting(&mut self, need: &mut L::Need) -> bool
+        requires steady { Each IsSteadyOut self.old.outs }
+        ensures puts { PutsOnly self.old self.new }
+        ensures moved { IsTrue result → all_sent self.old.outs < all_sent self.new.outs }
+    {
+        flush_all(&mut self.outs, need)
+    }
+
+    fn take_into_hands(&mut self, need: &mut L::Need) -> bool
+        ensures takes { TakesOnly self.old self.new }
+        ensures moved { IsTrue result → all_taken self.old.ins < all_taken self.new.ins }
+    {
+        fill_all(&mut self.ins, need)
+    }
+
+    // Polls the box. Returns whether the next due is posted.
+    fn poll(&mut self) -> bool
+        ensures { (n : ℕ) × PollsOnly self.old self.new n
+            × (IsTrue result ↔ (self.old.owner.turned < n)) }
+    {
+        let posted = self.owner.poll();
+        self.owner.last_turned() < posted
+    }
+
+    fn is_closed(&self) -> bool
+        ensures { result ≡ self.now.closed }
+    {
+        self.closed
+    }
+
+    fn waits(&self) -> bool
+        ensures { result ≡ list_any is_waiting self.now.outs }
+    {
+        self.outs.iter().any(|out| out.is_waiting())
+    }
+
+    fn due(&self) -> Option<Due>
+        ensures { result ≡ self.now.due }
+    {
+        self.due
+    }
+
+    fn choose(&self, due: Option<&Due>, posted: bool) -> Act
+        requires few { length self.now.ins ≤ 127 }
+        requires next { self.now.next < length self.now.ins }
+        ensures { result ≡ decided (hands self.now) (option_copied due.entry) posted self.now.next }
+    {
+        decide_among(self.ins.as_slice(), due, posted, self.next)
+    }
+}

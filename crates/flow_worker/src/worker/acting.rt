@@ -1,0 +1,182 @@
+// The acts of a worker: it turns for a request, processes a tuple, or closes.
+ghost use Rattle.std.specs.Prelude.{◌≡◌, ℕ, ◌+◌, ◌<◌, ◌≤◌, Bool, IfSome, OnErr, OnOk, Some, length};
+ghost use Rattle.marker_align.specs.Decision.{decided};
+ghost use Rattle.jobs.specs.declared.func.Func.{Func as FuncIs};
+ghost use Rattle.marker_align.specs.declared.decision.Due.{Due as DueIs};
+ghost use Rattle.flow_model.specs.Outline.{Post as PostIs};
+ghost use Rattle.flow_model.specs.Setup.{outline};
+ghost use Rattle.flow_model.specs.InForce.{func_in as func_at};
+ghost use Rattle.flow_worker.specs.Steps.{HasClosed, HasProcessed, HasTuple, HasTurned, MemoryOnly};
+ghost use Rattle.flow_worker.specs.Turning.{HasActed};
+ghost use Rattle.flow_worker.specs.Worker.{IsPlaced, hands};
+
+use crate::Worker;
+use crate::acts::{note_ends, note_markers, push_ends, push_markers, take_tuple, tuple_at};
+use crate::lane_out::reserve_each;
+use crate::outputs::enqueue_outputs;
+use flow_model::Setup;
+use lane_core::Lanes;
+use marker_align::{Act, Due};
+use operators::{Outs, apply, most_outputs, outputs_are_few};
+use sink_journal::Entry;
+use tuple_trace::{Gate, NoMemory, Visit};
+
+// The outcome of an act.
+#[derive(Clone, Copy, Debug, PartialEq, Eq)]
+pub(crate) enum Acted {
+    // It was done.
+    Did,
+    // There was none, or it has to wait until no output waits.
+    Held,
+    // Memory ran out.
+    Starved,
+}
+
+impl<L: Lanes> Worker<L> {
+    // Does the act, unless it has to wait.
+    pub(crate) fn act<G: Gate>(
+        &mut self,
+        setup: &Setup,
+        gate: &G,
+        due: Option<Due>,
+        act: Act,
+    ) -> Acted
+        requires placed { (post : PostIs) × IsPlaced (outline setup.now) post self.old }
+        requires func { (func : FuncIs)
+            × (func_at (outline setup.now) self.old.node self.old.in_force ≡ Some func) }
+        requires few { IfSome due (λ (d : DueIs). self.old.owner.turned < d.request) }
+        requires act { (posted : Bool) × (act ≡ decided (hands self.old) due posted self.old.next) }
+        ensures { (post : PostIs) → IsPlaced (outline setup.now) post self.old
+            → HasActed (outline setup.now) post due act result self.old self.new }
+    {
+        match act {
+            Act::Turn(_) => match due {
+                Some(due) => match self.turn_for(setup, &due) {
+                    Ok(()) => Acted::Did,
+                    Err(_) => Acted::Starved,
+                },
+                None => Acted::Held,
+            },
+            Act::Process(place) => {
+                if self.waits() {
+                    return Acted::Held;
+                }
+                match self.process(setup, gate, place) {
+                    Ok(()) => Acted::Did,
+                    Err(_) => Acted::Starved,
+                }
+            }
+            Act::Close => {
+                if self.waits() {
+                    return Acted::Held;
+                }
+                match self.close() {
+                    Ok(()) => Acted::Did,
+                    Err(_) => Acted::Starved,
+                }
+            }
+            Act::Nothing => Acted::Held,
+        }
+    }
+
+    // Turns for a request: notes its markers and the turn, puts its change in force, adds its
+    // marker to the covered lanes out, and acknowledges.
+    fn turn_for(&mut self, setup: &Setup, due: &Due) -> Result<(), NoMemory>
+        requires placed { (post : PostIs) × IsPlaced (outline setup.now) post self.old }
+        requires few { self.old.owner.turned < due.now.request }
+        ensures ok { OnOk result (HasTurned (outline setup.now) due.now self.old self.new) }
+        ensures err { OnErr result (MemoryOnly self.old self.new) }
+    {
+        if self.journal.reserve(self.ins.len() + 1).is_err() {
+            return Err(NoMemory);
+        }
+        if reserve_each(&mut self.outs, 1).is_err() {
+            return Err(NoMemory);
+        }
+        let request = due.request;
+        note_markers(&mut self.ins, due, &mut self.journal);
+        self.journal.push_reserved(Entry::Turned { request });
+        setup.put_in_force(self.node, request, &mut self.in_force, &mut self.counts);
+        self.last = request;
+        self.due = setup.due_after(self.number, request);
+        push_markers(&mut self.outs, setup.covered_edges(request), due);
+        self.owner.turned(self.owner.last_turned() + 1);
+        Ok(())
+    }
+
+    // Processes the tuple in the hand at a place.
+    fn process<G: Gate>(&mut self, setup: &Setup, gate: &G, place: u32) -> Result<(), NoMemory>
+        requires placed { (post : PostIs) × IsPlaced (outline setup.now) post self.old }
+        requires func { (func : FuncIs)
+            × (func_at (outline setup.now) self.old.node self.old.in_force ≡ Some func) }
+        requires held { HasTuple self.old.ins place }
+        requires within { place < length self.old.ins }
+        ensures ok { OnOk result ((post : PostIs) → IsPlaced (outline setup.now) post self.old
+            → HasProcessed (outline setup.now) post place self.old self.new) }
+        ensures err { OnErr result (MemoryOnly self.old self.new) }
+    {
+        let Some(func) = setup.func_in(self.node, self.in_force) else {
+            unreachable!()
+        };
+        outputs_are_few();
+        let ports = setup.ports(self.node);
+        if self.journal.reserve(1).is_err() {
+            return Err(NoMemory);
+        }
+        let most = most_outputs(func, ports);
+        if reserve_each(&mut self.outs, most).is_err() {
+            return Err(NoMemory);
+        }
+        gate.pass(self.node, self.place, self.met);
+        let visit = Visit {
+            node: self.node,
+            worker: self.place,
+            last: self.last,
+        };
+        let mut made = Outs::new(self.alloc);
+        let tuple = tuple_at(&self.ins, place);
+        let counts = &mut self.counts;
+        if apply(
+            self.alloc, &setup.job, ports, visit, func, counts, tuple, &mut made,
+        )
+        .is_err()
+        {
+            return Err(NoMemory);
+        }
+        let (lane, tuple) = take_tuple(&mut self.ins, place);
+        self.journal.push_reserved(Entry::Met { lane, tuple });
+        let edges = setup.out_edges(self.node);
+        enqueue_outputs(&setup.job, self.node, edges, &mut self.outs, made);
+        self.met = self.met.saturating_add(1);
+        self.next = next_place(place, self.ins.len());
+        Ok(())
+    }
+
+    // Closes: notes the end of each lane in, and adds `Last` to each lane out.
+    fn close(&mut self) -> Result<(), NoMemory>
+        requires few { length self.old.ins ≤ 127 }
+        ensures ok { OnOk result (HasClosed self.old self.new) }
+        ensures err { OnErr result (MemoryOnly self.old self.new) }
+    {
+        if self.journal.reserve(self.ins.len()).is_err() {
+            return Err(NoMemory);
+        }
+        if reserve_each(&mut self.outs, 1).is_err() {
+            return Err(NoMemory);
+        }
+        note_ends(&mut self.ins, &mut self.journal);
+        push_ends(&mut self.outs);
+        self.closed = true;
+        Ok(())
+    }
+}
+
+// Returns the place after this one, or place 0 after the last.
+fn next_place(place: u32, places: usize) -> u32
+    requires within { place < places }
+    requires few { places ≤ 127 }
+    ensures { result < places }
+{
+    let next = place + 1;
+    if (next as usize) < places { next } else { 0 }
+}

@@ -1,0 +1,3 @@
+mod by_hand;
+mod real_setups;
+mod watch;
