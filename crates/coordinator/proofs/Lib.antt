@@ -1,0 +1,13 @@
+pub mod ListLemmas
+pub mod Places
+pub mod Asking
+pub mod Issuing
+pub mod Rests
+pub mod Sents
+pub mod PlaceLemmas
+pub mod Laying
+pub mod Keeping
+pub mod Starting
+pub mod Telling
+pub mod Meaning
+pub mod Tying

@@ -1,0 +1,102 @@
+-- What the feeder does to the boxes of the workers.
+use Rattle.std.specs.Prelude.{◌≡◌, ℕ, true, ◌+◌, ◌-◌, ◌<◌, ◌≤◌, List, [], ◌∷◌, ◌++◌, length, Some, slice_get, if◌then◌else◌}
+use Rattle.control_box.specs.Ends.{HasShownReady, PosterIs}
+use Rattle.flow_model.specs.Covers.{covers, is_head}
+use Rattle.flow_model.specs.Outline.{Outline}
+use Rattle.flow_model.specs.Workers.{posts}
+use Rattle.coordinator.specs.Numbers.{node_at, number_of}
+use Rattle.coordinator.specs.Views.{BoxesIs}
+
+-- the last of the loads is at least this number
+abbrev pub LastAtLeast : ℕ → List ℕ → Type 0
+LastAtLeast number loads =
+    (earlier : List ℕ) × (load : ℕ) × (loads ≡ earlier ++ load ∷ []) × (number ≤ load)
+
+-- the loads grew by one, below this number
+abbrev pub LoadedBelow : ℕ → List ℕ → List ℕ → Type 0
+LoadedBelow number old new = (load : ℕ) × (new ≡ old ++ load ∷ []) × (load < number)
+
+-- they are the same boxes
+abbrev pub SameBoxes : List PosterIs → List PosterIs → Type 0
+SameBoxes old new =
+    (length new ≡ length old)
+    × ((w : ℕ) (p q : PosterIs) → slice_get old w ≡ Some p → slice_get new w ≡ Some q
+    → q.within ≡ p.within)
+
+abbrev pub SamePosts : List PosterIs → List PosterIs → Type 0
+SamePosts old new =
+    (w : ℕ) (p q : PosterIs) → slice_get old w ≡ Some p → slice_get new w ≡ Some q
+    → q.posted ≡ p.posted
+
+abbrev pub SameLoads : List PosterIs → List PosterIs → Type 0
+SameLoads old new =
+    (w : ℕ) (p q : PosterIs) → slice_get old w ≡ Some p → slice_get new w ≡ Some q
+    → q.loads ≡ p.loads
+
+-- the first k boxes have shown last that their workers turned so many covering requests
+abbrev pub AreReady : List ℕ → ℕ → List PosterIs → Type 0
+AreReady covered k posters =
+    (w n : ℕ) (p : PosterIs) → w < k → slice_get covered w ≡ Some n → slice_get posters w ≡ Some p
+    → LastAtLeast n p.loads
+
+-- the box at this place loaded that its worker turned fewer covering requests
+abbrev pub IsUnready : List ℕ → ℕ → List PosterIs → List PosterIs → Type 0
+IsUnready covered k old new =
+    (n : ℕ) × (p : PosterIs) × (q : PosterIs) × (slice_get covered k ≡ Some n)
+    × (slice_get old k ≡ Some p) × (slice_get new k ≡ Some q) × LoadedBelow n p.loads q.loads
+
+-- the numbers once this request is counted at each worker that it covers
+abbrev pub AreCountedWith : Outline → ℕ → List ℕ → List ℕ → Type 0
+AreCountedWith setup request old new =
+    (length new ≡ length old)
+    × ((w m n : ℕ) → slice_get old w ≡ Some m → slice_get new w ≡ Some n
+    → n ≡ (if covers setup request (node_at setup w) then m + 1 else m))
+
+-- each box has shown that its worker turned so many covering requests, and has no later post
+abbrev pub AreReached : List ℕ → List PosterIs → Type 0
+AreReached covered posters =
+    (w n : ℕ) (p : PosterIs) → slice_get covered w ≡ Some n → slice_get posters w ≡ Some p
+    → HasShownReady (n + 1) p.loads × (p.posted ≤ n)
+
+-- the request may be posted to each worker of its heads, under these numbers
+abbrev pub MayPost : Outline → ℕ → List ℕ → List PosterIs → Type 0
+MayPost setup request covered posters =
+    (w n : ℕ) (p : PosterIs) → is_head setup request (node_at setup w) ≡ true
+    → slice_get covered w ≡ Some n → slice_get posters w ≡ Some p
+    → HasShownReady n p.loads × (p.posted < n)
+
+-- the request is posted to each worker of its heads, under these numbers, and to no other worker
+abbrev pub ArePosted : Outline → ℕ → List ℕ → List PosterIs → List PosterIs → Type 0
+ArePosted setup request covered old new =
+    (w n : ℕ) (p q : PosterIs) → slice_get covered w ≡ Some n → slice_get old w ≡ Some p
+    → slice_get new w ≡ Some q
+    → q.posted ≡ (if is_head setup request (node_at setup w) then n else p.posted)
+
+-- The boxes once these requests are issued: how many of them cover each worker is known, no worker
+-- has a post of a later one, and the first boxes are ready for the next one.
+pub record AreBoxes (setup : Outline) (turned issued : ℕ) (boxes : BoxesIs) : Type 0 where
+  pub one_each : length boxes.posters ≡ length (posts setup.job)
+  pub one_number_each : length boxes.covered ≡ length boxes.posters
+  pub counted :
+      (w n : ℕ) → slice_get boxes.covered w ≡ Some n → n ≡ number_of setup turned w issued
+  pub posted :
+      (w : ℕ) (p : PosterIs) → slice_get boxes.posters w ≡ Some p
+      → p.posted ≤ number_of setup turned w issued
+  pub ready_within : boxes.ready ≤ length boxes.posters
+  pub ready_are : AreReady boxes.covered boxes.ready boxes.posters
+
+-- a worker hasn't turned all requests so far that cover it, as its box loaded
+abbrev pub SomeBelow : Outline → ℕ → ℕ → List PosterIs → List PosterIs → Type 0
+SomeBelow setup turned issued old new =
+    (w : ℕ) × (p : PosterIs) × (q : PosterIs) × (slice_get old w ≡ Some p)
+    × (slice_get new w ≡ Some q) × LoadedBelow (number_of setup turned w issued) p.loads q.loads
+
+-- A request is issued: the last load of each box shows that its worker turned all earlier requests
+-- that cover it. The request is posted to each worker of its heads, under its number there, and to
+-- no other worker.
+abbrev pub AsIssued : Outline → ℕ → ℕ → List PosterIs → List PosterIs → Type 0
+AsIssued setup turned request old new =
+    (w : ℕ) (p q : PosterIs) → slice_get old w ≡ Some p → slice_get new w ≡ Some q →
+    LastAtLeast (number_of setup turned w (request - 1)) q.loads
+    × (q.posted ≡ (if is_head setup request (node_at setup w)
+    then number_of setup turned w request else p.posted))

@@ -1,0 +1,10 @@
+pub mod Views
+pub mod Numbers
+pub mod Boxes
+pub mod Feeding
+pub mod Due
+pub mod Turning
+pub mod Steps
+pub mod Starts
+pub mod Meaning
+pub mod Tie

@@ -1,0 +1,93 @@
+-- What a turn of the feeder does.
+use Rattle.std.specs.Prelude.{◌≡◌, ◌≢◌, ◌⊎◌, ◌↔◌, ℕ, ◌<◌, ◌≤◌, Bool, true, List, [], ◌∷◌, ◌++◌, length, map, None, Some, slice_get}
+use Rattle.jobs.specs.Written.{Written}
+use Rattle.sink_journal.specs.declared.journal.Feed.{Feed}
+use Rattle.sink_journal.specs.declared.journal.Feed.TheVariants as feed
+use Rattle.tuple_trace.specs.Counts.{Rose}
+use Rattle.tuple_trace.specs.declared.row.Row.{Row}
+use Rattle.tuple_trace.specs.declared.tuple.Item.{Item}
+use Rattle.flow_model.specs.Begin.{Begin}
+use Rattle.flow_model.specs.Lanes.{lane_of}
+use Rattle.flow_model.specs.Outline.{Outline}
+use Rattle.flow_model.specs.declared.topology.Lane.{Lane}
+use Rattle.coordinator.specs.declared.feeding.FeedTurn.{FeedTurn}
+use Rattle.coordinator.specs.declared.feeding.FeedTurn.TheVariants as turn
+use Rattle.coordinator.specs.Boxes.{AsIssued, SameBoxes, SamePosts, SomeBelow}
+use Rattle.coordinator.specs.Due.{HasHeard, IsDue, NoneIsDue}
+use Rattle.coordinator.specs.Feeding.{IsFeeder, fed_lanes}
+use Rattle.coordinator.specs.Views.{FeederIs, OutIs, end_of}
+
+-- the lane at this place was full
+abbrev pub FoundFull : ℕ → List OutIs → List OutIs → Type 0
+FoundFull place old new =
+    (o : OutIs) × (q : OutIs) × (slice_get old place ≡ Some o) × (slice_get new place ≡ Some q)
+    × Rose o.full q.full
+
+-- a request is due, and a worker hasn't turned all earlier ones that cover it
+abbrev pub RequestWaits : Bool → Outline → List Row → FeederIs → FeederIs → Type 0
+RequestWaits live setup rows old new =
+    IsDue live setup rows new.loads old
+    × SomeBelow setup old.begin_turned old.issued old.boxes.posters new.boxes.posters
+
+-- the place of the lane of a row
+abbrev pub IsLaneOfRow : Written → Row → ℕ → Type 0
+IsLaneOfRow job row place =
+    (lane : Lane) × (lane_of job None row.source 0 row.tuple ≡ Some lane)
+    × (slice_get (fed_lanes job) place ≡ Some lane)
+
+-- no request is due, and the lane of the next row was full
+abbrev pub RowWaits : Bool → Outline → List Row → FeederIs → FeederIs → Type 0
+RowWaits live setup rows old new =
+    (row : Row) × (place : ℕ) × (slice_get rows old.row ≡ Some row)
+    × NoneIsDue live setup rows new.loads old × HasHeard setup rows old new
+    × IsLaneOfRow setup.job row place × FoundFull place old.outs new.outs
+
+-- no request is due, no row is left, and a lane that isn't ended was full
+abbrev pub EndWaits : Bool → Outline → List Row → FeederIs → FeederIs → Type 0
+EndWaits live setup rows old new =
+    NoneIsDue live setup rows new.loads old × (length rows ≤ old.row)
+    × (old.ended < length old.outs) × FoundFull old.ended old.outs new.outs
+
+abbrev pub Waits : Bool → Outline → List Row → FeederIs → FeederIs → Type 0
+Waits live setup rows old new =
+    RequestWaits live setup rows old new
+    ⊎ (RowWaits live setup rows old new ⊎ EndWaits live setup rows old new)
+
+-- the feed or a lane's list grew
+abbrev pub Grew : FeederIs → FeederIs → Type 0
+Grew old new =
+    ((entry : Feed) × (new.feeds ≡ old.feeds ++ entry ∷ []))
+    ⊎ ((place : ℕ) × (o : OutIs) × (q : OutIs) × (item : Item) × (slice_get old.outs place ≡ Some o)
+    × (slice_get new.outs place ≡ Some q) × (q.sent ≡ o.sent ++ item ∷ []))
+
+-- the loads of releases are as before, or one more
+abbrev pub LoadsOnce : List ℕ → List ℕ → Type 0
+LoadsOnce old new = (new ≡ old) ⊎ ((load : ℕ) × (new ≡ old ++ load ∷ []))
+
+-- One turn: the law holds after it from every beginning from which it held before. Endpoints and
+-- boxes stay what they are. A request is issued only once it is due and as it has to be, and
+-- otherwise nothing is posted. A row is fed, and a lane ended, only if no request is due. Each
+-- outcome has its cause.
+pub record IsTurn (live : Bool) (setup : Outline) (rows : List Row) (answer : FeedTurn)
+    (old new : FeederIs) : Type 0 where
+  pub law :
+      (begin : Begin) → IsFeeder live setup begin rows old → IsFeeder live setup begin rows new
+  pub ends : map end_of new.outs ≡ map end_of old.outs
+  pub boxes : SameBoxes old.boxes.posters new.boxes.posters
+  pub begun : (new.begin_row ≡ old.begin_row) × (new.begin_turned ≡ old.begin_turned)
+  pub loads : LoadsOnce old.loads new.loads
+  pub issued :
+      (r : ℕ) → new.feeds ≡ old.feeds ++ feed.Issued r ∷ []
+      → IsDue live setup rows new.loads old
+      × AsIssued setup old.begin_turned r old.boxes.posters new.boxes.posters
+  pub unissued :
+      ((r : ℕ) → new.feeds ≢ old.feeds ++ feed.Issued r ∷ [])
+      → SamePosts old.boxes.posters new.boxes.posters
+  pub fed :
+      (r : ℕ) → new.feeds ≡ old.feeds ++ feed.Fed r ∷ []
+      → NoneIsDue live setup rows new.loads old × HasHeard setup rows old new
+  pub ended : old.ended < new.ended → NoneIsDue live setup rows new.loads old
+  pub moved : answer ≡ turn.Moved → Grew old new
+  pub idle : answer ≡ turn.Idle → (new.feeds ≡ old.feeds) × Waits live setup rows old new
+  pub done : (answer ≡ turn.Done) ↔ (new.stopped ≡ true)
+  pub no_memory : answer ≡ turn.NoMemory → new ≡ record old { loads = new.loads }

@@ -1,0 +1,111 @@
+ghost use Rattle.std.specs.Prelude.{◌≡◌, ◌≤◌, IfOk, List, false, length, ⊤};
+ghost use Rattle.tuple_trace.specs.declared.row.Row.{Row as RowIs};
+ghost use Rattle.flow_model.specs.Begin.{Begin, at_first};
+ghost use Rattle.flow_model.specs.Setup.{outline};
+ghost use Rattle.coordinator.specs.Feeding.{IsFeeder};
+ghost use Rattle.coordinator.specs.Starts.{AreNewOuts, AreUnused};
+ghost use Rattle.coordinator.specs.Views.{FeederIs, outs_of};
+
+use crate::state::State;
+use crate::{FeedParts, FeedTurn, Feeding};
+use control_box::Poster;
+use flow_model::Setup;
+use lane_core::Lanes;
+use std::alloc::Global;
+use std::marker::Model;
+use tuple_trace::{Gate, NoMemory, Rows};
+
+/// The feeder that issues each request directly after the row that the request names.
+#[derive(Drop)]
+pub struct Feeder<L: Lanes> {
+    state: State<L::Need, L::Tx>,
+}
+
+impl<L: Lanes> Model for Feeder<L> {
+    ghost use Rattle.coordinator.specs.Views.{FeederIs};
+
+    ghost Value = { FeederIs };
+
+    ghost view = { λ f. f.state };
+}
+
+impl<L: Lanes> Feeder<L> {
+    /// A feeder from a beginning on: `row` rows were fed and `turned` requests were turned before.
+    /// `outs` are the endpoints of the lanes of all sources, in the order of the lanes' numbers.
+    /// `posters` are those of all workers, in their order. A refusal gives all of them up.
+    pub fn make_from(
+        alloc: Global,
+        setup: &Setup,
+        outs: Vec<L::Tx>,
+        posters: Vec<Poster>,
+        row: usize,
+        turned: usize,
+    ) -> Result<Feeder<L>, NoMemory>
+        requires turned { turned ≤ length (outline setup.now).requests }
+        requires outs { AreNewOuts (outline setup.now).job (outs_of L.Tx.lane L.Tx.number
+            L.Tx.origin L.Tx.capacity L.Tx.sent L.Tx.full outs.items) }
+        requires boxes { AreUnused (outline setup.now) posters.items }
+        ensures law { IfOk result (λ (f : FeederIs). (begin : Begin) (rows : List RowIs)
+            → begin.row ≡ row → begin.turned ≡ turned
+            → IsFeeder false (outline setup.now) begin rows f) }
+        ensures outs { IfOk result (λ (f : FeederIs). f.outs ≡ outs_of L.Tx.lane L.Tx.number
+            L.Tx.origin L.Tx.capacity L.Tx.sent L.Tx.full outs.items) }
+        ensures boxes { IfOk result (λ (f : FeederIs). f.boxes.posters ≡ posters.items) }
+    {
+        let state = State::make(alloc, setup, outs, posters, row, turned)?;
+        Ok(Feeder { state })
+    }
+}
+
+impl<L: Lanes> Feeding<L> for Feeder<L> {
+    type Seed = ();
+
+    type Rest = ();
+
+    ghost LIVE = { false };
+
+    const LIVE: bool = false;
+
+    ghost feeder = { λ f. f };
+
+    ghost rest = { λ f. tt };
+
+    ghost kept = { λ seed feed rest. ⊤ };
+
+    fn make(
+        alloc: Global,
+        setup: &Setup,
+        outs: Vec<L::Tx>,
+        posters: Vec<Poster>,
+        _seed: (),
+    ) -> Result<Feeder<L>, NoMemory>
+        requires outs { AreNewOuts (outline setup.now).job (outs_of L.Tx.lane L.Tx.number
+            L.Tx.origin L.Tx.capacity L.Tx.sent L.Tx.full outs.items) }
+        requires boxes { AreUnused (outline setup.now) posters.items }
+        ensures law { IfOk result (λ (f : FeederIs). (rows : List RowIs)
+            → IsFeeder false (outline setup.now) (at_first (outline setup.now)) rows f) }
+        ensures kept { IfOk result (λ f. ⊤) }
+        ensures outs { IfOk result (λ (f : FeederIs). f.outs ≡ outs_of L.Tx.lane L.Tx.number
+            L.Tx.origin L.Tx.capacity L.Tx.sent L.Tx.full outs.items) }
+        ensures boxes { IfOk result (λ (f : FeederIs). f.boxes.posters ≡ posters.items) }
+    {
+        let state = State::make(alloc, setup, outs, posters, 0, 0)?;
+        Ok(Feeder { state })
+    }
+
+    fn turn<G: Gate>(
+        &mut self,
+        need: &mut L::Need,
+        setup: &Setup,
+        rows: &Rows,
+        gate: &G,
+    ) -> FeedTurn {
+        self.state.turn(need, setup, rows, gate)
+    }
+
+    fn finish(self) -> (FeedParts<L>, ()) {
+        let Feeder { state } = self;
+        let (feeds, outs) = state.open();
+        (FeedParts { feeds, outs }, ())
+    }
+}

@@ -1,0 +1,85 @@
+ghost use Rattle.std.specs.Prelude.{◌≡◌, ◌<◌, ℕ, IfErr, List, OnOk, [], ◌∷◌, ◌++◌, Some, length, slice_get, slice_set};
+ghost use Rattle.tuple_trace.specs.Counts.{Rose};
+ghost use Rattle.tuple_trace.specs.declared.tuple.Item.TheVariants.{Carry};
+ghost use Rattle.lane_core.specs.Steady.{MayFollow};
+ghost use Rattle.coordinator.specs.Views.{OutIs, outs_of};
+
+use lane_core::Tx;
+use std::marker::{Model, PhantomData};
+use tuple_trace::{Item, Tuple};
+
+/// The sending endpoints of the lanes of all sources.
+#[derive(Drop)]
+pub struct Outs<N, T: Tx<N>> {
+    ends: Vec<T>,
+    need: PhantomData<N>,
+}
+
+impl<N, T: Tx<N>> Model for Outs<N, T> {
+    ghost use Rattle.std.specs.Prelude.{List};
+    ghost use Rattle.coordinator.specs.Views.{OutIs, outs_of};
+
+    ghost Value = { List OutIs };
+
+    ghost view = { λ o. outs_of T.lane T.number T.origin T.capacity T.sent T.full
+        o.ends.items };
+}
+
+impl<N, T: Tx<N>> Outs<N, T> {
+    pub fn of(ends: Vec<T>) -> Outs<N, T>
+        ensures { result ≡ outs_of T.lane T.number T.origin T.capacity T.sent
+            T.full ends.items }
+    {
+        Outs {
+            ends,
+            need: PhantomData,
+        }
+    }
+
+    pub fn open(self) -> Vec<T>
+        ensures { self ≡ outs_of T.lane T.number T.origin T.capacity T.sent
+            T.full result.items }
+    {
+        let Outs { ends, .. } = self;
+        ends
+    }
+
+    pub fn len(&self) -> usize
+        ensures { result ≡ length self.now }
+    {
+        self.ends.len()
+    }
+
+    /// Puts an item on the lane at this place. A full lane hands it back.
+    pub fn put(&mut self, need: &mut N, place: usize, item: Item) -> Result<(), Item>
+        requires place { place < length self.old }
+        requires steady { (o : OutIs) → slice_get self.old place ≡ Some o
+            → MayFollow o.origin o.sent item }
+        ensures put { OnOk result ((o : OutIs) × (slice_get self.old place ≡ Some o)
+            × (self.new ≡ slice_set self.old place (record o { sent = o.sent ++ item ∷ [] }))) }
+        ensures full { IfErr result (λ back. (back ≡ item) × ((o : OutIs) × (n : ℕ)
+            × (slice_get self.old place ≡ Some o)
+            × (self.new ≡ slice_set self.old place (record o { full = n })) × Rose o.full n)) }
+    {
+        self.ends[place].put(need, item)
+    }
+
+    /// Puts a tuple on the lane at this place. A full lane hands it back.
+    pub fn feed(&mut self, need: &mut N, place: usize, tuple: Tuple) -> Result<(), Tuple>
+        requires place { place < length self.old }
+        requires steady { (o : OutIs) → slice_get self.old place ≡ Some o
+            → MayFollow o.origin o.sent (Carry tuple) }
+        ensures put { OnOk result ((o : OutIs) × (slice_get self.old place ≡ Some o)
+            × (self.new ≡ slice_set self.old place
+            (record o { sent = o.sent ++ Carry tuple ∷ [] }))) }
+        ensures full { IfErr result (λ back. (back ≡ tuple) × ((o : OutIs) × (n : ℕ)
+            × (slice_get self.old place ≡ Some o)
+            × (self.new ≡ slice_set self.old place (record o { full = n })) × Rose o.full n)) }
+    {
+        match self.put(need, place, Item::Carry(tuple)) {
+            Ok(()) => Ok(()),
+            Err(Item::Carry(back)) => Err(back),
+            Err(Item::Mark { .. } | Item::Last) => unreachable!(),
+        }
+    }
+}

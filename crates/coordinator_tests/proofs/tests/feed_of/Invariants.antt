@@ -1,0 +1,9 @@
+use Rattle.std.proofs.Common.{false}
+use Rattle.flow_model.specs.Begin.{Begin}
+use Rattle.flow_model.specs.Setup.{outline}
+use Rattle.coordinator.specs.Feeding.{IsFeeder}
+use Rattle.coordinator_tests.proofs.tests.feed_of.Given as goal
+
+-- the feeder has its law
+abbrev pub invariant-loop-turn : goal.invariant-loop-turn
+invariant-loop-turn g l = (begin : Begin) × IsFeeder false (outline l.setup) begin l.rows l.feeder

@@ -1,0 +1,171 @@
+ghost use Rattle.std.specs.Prelude.{◌≡◌, ℕ, [], IfOk, IfSome, Some, length, slice_get};
+ghost use Rattle.control_box.specs.Ends.{PosterIs};
+ghost use Rattle.jobs.specs.Job.{written};
+ghost use Rattle.jobs.specs.Nodes.{AreFromSources};
+ghost use Rattle.flow_model.specs.Begin.{Begin};
+ghost use Rattle.flow_model.specs.Setup.{outline};
+ghost use Rattle.coordinator.specs.Feeding.{IsFeeder};
+ghost use Rattle.std.specs.Prelude.{false};
+
+use control_box::{Owner, Poster, make_box};
+use coordinator::{FeedTurn, Feeder, Feeding};
+use flow_model::Setup;
+use job_file::{read_job, read_requests};
+use jobs::Job;
+use lane_core::{Lanes, QueueLanes};
+use payments::read_rows;
+use sink_journal::{Feed, Feeds};
+use std::alloc::Global;
+use std::sync::Wait;
+use tuple_trace::{NoMemory, OpenGate, Rows};
+use versions::{accepted_requests_stay_accepted, judge_all};
+use worker_tests::AllEndpoints;
+
+const CHAIN: &str = r#"columns = ["amount:cents"]
+node = [
+  { name = "card", kind = "source" },
+  { name = "big", kind = "filter", when = [["amount", ">=", 10000]] },
+  { name = "alerts", kind = "sink", columns = ["amount"] },
+]
+edge = [
+  { from = "card", to = "big" },
+  { from = "big", to = "alerts" },
+]
+"#;
+
+const FOUR_PAYMENTS: &str = "source,amount
+card,99.99
+card,100.00
+card,50.00
+card,120.00
+";
+
+/// The filter's threshold falls twice after row 3.
+const TWICE_AFTER_3: &str = r#"[[request]]
+after = 3
+change = [{ node = "big", from = 0, kind = "filter", when = [["amount", ">=", 5000]] }]
+[[request]]
+after = 3
+change = [{ node = "big", from = 1, kind = "filter", when = [["amount", ">=", 5000]] }]
+"#;
+
+type Boxes = (Vec<Poster>, Vec<Owner>);
+
+/// New boxes for so many workers.
+fn make_boxes(alloc: Global, workers: u32) -> Result<Boxes, NoMemory>
+    ensures many { IfOk result (λ boxes. length boxes.0.items ≡ workers) }
+    ensures unused { IfOk result (λ boxes. (w : ℕ) (p : PosterIs)
+        → slice_get boxes.0.items w ≡ Some p → (p.posted ≡ 0) × (p.loads ≡ [])) }
+{
+    let mut posters = Vec::new(alloc);
+    let mut owners = Vec::new(alloc);
+    for _worker in 0..workers {
+        let (poster, owner) = make_box(alloc)?;
+        posters.push(poster)?;
+        owners.push(owner)?;
+    }
+    Ok((posters, owners))
+}
+
+/// Lets the owner turn the due that is posted, if there is one.
+fn acknowledge(owner: &mut Owner) {
+    let posted = owner.poll();
+    let turned = owner.last_turned();
+    if turned < posted {
+        owner.turned(turned + 1);
+    }
+}
+
+/// The feed of a feeder that stops within so many turns. After each turn each owner turns what is
+/// posted to it.
+fn feed_of<L: Lanes>(
+    mut feeder: Feeder<L>,
+    need: &mut L::Need,
+    setup: &Setup,
+    rows: &Rows,
+    owners: &mut [Owner],
+    turns: u32,
+) -> Option<Feeds>
+    requires law { (begin : Begin) × IsFeeder false (outline setup.now) begin rows.now feeder }
+    requires rows { AreFromSources (outline setup.now).job rows.now }
+{
+    for _turn in 0..turns {
+        match feeder.turn(need, setup, rows, &OpenGate) {
+            FeedTurn::Done => {
+                let (parts, ()) = feeder.finish();
+                return Some(parts.feeds);
+            }
+            FeedTurn::Moved | FeedTurn::Idle | FeedTurn::NoMemory => {}
+        }
+        for worker in 0..owners.len() {
+            acknowledge(&mut owners[worker]);
+        }
+    }
+    None
+}
+
+/// The feed of the rows, over lanes of this form.
+fn fed<L: Lanes>(
+    alloc: Global,
+    form: &L,
+    setup: &Setup,
+    rows: &Rows,
+) -> Result<Option<Feeds>, NoMemory>
+    requires { AreFromSources (outline setup.now).job rows.now }
+{
+    let (posters, mut owners) = make_boxes(alloc, setup.workers())?;
+    let AllEndpoints { feeder, .. } = AllEndpoints::make(alloc, form, setup, 64)?;
+    let (_, outs) = feeder.open();
+    let feeder: Feeder<L> = Feeder::make(alloc, setup, outs, posters, ())?;
+    let mut need = form.need();
+    let owners = owners.as_mut_slice();
+    Ok(feed_of(feeder, &mut need, setup, rows, owners, 100))
+}
+
+/// The setup of a job with the requests of a text.
+fn setup_of(alloc: Global, job: Job, requests: &str) -> Option<Setup>
+    ensures { IfSome result (λ setup. setup.job ≡ job) }
+{
+    let Ok(requests) = read_requests(alloc, &job, requests.as_bytes()) else {
+        return None;
+    };
+    let Ok(judged) = judge_all(alloc, &job, &requests) else {
+        return None;
+    };
+    accepted_requests_stay_accepted();
+    match Setup::make(alloc, job, judged) {
+        Ok(setup) => Some(setup),
+        Err(_) => None,
+    }
+}
+
+/// Whether the four payments and the two requests are fed so.
+fn has_feed<L: Lanes>(alloc: Global, form: &L, feed: &[Feed]) -> bool {
+    let Ok(job) = read_job(alloc, CHAIN.as_bytes()) else {
+        return false;
+    };
+    let Ok(rows) = read_rows(alloc, &job, FOUR_PAYMENTS.as_bytes()) else {
+        return false;
+    };
+    let Some(setup) = setup_of(alloc, job, TWICE_AFTER_3) else {
+        return false;
+    };
+    match fed(alloc, form, &setup, &rows) {
+        Ok(Some(feeds)) => feeds.as_slice() == feed,
+        Ok(None) | Err(_) => false,
+    }
+}
+
+#[test]
+fn two_requests_after_one_row(rt: HostRuntime) {
+    let feed = [
+        Feed::Fed(1),
+        Feed::Fed(2),
+        Feed::Fed(3),
+        Feed::Issued(1),
+        Feed::Issued(2),
+        Feed::Fed(4),
+        Feed::Stopped,
+    ];
+    assert!(rt; has_feed(rt.alloc(), &QueueLanes::new(rt), &feed));
+}
