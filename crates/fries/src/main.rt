@@ -1,45 +1,40 @@
-//! Consistent live reconfiguration of a pipelined dataflow.
-//!
-//! The program changes operators while tuples flow, and is proved to let no row see half of a change. [`top::fries`] is the call that
-//! `main` makes; its contract is what the program promises.
+//! The program `fries`: it hands its words to [`top_call::fries`], over the files and the standard output of the host, and ends with
+//! the status that it returns.
 #![tactic(auto)]
-
-mod answer;
-mod check;
-mod command;
-mod counts;
-mod fault;
-mod fault_words;
-mod first;
-mod job;
-mod lines;
-mod plan;
-mod plan_lines;
-mod printing;
-mod reading;
-mod refused_lines;
-mod run;
-mod running;
-#[cfg(test)]
-mod tests;
-mod top;
-mod writing;
 
 use payments::{HostShelf, StdOut};
 use std::alloc::{AllocError, Global};
-use std::env;
+use std::fs::File;
 use std::process::ExitCode;
+use std::rt::Files;
+use std::{env, io};
+use top_call::{Fault, FileIs, fries};
 use tuple_trace::{OpenGate, Word};
 
 fn main(rt: HostRuntime) -> ExitCode {
+    // They are held until the program ends.
+    let Ok(_standard) = take_standard_descriptors(&rt) else {
+        return ExitCode::from(Fault::Write(FileIs::Out).status());
+    };
     let alloc = rt.alloc();
     let Ok(words) = words_of(&rt, alloc) else {
-        return ExitCode::from(fault::Fault::NoMemory.status());
+        return ExitCode::from(Fault::NoMemory.status());
     };
     let mut shelf = HostShelf::new(rt);
     let mut out = StdOut::new(rt);
-    let outcome = top::fries(&rt, alloc, &words, &mut shelf, &mut out, &OpenGate);
+    let outcome = fries(&rt, alloc, &words, &mut shelf, &mut out, &OpenGate);
     ExitCode::from(outcome.status)
+}
+
+// A file that is opened gets the least descriptor that is free. If the program is started without one of the three standard ones, the
+// first file would get it, and what is printed would land in that file. So `/dev/null` takes it first, open for reading only: a write to
+// it is refused.
+fn take_standard_descriptors<R: Files>(rt: &R) -> io::Result<[R::File; 3]> {
+    Ok([
+        File::open(rt, "/dev/null")?,
+        File::open(rt, "/dev/null")?,
+        File::open(rt, "/dev/null")?,
+    ])
 }
 
 // The words after the program's name. Words that aren't UTF-8 are read as none.

@@ -1,0 +1,220 @@
+//! Whole calls over files in memory, and what they leave.
+
+mod alone;
+mod check;
+mod first;
+mod lines;
+mod plan;
+mod run;
+mod texts;
+mod told;
+
+use crate::tests::told::tells;
+use flow_model::RunRecord;
+use payments::{Calls, MemoryShelf, MemorySink};
+use std::alloc::Global;
+use std::sync::Wait;
+use std::thread::Threads;
+use top_call::{Outcome, fries};
+use tuple_trace::{Bytes, NoMemory, OpenGate, Word};
+
+/// What a call finds outside: files by their names, and the numbers of the calls of the shelf and of the output that fail.
+#[derive(Clone, Copy)]
+pub struct Around<'a> {
+    pub files: &'a [(&'a str, &'a str)],
+    pub failing: &'a [u64],
+    pub refusing: &'a [u64],
+}
+
+impl<'a> Around<'a> {
+    /// These files, and no call that fails.
+    pub fn of(files: &'a [(&'a str, &'a str)]) -> Self {
+        Around {
+            files,
+            failing: &[],
+            refusing: &[],
+        }
+    }
+}
+
+/// What a text is to be: there is none, or some, or this one.
+#[derive(Clone, Copy)]
+pub enum Wanted<'a> {
+    Nothing,
+    Something,
+    Text(&'a str),
+}
+
+/// What a call is to leave.
+#[derive(Clone, Copy)]
+pub struct Left<'a> {
+    pub status: u8,
+    /// What stands under `alerts.csv`.
+    pub alerts: Wanted<'a>,
+    /// What is printed.
+    pub out: &'a str,
+    /// What the record tells, if there is one.
+    pub ran: Wanted<'a>,
+}
+
+impl<'a> Left<'a> {
+    /// A status and printed lines, but no alerts and no record.
+    pub fn lines(status: u8, out: &'a str) -> Self {
+        Left {
+            status,
+            alerts: Wanted::Nothing,
+            out,
+            ran: Wanted::Nothing,
+        }
+    }
+
+    /// The same with alerts, and with some record.
+    pub fn run(status: u8, alerts: &'a str, out: &'a str) -> Self {
+        Left {
+            status,
+            alerts: Wanted::Text(alerts),
+            out,
+            ran: Wanted::Something,
+        }
+    }
+}
+
+/// Whether a call with these words leaves this. An append takes at most 16 bytes.
+pub fn leaves<R>(rt: &R, alloc: Global, around: Around<'_>, words: &[&str], left: Left<'_>) -> bool
+where
+    R: Threads + Wait + Copy + Send + Sync + 'static,
+{
+    matches!(call_leaves(rt, alloc, around, words, left), Ok(true))
+}
+
+fn call_leaves<R>(
+    rt: &R,
+    alloc: Global,
+    around: Around<'_>,
+    words: &[&str],
+    left: Left<'_>,
+) -> Result<bool, NoMemory>
+where
+    R: Threads + Wait + Copy + Send + Sync + 'static,
+{
+    let mut shelf = shelf_of(alloc, around)?;
+    shelf_leaves(rt, alloc, around.refusing, words, &mut shelf, left)
+}
+
+/// Whether a call with these words over this shelf leaves this, where these calls of the output fail.
+pub fn shelf_leaves<R>(
+    rt: &R,
+    alloc: Global,
+    refusing: &[u64],
+    words: &[&str],
+    shelf: &mut MemoryShelf,
+    left: Left<'_>,
+) -> Result<bool, NoMemory>
+where
+    R: Threads + Wait + Copy + Send + Sync + 'static,
+{
+    let words = words_of(alloc, words)?;
+    words_leave(rt, alloc, refusing, &words, shelf, left)
+}
+
+fn words_leave<R>(
+    rt: &R,
+    alloc: Global,
+    refusing: &[u64],
+    words: &[Word],
+    shelf: &mut MemoryShelf,
+    left: Left<'_>,
+) -> Result<bool, NoMemory>
+where
+    R: Threads + Wait + Copy + Send + Sync + 'static,
+{
+    let mut out = MemorySink::new(alloc, Calls::from_slice(alloc, refusing)?);
+    let outcome = call(rt, alloc, words, shelf, &mut out);
+    outcome_leaves(alloc, &outcome, shelf, &out, left)
+}
+
+// The top call. It stands in a function without clauses, since a caller of its contract is dear to prove.
+fn call<R>(
+    rt: &R,
+    alloc: Global,
+    words: &[Word],
+    shelf: &mut MemoryShelf,
+    out: &mut MemorySink,
+) -> Outcome
+where
+    R: Threads + Wait + Copy + Send + Sync + 'static,
+{
+    fries(rt, alloc, words, shelf, out, &OpenGate)
+}
+
+fn outcome_leaves(
+    alloc: Global,
+    outcome: &Outcome,
+    shelf: &MemoryShelf,
+    out: &MemorySink,
+    left: Left<'_>,
+) -> Result<bool, NoMemory> {
+    Ok(
+        outcome.status == left.status
+            && out.written() == left.out.as_bytes()
+            && is_ran(alloc, &outcome.ran, left.ran)?
+            && has_alerts(alloc, shelf, left.alerts)?,
+    )
+}
+
+fn is_ran(alloc: Global, ran: &Option<RunRecord>, wanted: Wanted<'_>) -> Result<bool, NoMemory> {
+    match (ran, wanted) {
+        (None, Wanted::Nothing) | (Some(_), Wanted::Something) => Ok(true),
+        (Some(ran), Wanted::Text(lines)) => tells(alloc, ran, lines),
+        _ => Ok(false),
+    }
+}
+
+fn has_alerts(alloc: Global, shelf: &MemoryShelf, wanted: Wanted<'_>) -> Result<bool, NoMemory> {
+    let name = word(alloc, "alerts.csv")?;
+    Ok(is_text(shelf.get(&name), wanted))
+}
+
+fn is_text(bytes: Option<&Bytes>, wanted: Wanted<'_>) -> bool {
+    match (bytes, wanted) {
+        (None, Wanted::Nothing) | (Some(_), Wanted::Something) => true,
+        (Some(bytes), Wanted::Text(text)) => bytes.as_slice() == text.as_bytes(),
+        _ => false,
+    }
+}
+
+/// What stands under `alerts.csv`; nothing if there is no such file.
+pub fn alerts_on(alloc: Global, shelf: &MemoryShelf) -> Result<Bytes, NoMemory> {
+    let name = word(alloc, "alerts.csv")?;
+    match shelf.get(&name) {
+        Some(bytes) => Bytes::from_slice(alloc, bytes.as_slice()),
+        None => Ok(Bytes::new(alloc)),
+    }
+}
+
+fn words_of(alloc: Global, texts: &[&str]) -> Result<Vec<Word>, NoMemory> {
+    let mut words = Vec::new(alloc);
+    for text in texts {
+        words.push(word(alloc, text)?)?;
+    }
+    Ok(words)
+}
+
+fn word(alloc: Global, text: &str) -> Result<Word, NoMemory> {
+    Ok(Word::from_string(text.to_string(alloc)?))
+}
+
+/// The shelf that holds these files.
+pub fn shelf_of(alloc: Global, around: Around<'_>) -> Result<MemoryShelf, NoMemory> {
+    let mut shelf = MemoryShelf::new(alloc, 16, Calls::from_slice(alloc, around.failing)?);
+    for (name, text) in around.files {
+        put(alloc, name, text, &mut shelf)?;
+    }
+    Ok(shelf)
+}
+
+fn put(alloc: Global, name: &str, text: &str, shelf: &mut MemoryShelf) -> Result<(), NoMemory> {
+    let name = word(alloc, name)?;
+    let bytes = Bytes::from_slice(alloc, text.as_bytes())?;
+    shelf.put(name, bytes).map_err(|_| NoMemory)
+}

@@ -1,0 +1,204 @@
+//! Jobs, requests and payments that several tests share.
+
+pub const CHAIN: &str = r#"columns = ["account:text", "merchant:text", "amount:cents", "tags:text"]
+
+[[node]]
+name = "card"
+kind = "source"
+
+[[node]]
+name = "big"
+kind = "filter"
+when = [["amount", ">=", 10000]]
+
+[[node]]
+name = "alerts"
+kind = "sink"
+columns = ["account", "merchant", "amount", "tags"]
+
+[[edge]]
+from = "card"
+to = "big"
+
+[[edge]]
+from = "big"
+to = "alerts"
+"#;
+
+pub const FOUR_PAYMENTS: &str = "source,account,merchant,amount,tags
+card,a,m,99.99,
+card,b,m,100.00,
+card,c,m,50.00,
+card,d,m,120.00,
+";
+
+/// The header of the alerts of a chain.
+pub const HEADER: &str = "sink,row,account,merchant,amount,tags\n";
+
+/// What the four payments leave where the filter's threshold falls to 50.00 after row 2.
+pub const THREE_ALERTS: &str = "sink,row,account,merchant,amount,tags
+alerts,2,b,m,100.00,
+alerts,3,c,m,50.00,
+alerts,4,d,m,120.00,
+";
+
+/// What they leave where it falls before the first row.
+pub const FOUR_ALERTS: &str = "sink,row,account,merchant,amount,tags
+alerts,1,a,m,99.99,
+alerts,2,b,m,100.00,
+alerts,3,c,m,50.00,
+alerts,4,d,m,120.00,
+";
+
+/// What they leave where it falls after the last row.
+pub const TWO_ALERTS: &str = "sink,row,account,merchant,amount,tags
+alerts,2,b,m,100.00,
+alerts,4,d,m,120.00,
+";
+
+/// Payments from two sources: rated by a table, parted by their amount, and counted for each account.
+pub const PAYMENTS: &str = r#"columns = ["account:text", "merchant:text", "amount:cents",
+           "risk:number:own", "seen:number:own"]
+
+[tables.risks]
+casino = 3
+fuel = 2
+
+[[node]]
+name = "card"
+kind = "source"
+[[node]]
+name = "wire"
+kind = "source"
+[[node]]
+name = "rate"
+kind = "enrich"
+key = "merchant"
+into = "risk"
+table = "risks"
+other = 1
+[[node]]
+name = "big"
+kind = "filter"
+when = [["amount", ">=", 10000]]
+[[node]]
+name = "hot"
+kind = "filter"
+when = [["risk", ">=", 2]]
+[[node]]
+name = "tally"
+kind = "count"
+workers = 2
+key = "account"
+add = 1
+into = "seen"
+[[node]]
+name = "review"
+kind = "sink"
+columns = ["account", "merchant", "amount", "risk"]
+[[node]]
+name = "often"
+kind = "filter"
+when = [["seen", ">=", 3]]
+[[node]]
+name = "watch"
+kind = "sink"
+columns = ["account", "merchant", "seen"]
+
+[[edge]]
+from = "card"
+to = "rate"
+[[edge]]
+from = "wire"
+to = "rate"
+[[edge]]
+from = "rate"
+to = "big"
+[[edge]]
+from = "big"
+to = "hot"
+[[edge]]
+from = "big"
+to = "tally"
+port = 1
+[[edge]]
+from = "hot"
+to = "review"
+[[edge]]
+from = "tally"
+to = "often"
+[[edge]]
+from = "often"
+to = "watch"
+"#;
+
+/// Three requests of the payments job. The third was written before the first.
+pub const PAYMENTS_REQUESTS: &str = r#"
+[[request]]
+after = 4
+[[request.change]]
+node = "big"
+from = 0
+kind = "filter"
+when = [["amount", ">=", 5000]]
+[[request.change]]
+node = "hot"
+from = 0
+kind = "filter"
+when = [["risk", ">=", 3]]
+
+[[request]]
+after = 8
+[[request.change]]
+node = "often"
+from = 0
+kind = "filter"
+when = [["seen", ">=", 2]]
+
+[[request]]
+after = 9
+[[request.change]]
+node = "big"
+from = 0
+kind = "filter"
+when = [["amount", ">=", 1]]
+"#;
+
+pub const TEN_PAYMENTS: &str = r#"source,account,merchant,amount
+card,ann,grocer,20.00
+card,bob,casino,250.00
+wire,cid,grocer,1200.00
+card,dee,fuel,45.50
+card,eve,fuel,60.00
+card,fay,casino,75.00
+card,bob,fuel,130.00
+card,gus,grocer,10.00
+card,ann,"A, ""B"" Ltd",12.00
+card,gus,grocer,5.00
+"#;
+
+pub const PAYMENTS_ALERTS: &str = r#"sink,row,account,merchant,amount,risk,seen
+review,2,bob,casino,250.00,3,
+review,6,fay,casino,75.00,3,
+watch,9,ann,"A, ""B"" Ltd",,,2
+watch,10,gus,grocer,,,2
+"#;
+
+/// A replicate, each of whose two copies goes over a map to a sink of its own.
+pub const COPIES: &str = r#"columns = ["amount:cents"]
+node = [
+  { name = "card", kind = "source" },
+  { name = "r", kind = "replicate" },
+  { name = "a", kind = "map", steps = [] },
+  { name = "b", kind = "map", steps = [] },
+  { name = "o", kind = "sink", columns = ["amount"] },
+  { name = "p", kind = "sink", columns = ["amount"] },
+]
+edge = [
+  { from = "card", to = "r" },
+  { from = "r", to = "a" },
+  { from = "r", port = 1, to = "b" },
+  { from = "a", to = "o" },
+  { from = "b", to = "p" },
+]
+"#;

@@ -1,0 +1,320 @@
+-- What the files that a call reads are answered by.
+use Rattle.std.proofs.Common.{◌≡◌, ◌≤◌, ◌<◌, ◌⊎◌, ◌∙◌, ◌∷◌, [], inl, inr, ℕ, List, Option, None, Some, Ok, Err, length, refl, sym, ap, subst, arith}
+use Rattle.std.specs.Prelude.{IfSome}
+use Rattle.jobs.specs.Written.{Written}
+use Rattle.job_file.specs.Job.{Excludes, HaveOneFault, IsJobIn}
+use Rattle.job_file.specs.RequestFile.{requests_of}
+use Rattle.job_file.specs.declared.fault.JobFault.{JobFault}
+use Rattle.payments.specs.Causes.{Faults}
+use Rattle.payments.specs.Files.{Files, told_bytes}
+use Rattle.payments.specs.Reading.{rows_of}
+use Rattle.tuple_trace.specs.Counts.{Rose}
+use Rattle.tuple_trace.specs.declared.row.Row.{Row}
+use Rattle.versions.specs.declared.request.Request.{Request}
+use Rattle.top_call.specs.Asked.{FirstAsked, PlanAsked, RunAsked}
+use Rattle.top_call.specs.Check.{AnswersCheck, FollowsCheck}
+use Rattle.top_call.specs.Ends.{EndsAfterRun, EndsStoring, StopsStoring}
+use Rattle.top_call.specs.First.{AnswersFirst, FollowsFirst, asked_job}
+use Rattle.top_call.specs.Lines.{sizes_line}
+use Rattle.top_call.specs.declared.answer.Answer.{Answer}
+use Rattle.top_call.specs.Outside.{FileText, IsExcused, Outside, Prints, PrintsFault}
+use Rattle.top_call.specs.Plan.{AnswersPlan, FollowsPlan, IsNoSetup, setup_lines}
+use Rattle.top_call.specs.Run.{AnswersRun, FollowsRun, IsNoRun}
+use Rattle.top_call.specs.Running.{files_of, run_lines}
+use Rattle.top_call.specs.Reading.{AreNoRequests, AreNoRows, AreRequestsOf, AreRowsOf, FollowsFile, HasRead, IsJobOf, IsRead, IsUnread, RefusesJob, RefusesRequests, RefusesRows, Tells, TellsJob, TellsRequests, limit_of}
+use Rattle.top_call.specs.declared.fault.Fault.{Fault}
+use Rattle.top_call.specs.declared.fault.Fault.TheVariants as fault
+use Rattle.top_call.specs.declared.fault.FileIs.{FileIs}
+use Rattle.top_call.specs.declared.fault.FileIs.TheVariants as file
+use Rattle.top_call.proofs.PrintLemmas.{prints_or}
+
+-- ---- bytes that are told
+
+-- what was read of a file that is told are its bytes
+same_bytes : (is : FileIs) (files : Option Files) (name bytes told : List ℕ) → IsRead is files name bytes → told_bytes files name ≡ Some told → bytes ≡ told
+same_bytes is files name bytes told read e = rw e at read.told
+
+-- a file that was read isn't too long
+not_long : (is : FileIs) (P : List ℕ → Type 0) (files : Option Files) (name told : List ℕ) → HasRead is P files name → told_bytes files name ≡ Some told → limit_of is < length told → ⊥
+not_long is P files name told has e above =
+    let short : length told ≤ limit_of is = subst (λ (b : List ℕ). length b ≤ limit_of is) (same_bytes is files name has.bytes told has.read e) has.read.short in
+    omega (arith, short, above)
+
+-- what holds of the bytes that were read holds of those that are told
+told_so : (is : FileIs) (P : List ℕ → Type 0) (files : Option Files) (name told : List ℕ) → HasRead is P files name → told_bytes files name ≡ Some told → P told
+told_so is P files name told has e = subst P (same_bytes is files name has.bytes told has.read e) has.are_so
+
+-- ---- one file
+
+abbrev Apart : (List ℕ → Type 0) → (Fault → List ℕ → Type 0) → Type 0
+Apart P Refuses = (why : Fault) (bytes : List ℕ) → P bytes → Refuses why bytes → ⊥
+
+pub follows_excused : (is : FileIs) (Refuses : Fault → List ℕ → Type 0) (name : List ℕ) (old new : Outside) (answer : Option Fault) →
+    IsExcused old new answer → FollowsFile is Refuses name old new answer
+follows_excused is Refuses name old new answer why = record { long = λ bytes told above. inr why; refused = λ other tells. inr why }
+
+-- a file that was read
+pub follows_read : (is : FileIs) (P : List ℕ → Type 0) (Refuses : Fault → List ℕ → Type 0) (name : List ℕ) (old new : Outside) (answer : Option Fault) →
+    Apart P Refuses → HasRead is P old.files name → FollowsFile is Refuses name old new answer
+follows_read is P Refuses name old new answer apart has = record {
+  long = λ bytes told above. absurd (not_long is P old.files name bytes has told above);
+  refused = λ why tells. absurd (apart why tells.bytes (told_so is P old.files name tells.bytes has tells.told) tells.are_so);
+}
+
+-- bytes have one fault
+abbrev IsSole : (Fault → List ℕ → Type 0) → Type 0
+IsSole Refuses = (f g : Fault) (bytes : List ℕ) → Refuses f bytes → Refuses g bytes → f ≡ g
+
+-- a file whose bytes are refused
+follows_refused : (is : FileIs) (Refuses : Fault → List ℕ → Type 0) (name : List ℕ) (old new : Outside) (why : Fault) →
+    IsSole Refuses → HasRead is (Refuses why) old.files name → FollowsFile is Refuses name old new (Some why)
+follows_refused is Refuses name old new why sole has = record {
+  long = λ bytes told above. absurd (not_long is (Refuses why) old.files name bytes has told above);
+  refused = λ other tells. inl (ap Some (sole why other tells.bytes (told_so is (Refuses why) old.files name tells.bytes has tells.told) tells.are_so));
+}
+
+-- a file that is too long
+follows_long : (is : FileIs) (Refuses : Fault → List ℕ → Type 0) (name : List ℕ) (old new : Outside) (which : FileIs) →
+    which ≡ is → IfSome (told_bytes old.files name) (λ bytes. limit_of is < length bytes) → FollowsFile is Refuses name old new (Some (fault.Long which))
+follows_long is Refuses name old new which same long = record {
+  long = λ bytes told above. inl (ap (λ (f : FileIs). Some (fault.Long f)) same);
+  refused = λ other tells. absurd (let above : limit_of is < length tells.bytes = rw tells.told at long in omega (arith, above, tells.short));
+}
+
+-- the counts of reads as the call left them, where it read nothing more
+rose_reads : (old between new : Outside) → new.shelf ≡ between.shelf → Rose old.shelf.reads between.shelf.reads → Rose old.shelf.reads new.shelf.reads
+rose_reads old between new same rose = subst (λ (s : Faults). Rose old.shelf.reads s.reads) (sym same) rose
+
+-- a file that wasn't read
+pub follows_unread : (is : FileIs) (Refuses : Fault → List ℕ → Type 0) (name : List ℕ) (old between new : Outside) (why : Fault) → IsSole Refuses →
+    new.shelf ≡ between.shelf → IsUnread is Refuses old.files name old.shelf between.shelf why → FollowsFile is Refuses name old new (Some why)
+follows_unread is Refuses name old between new (fault.Read which) sole same unread =
+    follows_excused is Refuses name old new (Some (fault.Read which)) (inl (inl (rose_reads old between new same unread.1.rose)))
+follows_unread is Refuses name old between new (fault.Long which) sole same unread = follows_long is Refuses name old new which unread.0 unread.1
+follows_unread is Refuses name old between new fault.NoMemory sole same unread = follows_excused is Refuses name old new (Some fault.NoMemory) (inr refl)
+follows_unread is Refuses name old between new why sole same unread = follows_refused is Refuses name old new why sole unread.0
+
+-- a file that holds what it should is refused by no fault
+not_refused : (is : FileIs) (P : List ℕ → Type 0) (Refuses : Fault → List ℕ → Type 0) (files : Option Files) (name : List ℕ) (why : Fault) →
+    Apart P Refuses → Tells is P files name → HasRead is (Refuses why) files name → ⊥
+not_refused is P Refuses files name why apart tells has = apart why tells.bytes tells.are_so (told_so is (Refuses why) files name tells.bytes has tells.told)
+
+-- where a file holds what it should and yet wasn't read, the call is excused
+pub unread_excused : (is : FileIs) (P : List ℕ → Type 0) (Refuses : Fault → List ℕ → Type 0) (name : List ℕ) (old between new : Outside) (why : Fault) →
+    Apart P Refuses → Tells is P old.files name → new.shelf ≡ between.shelf → IsUnread is Refuses old.files name old.shelf between.shelf why → IsExcused old new (Some why)
+unread_excused is P Refuses name old between new (fault.Read which) apart tells same unread = inl (inl (rose_reads old between new same unread.1.rose))
+unread_excused is P Refuses name old between new (fault.Long which) apart tells same unread =
+    absurd (let above : limit_of is < length tells.bytes = rw tells.told at unread.1 in omega (arith, above, tells.short))
+unread_excused is P Refuses name old between new fault.NoMemory apart tells same unread = inr refl
+unread_excused is P Refuses name old between new why apart tells same unread = absurd (not_refused is P Refuses old.files name why apart tells unread.0)
+
+-- ---- what each file holds, or is refused for
+
+pub no_job : Excludes → (job : Written) → Apart (λ bytes. IsJobIn bytes job) RefusesJob
+no_job excludes job (fault.Job code) bytes holds refused = excludes bytes code job refused.0 refused.1 holds
+no_job excludes job _ bytes holds refused = absurd refused
+
+pub no_requests : (job : Written) (requests : List Request) → Apart (λ bytes. requests_of job bytes ≡ Ok requests) (RefusesRequests job)
+no_requests job requests (fault.Requests code) bytes holds refused = absurd (let clash : Ok requests ≡ Err code = sym holds ∙ refused.1 in cc)
+no_requests job requests _ bytes holds refused = absurd refused
+
+pub no_rows : (job : Written) (rows : List Row) → Apart (λ bytes. rows_of job bytes ≡ Ok rows) (RefusesRows job)
+no_rows job rows (fault.Payments code) bytes holds refused = absurd (let clash : Ok rows ≡ Err code = sym holds ∙ refused.1 in cc)
+no_rows job rows _ bytes holds refused = absurd refused
+
+sole_job : HaveOneFault → IsSole RefusesJob
+sole_job have (fault.Job f) (fault.Job g) bytes x y = ap (λ (code : JobFault). fault.Job code) (have bytes f g x.0 y.0 x.1 y.1)
+sole_job have (fault.Job f) _ bytes x y = absurd y
+sole_job have _ g bytes x y = absurd x
+
+sole_requests : (job : Written) → IsSole (RefusesRequests job)
+sole_requests job (fault.Requests f) (fault.Requests g) bytes x y = let same = sym x.1 ∙ y.1 in cc
+sole_requests job (fault.Requests f) _ bytes x y = absurd y
+sole_requests job _ g bytes x y = absurd x
+
+sole_rows : (job : Written) → IsSole (RefusesRows job)
+sole_rows job (fault.Payments f) (fault.Payments g) bytes x y = let same = sym x.1 ∙ y.1 in cc
+sole_rows job (fault.Payments f) _ bytes x y = absurd y
+sole_rows job _ g bytes x y = absurd x
+
+-- the job that was read of a file that is told is the one that the file holds
+pub same_job : (files : Option Files) (name : List ℕ) (job other : Written) → IsJobOf files name job → TellsJob files name other → job ≡ other
+same_job files name job other of tells =
+    let there = told_so file.Job (λ bytes. IsJobIn bytes job) files name tells.bytes of tells.told in
+    let same = sym there.0 ∙ tells.are_so.0 in cc
+
+-- ---- the end of a call
+
+-- the count of the output as the call left it, where the output had refused
+rose_out : (old between new : Outside) (answer : Option Fault) → answer ≡ Some (fault.Write file.Out) → Rose old.out between.out → PrintsFault answer between new → Rose old.out new.out
+rose_out old between new answer is rose report =
+    let line = rw is at report.line in
+    subst (λ (n : ℕ). Rose old.out n) (sym line.1) rose
+
+-- a call that came to printing its lines is done, or excused
+pub done_or_excused : (lines : List ℕ) (old between new : Outside) (answer : Option Fault) →
+    Prints lines old.written between.written old.out between.out answer → PrintsFault answer between new → (answer ≡ None) ⊎ IsExcused old new answer
+done_or_excused lines old between new answer prints report =
+    elim (prints_or lines old.written between.written old.out between.out answer prints) [
+      | inl done ↦ inl done
+      | inr (inl (is, rose)) ↦ inr (inl (inr (inr (rose_out old between new answer is rose report))))
+      | inr (inr none) ↦ inr (inr none)
+    ]
+
+-- a call that couldn't store a text is excused
+storing_excused : (text : FileText) (old between new : Outside) (answer : Option Fault) → StopsStoring text old between answer → new.shelf ≡ between.shelf → IsExcused old new answer
+storing_excused text old between new answer stops same =
+    elim stops.cause [
+      | inl (is, failed) ↦ inl (inr (inl (subst (λ (s : Faults). Rose old.shelf.writes s.writes) (sym same) failed.rose)))
+      | inr (is, kept) ↦ inr (stops.answer_is ∙ ap (λ (f : Fault). Some f) is)
+    ]
+
+-- what excuses it once texts are stored excuses it as it began, since nothing was counted
+excused_before : (old stored new : Outside) (answer : Option Fault) → stored.shelf ≡ old.shelf → stored.out ≡ old.out →
+    ((answer ≡ None) ⊎ IsExcused stored new answer) → (answer ≡ None) ⊎ IsExcused old new answer
+excused_before old stored new answer shelf out excused =
+    subst (λ (n : ℕ). (answer ≡ None) ⊎ IsExcused (record old { out = n }) new answer) out
+    (subst (λ (s : Faults). (answer ≡ None) ⊎ IsExcused (record old { shelf = s; out = stored.out }) new answer) shelf excused)
+
+-- a call that came to storing texts and printing its lines is done, or excused
+stored_or_excused : (texts : List FileText) (lines : List ℕ) (old between new : Outside) (answer : Option Fault) →
+    EndsStoring texts lines old between answer → PrintsFault answer between new → (answer ≡ None) ⊎ IsExcused old new answer
+stored_or_excused [] lines old between new answer ends report = done_or_excused lines old between new answer ends.prints report
+stored_or_excused (text ∷ later) lines old between new answer ends report =
+    elim ends [
+      | inl stops ↦ inr (storing_excused text old between new answer stops report.shelf)
+      | inr (stored, stores, rest) ↦ excused_before old stored new answer stores.shelf stores.prints.out (stored_or_excused later lines stored between new answer rest report)
+    ]
+
+-- a call whose run is complete is done, or excused
+pub ran_or_excused : (texts : List FileText) (lines : List ℕ) (old between new : Outside) (answer : Option Fault) →
+    EndsAfterRun texts lines old between answer → PrintsFault answer between new → (answer ≡ None) ⊎ IsExcused old new answer
+ran_or_excused texts lines old between new answer ends report =
+    elim ends [
+      | inl stops ↦ inr (inr stops.answer_is)
+      | inr ends ↦ stored_or_excused texts lines old between new answer ends report
+    ]
+
+-- ---- each command
+
+pub follows_check : Excludes → HaveOneFault → (name : List ℕ) (old new : Outside) (answer : Answer) → AnswersCheck name old new answer → FollowsCheck name old new answer.fault
+follows_check excludes have name old new answer a =
+    elim a.ends [
+      | inl s ↦ subst (λ (x : Answer). FollowsCheck name old new x.fault) (sym s.answer_is) (record {
+        job = follows_unread file.Job RefusesJob name old a.between new s.why (sole_job have) a.prints.shelf s.cause;
+        done = λ job tells. inr (unread_excused file.Job (λ bytes. IsJobIn bytes job) RefusesJob name old a.between new s.why (no_job excludes job) tells a.prints.shelf s.cause);
+      })
+      | inr p ↦ record {
+        job = follows_read file.Job (λ bytes. IsJobIn bytes p.job) RefusesJob name old new answer.fault (no_job excludes p.job) p.of_file;
+        done = λ job tells. done_or_excused (sizes_line p.job) old a.between new answer.fault p.lines.prints a.prints;
+      }
+    ]
+
+pub follows_first : (asked : FirstAsked) (old new : Outside) (answer : Answer) → AnswersFirst asked old new answer → FollowsFirst asked old new answer.fault
+follows_first asked old new answer a =
+    let job = asked_job asked in
+    elim a.ends [
+      | inl s ↦ subst (λ (x : Answer). FollowsFirst asked old new x.fault) (sym s.answer_is) (record {
+        payments = follows_unread file.Payments (RefusesRows job) asked.payments old a.between new s.why (sole_rows job) a.prints.shelf s.cause;
+        done = λ rows tells. inr (unread_excused file.Payments (λ bytes. rows_of job bytes ≡ Ok rows) (RefusesRows job) asked.payments old a.between new s.why (no_rows job rows) tells a.prints.shelf s.cause);
+      })
+      | inr r ↦
+          let run = r.is_so in
+          record {
+            payments = follows_read file.Payments (λ bytes. rows_of job bytes ≡ Ok run.rows) (RefusesRows job) asked.payments old new answer.fault (no_rows job run.rows) run.of_rows;
+            done = λ rows tells. ran_or_excused (files_of asked.alerts r.done) (run_lines r.done) old a.between new answer.fault r.ends a.prints;
+          }
+    ]
+
+-- a request file that was read
+follows_requests : (name : List ℕ) (old new : Outside) (answer : Option Fault) (job : Written) (requests : List Request) → AreRequestsOf old.files name job requests →
+    FollowsFile file.Requests (RefusesRequests job) name old new answer
+follows_requests name old new answer job requests of =
+    follows_read file.Requests (λ bytes. requests_of job bytes ≡ Ok requests) (RefusesRequests job) name old new answer (no_requests job requests) of
+
+excused_where_undone : (old new : Outside) (why : Fault) → ((Some why ≡ None) ⊎ IsExcused old new (Some why)) → IsExcused old new (Some why)
+excused_where_undone old new why (inl done) = absurd (cc)
+excused_where_undone old new why (inr excused) = excused
+
+-- a call that read no job, or no requests of it
+follows_no_setup : Excludes → HaveOneFault → (asked : PlanAsked) (old between new : Outside) (why : Fault) → new.shelf ≡ between.shelf →
+    IsNoSetup asked old.files old.shelf between.shelf why → FollowsPlan asked old new (Some why)
+follows_no_setup excludes have asked old between new why same none =
+    elim none [
+      | inl unread ↦
+          let excused : (job : Written) → TellsJob old.files asked.job job → IsExcused old new (Some why) =
+          λ job tells. unread_excused file.Job (λ bytes. IsJobIn bytes job) RefusesJob asked.job old between new why (no_job excludes job) tells same unread in
+          record {
+            job = follows_unread file.Job RefusesJob asked.job old between new why (sole_job have) same unread;
+            requests = λ job tells. follows_excused file.Requests (RefusesRequests job) asked.requests old new (Some why) (excused job tells);
+            done = λ job requests tells more. inr (excused job tells);
+          }
+      | inr (read, of, unread) ↦
+          let here : (job : Written) → TellsJob old.files asked.job job → AreNoRequests old.files asked.requests job old.shelf between.shelf why =
+          λ job tells. subst (λ (j : Written). AreNoRequests old.files asked.requests j old.shelf between.shelf why) (same_job old.files asked.job read job of tells) unread in
+          record {
+            job = follows_read file.Job (λ bytes. IsJobIn bytes read) RefusesJob asked.job old new (Some why) (no_job excludes read) of;
+            requests = λ job tells. follows_unread file.Requests (RefusesRequests job) asked.requests old between new why (sole_requests job) same (here job tells);
+            done = λ job requests tells more. inr (unread_excused file.Requests (λ bytes. requests_of job bytes ≡ Ok requests) (RefusesRequests job) asked.requests
+                old between new why (no_requests job requests) more same (here job tells));
+          }
+    ]
+
+pub follows_plan : Excludes → HaveOneFault → (asked : PlanAsked) (old new : Outside) (answer : Answer) → AnswersPlan asked old new answer → FollowsPlan asked old new answer.fault
+follows_plan excludes have asked old new answer a =
+    elim a.ends [
+      | inl s ↦ subst (λ (x : Answer). FollowsPlan asked old new x.fault) (sym s.answer_is) (follows_no_setup excludes have asked old a.between new s.why a.prints.shelf s.cause)
+      | inr p ↦
+          let of = p.of_files in
+          record {
+            job = follows_read file.Job (λ bytes. IsJobIn bytes of.job) RefusesJob asked.job old new answer.fault (no_job excludes of.job) of.of_job;
+            requests = λ job tells. follows_requests asked.requests old new answer.fault job of.requests
+                (subst (λ (j : Written). AreRequestsOf old.files asked.requests j of.requests) (same_job old.files asked.job of.job job of.of_job tells) of.of_requests);
+            done = λ job requests tells more. done_or_excused (setup_lines p.setup) old a.between new answer.fault p.lines.prints a.prints;
+          }
+    ]
+
+-- a call that read no job, no requests of it, or no rows
+follows_no_run : Excludes → HaveOneFault → (asked : RunAsked) (old between new : Outside) (why : Fault) → new.shelf ≡ between.shelf →
+    IsNoRun asked old.files old.shelf between.shelf why → FollowsRun asked old new (Some why)
+follows_no_run excludes have asked old between new why same none =
+    elim none [
+      | inl unread ↦
+          let plan = follows_no_setup excludes have asked.plan old between new why same unread in
+          let excused : (job : Written) (requests : List Request) → TellsJob old.files asked.plan.job job → TellsRequests old.files asked.plan.requests job requests →
+          IsExcused old new (Some why) = λ job requests tells more. excused_where_undone old new why (plan.done job requests tells more) in
+          record {
+            job = plan.job;
+            requests = plan.requests;
+            payments = λ job requests tells more. follows_excused file.Payments (RefusesRows job) asked.payments old new (Some why) (excused job requests tells more);
+            done = λ job requests rows tells more most. inr (excused job requests tells more);
+          }
+      | inr (read, requested, of_job, of_requests, unread) ↦
+          let here : (job : Written) → TellsJob old.files asked.plan.job job → AreNoRows old.files asked.payments job old.shelf between.shelf why =
+          λ job tells. subst (λ (j : Written). AreNoRows old.files asked.payments j old.shelf between.shelf why) (same_job old.files asked.plan.job read job of_job tells) unread in
+          record {
+            job = follows_read file.Job (λ bytes. IsJobIn bytes read) RefusesJob asked.plan.job old new (Some why) (no_job excludes read) of_job;
+            requests = λ job tells. follows_requests asked.plan.requests old new (Some why) job requested
+                (subst (λ (j : Written). AreRequestsOf old.files asked.plan.requests j requested) (same_job old.files asked.plan.job read job of_job tells) of_requests);
+            payments = λ job requests tells more. follows_unread file.Payments (RefusesRows job) asked.payments old between new why (sole_rows job) same (here job tells);
+            done = λ job requests rows tells more most. inr (unread_excused file.Payments (λ bytes. rows_of job bytes ≡ Ok rows) (RefusesRows job) asked.payments
+                old between new why (no_rows job rows) most same (here job tells));
+          }
+    ]
+
+pub follows_run : Excludes → HaveOneFault → (asked : RunAsked) (old new : Outside) (answer : Answer) → AnswersRun asked old new answer → FollowsRun asked old new answer.fault
+follows_run excludes have asked old new answer a =
+    elim a.ends [
+      | inl s ↦ subst (λ (x : Answer). FollowsRun asked old new x.fault) (sym s.answer_is) (follows_no_run excludes have asked old a.between new s.why a.prints.shelf s.cause)
+      | inr r ↦
+          let of = r.is_so in
+          let same : (job : Written) → TellsJob old.files asked.plan.job job → of.job ≡ job = λ job tells. same_job old.files asked.plan.job of.job job of.of_job tells in
+          record {
+            job = follows_read file.Job (λ bytes. IsJobIn bytes of.job) RefusesJob asked.plan.job old new answer.fault (no_job excludes of.job) of.of_job;
+            requests = λ job tells. follows_requests asked.plan.requests old new answer.fault job of.requests
+                (subst (λ (j : Written). AreRequestsOf old.files asked.plan.requests j of.requests) (same job tells) of.of_requests);
+            payments = λ job requests tells more. follows_read file.Payments (λ bytes. rows_of job bytes ≡ Ok of.rows) (RefusesRows job) asked.payments old new answer.fault
+                (no_rows job of.rows) (subst (λ (j : Written). AreRowsOf old.files asked.payments j of.rows) (same job tells) of.of_rows);
+            done = λ job requests rows tells more most. ran_or_excused (files_of asked.alerts r.done) (run_lines r.done) old a.between new answer.fault r.ends a.prints;
+          }
+    ]

@@ -1,0 +1,4 @@
+pub mod PrintLemmas
+pub mod ListLemmas
+pub mod FollowLemmas
+pub mod FirstLemmas

@@ -1,0 +1,28 @@
+use Rattle.std.proofs.Common.{◌≡◌, ◌∷◌, [], false, rules, subst}
+use Rattle.jobs.specs.Job.{written}
+use Rattle.jobs.specs.Written.{Written}
+use Rattle.jobs.specs.Nodes.{AreFromSources}
+use Rattle.tuple_trace.specs.Rows.{AreRows}
+use Rattle.top_call.specs.Asked.{first_asked}
+use Rattle.top_call.specs.First.{asked_job}
+use Rattle.top_call.specs.FirstJob.{first_request}
+use Rattle.top_call.specs.Reading.{AreRowsOf}
+use Rattle.top_call.specs.Running.{IsRunOf}
+use Rattle.top_call.specs.Plan.{AreSame}
+use Rattle.top_call.proofs.FirstLemmas.{first_runs}
+use Rattle.top_call.proofs.first.run_first.Goals as goal
+
+pub returns-clause-run : goal.returns-clause-run
+returns-clause-run g c =
+    let asked = first_asked c.args.first in
+    let files = g.S.Shelf.files c.args.shelf.now in
+    let rows = c.in_ok-rows.rows in
+    let done = c.in_ok-run_rows.field-0 in
+    let job : written c.in_ok-job.job ≡ asked_job asked = search rules in
+    let requests : c.in_ok-requests.requests ≡ first_request asked.after asked.least_after ∷ [] = search rules in
+    let run : IsRunOf AreSame false (asked_job asked) (first_request asked.after asked.least_after ∷ []) rows done = rw (← job, ← requests) c.in_ok-run_rows.ensures.run in
+    first_runs asked files rows done
+    (subst (λ (w : Written). AreRowsOf files asked.payments w rows) job c.in_ok-rows.ensures.rows)
+    (subst AreRows c.rows.view_is c.rows.invariant)
+    (subst (λ (w : Written). AreFromSources w rows) job c.in_ok-rows.ensures.sources)
+    run c.in_ok-run_rows.ensures.order

@@ -1,0 +1,15 @@
+use Rattle.std.proofs.Common.{refl}
+use Rattle.top_call.specs.Asked.{plan_asked}
+use Rattle.top_call.specs.Outside.{outside}
+use Rattle.top_call.proofs.FollowLemmas.{follows_plan}
+use Rattle.top_call.proofs.top.answer_plan.Goals as goal
+
+pub returns-clause-answers : goal.returns-clause-answers
+returns-clause-answers g c = record {
+  between = outside (g.S.Shelf.files c.plan_command-answer.new.shelf) (g.S.Shelf.faults c.plan_command-answer.new.shelf) (g.S.Shelf.target c.plan_command-answer.new.shelf) (g.O.Sink.written c.plan_command-answer.new.out) (g.O.Sink.faults c.plan_command-answer.new.out);
+  ends = c.plan_command-answer.ensures;
+  prints = record { files = refl; shelf = refl; target = refl; line = c.report.ensures };
+}
+
+pub returns-clause-file : goal.returns-clause-file
+returns-clause-file g c = follows_plan c.faulty_is_no_job.ensures c.files_have_one_fault.ensures (plan_asked c.args.files) _ _ _ (returns-clause-answers g c)

@@ -1,0 +1,36 @@
+-- What a call of the program answers, and what it leaves.
+use Rattle.std.specs.Prelude.{◌≡◌, Option}
+use Rattle.top_call.specs.Asked.{Asked, Check, First, Plan, Run}
+use Rattle.top_call.specs.Check.{AnswersCheck, FollowsCheck}
+use Rattle.top_call.specs.Ends.{stopped}
+use Rattle.top_call.specs.First.{AnswersFirst, FollowsFirst}
+use Rattle.top_call.specs.Outside.{Outside, PrintsFault}
+use Rattle.top_call.specs.Plan.{AnswersPlan, FollowsPlan}
+use Rattle.top_call.specs.Run.{AnswersRun, FollowsRun}
+use Rattle.top_call.specs.declared.answer.Answer.{Answer}
+use Rattle.top_call.specs.declared.fault.Fault.{Fault}
+use Rattle.top_call.specs.declared.fault.Fault.TheVariants as fault
+use Rattle.top_call.specs.declared.top.Outcome.{Outcome}
+
+-- what a call came to, but for its status
+abbrev pub answer_of : Outcome → Answer
+answer_of outcome = record { fault = outcome.fault; refused = outcome.refused; ran = outcome.ran }
+
+-- what a call answers, leaves and prints that was asked this
+abbrev pub Answers : Asked → Outside → Outside → Answer → Type 0
+Answers (First asked) old new answer = AnswersFirst asked old new answer
+Answers (Check name) old new answer = AnswersCheck name old new answer
+Answers (Plan asked) old new answer = AnswersPlan asked old new answer
+Answers (Run asked) old new answer = AnswersRun asked old new answer
+
+-- what a call answers, leaves and prints whose words have no form that the program knows
+pub record AnswersUsage (old new : Outside) (answer : Answer) : Type 0 where
+  pub usage : answer ≡ stopped fault.Usage
+  pub prints : PrintsFault answer.fault old new
+
+-- what a call answers, seen from the files that it reads
+abbrev pub Follows : Asked → Outside → Outside → Option Fault → Type 0
+Follows (First asked) old new answer = FollowsFirst asked old new answer
+Follows (Check name) old new answer = FollowsCheck name old new answer
+Follows (Plan asked) old new answer = FollowsPlan asked old new answer
+Follows (Run asked) old new answer = FollowsRun asked old new answer

@@ -1,0 +1,68 @@
+-- What a call of `first` answers, why, and what it leaves.
+use Rattle.std.specs.Prelude.{◌≡◌, ◌⊎◌, ◌<◌, ◌≤◌, ℕ, true, false, List, [], ◌∷◌, Option, None, Some, length, slice_get}
+use Rattle.jobs.specs.Written.{Written}
+use Rattle.payments.specs.Files.{Files}
+use Rattle.sink_journal.specs.declared.journal.Entry.{Entry}
+use Rattle.tuple_trace.specs.declared.row.Row.{Row}
+use Rattle.flow_model.specs.Record.{told}
+use Rattle.flow_model.specs.Whole.{after_turn, before_turn, meets_row}
+use Rattle.flow_replay.specs.Order.{IsInOrder}
+use Rattle.top_call.specs.Asked.{FirstAsked}
+use Rattle.top_call.specs.Ends.{Stops}
+use Rattle.top_call.specs.FirstJob.{first_job, first_request}
+use Rattle.top_call.specs.Plan.{AreSame}
+use Rattle.top_call.specs.Outside.{IsExcused, Outside, PrintsFault}
+use Rattle.top_call.specs.Reading.{AreNoRows, AreRowsOf, FollowsRows, TellsRows}
+use Rattle.top_call.specs.Running.{IsRunOf, Runs}
+use Rattle.top_call.specs.declared.answer.Answer.{Answer}
+use Rattle.top_call.specs.declared.fault.Fault.{Fault}
+use Rattle.top_call.specs.declared.running.Done.{Done}
+
+-- ---- the run
+
+-- the job that was asked for
+abbrev pub asked_job : FirstAsked → Written
+asked_job asked = first_job asked.least
+
+-- the journal met the row before the turn of the request and not after
+pub record IsMetBefore (journal : List Entry) (request row : ℕ) : Type 0 where
+  pub before : meets_row row (before_turn request journal) ≡ true
+  pub after : meets_row row (after_turn request journal) ≡ false
+
+-- it met the row after the turn and not before
+pub record IsMetAfter (journal : List Entry) (request row : ℕ) : Type 0 where
+  pub before : meets_row row (before_turn request journal) ≡ false
+  pub after : meets_row row (after_turn request journal) ≡ true
+
+-- of so many rows, those up to `last` are met before the turn of the request, and the later ones after it
+pub record TurnsAfterRow (journal : List Entry) (request last rows : ℕ) : Type 0 where
+  pub old : (row : ℕ) → 1 ≤ row → row ≤ rows → row ≤ last → IsMetBefore journal request row
+  pub new : (row : ℕ) → row ≤ rows → last < row → IsMetAfter journal request row
+
+-- The rows of the payments file were run, and the one request, which is accepted. What it covers turned behind the row that it waits for and before
+-- every later one. So the worker of `big`, which is worker 0, met the rows up to `after` before the turn, and all others after it.
+pub record IsFirstRun (asked : FirstAsked) (files : Option Files) (done : Done) : Type 0 where
+  pub rows : List Row
+  pub of_rows : AreRowsOf files asked.payments (asked_job asked) rows
+  pub run : IsRunOf AreSame false (asked_job asked) (first_request asked.after asked.least_after ∷ []) rows done
+  pub accepted : done.refused ≡ []
+  pub order : IsInOrder (length rows) (told done.ran)
+  pub turns : (journal : List Entry) → slice_get done.ran.journals 0 ≡ Some journal → TurnsAfterRow journal 1 asked.after (length rows)
+
+-- ---- the answer
+
+-- how a call of `first` ends, before the line of its fault is printed
+abbrev pub EndsFirst : FirstAsked → Outside → Outside → Answer → Type 0
+EndsFirst asked old new answer =
+    Stops (AreNoRows old.files asked.payments (asked_job asked)) old new answer ⊎ Runs (IsFirstRun asked old.files) asked.alerts old new answer
+
+-- what a call of `first` answers, leaves and prints
+pub record AnswersFirst (asked : FirstAsked) (old new : Outside) (answer : Answer) : Type 0 where
+  pub between : Outside
+  pub ends : EndsFirst asked old between answer
+  pub prints : PrintsFault answer.fault between new
+
+-- the answer, seen from the payments file
+pub record FollowsFirst (asked : FirstAsked) (old new : Outside) (answer : Option Fault) : Type 0 where
+  pub payments : FollowsRows (asked_job asked) asked.payments old new answer
+  pub done : (rows : List Row) → TellsRows old.files asked.payments (asked_job asked) rows → (answer ≡ None) ⊎ IsExcused old new answer

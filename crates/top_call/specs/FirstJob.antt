@@ -1,0 +1,47 @@
+-- The job of `first`, and its request.
+use Rattle.std.specs.Prelude.{ℕ, ℤ, List, [], ◌∷◌, false, codes}
+use Rattle.keyed_state.specs.declared.carry.Carry.TheVariants as carry
+use Rattle.versions.specs.declared.request.Request.{Request}
+use Rattle.flow_dag.specs.declared.edge.Edge.{Edge}
+use Rattle.jobs.specs.Written.{Written}
+use Rattle.jobs.specs.declared.column.Column.{Column}
+use Rattle.jobs.specs.declared.column.ColumnKind.{ColumnKind}
+use Rattle.jobs.specs.declared.column.ColumnKind.TheVariants as kind
+use Rattle.jobs.specs.declared.func.Func.{Func}
+use Rattle.jobs.specs.declared.func.Func.TheVariants as func
+use Rattle.jobs.specs.declared.func.NodeDef.{NodeDef}
+use Rattle.jobs.specs.declared.func.Test.TheVariants as test
+use Rattle.tuple_trace.specs.declared.value.Value.TheVariants as value
+
+-- a column of the payments file
+abbrev pub column_of : List ℕ → ColumnKind → Column
+column_of name kind = record { name = name; kind = kind; own = false }
+
+-- a node with one worker
+abbrev pub node_of : List ℕ → Func → NodeDef
+node_of name func = record { name = name; func = func; workers = 1; roof = 1 }
+
+-- amounts from this one on pass
+abbrev pub at_least : ℤ → Func
+at_least least = func.Filter (record { column = 2; test = test.Ge; literal = value.Num least } ∷ [])
+
+abbrev pub first_columns : List Column
+first_columns =
+    column_of (codes "account") kind.Text ∷ column_of (codes "merchant") kind.Text
+    ∷ column_of (codes "amount") kind.Cents ∷ column_of (codes "tags") kind.Text ∷ []
+
+abbrev pub first_edges : List Edge
+first_edges = (record { from = 0; port = 0; to = 1 }) ∷ (record { from = 1; port = 0; to = 2 }) ∷ []
+
+-- a source, a filter of large amounts, and a sink that shows every column
+abbrev pub first_job : ℤ → Written
+first_job least = record {
+  columns = first_columns;
+  nodes = node_of (codes "card") func.Source ∷ node_of (codes "big") (at_least least) ∷ node_of (codes "alerts") (func.Sink (0 ∷ 1 ∷ 2 ∷ 3 ∷ [])) ∷ [];
+  edges = first_edges;
+  tables = [];
+}
+
+-- the request that the amounts of `big` begin at another one from a row on
+abbrev pub first_request : ℕ → ℤ → Request
+first_request after least = record { after = after; changes = record { node = 1; from = 0; func = at_least least; carry = carry.Keep } ∷ [] }

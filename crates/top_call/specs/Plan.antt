@@ -1,0 +1,80 @@
+-- What a call of `plan` answers, why, and what it leaves.
+use Rattle.std.specs.Prelude.{◌≡◌, ◌⊎◌, ◌++◌, ℕ, Bool, List, Option, None}
+use Rattle.jobs.specs.Job.{written}
+use Rattle.jobs.specs.Written.{Written}
+use Rattle.payments.specs.Causes.{Faults}
+use Rattle.payments.specs.Files.{Files}
+use Rattle.versions.specs.Judged.{judged}
+use Rattle.versions.specs.declared.request.Request.{Request}
+use Rattle.flow_model.specs.Least.{ArePlansLeast}
+use Rattle.flow_model.specs.Planned.{IsExact}
+use Rattle.flow_model.specs.Setup.{outline}
+use Rattle.flow_model.specs.declared.setup.Setup.{Setup}
+use Rattle.top_call.specs.Asked.{PlanAsked}
+use Rattle.top_call.specs.Ends.{PrintsLines, Stops}
+use Rattle.top_call.specs.Lines.{plan_lines, refused_lines}
+use Rattle.top_call.specs.Outside.{IsExcused, Outside, PrintsFault}
+use Rattle.top_call.specs.Reading.{AreNoRequests, AreRequestsOf, FollowsJob, FollowsRequests, IsJobOf, IsNoJob, TellsJob, TellsRequests}
+use Rattle.top_call.specs.declared.answer.Answer.{Answer}
+use Rattle.top_call.specs.declared.fault.Fault.{Fault}
+
+-- ---- the setup
+
+-- the requests that are kept are those that were accepted
+abbrev pub AreSame : List Request → List Request → Type 0
+AreSame accepted kept = kept ≡ accepted
+
+-- the setup is that of a job and these requests: it keeps what judging accepts and has what it refuses, and exactly the planner's plans for this
+-- mode, each of which is the least cover
+pub record IsSetupFor (Keeps : List Request → List Request → Type 0) (ordered : Bool) (job : Written) (requests : List Request) (setup : Setup) : Type 0 where
+  pub job_is : written setup.job ≡ job
+  pub accepted : Keeps (judged job requests).accepted setup.judged.accepted
+  pub refused : setup.judged.refused ≡ (judged job requests).refused
+  pub exact : IsExact (outline setup)
+  pub least : ArePlansLeast (outline setup)
+  pub mode : setup.ordered ≡ ordered
+
+-- the setup is that of what the files hold
+pub record IsSetupOf (asked : PlanAsked) (files : Option Files) (setup : Setup) : Type 0 where
+  pub job : Written
+  pub requests : List Request
+  pub of_job : IsJobOf files asked.job job
+  pub of_requests : AreRequestsOf files asked.requests job requests
+  pub setup_is : IsSetupFor AreSame asked.ordered job requests setup
+
+-- why there is no setup: no job was read, or else no requests
+abbrev pub IsNoSetup : PlanAsked → Option Files → Faults → Faults → Fault → Type 0
+IsNoSetup asked files old new why =
+    IsNoJob files asked.job old new why
+    ⊎ ((job : Written) × IsJobOf files asked.job job × AreNoRequests files asked.requests job old new why)
+
+-- ---- the answer
+
+-- what is printed of a setup: the plan of each accepted request, and then each refused request
+abbrev pub setup_lines : Setup → List ℕ
+setup_lines setup = plan_lines (written setup.job) setup.plans ++ refused_lines setup.judged.refused
+
+-- it made the setup of what the files hold, and came to printing its lines; it changed no file
+pub record PrintsSetup (asked : PlanAsked) (old new : Outside) (answer : Answer) : Type 0 where
+  pub setup : Setup
+  pub of_files : IsSetupOf asked old.files setup
+  pub lines : PrintsLines (setup_lines setup) old new answer.fault
+  pub refused : answer.refused ≡ setup.judged.refused
+  pub ran : answer.ran ≡ None
+
+-- how a call of `plan` ends, before the line of its fault is printed
+abbrev pub EndsPlan : PlanAsked → Outside → Outside → Answer → Type 0
+EndsPlan asked old new answer = Stops (IsNoSetup asked old.files) old new answer ⊎ PrintsSetup asked old new answer
+
+-- what a call of `plan` answers, leaves and prints
+pub record AnswersPlan (asked : PlanAsked) (old new : Outside) (answer : Answer) : Type 0 where
+  pub between : Outside
+  pub ends : EndsPlan asked old between answer
+  pub prints : PrintsFault answer.fault between new
+
+-- the answer, seen from the files: each is looked at where those before it hold what they should
+pub record FollowsPlan (asked : PlanAsked) (old new : Outside) (answer : Option Fault) : Type 0 where
+  pub job : FollowsJob asked.job old new answer
+  pub requests : (job : Written) → TellsJob old.files asked.job job → FollowsRequests job asked.requests old new answer
+  pub done : (job : Written) (requests : List Request) → TellsJob old.files asked.job job → TellsRequests old.files asked.requests job requests →
+      (answer ≡ None) ⊎ IsExcused old new answer

@@ -1,0 +1,119 @@
+-- What a call reads of its files, and why it doesn't.
+use Rattle.std.specs.Prelude.{◌≡◌, ◌≢◌, ◌⊎◌, ◌<◌, ◌≤◌, ℕ, List, Option, Some, Ok, Err, IfSome, length}
+use Rattle.jobs.specs.Written.{Written}
+use Rattle.job_file.specs.Job.{IsFaultIn, IsJobIn}
+use Rattle.job_file.specs.RequestFile.{requests_of}
+use Rattle.job_file.specs.declared.fault.JobFault.TheVariants as job
+use Rattle.job_file.specs.declared.fault.ReqFileFault.TheVariants as requests
+use Rattle.payments.specs.Causes.{Faults, ReadFailed}
+use Rattle.payments.specs.Files.{Files, told_bytes}
+use Rattle.payments.specs.Reading.{rows_of}
+use Rattle.payments.specs.declared.read.PFault.TheVariants as rows
+use Rattle.tuple_trace.specs.declared.row.Row.{Row}
+use Rattle.versions.specs.declared.request.Request.{Request}
+use Rattle.top_call.specs.Outside.{IsExcused, Outside}
+use Rattle.top_call.specs.declared.fault.Fault.{Fault}
+use Rattle.top_call.specs.declared.fault.Fault.TheVariants as fault
+use Rattle.top_call.specs.declared.fault.FileIs.{FileIs}
+use Rattle.top_call.specs.declared.fault.FileIs.TheVariants as file
+
+-- how many bytes of a file are read at most: none of one that is only written
+abbrev pub limit_of : FileIs → ℕ
+limit_of file.Job = 1048576
+limit_of file.Requests = 1048576
+limit_of file.Payments = 67108864
+limit_of file.Alerts = 0
+limit_of file.Out = 0
+
+-- ---- what is read
+
+-- the bytes are those of the file, where it is told, and aren't more than are read
+pub record IsRead (is : FileIs) (files : Option Files) (name bytes : List ℕ) : Type 0 where
+  pub told : IfSome (told_bytes files name) (λ told. bytes ≡ told)
+  pub short : length bytes ≤ limit_of is
+
+-- the bytes that were read of the file are so
+pub record HasRead (is : FileIs) (P : List ℕ → Type 0) (files : Option Files) (name : List ℕ) : Type 0 where
+  pub bytes : List ℕ
+  pub read : IsRead is files name bytes
+  pub are_so : P bytes
+
+-- the job is that of the file
+abbrev pub IsJobOf : Option Files → List ℕ → Written → Type 0
+IsJobOf files name job = HasRead file.Job (λ bytes. IsJobIn bytes job) files name
+
+-- the requests are those that the file makes of the job
+abbrev pub AreRequestsOf : Option Files → List ℕ → Written → List Request → Type 0
+AreRequestsOf files name job requests = HasRead file.Requests (λ bytes. requests_of job bytes ≡ Ok requests) files name
+
+-- the rows are those of the payments file of the job
+abbrev pub AreRowsOf : Option Files → List ℕ → Written → List Row → Type 0
+AreRowsOf files name job rows = HasRead file.Payments (λ bytes. rows_of job bytes ≡ Ok rows) files name
+
+-- ---- why nothing is read
+
+-- the bytes are no job, for this fault
+abbrev pub RefusesJob : Fault → List ℕ → Type 0
+RefusesJob (fault.Job code) bytes = (code ≢ job.NoMemory) × IsFaultIn bytes code
+RefusesJob _ bytes = ⊥
+
+-- the bytes are no requests of the job, for this fault
+abbrev pub RefusesRequests : Written → Fault → List ℕ → Type 0
+RefusesRequests job (fault.Requests code) bytes = (code ≢ requests.NoMemory) × (requests_of job bytes ≡ Err code)
+RefusesRequests job _ bytes = ⊥
+
+-- the bytes are no payments of the job, for this fault
+abbrev pub RefusesRows : Written → Fault → List ℕ → Type 0
+RefusesRows job (fault.Payments code) bytes = (code ≢ rows.NoMemory) × (rows_of job bytes ≡ Err code)
+RefusesRows job _ bytes = ⊥
+
+-- Why a file isn't read: it failed, is too long, or memory ran out; or else its bytes are refused for this fault. Unless it failed, nothing was
+-- counted.
+abbrev pub IsUnread : FileIs → (Fault → List ℕ → Type 0) → Option Files → List ℕ → Faults → Faults → Fault → Type 0
+IsUnread is Refuses files name old new (fault.Read which) = (which ≡ is) × ReadFailed name old new
+IsUnread is Refuses files name old new (fault.Long which) = (which ≡ is) × IfSome (told_bytes files name) (λ bytes. limit_of is < length bytes) × (new ≡ old)
+IsUnread is Refuses files name old new fault.NoMemory = new ≡ old
+IsUnread is Refuses files name old new why = HasRead is (Refuses why) files name × (new ≡ old)
+
+abbrev pub IsNoJob : Option Files → List ℕ → Faults → Faults → Fault → Type 0
+IsNoJob files name old new why = IsUnread file.Job RefusesJob files name old new why
+
+abbrev pub AreNoRequests : Option Files → List ℕ → Written → Faults → Faults → Fault → Type 0
+AreNoRequests files name job old new why = IsUnread file.Requests (RefusesRequests job) files name old new why
+
+abbrev pub AreNoRows : Option Files → List ℕ → Written → Faults → Faults → Fault → Type 0
+AreNoRows files name job old new why = IsUnread file.Payments (RefusesRows job) files name old new why
+
+-- ---- seen from a file that is told
+
+-- the file is told, isn't too long, and its bytes are so
+pub record Tells (is : FileIs) (P : List ℕ → Type 0) (files : Option Files) (name : List ℕ) : Type 0 where
+  pub bytes : List ℕ
+  pub told : told_bytes files name ≡ Some bytes
+  pub short : length bytes ≤ limit_of is
+  pub are_so : P bytes
+
+abbrev pub TellsJob : Option Files → List ℕ → Written → Type 0
+TellsJob files name job = Tells file.Job (λ bytes. IsJobIn bytes job) files name
+
+abbrev pub TellsRequests : Option Files → List ℕ → Written → List Request → Type 0
+TellsRequests files name job requests = Tells file.Requests (λ bytes. requests_of job bytes ≡ Ok requests) files name
+
+abbrev pub TellsRows : Option Files → List ℕ → Written → List Row → Type 0
+TellsRows files name job rows = Tells file.Payments (λ bytes. rows_of job bytes ≡ Ok rows) files name
+
+-- What a file is answered by, where it is told: one that is too long by just that, and one that is refused by just the fault that its bytes have.
+-- Otherwise the call is excused.
+pub record FollowsFile (is : FileIs) (Refuses : Fault → List ℕ → Type 0) (name : List ℕ) (old new : Outside) (answer : Option Fault) : Type 0 where
+  pub long : (bytes : List ℕ) → told_bytes old.files name ≡ Some bytes → limit_of is < length bytes →
+      (answer ≡ Some (fault.Long is)) ⊎ IsExcused old new answer
+  pub refused : (why : Fault) → Tells is (Refuses why) old.files name → (answer ≡ Some why) ⊎ IsExcused old new answer
+
+abbrev pub FollowsJob : List ℕ → Outside → Outside → Option Fault → Type 0
+FollowsJob name old new answer = FollowsFile file.Job RefusesJob name old new answer
+
+abbrev pub FollowsRequests : Written → List ℕ → Outside → Outside → Option Fault → Type 0
+FollowsRequests job name old new answer = FollowsFile file.Requests (RefusesRequests job) name old new answer
+
+abbrev pub FollowsRows : Written → List ℕ → Outside → Outside → Option Fault → Type 0
+FollowsRows job name old new answer = FollowsFile file.Payments (RefusesRows job) name old new answer

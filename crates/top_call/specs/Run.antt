@@ -1,0 +1,54 @@
+-- What a call of `run` answers, why, and what it leaves.
+use Rattle.std.specs.Prelude.{◌≡◌, ◌⊎◌, List, Option, None}
+use Rattle.jobs.specs.Written.{Written}
+use Rattle.payments.specs.Causes.{Faults}
+use Rattle.payments.specs.Files.{Files}
+use Rattle.tuple_trace.specs.declared.row.Row.{Row}
+use Rattle.versions.specs.declared.request.Request.{Request}
+use Rattle.top_call.specs.Asked.{RunAsked}
+use Rattle.top_call.specs.Ends.{Stops}
+use Rattle.top_call.specs.Outside.{IsExcused, Outside, PrintsFault}
+use Rattle.top_call.specs.Plan.{AreSame, IsNoSetup}
+use Rattle.top_call.specs.Reading.{AreNoRows, AreRequestsOf, AreRowsOf, FollowsJob, FollowsRequests, FollowsRows, IsJobOf, TellsJob, TellsRequests, TellsRows}
+use Rattle.top_call.specs.Running.{IsRunOf, Runs}
+use Rattle.top_call.specs.declared.answer.Answer.{Answer}
+use Rattle.top_call.specs.declared.fault.Fault.{Fault}
+use Rattle.top_call.specs.declared.running.Done.{Done}
+
+-- what was run is what the files hold
+pub record IsRunOfFiles (asked : RunAsked) (files : Option Files) (done : Done) : Type 0 where
+  pub job : Written
+  pub requests : List Request
+  pub rows : List Row
+  pub of_job : IsJobOf files asked.plan.job job
+  pub of_requests : AreRequestsOf files asked.plan.requests job requests
+  pub of_rows : AreRowsOf files asked.payments job rows
+  pub run : IsRunOf AreSame asked.plan.ordered job requests rows done
+
+-- why there is no run: no job or no requests were read, or else no rows
+abbrev pub IsNoRun : RunAsked → Option Files → Faults → Faults → Fault → Type 0
+IsNoRun asked files old new why =
+    IsNoSetup asked.plan files old new why
+    ⊎ ((job : Written) × (requests : List Request) × IsJobOf files asked.plan.job job × AreRequestsOf files asked.plan.requests job requests
+    × AreNoRows files asked.payments job old new why)
+
+-- ---- the answer
+
+-- how a call of `run` ends, before the line of its fault is printed
+abbrev pub EndsRun : RunAsked → Outside → Outside → Answer → Type 0
+EndsRun asked old new answer = Stops (IsNoRun asked old.files) old new answer ⊎ Runs (IsRunOfFiles asked old.files) asked.alerts old new answer
+
+-- what a call of `run` answers, leaves and prints
+pub record AnswersRun (asked : RunAsked) (old new : Outside) (answer : Answer) : Type 0 where
+  pub between : Outside
+  pub ends : EndsRun asked old between answer
+  pub prints : PrintsFault answer.fault between new
+
+-- the answer, seen from the files: each is looked at where those before it hold what they should
+pub record FollowsRun (asked : RunAsked) (old new : Outside) (answer : Option Fault) : Type 0 where
+  pub job : FollowsJob asked.plan.job old new answer
+  pub requests : (job : Written) → TellsJob old.files asked.plan.job job → FollowsRequests job asked.plan.requests old new answer
+  pub payments : (job : Written) (requests : List Request) → TellsJob old.files asked.plan.job job → TellsRequests old.files asked.plan.requests job requests →
+      FollowsRows job asked.payments old new answer
+  pub done : (job : Written) (requests : List Request) (rows : List Row) → TellsJob old.files asked.plan.job job →
+      TellsRequests old.files asked.plan.requests job requests → TellsRows old.files asked.payments job rows → (answer ≡ None) ⊎ IsExcused old new answer

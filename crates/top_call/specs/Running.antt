@@ -1,0 +1,80 @@
+-- What a call runs, and what it writes of that.
+use Rattle.std.specs.Prelude.{◌≡◌, ◌++◌, ◌∷◌, ℕ, Bool, IsTrue, List, [], Some, length, if◌then◌else◌}
+use Rattle.jobs.specs.Job.{written}
+use Rattle.jobs.specs.Written.{Written}
+use Rattle.sink_journal.specs.Alerts.{alerts}
+use Rattle.tuple_trace.specs.declared.row.Row.{Row}
+use Rattle.versions.specs.declared.request.Request.{Request}
+use Rattle.flow_model.specs.Consistent.{IsConsistent}
+use Rattle.flow_model.specs.OneTable.{HasNoCounts}
+use Rattle.flow_model.specs.Record.{told}
+use Rattle.flow_model.specs.Run.{IsRun, Ran}
+use Rattle.flow_model.specs.Serial.{IsSerial, SeesPrefix, serial}
+use Rattle.flow_model.specs.Setup.{outline}
+use Rattle.serial_order.specs.Serials.{serial_line, serials}
+use Rattle.top_call.specs.Ends.{EndsAfterRun}
+use Rattle.top_call.specs.Lines.{alert_count, refused_lines, row_count, summary_line}
+use Rattle.top_call.specs.Outside.{FileText, Outside}
+use Rattle.top_call.specs.Plan.{IsSetupFor}
+use Rattle.top_call.specs.declared.answer.Answer.{Answer}
+use Rattle.top_call.specs.declared.fault.FileIs.TheVariants as file
+use Rattle.top_call.specs.declared.lines.Summary.{Summary}
+use Rattle.top_call.specs.declared.running.Done.{Done}
+
+-- ---- the run
+
+-- Rows and requests have one order: each row comes after the first requests up to its number, and before all later ones. If no node counts, the
+-- sinks got what each row makes by itself with the functions after those requests.
+pub record HaveOneOrder (rows : List Row) (ran : Ran) : Type 0 where
+  pub prefix : (row : ℕ) → SeesPrefix ran row (serial ran row)
+  pub alone : HasNoCounts ran.setup.job → IsSerial rows ran
+
+-- The rows were run by the setup of the job and its requests in this mode, and judging refused just these. What the run leaves is consistent. In
+-- ordered mode rows and requests have one order, and each row has its number. How the requests of the record relate to those that judging accepts
+-- is told by `Keeps`.
+pub record IsRunOf (Keeps : List Request → List Request → Type 0) (ordered : Bool) (job : Written) (requests : List Request) (rows : List Row) (done : Done) : Type 0 where
+  pub setup : IsSetupFor Keeps ordered job requests done.ran.setup
+  pub run : IsRun (outline done.ran.setup) rows (told done.ran)
+  pub consistent : IsConsistent rows (told done.ran)
+  pub one_order : IsTrue done.ran.setup.ordered → HaveOneOrder rows (told done.ran)
+  pub numbers : IsTrue done.ran.setup.ordered → done.serial ≡ serials (told done.ran) rows
+  pub refused : done.refused ≡ done.ran.setup.judged.refused
+  pub count : done.requests ≡ length requests
+
+-- ---- what is written of it
+
+-- the text of the alerts
+abbrev pub alerts_of : Done → List ℕ
+alerts_of done = alerts (written done.ran.setup.job) done.ran.journals
+
+-- an alerts file
+abbrev pub alerts_file : List ℕ → List ℕ → FileText
+alerts_file name text = record { is = file.Alerts; name = name; text = text }
+
+-- the files that are written of it, in their order
+abbrev pub files_of : List ℕ → Done → List FileText
+files_of alerts done = alerts_file alerts (alerts_of done) ∷ []
+
+abbrev pub summary_of : Done → Summary
+summary_of done = record {
+  rows = row_count done.ran.feeds;
+  alerts = alert_count done.ran.setup.job.nodes done.ran.journals;
+  requests = done.requests;
+  refused = length done.refused;
+}
+
+-- in ordered mode, how many rows come after each number of requests
+abbrev pub serial_lines : Done → List ℕ
+serial_lines done = if done.ran.setup.ordered then serial_line (length done.ran.setup.judged.accepted) done.serial else []
+
+-- what is printed: each refused request, then the numbers of rows in ordered mode, and then the summary
+abbrev pub run_lines : Done → List ℕ
+run_lines done = (refused_lines done.refused ++ serial_lines done) ++ summary_line (summary_of done)
+
+-- the call ran something that is so, and came to storing its files and printing the lines of that
+pub record Runs (IsSo : Done → Type 0) (alerts : List ℕ) (old new : Outside) (answer : Answer) : Type 0 where
+  pub done : Done
+  pub is_so : IsSo done
+  pub ends : EndsAfterRun (files_of alerts done) (run_lines done) old new answer.fault
+  pub refused : answer.refused ≡ done.refused
+  pub ran : answer.ran ≡ Some done.ran

@@ -1,0 +1,31 @@
+ghost use Rattle.std.specs.Prelude.{◌≡◌};
+ghost use Rattle.top_call.specs.Ends.{stopped as stopped_for};
+
+use crate::fault::Fault;
+use flow_model::RunRecord;
+use std::alloc::Global;
+use versions::Refusals;
+
+/// What a command came to.
+#[derive(Drop)]
+pub struct Answer {
+    /// What ended it early, if anything did.
+    pub fault: Option<Fault>,
+    /// The requests that judging refused; none where it came to no judging.
+    pub refused: Refusals,
+    /// What the run did, where one was completed.
+    pub ran: Option<RunRecord>,
+}
+
+impl Answer {
+    /// That of a command which stopped before it had judged or run anything. Takes no memory.
+    pub fn stopped(alloc: Global, fault: Fault) -> Answer
+        ensures { result ≡ stopped_for fault }
+    {
+        Answer {
+            fault: Some(fault),
+            refused: Refusals::new(alloc),
+            ran: None,
+        }
+    }
+}

@@ -1,0 +1,174 @@
+ghost use Rattle.std.specs.Prelude.{◌≡◌, Some, option_copied, option_map};
+ghost use Rattle.top_call.specs.Asked.{asked_by, asked_of, first_asked, first_of as first_of_words, is_name as is_name_of, is_ordered as is_ordered_word, least_of as least_of_word, one_name, plan_asked, plan_of as plan_of_words, plan_with as plan_with_words, run_asked, run_of as run_of_words, run_with as run_with_words};
+
+use tuple_trace::{Word, digits_up_to};
+
+/// What the program is asked to do.
+#[derive(Clone, Copy, Debug)]
+pub enum Command<'a> {
+    First(First<'a>),
+    /// To read this job file, and print the sizes of its job.
+    Check(&'a Word),
+    Plan(PlanFiles<'a>),
+    Run(RunFiles<'a>),
+}
+
+/// What the command `first` is asked to do.
+#[derive(Clone, Copy, Debug)]
+pub struct First<'a> {
+    /// The file that the payments are read from.
+    pub payments: &'a Word,
+    /// The file that the alerts are written to.
+    pub alerts: &'a Word,
+    /// From how many cents on a payment passes at first.
+    pub least: i64,
+    /// After how many rows the request is issued.
+    pub after: u64,
+    /// From how many cents on a payment passes from the request on.
+    pub least_after: i64,
+}
+
+/// The files of the command `plan`.
+#[derive(Clone, Copy, Debug)]
+pub struct PlanFiles<'a> {
+    pub job: &'a Word,
+    pub requests: &'a Word,
+    /// Whether rows and requests are to have one order.
+    pub ordered: bool,
+}
+
+/// The files of the command `run`.
+#[derive(Clone, Copy, Debug)]
+pub struct RunFiles<'a> {
+    pub plan: PlanFiles<'a>,
+    /// The file that the payments are read from.
+    pub payments: &'a Word,
+    /// The file that the alerts are written to.
+    pub alerts: &'a Word,
+}
+
+/// The greatest number of rows that a request may wait for.
+const AFTER_MAX: u64 = 1_048_576;
+
+/// Reads the words after the program's name, in the plain forms `first PAYMENTS ALERTS MIN AFTER MIN2`, `check JOB`,
+/// `plan JOB REQUESTS` and `run JOB REQUESTS PAYMENTS ALERTS`. The last two may end with `--ordered`. None if they have none of them,
+/// or a number is outside its range.
+pub fn command_of(words: &[Word]) -> Option<Command<'_>>
+    ensures { option_map asked_by result ≡ asked_of words.now }
+{
+    let (command, rest) = words.split_first()?;
+    if command.as_str() == "first" {
+        Some(Command::First(first_of(rest)?))
+    } else if command.as_str() == "check" {
+        Some(Command::Check(name_of(rest)?))
+    } else if command.as_str() == "plan" {
+        Some(Command::Plan(plan_of(rest)?))
+    } else if command.as_str() == "run" {
+        Some(Command::Run(run_of(rest)?))
+    } else {
+        None
+    }
+}
+
+fn first_of(words: &[Word]) -> Option<First<'_>>
+    ensures { option_map first_asked result ≡ first_of_words words.now }
+{
+    let [payments, alerts, least, after, least_after] = words else {
+        return None;
+    };
+    if !is_name(payments) || !is_name(alerts) {
+        return None;
+    }
+    Some(First {
+        payments,
+        alerts,
+        least: least_of(least)?,
+        after: digits_up_to(after.as_str().as_bytes(), AFTER_MAX)?,
+        least_after: least_of(least_after)?,
+    })
+}
+
+fn name_of(words: &[Word]) -> Option<&Word>
+    ensures { option_copied result ≡ one_name words.now }
+{
+    match words {
+        [name] if is_name(name) => Some(name),
+        _ => None,
+    }
+}
+
+fn plan_of(words: &[Word]) -> Option<PlanFiles<'_>>
+    ensures { option_map plan_asked result ≡ plan_of_words words.now }
+{
+    match words {
+        [job, requests] => plan_with(job, requests, false),
+        [job, requests, flag] if is_ordered(flag) => plan_with(job, requests, true),
+        _ => None,
+    }
+}
+
+fn plan_with<'a>(job: &'a Word, requests: &'a Word, ordered: bool) -> Option<PlanFiles<'a>>
+    ensures { option_map plan_asked result ≡ plan_with_words job.now requests.now ordered }
+{
+    if is_name(job) && is_name(requests) {
+        Some(PlanFiles {
+            job,
+            requests,
+            ordered,
+        })
+    } else {
+        None
+    }
+}
+
+fn run_of(words: &[Word]) -> Option<RunFiles<'_>>
+    ensures { option_map run_asked result ≡ run_of_words words.now }
+{
+    match words {
+        [job, requests, payments, alerts] => {
+            run_with(plan_with(job, requests, false)?, payments, alerts)
+        }
+        [job, requests, payments, alerts, flag] if is_ordered(flag) => {
+            run_with(plan_with(job, requests, true)?, payments, alerts)
+        }
+        _ => None,
+    }
+}
+
+fn run_with<'a>(plan: PlanFiles<'a>, payments: &'a Word, alerts: &'a Word) -> Option<RunFiles<'a>>
+    ensures { option_map run_asked result ≡ run_with_words (Some (plan_asked plan.entry)) payments.now alerts.now }
+{
+    if is_name(payments) && is_name(alerts) {
+        Some(RunFiles {
+            plan,
+            payments,
+            alerts,
+        })
+    } else {
+        None
+    }
+}
+
+// Whether a word is the flag of the ordered mode.
+fn is_ordered(word: &Word) -> bool
+    ensures { result ≡ is_ordered_word word.now }
+{
+    word.as_str() == "--ordered"
+}
+
+// Whether a word may name a file.
+fn is_name(word: &Word) -> bool
+    ensures { result ≡ is_name_of word.now }
+{
+    match word.as_str().as_bytes() {
+        [] | [b'-', ..] => false,
+        _ => true,
+    }
+}
+
+fn least_of(word: &Word) -> Option<i64>
+    ensures { result ≡ least_of_word word.now }
+{
+    let value = digits_up_to(word.as_str().as_bytes(), i64::MAX as u64)?;
+    i64::try_from(value).ok()
+}

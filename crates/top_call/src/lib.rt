@@ -1,0 +1,33 @@
+//! The top call of `fries`: consistent live reconfiguration of a pipelined dataflow.
+//!
+//! The program changes operators while tuples flow, and is proved to let no row see half of a change. [`fries`] is the call that `main`
+//! makes; its contract is what the program promises.
+//!
+//! ```text
+//! let outcome = fries(&rt, rt.alloc(), &words, &mut shelf, &mut out, &OpenGate);
+//! ExitCode::from(outcome.status)
+//! ```
+#![tactic(auto)]
+
+mod answer;
+mod check;
+mod command;
+mod counts;
+mod fault;
+mod fault_words;
+mod first;
+mod job;
+mod lines;
+mod plan;
+mod plan_lines;
+mod printing;
+mod reading;
+mod refused_lines;
+mod run;
+mod running;
+mod top;
+mod writing;
+
+pub use fault::{Fault, FileIs};
+pub use lines::fault_line;
+pub use top::{Outcome, fries};

@@ -1,0 +1,16 @@
+ghost use Rattle.std.specs.Result.{result_err};
+ghost use Rattle.top_call.specs.Outside.{Prints};
+
+use crate::fault::{Fault, FileIs};
+use payments::{Sink, SinkFault, write_all};
+
+/// Prints a text. After a fault a prefix of it is printed; where it is empty, nothing is handed to the output.
+pub fn print<O: Sink>(out: &mut O, text: &[u8]) -> Result<(), Fault>
+    ensures { Prints text.now (O.written out.old) (O.written out.new) (O.faults out.old) (O.faults out.new) (result_err result) }
+{
+    match write_all(out, text) {
+        Ok(()) => Ok(()),
+        Err(SinkFault::Failed) => Err(Fault::Write(FileIs::Out)),
+        Err(SinkFault::NoMemory) => Err(Fault::NoMemory),
+    }
+}

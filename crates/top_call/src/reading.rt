@@ -1,0 +1,83 @@
+// Files that are read, and what they hold.
+ghost use Rattle.std.specs.Prelude.{◌≡◌, IfOk, IfErr, OnOk};
+ghost use Rattle.jobs.specs.Job.{written};
+ghost use Rattle.jobs.specs.Nodes.{AreFromSources};
+ghost use Rattle.job_file.specs.RequestSizes.{AreFew};
+ghost use Rattle.top_call.specs.Reading.{AreNoRequests, AreNoRows, AreRequestsOf, AreRowsOf, IsJobOf, IsNoJob, IsRead, IsUnread, limit_of};
+
+use crate::fault::{Fault, FileIs};
+use job_file::{read_job, read_requests};
+use jobs::Job;
+use payments::{Shelf, ShelfFault, read_rows};
+use std::alloc::Global;
+use tuple_trace::{Bytes, Rows, Word};
+use versions::Requests;
+
+/// The job of a job file.
+pub fn job_in<S: Shelf>(alloc: Global, name: &Word, shelf: &mut S) -> Result<Job, Fault>
+    ensures job { IfOk result (λ job. IsJobOf (S.files shelf.old) name.now (written job)) }
+    ensures counts { OnOk result (S.faults shelf.new ≡ S.faults shelf.old) }
+    ensures files { S.files shelf.new ≡ S.files shelf.old }
+    ensures target { S.target shelf.new ≡ S.target shelf.old }
+    ensures cause { IfErr result (IsNoJob (S.files shelf.old) name.now (S.faults shelf.old) (S.faults shelf.new)) }
+{
+    let bytes = read_file(alloc, FileIs::Job, name, shelf)?;
+    Ok(read_job(alloc, bytes.as_slice())?)
+}
+
+/// The requests that a request file makes of a job.
+pub fn requests_in<S: Shelf>(
+    alloc: Global,
+    job: &Job,
+    name: &Word,
+    shelf: &mut S,
+) -> Result<Requests, Fault>
+    ensures requests { IfOk result (λ requests. AreRequestsOf (S.files shelf.old) name.now (written job.now) requests) }
+    ensures few { IfOk result AreFew }
+    ensures counts { OnOk result (S.faults shelf.new ≡ S.faults shelf.old) }
+    ensures files { S.files shelf.new ≡ S.files shelf.old }
+    ensures target { S.target shelf.new ≡ S.target shelf.old }
+    ensures cause { IfErr result (AreNoRequests (S.files shelf.old) name.now (written job.now) (S.faults shelf.old) (S.faults shelf.new)) }
+{
+    let bytes = read_file(alloc, FileIs::Requests, name, shelf)?;
+    Ok(read_requests(alloc, job, bytes.as_slice())?)
+}
+
+/// The rows of a payments file of a job.
+pub fn rows_in<S: Shelf>(
+    alloc: Global,
+    job: &Job,
+    name: &Word,
+    shelf: &mut S,
+) -> Result<Rows, Fault>
+    ensures rows { IfOk result (λ rows. AreRowsOf (S.files shelf.old) name.now (written job.now) rows) }
+    ensures sources { IfOk result (λ rows. AreFromSources (written job.now) rows) }
+    ensures counts { OnOk result (S.faults shelf.new ≡ S.faults shelf.old) }
+    ensures files { S.files shelf.new ≡ S.files shelf.old }
+    ensures target { S.target shelf.new ≡ S.target shelf.old }
+    ensures cause { IfErr result (AreNoRows (S.files shelf.old) name.now (written job.now) (S.faults shelf.old) (S.faults shelf.new)) }
+{
+    let bytes = read_file(alloc, FileIs::Payments, name, shelf)?;
+    Ok(read_rows(alloc, job, bytes.as_slice())?)
+}
+
+// All bytes of a file.
+fn read_file<S: Shelf>(
+    alloc: Global,
+    file: FileIs,
+    name: &Word,
+    shelf: &mut S,
+) -> Result<Bytes, Fault>
+    ensures bytes { IfOk result (λ bytes. IsRead file (S.files shelf.old) name.now bytes) }
+    ensures counts { OnOk result (S.faults shelf.new ≡ S.faults shelf.old) }
+    ensures files { S.files shelf.new ≡ S.files shelf.old }
+    ensures target { S.target shelf.new ≡ S.target shelf.old }
+    ensures cause { IfErr result (IsUnread file (λ why bytes. ⊥) (S.files shelf.old) name.now (S.faults shelf.old) (S.faults shelf.new)) }
+{
+    match shelf.read_all(alloc, name, file.limit()) {
+        Ok(bytes) => Ok(bytes),
+        Err(ShelfFault::Failed) => Err(Fault::Read(file)),
+        Err(ShelfFault::Long) => Err(Fault::Long(file)),
+        Err(ShelfFault::NoMemory) => Err(Fault::NoMemory),
+    }
+}

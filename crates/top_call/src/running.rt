@@ -1,0 +1,171 @@
+// What is run, and what a run leaves to be written.
+ghost use Rattle.std.specs.Prelude.{◌≡◌, IsTrue, Some, IfOk, length};
+ghost use Rattle.std.specs.Result.{result_err};
+ghost use Rattle.jobs.specs.Job.{written};
+ghost use Rattle.jobs.specs.Nodes.{AreFromSources, worker_count};
+ghost use Rattle.job_file.specs.RequestSizes.{AreFew};
+ghost use Rattle.flow_model.specs.Record.{told};
+ghost use Rattle.flow_replay.specs.Order.{IsInOrder};
+ghost use Rattle.top_call.specs.Ends.{EndsAfterRun};
+ghost use Rattle.top_call.specs.Outside.{outside};
+ghost use Rattle.top_call.specs.Plan.{AreSame};
+ghost use Rattle.top_call.specs.Running.{alerts_of, files_of, run_lines as run_lines_of, serial_lines as serial_lines_of, summary_of as summary_of_done, IsRunOf};
+ghost use Rattle.serial_order.specs.Serials.{serials};
+
+use crate::answer::Answer;
+use crate::counts::{alert_count, row_count};
+use crate::fault::Fault;
+use crate::lines::{Summary, summary_line};
+use crate::plan::setup_of;
+use crate::refused_lines::push_refused;
+use crate::writing::{Texts, write_texts};
+use flow_model::{RunRecord, ordered_runs_are_serial, runs_are_consistent};
+use flow_replay::plain_run;
+use jobs::Job;
+use payments::{Shelf, Sink};
+use serial_order::{Serial, push_serial_line, serial};
+use sink_journal::alerts_text;
+use std::alloc::Global;
+use tuple_trace::{Bytes, NoMemory, Rows, Word};
+use versions::{Refusals, Requests};
+
+/// What was run.
+#[derive(Drop)]
+pub struct Done {
+    pub ran: RunRecord,
+    /// How many requests there were.
+    pub requests: usize,
+    /// Those of them that judging refused.
+    pub refused: Refusals,
+    /// In ordered mode, after how many of the accepted requests each row comes; else nothing.
+    pub serial: Serial,
+}
+
+/// Judges the requests, and runs the rows and those that are accepted.
+pub fn run_rows(
+    alloc: Global,
+    job: Job,
+    requests: &Requests,
+    rows: &Rows,
+    ordered: bool,
+) -> Result<Done, NoMemory>
+    requires few { AreFew requests.now }
+    requires sources { AreFromSources (written job) rows.now }
+    ensures run { IfOk result (IsRunOf AreSame ordered (written job) requests.now rows.now) }
+    ensures order { IfOk result (λ done. IsInOrder (length rows.now) (told done.ran)) }
+    ensures journals { IfOk result (λ done. length done.ran.journals ≡ worker_count done.ran.setup.job.nodes) }
+{
+    let setup = setup_of(alloc, job, requests, ordered)?;
+    let refused = Refusals::from_slice(alloc, setup.judged.refused.as_slice())?;
+    runs_are_consistent(&setup, rows);
+    ordered_runs_are_serial(&setup, rows);
+    let ran = plain_run(alloc, setup, rows)?;
+    let serial = serial_of(alloc, &ran, rows)?;
+    Ok(Done {
+        ran,
+        requests: requests.len(),
+        refused,
+        serial,
+    })
+}
+
+// In ordered mode the number of each row; else nothing.
+fn serial_of(alloc: Global, ran: &RunRecord, rows: &Rows) -> Result<Serial, NoMemory>
+    ensures { IfOk result (λ found. IsTrue ran.now.setup.ordered → found ≡ serials (told ran.now) rows.now) }
+{
+    if ran.setup.ordered {
+        serial(alloc, ran, rows)
+    } else {
+        Ok(Serial::new(alloc))
+    }
+}
+
+/// Stores the alerts of a run, and then prints its lines. The first fault ends it.
+pub fn leave_run<S: Shelf, O: Sink>(
+    alloc: Global,
+    done: Done,
+    alerts: &Word,
+    shelf: &mut S,
+    out: &mut O,
+) -> Answer
+    requires { length done.ran.journals ≡ worker_count done.ran.setup.job.nodes }
+    ensures ends { EndsAfterRun (files_of alerts.now done) (run_lines_of done)
+        (outside (S.files shelf.old) (S.faults shelf.old) (S.target shelf.old) (O.written out.old) (O.faults out.old))
+        (outside (S.files shelf.new) (S.faults shelf.new) (S.target shelf.new) (O.written out.new) (O.faults out.new))
+        result.fault }
+    ensures refused { result.refused ≡ done.refused }
+    ensures ran { result.ran ≡ Some done.ran }
+{
+    let fault = write_run(alloc, &done, alerts, shelf, out).err();
+    let Done { ran, refused, .. } = done;
+    Answer {
+        fault,
+        refused,
+        ran: Some(ran),
+    }
+}
+
+fn write_run<S: Shelf, O: Sink>(
+    alloc: Global,
+    done: &Done,
+    alerts: &Word,
+    shelf: &mut S,
+    out: &mut O,
+) -> Result<(), Fault>
+    requires { length done.now.ran.journals ≡ worker_count done.now.ran.setup.job.nodes }
+    ensures { EndsAfterRun (files_of alerts.now done.now) (run_lines_of done.now)
+        (outside (S.files shelf.old) (S.faults shelf.old) (S.target shelf.old) (O.written out.old) (O.faults out.old))
+        (outside (S.files shelf.new) (S.faults shelf.new) (S.target shelf.new) (O.written out.new) (O.faults out.new))
+        (result_err result) }
+{
+    let texts = texts_of(alloc, done)?;
+    write_texts(&texts, alerts, shelf, out)
+}
+
+fn texts_of(alloc: Global, done: &Done) -> Result<Texts, NoMemory>
+    requires { length done.now.ran.journals ≡ worker_count done.now.ran.setup.job.nodes }
+    ensures alerts { IfOk result (λ texts. texts.alerts ≡ alerts_of done.now) }
+    ensures lines { IfOk result (λ texts. texts.lines ≡ run_lines_of done.now) }
+{
+    Ok(Texts {
+        alerts: alerts_text(alloc, &done.ran.setup.job, &done.ran.journals)?,
+        lines: run_lines(alloc, done)?,
+    })
+}
+
+fn run_lines(alloc: Global, done: &Done) -> Result<Bytes, NoMemory>
+    requires { length done.now.ran.journals ≡ worker_count done.now.ran.setup.job.nodes }
+    ensures { IfOk result (λ lines. lines ≡ run_lines_of done.now) }
+{
+    let summary = summary_line(alloc, summary_of(done)?)?;
+    let mut lines = Bytes::new(alloc);
+    push_refused(alloc, done.refused.as_slice(), &mut lines)?;
+    lines.extend_from_slice(serial_lines(alloc, done)?.as_slice())?;
+    lines.extend_from_slice(summary.as_bytes())?;
+    Ok(lines)
+}
+
+// The line of an ordered run, and nothing of any other.
+fn serial_lines(alloc: Global, done: &Done) -> Result<Bytes, NoMemory>
+    ensures { IfOk result (λ lines. lines ≡ serial_lines_of done.now) }
+{
+    let mut lines = Bytes::new(alloc);
+    if !done.ran.setup.ordered {
+        return Ok(lines);
+    }
+    push_serial_line(alloc, &done.serial, done.ran.setup.requests(), &mut lines)?;
+    Ok(lines)
+}
+
+fn summary_of(done: &Done) -> Result<Summary, NoMemory>
+    requires { length done.now.ran.journals ≡ worker_count done.now.ran.setup.job.nodes }
+    ensures { IfOk result (λ summary. summary ≡ summary_of_done done.now) }
+{
+    let ran = &done.ran;
+    Ok(Summary {
+        rows: row_count(ran.feeds.as_slice()),
+        alerts: alert_count(&ran.setup.job, ran.journals.as_slice())?,
+        requests: done.requests,
+        refused: done.refused.len(),
+    })
+}

@@ -1,0 +1,216 @@
+ghost use Rattle.std.specs.Prelude.{◌≡◌, IfNone, IfSome};
+ghost use Rattle.std.specs.Result.{result_err};
+ghost use Rattle.top_call.specs.Answers.{answer_of, Answers, AnswersUsage, Follows};
+ghost use Rattle.top_call.specs.Asked.{asked_by, asked_of, first_asked, plan_asked, run_asked};
+ghost use Rattle.top_call.specs.Check.{AnswersCheck, FollowsCheck};
+ghost use Rattle.top_call.specs.Ends.{stopped};
+ghost use Rattle.top_call.specs.FaultWords.{fault_line as fault_line_of};
+ghost use Rattle.top_call.specs.Faults.{status_for};
+ghost use Rattle.top_call.specs.First.{AnswersFirst, FollowsFirst};
+ghost use Rattle.top_call.specs.Outside.{outside, Prints, PrintsReport};
+ghost use Rattle.top_call.specs.Plan.{AnswersPlan, FollowsPlan};
+ghost use Rattle.top_call.specs.Run.{AnswersRun, FollowsRun};
+
+use crate::answer::Answer;
+use crate::check::check_command;
+use crate::command::{Command, First, PlanFiles, RunFiles, command_of};
+use crate::fault::{Fault, FileIs};
+use crate::first::first_command;
+use crate::lines::fault_line;
+use crate::plan::plan_command;
+use crate::printing::print;
+use crate::run::run_command;
+use flow_model::RunRecord;
+use job_file::{faulty_is_no_job, files_have_one_fault};
+use payments::{Shelf, Sink};
+use std::alloc::Global;
+use std::sync::Wait;
+use std::thread::Threads;
+use tuple_trace::{Gate, Word};
+use versions::Refusals;
+
+/// What a call of the program came to.
+#[derive(Drop)]
+pub struct Outcome {
+    /// The status that the program ends with: that of the fault; without one 0, and 8 where a request was refused.
+    pub status: u8,
+    /// What ended the call early, if anything did.
+    pub fault: Option<Fault>,
+    /// The requests that judging refused, in the order of their file; none where the call came to no judging.
+    pub refused: Refusals,
+    /// What the run did, where one was completed.
+    pub ran: Option<RunRecord>,
+}
+
+/// Does what the words ask for, and answers what it came to.
+///
+/// The words are those after the program's name. Files are reached by the shelf alone, and what is printed goes to `out`. A fault ends
+/// the call: nothing is done after it but to print its line, and once `out` has refused not even that. The statuses are those of
+/// [`Fault::status`]. The run stands on one thread, so no gate is called and no thread is started.
+pub fn fries<R, S, O, G>(
+    _rt: &R,
+    alloc: Global,
+    words: &[Word],
+    shelf: &mut S,
+    out: &mut O,
+    _gate: &G,
+) -> Outcome
+where
+    R: Threads + Wait + Copy + Send + Sync + 'static,
+    S: Shelf,
+    O: Sink,
+    G: Gate + Sync,
+    ensures usage { IfNone (asked_of words.now) (AnswersUsage
+        (outside (S.files shelf.old) (S.faults shelf.old) (S.target shelf.old) (O.written out.old) (O.faults out.old))
+        (outside (S.files shelf.new) (S.faults shelf.new) (S.target shelf.new) (O.written out.new) (O.faults out.new))
+        (answer_of result)) }
+    ensures answers { IfSome (asked_of words.now) (λ asked. Answers asked
+        (outside (S.files shelf.old) (S.faults shelf.old) (S.target shelf.old) (O.written out.old) (O.faults out.old))
+        (outside (S.files shelf.new) (S.faults shelf.new) (S.target shelf.new) (O.written out.new) (O.faults out.new))
+        (answer_of result)) }
+    ensures file { IfSome (asked_of words.now) (λ asked. Follows asked
+        (outside (S.files shelf.old) (S.faults shelf.old) (S.target shelf.old) (O.written out.old) (O.faults out.old))
+        (outside (S.files shelf.new) (S.faults shelf.new) (S.target shelf.new) (O.written out.new) (O.faults out.new))
+        result.fault) }
+    ensures status { result.status ≡ status_for result.fault result.refused }
+{
+    let answer = match command_of(words) {
+        Some(Command::First(first)) => answer_first(alloc, first, shelf, out),
+        Some(Command::Check(job)) => answer_check(alloc, job, shelf, out),
+        Some(Command::Plan(files)) => answer_plan(alloc, files, shelf, out),
+        Some(Command::Run(files)) => answer_run(alloc, files, shelf, out),
+        None => answer_usage(alloc, out),
+    };
+    let status = status_of(&answer);
+    let Answer {
+        fault,
+        refused,
+        ran,
+    } = answer;
+    Outcome {
+        status,
+        fault,
+        refused,
+        ran,
+    }
+}
+
+fn status_of(answer: &Answer) -> u8
+    ensures { result ≡ status_for answer.now.fault answer.now.refused }
+{
+    match answer.fault {
+        Some(fault) => fault.status(),
+        None if answer.refused.is_empty() => 0,
+        None => 8,
+    }
+}
+
+fn answer_first<S: Shelf, O: Sink>(
+    alloc: Global,
+    first: First<'_>,
+    shelf: &mut S,
+    out: &mut O,
+) -> Answer
+    ensures answers { AnswersFirst (first_asked first.entry)
+        (outside (S.files shelf.old) (S.faults shelf.old) (S.target shelf.old) (O.written out.old) (O.faults out.old))
+        (outside (S.files shelf.new) (S.faults shelf.new) (S.target shelf.new) (O.written out.new) (O.faults out.new))
+        result }
+    ensures file { FollowsFirst (first_asked first.entry)
+        (outside (S.files shelf.old) (S.faults shelf.old) (S.target shelf.old) (O.written out.old) (O.faults out.old))
+        (outside (S.files shelf.new) (S.faults shelf.new) (S.target shelf.new) (O.written out.new) (O.faults out.new))
+        result.fault }
+{
+    let answer = first_command(alloc, first, shelf, out);
+    report(alloc, answer.fault, out);
+    answer
+}
+
+fn answer_check<S: Shelf, O: Sink>(alloc: Global, job: &Word, shelf: &mut S, out: &mut O) -> Answer
+    ensures answers { AnswersCheck job.now
+        (outside (S.files shelf.old) (S.faults shelf.old) (S.target shelf.old) (O.written out.old) (O.faults out.old))
+        (outside (S.files shelf.new) (S.faults shelf.new) (S.target shelf.new) (O.written out.new) (O.faults out.new))
+        result }
+    ensures file { FollowsCheck job.now
+        (outside (S.files shelf.old) (S.faults shelf.old) (S.target shelf.old) (O.written out.old) (O.faults out.old))
+        (outside (S.files shelf.new) (S.faults shelf.new) (S.target shelf.new) (O.written out.new) (O.faults out.new))
+        result.fault }
+{
+    faulty_is_no_job();
+    files_have_one_fault();
+    let answer = check_command(alloc, job, shelf, out);
+    report(alloc, answer.fault, out);
+    answer
+}
+
+fn answer_plan<S: Shelf, O: Sink>(
+    alloc: Global,
+    files: PlanFiles<'_>,
+    shelf: &mut S,
+    out: &mut O,
+) -> Answer
+    ensures answers { AnswersPlan (plan_asked files.entry)
+        (outside (S.files shelf.old) (S.faults shelf.old) (S.target shelf.old) (O.written out.old) (O.faults out.old))
+        (outside (S.files shelf.new) (S.faults shelf.new) (S.target shelf.new) (O.written out.new) (O.faults out.new))
+        result }
+    ensures file { FollowsPlan (plan_asked files.entry)
+        (outside (S.files shelf.old) (S.faults shelf.old) (S.target shelf.old) (O.written out.old) (O.faults out.old))
+        (outside (S.files shelf.new) (S.faults shelf.new) (S.target shelf.new) (O.written out.new) (O.faults out.new))
+        result.fault }
+{
+    faulty_is_no_job();
+    files_have_one_fault();
+    let answer = plan_command(alloc, files, shelf, out);
+    report(alloc, answer.fault, out);
+    answer
+}
+
+fn answer_run<S: Shelf, O: Sink>(
+    alloc: Global,
+    files: RunFiles<'_>,
+    shelf: &mut S,
+    out: &mut O,
+) -> Answer
+    ensures answers { AnswersRun (run_asked files.entry)
+        (outside (S.files shelf.old) (S.faults shelf.old) (S.target shelf.old) (O.written out.old) (O.faults out.old))
+        (outside (S.files shelf.new) (S.faults shelf.new) (S.target shelf.new) (O.written out.new) (O.faults out.new))
+        result }
+    ensures file { FollowsRun (run_asked files.entry)
+        (outside (S.files shelf.old) (S.faults shelf.old) (S.target shelf.old) (O.written out.old) (O.faults out.old))
+        (outside (S.files shelf.new) (S.faults shelf.new) (S.target shelf.new) (O.written out.new) (O.faults out.new))
+        result.fault }
+{
+    faulty_is_no_job();
+    files_have_one_fault();
+    let answer = run_command(alloc, files, shelf, out);
+    report(alloc, answer.fault, out);
+    answer
+}
+
+fn answer_usage<O: Sink>(alloc: Global, out: &mut O) -> Answer
+    ensures answer { result ≡ stopped Fault.Usage }
+    ensures prints { PrintsReport (Some Fault.Usage) (O.written out.old) (O.written out.new) (O.faults out.old) (O.faults out.new) }
+{
+    report(alloc, Some(Fault::Usage), out);
+    Answer::stopped(alloc, Fault::Usage)
+}
+
+// Prints the line of a fault, unless it is the output that failed. What printing it comes to changes no answer.
+#[tactic(auto, using(crate::proofs::PrintLemmas::reports))]
+fn report<O: Sink>(alloc: Global, fault: Option<Fault>, out: &mut O)
+    ensures { PrintsReport fault (O.written out.old) (O.written out.new) (O.faults out.old) (O.faults out.new) }
+{
+    match fault {
+        None | Some(Fault::Write(FileIs::Out)) => {}
+        Some(fault) => {
+            let _ = print_fault(alloc, fault, out);
+        }
+    }
+}
+
+#[tactic(auto, using(crate::proofs::PrintLemmas::prints_nothing))]
+fn print_fault<O: Sink>(alloc: Global, fault: Fault, out: &mut O) -> Result<(), Fault>
+    ensures { Prints (fault_line_of fault) (O.written out.old) (O.written out.new) (O.faults out.old) (O.faults out.new) (result_err result) }
+{
+    let line = fault_line(alloc, fault)?;
+    print(out, line.as_bytes())
+}
