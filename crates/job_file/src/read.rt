@@ -3,6 +3,7 @@ ghost use Rattle.jobs.specs.Job.{written};
 ghost use Rattle.job_file.specs.Job.{Excludes, HaveOneFault, IsFaultIn, IsJobIn};
 ghost use Rattle.job_file.specs.RequestFile.{requests_of};
 ghost use Rattle.job_file.specs.RequestSizes.{AreFew};
+ghost use Rattle.versions.specs.Kept.{HaveLimits};
 
 use crate::document::document;
 use crate::fault::{JobFault, ReqFileFault};
@@ -60,6 +61,7 @@ pub fn files_have_one_fault()
 pub fn read_requests(alloc: Global, job: &Job, bytes: &[u8]) -> Result<Requests, ReqFileFault>
     ensures ok { IfOk result (λ requests. requests_of (written job.now) bytes.now ≡ Ok requests) }
     ensures few { IfOk result AreFew }
+    ensures limits { IfOk result HaveLimits }
     ensures fault { IfErr result (λ fault. fault ≢ ReqFileFault.NoMemory → requests_of (written job.now) bytes.now ≡ Err fault) }
 {
     let members = document(alloc, bytes)?;

@@ -3,6 +3,7 @@ ghost use Rattle.toml.specs.View.{items_view, table_view, view};
 ghost use Rattle.jobs.specs.Limits.{first_oversize, outside};
 ghost use Rattle.job_file.specs.RequestSizes.{AreFew, change_oversize, list_oversize, request_oversize, wide_change, wide_in_requests, wide_request, wide_request_item};
 ghost use Rattle.job_file.specs.Wide.{first_found};
+ghost use Rattle.versions.specs.Kept.{HaveLimits};
 
 use crate::document::{items_or_none, table};
 use crate::fault::Part;
@@ -77,6 +78,7 @@ fn wide_change(item: &Toml) -> Option<(Which, i64)>
 pub(crate) fn list_fault(requests: &[Request]) -> Option<(Which, i64)>
     ensures first { result ≡ list_oversize requests.now }
     ensures few { IfNone result (AreFew requests.now) }
+    ensures limits { IfNone result (HaveLimits requests.now) }
 {
     if let Some(fault) = outside(Which::Requests, 0, 64, requests.len() as u64) {
         return Some(fault);

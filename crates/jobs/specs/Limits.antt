@@ -2,6 +2,8 @@
 use Rattle.std.specs.Prelude.{◌≡◌, ℕ, ℤ, pos, ◌+◌, ◌≤◌, ◌&&◌, All, List, [], ◌∷◌, length, Option, Some, None, min, nat_le, if◌then◌else◌}
 use Rattle.std.specs.Option.{option_or}
 use Rattle.std.specs.FinMap as finite
+use Rattle.tuple_trace.specs.Values.{as_text}
+use Rattle.tuple_trace.specs.declared.tuple.Tuple.{Tuple}
 use Rattle.tuple_trace.specs.declared.value.Value.{Value}
 use Rattle.tuple_trace.specs.declared.value.Value.TheVariants as value
 use Rattle.jobs.specs.declared.fault.Which.{Which}
@@ -33,9 +35,21 @@ abbrev pub first_oversize : {A : Type 0} → (A → Option Oversize) → List A 
 first_oversize size [] = None
 first_oversize size (x ∷ xs) = option_or (size x) (first_oversize size xs)
 
--- a text of a table or a literal has up to 48 bytes
+-- the most bytes of a text
+abbrev pub text_max : ℕ
+text_max = 48
+
+-- a text of a table or a literal has up to `text_max` bytes
 abbrev pub text_oversize : List ℕ → Option Oversize
-text_oversize text = outside which.Text 0 48 (length text)
+text_oversize text = outside which.Text 0 text_max (length text)
+
+-- the value is no text of more than `text_max` bytes
+abbrev pub IsShort : Value → Type 0
+IsShort value = length (as_text (Some value)) ≤ text_max
+
+-- no text of the tuple has more than `text_max` bytes
+abbrev pub HasShortTexts : Tuple → Type 0
+HasShortTexts tuple = All IsShort tuple.fields
 
 -- a value that is a text has its length for a size, and a number has none
 abbrev pub value_oversize : Value → Option Oversize

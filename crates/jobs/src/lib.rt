@@ -31,7 +31,7 @@ pub use job::Job;
 pub use laws::{
     functions_fit, jobs_have_one_fault, refused_is_unlawful, roofs_hold, weights_settle,
 };
-pub use limits::{outside, size_fault};
+pub use limits::{TEXT_MAX, outside, size_fault};
 pub use node::{fan_out, is_free, is_replicate, is_source, is_split};
 pub use ports::{has_port, out_count};
 pub use queries::{fits, weight, worker_count};

@@ -13,6 +13,9 @@ use flow_dag::Edge;
 use keyed_state::TextMap;
 use tuple_trace::Value;
 
+/// The most bytes of a text.
+pub const TEXT_MAX: usize = 48;
+
 /// The first size that is outside of its limits, with its number. The order is: nodes, edges, columns, the workers of each node, all workers,
 /// the entries of all tables, the texts of each table, the sizes of each node's function, and the
 /// roof of each node.
@@ -202,7 +205,7 @@ fn value_fault(value: &Value) -> Option<(Which, i64)>
 fn text_fault(text: &[u8]) -> Option<(Which, i64)>
     ensures { result ≡ text_oversize text.now }
 {
-    outside(Which::Text, 0, 48, text.len() as u64)
+    outside(Which::Text, 0, TEXT_MAX as u64, text.len() as u64)
 }
 
 /// The size with this name, where the number is outside its limits; both are within them. The number is cut to 63 bits.

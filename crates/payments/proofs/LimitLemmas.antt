@@ -7,6 +7,7 @@ use Rattle.std.specs.Prelude.{All, option_map}
 use Rattle.tuple_trace.specs.declared.row.Row.{Row}
 use Rattle.tuple_trace.specs.declared.value.Value.{Value}
 use Rattle.tuple_trace.specs.declared.value.Value.TheVariants as value
+use Rattle.jobs.specs.Limits.{HasShortTexts, IsShort, text_max}
 use Rattle.jobs.specs.Weights.{weight}
 use Rattle.jobs.specs.Written.{Written}
 use Rattle.jobs.specs.declared.column.Column.{Column}
@@ -14,8 +15,7 @@ use Rattle.jobs.specs.declared.column.ColumnKind.{ColumnKind}
 use Rattle.jobs.specs.declared.column.ColumnKind.TheVariants as kind
 use Rattle.payments.specs.declared.read.PFault.{PFault}
 use Rattle.payments.specs.declared.read.PFault.TheVariants as fault
-use Rattle.payments.specs.Reading.{cells_behind, field_of, fields_from, first_cell, first_value, row_by, row_of, row_with, rows_from, source_named, text_max, value_of, work_max}
-use Rattle.payments.specs.ShortTexts.{HasShortTexts, IsShort}
+use Rattle.payments.specs.Reading.{cells_behind, field_of, fields_from, first_cell, first_value, row_by, row_of, row_with, rows_from, source_named, value_of, work_max}
 use Rattle.payments.specs.Spelling.{amount_of, number_of}
 use Rattle.payments.proofs.RowLemmas.{before-ok, if-ok}
 

@@ -4,5 +4,4 @@ pub mod Host
 pub mod Memory
 pub mod Reading
 pub mod Records
-pub mod ShortTexts
 pub mod Spelling

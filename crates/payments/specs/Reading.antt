@@ -6,6 +6,7 @@ use Rattle.csv.specs.Reading.{default_config, records, strip_bom}
 use Rattle.tuple_trace.specs.declared.row.Row.{Row}
 use Rattle.tuple_trace.specs.declared.value.Value.{Value}
 use Rattle.tuple_trace.specs.declared.value.Value.TheVariants as value
+use Rattle.jobs.specs.Limits.{text_max}
 use Rattle.jobs.specs.Nodes.{is_source}
 use Rattle.jobs.specs.Weights.{weight}
 use Rattle.jobs.specs.Written.{Written}
@@ -37,10 +38,6 @@ is_source_with name node = is_source node.func && pointwise nat_eq node.name nam
 -- the number of the source with this name
 abbrev pub source_named : Written → List ℕ → Option ℕ
 source_named job name = position (is_source_with name) job.nodes
-
--- how many bytes a text has at most
-abbrev pub text_max : ℕ
-text_max = 48
 
 -- what a cell of a row stands for in the column at this place
 abbrev pub value_of : ℕ → ℕ → ColumnKind → List ℕ → Result Value PFault

@@ -6,12 +6,9 @@ ghost use Rattle.payments.specs.Reading.{begins_with, cells_behind, field_of as 
 use crate::PFault;
 use crate::spelling::{amount, number};
 use csv::ByteRecord;
-use jobs::{Column, ColumnKind};
+use jobs::{Column, ColumnKind, TEXT_MAX};
 use std::alloc::Global;
 use tuple_trace::{Fields, Txt, Value};
-
-/// How many bytes a text has at most.
-const TEXT_MAX: usize = 48;
 
 /// What the header has in front of the names of the columns.
 const SOURCE: &[u8] = b"source";

@@ -4,7 +4,7 @@ ghost use Rattle.jobs.specs.Job.{written};
 ghost use Rattle.jobs.specs.Nodes.{AreFromSources};
 ghost use Rattle.jobs.specs.Weights.{weight as weight_of};
 ghost use Rattle.payments.specs.Reading.{header_of, rows_from, rows_of, work_max};
-ghost use Rattle.payments.specs.ShortTexts.{HasShortTexts};
+ghost use Rattle.jobs.specs.Limits.{HasShortTexts};
 ghost use Rattle.tuple_trace.specs.declared.row.Row.{Row as RowIs};
 ghost use Rattle.payments.specs.declared.read.PFault.TheVariants.{NoMemory as OutOfMemory};
 

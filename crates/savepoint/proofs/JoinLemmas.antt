@@ -1,5 +1,5 @@
 -- Two parts of a run are together a run.
-use Rattle.std.proofs.Common.{◌≡◌, ◌∙◌, ◌<◌, ◌≤◌, ◌+◌, ◌-◌, ◌++◌, ℕ, zero, suc, List, [], ◌∷◌, refl, sym, subst, ap, arith, append_assoc, drop, length, map, min, option_map, take, All, Contains, Some, None, Option, slice_get}
+use Rattle.std.proofs.Common.{◌≡◌, ◌∙◌, ◌<◌, ◌≤◌, ◌+◌, ◌-◌, ◌++◌, ℕ, List, [], ◌∷◌, refl, sym, subst, ap, arith, append_assoc, drop, length, map, min, option_map, take, All, Contains, Some, None, Option, slice_get}
 use Rattle.std.specs.FinMap.{empty}
 use Rattle.std.specs.List.{zip}
 use Rattle.std.proofs.lemmas.List.{append-nil, length-map, length-take-le, take-append-drop, take-map}
@@ -18,7 +18,7 @@ use Rattle.tuple_trace.specs.declared.tuple.Tuple.{Tuple}
 use Rattle.versions.specs.declared.request.Request.{Request}
 use Rattle.flow_model.specs.Begin.{Begin, at_first, local_at}
 use Rattle.flow_model.specs.Feeding.{fed, fed_puts, feed_after, feed_from, issued_at_first}
-use Rattle.flow_model.specs.Law.{IsExecution, Progress, Station, after_entry, initial, progress_after}
+use Rattle.flow_model.specs.Law.{IsExecution, Progress, Station, initial, progress_after}
 use Rattle.flow_model.specs.declared.topology.Lane.{Lane}
 use Rattle.flow_model.specs.Outline.{Outline, Post}
 use Rattle.flow_model.specs.Points.{turned}

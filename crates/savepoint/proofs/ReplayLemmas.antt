@@ -1,5 +1,5 @@
 -- The replay of a journal of the first part, without its ends, in the whole setup.
-use Rattle.std.proofs.Common.{◌≡◌, ◌∙◌, ◌≤◌, ◌+◌, ◌++◌, ◌==◌, ◌||◌, ℕ, zero, suc, List, [], ◌∷◌, inl, inr, refl, sym, ap, arith, true, false, Bool, cond, not, Some, None, Option, filter, flat_map}
+use Rattle.std.proofs.Common.{◌≡◌, ◌∙◌, ◌≤◌, ◌+◌, ◌++◌, ◌==◌, ℕ, zero, suc, List, [], ◌∷◌, inl, inr, refl, sym, ap, arith, true, false, Bool, cond, not, Some, None, Option, filter, flat_map}
 use Rattle.std.specs.List.{cons_option}
 use Rattle.std.proofs.lemmas.List.{append-nil}
 use Rattle.std.proofs.lemmas.List.Elements.{filter-append}
@@ -12,7 +12,6 @@ use Rattle.sink_journal.specs.declared.journal.Feed.{Feed}
 use Rattle.tuple_trace.specs.declared.row.Row.{Row}
 use Rattle.tuple_trace.specs.declared.tuple.Item.{Item}
 use Rattle.tuple_trace.specs.declared.tuple.Item.TheVariants as item
-use Rattle.versions.specs.Book.{is_named}
 use Rattle.versions.specs.declared.request.Change.{Change}
 use Rattle.versions.specs.declared.request.Request.{Request}
 use Rattle.flow_model.specs.Begin.{last_after}
@@ -23,7 +22,7 @@ use Rattle.flow_model.specs.declared.topology.Lane.{Lane}
 use Rattle.flow_model.specs.Outline.{Outline, Post}
 use Rattle.flow_model.specs.Points.{turned}
 use Rattle.flow_model.specs.Replay.{Local, Put, after, after_all, came_in, items_on, marker, marker_by, put_on_each, puts, sent, shown, with_change}
-use Rattle.flow_model.specs.Requests.{change_among, change_in, change_of, changes, func_after, func_with, names, request_at}
+use Rattle.flow_model.specs.Requests.{change_in, change_of, changes, func_after, func_with}
 use Rattle.flow_model.specs.Station.{numbers_from}
 use Rattle.flow_model.proofs.ElementLemmas.{IsIn}
 use Rattle.flow_model.proofs.PlannedLemmas.{HasCovers}

@@ -56,7 +56,8 @@ use Rattle.flow_model.proofs.RunLemmas.{HasWorker, Running, execution, fed_there
 use Rattle.flow_model.proofs.SendingLemmas.{in_items, puts_come}
 use Rattle.flow_model.proofs.StoryLemmas.{Moment, entry_in, put_then, sent-story, story}
 use Rattle.flow_model.proofs.WorkerLemmas.{IsWorker, Stands, begun, journal_of, post_of, worker_is}
-use Rattle.savepoint.specs.ShortTexts.{HasShortRequests, HasShortTexts}
+use Rattle.jobs.specs.Limits.{HasShortTexts}
+use Rattle.versions.specs.Kept.{HaveLimits}
 use Rattle.savepoint.proofs.SmallLemmas.{short_text}
 
 abbrev pub IsShort : Value → Type 0
@@ -198,7 +199,7 @@ short_outputs job visit (func.Sink listed) counts tuple limits e h o i = absurd 
 -- ---- a run
 
 -- at each moment the function in force is short
-short_func : (setup : Outline) (post : Post) (local : Local) (journal : List Entry) (m : Moment) → HasShortRequests setup → oversize local.func ≡ None → IsIn m (story setup post local journal) → oversize m.local.func ≡ None
+short_func : (setup : Outline) (post : Post) (local : Local) (journal : List Entry) (m : Moment) → HaveLimits setup.requests → oversize local.func ≡ None → IsIn m (story setup post local journal) → oversize m.local.func ≡ None
 short_func setup post local [] m h e i = absurd i
 short_func setup post local (x ∷ more) m h e (inl p) = ap (λ (m : Moment). oversize m.local.func) p ∙ e
 short_func setup post local (x ∷ more) m h e (inr i) = short_func setup post (after setup post local x) more m h (next x) i
@@ -215,7 +216,7 @@ short_func setup post local (x ∷ more) m h e (inr i) = short_func setup post (
     next (entry.Turned r) = turned r (change_of setup r post.node) refl
     next (entry.Ended l) = e
 
-module _ (rows : List Row) (ran : Ran) (g : Running rows ran) (limits : HasLimits ran.setup.job) (requests : HasShortRequests ran.setup) (short : (row : Row) → IsIn row rows → AreShort row.tuple.fields) where
+module _ (rows : List Row) (ran : Ran) (g : Running rows ran) (limits : HasLimits ran.setup.job) (requests : HaveLimits ran.setup.requests) (short : (row : Row) → IsIn row rows → AreShort row.tuple.fields) where
   -- what is met is short, worker after worker in the order of their nodes
   short_below : (bound w l : ℕ) (t : Tuple) → HasWorker ran w → g.wired.rank (post_of ran.setup w).node < bound → IsIn (entry.Met l t) (journal_of ran w) → AreShort t.fields
   short_below zero w l t lt b i = absurd (omega arith)

@@ -10,7 +10,7 @@ use Rattle.tuple_trace.specs.Digits.{at_most, digits_of}
 use Rattle.jobs.specs.Nodes.{is_count}
 use Rattle.jobs.specs.Written.{Written}
 use Rattle.keyed_state.specs.Counts.{Counts}
-use Rattle.payments.specs.Reading.{text_max}
+use Rattle.jobs.specs.Limits.{text_max}
 use Rattle.payments.specs.Spelling.{number_of}
 use Rattle.flow_model.specs.Begin.{Begin}
 use Rattle.flow_model.specs.Outline.{Outline, Post}

@@ -8,7 +8,8 @@ ghost use Rattle.flow_model.specs.Setup.{outline};
 ghost use Rattle.savepoint.specs.Parts.{first_of, issued_up_to, start_of};
 ghost use Rattle.savepoint.specs.SaveReading.{CanSave, save_of};
 ghost use Rattle.savepoint.specs.SaveText.{save_text};
-ghost use Rattle.savepoint.specs.ShortTexts.{HasShortRequests, HasShortTexts};
+ghost use Rattle.jobs.specs.Limits.{HasShortTexts};
+ghost use Rattle.versions.specs.Kept.{HaveLimits};
 
 use flow_model::Setup;
 use tuple_trace::Rows;
@@ -27,7 +28,7 @@ pub fn first_parts_can_be_saved(setup: &Setup, rows: &Rows)
     ensures { (row : ℕ) (ran : Ran) → row ≤ length rows.now → length rows.now < 2 ^ 63 →
         length (outline setup.now).requests < 2 ^ 63 →
         All (λ (row : Row). HasShortTexts row.tuple) rows.now →
-        HasShortRequests (outline setup.now) →
+        HaveLimits (outline setup.now).requests →
         IsRun (first_of (outline setup.now)
         (issued_up_to row (length rows.now) (afters (outline setup.now).requests)))
         (take row rows.now) ran → CanSave (outline setup.now) (length rows.now) (start_of row ran) }

@@ -1,6 +1,7 @@
 -- What accepted requests keep of a job.
-use Rattle.std.specs.Prelude.{◌≡◌, ◌≤◌, ⊤, ℕ, All, IsTrue, List, [], ◌∷◌, Some, slice_get}
+use Rattle.std.specs.Prelude.{◌≡◌, ◌≤◌, ⊤, ℕ, All, IsTrue, List, [], ◌∷◌, Some, None, slice_get}
 use Rattle.keyed_state.specs.Counts.{CanCarry}
+use Rattle.jobs.specs.Limits.{oversize}
 use Rattle.jobs.specs.Written.{Written}
 use Rattle.jobs.specs.declared.func.NodeDef.{NodeDef}
 use Rattle.versions.specs.Judging.{leaves_once, may_replace}
@@ -30,3 +31,9 @@ CarriesWell request = All (λ (change : Change). CanCarry change.carry) request.
 -- so it is with each change of the requests
 abbrev pub CarryWell : List Request → Type 0
 CarryWell requests = All CarriesWell requests
+
+-- the new functions of the requests are within the limits of a job's functions
+abbrev pub HaveLimits : List Request → Type 0
+HaveLimits requests =
+    All (λ (request : Request).
+    All (λ (change : Change). oversize change.func ≡ None) request.changes) requests
