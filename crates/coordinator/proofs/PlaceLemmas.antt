@@ -12,7 +12,7 @@ use Rattle.flow_model.specs.Lanes.{first_on, is_same_sender, lane_along, lane_of
 use Rattle.flow_model.specs.Outline.{Post}
 use Rattle.flow_model.specs.Topology.{IsNumberOf}
 use Rattle.flow_model.specs.declared.topology.Lane.{Lane}
-use Rattle.flow_replay.proofs.RowLemmas.{lane_from_source}
+use Rattle.flow_model.proofs.OutLanes.{lane_from_source}
 use Rattle.coordinator.specs.Feeding.{fed_lanes, places_after, places_of}
 use Rattle.coordinator.proofs.ListLemmas.{drop_at, same_some}
 

@@ -31,9 +31,8 @@ use Rattle.flow_model.specs.Workers.{posts}
 use Rattle.flow_model.proofs.ElementLemmas.{IsIn, at_of_all, in_cases, in_filter_map, in_map, in_of_contains, in_right}
 use Rattle.flow_model.proofs.LaneLemmas.{LaneIs, lane_is, lanes_that_in}
 use Rattle.flow_model.proofs.WorkerLemmas.{worker_with}
-use Rattle.flow_replay.proofs.FoldLemmas.{one_on, out_distinct}
 use Rattle.flow_model.proofs.LaneNumbers.{receiver_there}
-use Rattle.flow_replay.proofs.TurnLemmas.{goes_out}
+use Rattle.flow_model.proofs.OutLanes.{goes_out, one_on, out_distinct}
 use Rattle.coordinator.specs.Tie.{AreFinished, IsTied}
 
 -- ---- lists in which nothing stands behind an end

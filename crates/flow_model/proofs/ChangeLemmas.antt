@@ -1,5 +1,5 @@
 -- The changes of accepted requests.
-use Rattle.std.proofs.Common.{◌≡◌, ◌<◌, ◌==◌, ◌∙◌, ◌∷◌, ℕ, Bool, true, cond, List, length, drop, get_or, Some, ap, refl}
+use Rattle.std.proofs.Common.{◌≡◌, ◌<◌, ◌==◌, ℕ, true, List, length, drop, get_or, Some, refl}
 use Rattle.std.proofs.lemmas.List.{drop_more}
 use Rattle.keyed_state.specs.Counts.{CanCarry}
 use Rattle.versions.specs.declared.request.Change.{Change}

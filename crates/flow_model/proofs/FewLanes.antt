@@ -12,7 +12,7 @@ use Rattle.jobs.proofs.EdgeLemmas.{IsRepeated-ports, get_or-take}
 use Rattle.flow_model.specs.Lanes.{lanes, lanes_in, senders}
 use Rattle.flow_model.specs.declared.topology.Lane.{Lane}
 use Rattle.flow_model.specs.Outline.{Post}
-use Rattle.flow_model.specs.Workers.{posts, posts_of}
+use Rattle.flow_model.specs.Workers.{posts}
 use Rattle.flow_model.proofs.ElementLemmas.{AreDistinct, IsIn, distinct_filter, distinct_map, in_filter, in_map, in_of_place, place_of_in, same_place}
 use Rattle.flow_model.proofs.JobLemmas.{inside_edge, reached_worker}
 use Rattle.flow_model.proofs.LaneLemmas.{LaneIn, enumerate_distinct, in_enumerate, lane_into, lanes_distinct, sender_source, sender_worker}

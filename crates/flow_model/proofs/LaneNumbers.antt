@@ -1,9 +1,9 @@
 -- Lanes by their numbers.
-use Rattle.std.proofs.Common.{◌≡◌, ◌+◌, ◌*◌, ◌==◌, ◌&&◌, ℕ, zero, suc, List, [], ◌∷◌, Bool, true, false, cond, length, map, take, Option, Some, None, refl, sym, ap, subst, inl, inr, ◌∙◌, arith}
+use Rattle.std.proofs.Common.{◌≡◌, ◌+◌, ◌*◌, ◌==◌, ◌&&◌, ℕ, zero, suc, List, [], ◌∷◌, Bool, true, false, cond, length, take, Option, Some, None, refl, sym, ap, ◌∙◌, arith}
 use Rattle.std.specs.Prelude.{option_map, slice_get}
 use Rattle.std.specs.List.{enumerate_from, flat_map}
 use Rattle.std.proofs.lemmas.Bool.{and_parts, eqb-true}
-use Rattle.std.proofs.lemmas.Option.{get_or_from_slice_get, same_Some, slice_get-map, slice_get_within}
+use Rattle.std.proofs.lemmas.Option.{same_Some, slice_get-map, slice_get_within}
 use Rattle.flow_dag.specs.declared.edge.Edge.{Edge}
 use Rattle.jobs.specs.Nodes.{is_source_node}
 use Rattle.jobs.specs.Written.{Written}
@@ -14,7 +14,6 @@ use Rattle.flow_model.specs.Workers.{post_at, posts, posts_of}
 use Rattle.tuple_trace.specs.declared.tuple.Tuple.{Tuple}
 use Rattle.std.proofs.lemmas.List.{length-map}
 use Rattle.flow_model.specs.Topology.{first_lane, lanes_along}
-use Rattle.flow_model.proofs.ElementLemmas.{IsIn, in_map}
 use Rattle.flow_model.proofs.LaneLemmas.{LaneIs, lanes_from}
 use Rattle.flow_model.proofs.PlaceLemmas.{flat_map_get}
 use Rattle.flow_model.proofs.WorkerLemmas.{in_posts, in_posts_of, worker_with}

@@ -1,14 +1,14 @@
 -- The plans of a setup are least.
-use Rattle.std.proofs.Common.{◌≡◌, ℕ, zero, suc, ◌∷◌, List, Some}
+use Rattle.std.proofs.Common.{◌≡◌, ℕ, zero, suc, Some}
 use Rattle.std.proofs.Math.Bool.{Bool-set}
 use Rattle.std.proofs.Math.Nat.{ℕ_set}
 use Rattle.std.proofs.Math.Logic.{∥∥₁_elim}
 use Rattle.cover_planner.specs.Plan.{IsCover, IsLeast, HasAllPaths}
 use Rattle.cover_planner.specs.declared.cover.Plan.{Plan}
 use Rattle.cover_planner.proofs.LawLemmas.{HasAllPaths-cover, IsLeast-cover}
-use Rattle.flow_model.specs.Outline.{Outline, splits_of}
+use Rattle.flow_model.specs.Outline.{Outline}
 use Rattle.flow_model.specs.Covers.{plan_of}
-use Rattle.flow_model.specs.Least.{ArePlansLeast, IsLeastCover}
+use Rattle.flow_model.specs.Least.{ArePlansLeast}
 use Rattle.flow_model.specs.Planned.{IsPlanned}
 use Rattle.flow_model.proofs.PlannedLemmas.{plan_for}
 

@@ -24,6 +24,7 @@ pub mod PostPlaces
 pub mod LaneNumbers
 pub mod SizeLemmas
 pub mod TopologyLemmas
+pub mod OutLanes
 pub mod CoverLemmas
 pub mod ChangeLemmas
 pub mod DueLemmas

@@ -1,11 +1,10 @@
 -- What a worker does at its desk, in the words of the replay.
-use Rattle.std.proofs.Common.{◌≡◌, ◌<◌, ◌≤◌, ◌+◌, ◌==◌, ◌&&◌, ℕ, List, [], ◌∷◌, ◌++◌, Bool, true, false, cond, length, map, drop, get_or, Option, Some, None, inl, inr, refl, sym, ap, subst, ◌∙◌, arith, append_assoc}
-use Rattle.std.specs.Prelude.{filter, option_map, slice_get, slice_index_or}
+use Rattle.std.proofs.Common.{◌≡◌, ◌<◌, ◌≤◌, ◌+◌, ◌==◌, ◌&&◌, ℕ, List, [], ◌∷◌, ◌++◌, Bool, true, false, cond, length, map, drop, get_or, Some, inl, inr, refl, sym, ap, subst, ◌∙◌, arith, append_assoc}
+use Rattle.std.specs.Prelude.{filter, option_map, slice_get}
 use Rattle.std.specs.List.{enumerate_from}
-use Rattle.std.proofs.lemmas.List.{append-nil, drop_all, drop_more, length-map}
-use Rattle.std.proofs.lemmas.Option.{get_or_from_slice_get, same_Some, slice_get-get_or, slice_get-map, slice_get_within}
+use Rattle.std.proofs.lemmas.List.{append-nil, drop_all, drop_more}
+use Rattle.std.proofs.lemmas.Option.{get_or_from_slice_get, same_Some}
 use Rattle.keyed_state.specs.Counts.{Counts}
-use Rattle.jobs.specs.Law.{IsLawful}
 use Rattle.jobs.specs.declared.func.Func.{Func}
 use Rattle.jobs.specs.declared.func.NodeDef.{NodeDef}
 use Rattle.jobs.specs.Written.{Written}
@@ -23,13 +22,13 @@ use Rattle.flow_model.specs.Replay.{Local, after, after_all, visit_at}
 use Rattle.flow_model.specs.Requests.{change_of, func_with}
 use Rattle.flow_model.specs.Workers.{post_at, posts}
 use Rattle.flow_replay.specs.declared.worker.Desk.{Desk}
-use Rattle.flow_replay.specs.Desks.{IsGain, IsTurned, end_block, ends, local_of, made_at, marks, turn_block, turn_entries}
+use Rattle.flow_replay.specs.Desks.{IsGain, IsTurned, ends, local_of, made_at, marks, turn_block, turn_entries}
 use Rattle.flow_model.specs.declared.topology.WorkerAt.{WorkerAt}
 use Rattle.flow_model.specs.Topology.{worker_of}
 use Rattle.flow_model.proofs.ElementLemmas.{IsIn}
 use Rattle.flow_model.proofs.LaneLemmas.{in_enumerate}
 use Rattle.flow_model.proofs.LaneNumbers.{sends}
-use Rattle.flow_model.proofs.PostPlaces.{get-post_at, node_below, worker_at}
+use Rattle.flow_model.proofs.PostPlaces.{get-post_at, worker_at}
 
 -- ---- where a worker is
 

@@ -1,7 +1,7 @@
 -- Lists that gain what is put on their lanes.
 use Rattle.std.proofs.Common.{◌≡◌, ◌<◌, ◌+◌, ◌==◌, ℕ, suc, Bool, true, false, List, [], ◌∷◌, ◌++◌, length, map, cond, drop, take, set, get_or, filter, inl, inr, Option, Some, None, refl, sym, ap, subst, ◌∙◌, arith, append_assoc}
 use Rattle.std.specs.Prelude.{All, slice_get}
-use Rattle.std.specs.List.{cons_option, enumerate_from, flat_map}
+use Rattle.std.specs.List.{enumerate_from, flat_map}
 use Rattle.std.proofs.lemmas.Bool.{eqb-false, eqb-true}
 use Rattle.std.proofs.lemmas.List.Elements.{All-cons, All-nil, filter_map-append}
 use Rattle.std.proofs.lemmas.Option.{get_or_from_slice_get, same_Some, slice_get_within}
@@ -15,8 +15,9 @@ use Rattle.flow_model.specs.Lanes.{is_same_lane, is_sender, lanes, lanes_out, no
 use Rattle.flow_model.specs.declared.topology.Lane.{Lane}
 use Rattle.flow_model.specs.Outline.{Outline}
 use Rattle.flow_model.specs.Replay.{Put, item_on, items_on, marker, marker_by, put_on_each}
-use Rattle.flow_model.proofs.ElementLemmas.{AreDistinct, IsIn, distinct_filter, filter_in, in_filter}
-use Rattle.flow_model.proofs.LaneLemmas.{lane_self, lanes_distinct, same_lane, same_number}
+use Rattle.flow_model.proofs.ElementLemmas.{IsIn}
+use Rattle.flow_model.proofs.LaneLemmas.{lane_self, same_lane, same_number}
+use Rattle.flow_model.proofs.OutLanes.{on_passing, one_on, out_distinct}
 use Rattle.flow_replay.specs.declared.folds.Onto.TheVariants as onto
 use Rattle.flow_replay.specs.Folds.{AreNumbersOf, item_if, reaches, with_item, with_marker_of, with_markers, with_puts}
 
@@ -130,39 +131,7 @@ numbered job test (lane ∷ all) first there =
 pub numbers-are : (job : Written) (w : ℕ) → AreNumbersOf job (lanes_out job w) (out_numbers job w)
 numbers-are job w = numbered job (λ (lane : Lane). is_sender w lane.sender) (lanes job) 0 (λ k lane e. let z : k ≡ 0 + k = omega arith in subst (λ (n : ℕ). slice_get (lanes job) n ≡ Some lane) z e)
 
--- ---- an item on each of some lanes
-
-pub none_on : (item : Item) (lane : Lane) (xs : List Lane) → ¬ IsIn lane xs → items_on lane (put_on_each item xs) ≡ []
-none_on item lane [] out = refl
-none_on item lane (x ∷ xs) out = go (is_same_lane (Some x) lane) refl (none_on item lane xs (λ i. out (inr i)))
-  where
-    go : (b : Bool) → is_same_lane (Some x) lane ≡ b → items_on lane (put_on_each item xs) ≡ [] → cons_option (cond b (Some item) None) (items_on lane (put_on_each item xs)) ≡ []
-    go true same rest = absurd (out (inl (sym (same_Some x lane (same_lane (Some x) lane same)))))
-    go false other rest = rest
-
--- of distinct lanes, each gets the item once
-pub one_on : (item : Item) (lane : Lane) (xs : List Lane) → AreDistinct xs → IsIn lane xs → items_on lane (put_on_each item xs) ≡ item ∷ []
-one_on item lane [] distinct there = absurd there
-one_on item lane (x ∷ xs) distinct there = go (is_same_lane (Some x) lane) refl there (one_on item lane xs distinct.1)
-  where
-    go : (b : Bool) → is_same_lane (Some x) lane ≡ b → IsIn lane (x ∷ xs) → (IsIn lane xs → items_on lane (put_on_each item xs) ≡ item ∷ [])
-        → cons_option (cond b (Some item) None) (items_on lane (put_on_each item xs)) ≡ item ∷ []
-    go true same i rest =
-        let equal : x ≡ lane = same_Some x lane (same_lane (Some x) lane same) in
-        ap (λ (later : List Item). item ∷ later) (none_on item lane xs (subst (λ (l : Lane). ¬ IsIn l xs) equal distinct.0))
-    go false other (inl equal) rest = absurd (let same : is_same_lane (Some x) lane ≡ true = subst (λ (l : Lane). is_same_lane (Some l) lane ≡ true) equal (lane_self lane) in cc)
-    go false other (inr i) rest = rest i
-
--- and where the item is put on those that pass a test, each of these gets it
-on_passing : (test : Lane → Bool) (item : Item) (lane : Lane) (xs : List Lane) → AreDistinct xs → IsIn lane xs → items_on lane (put_on_each item (filter test xs)) ≡ item_if (test lane) item []
-on_passing test item lane xs distinct there = go (test lane) refl
-  where
-    go : (b : Bool) → test lane ≡ b → items_on lane (put_on_each item (filter test xs)) ≡ item_if b item []
-    go true is = one_on item lane (filter test xs) (distinct_filter test xs distinct) (filter_in test lane xs there is)
-    go false is = none_on item lane (filter test xs) (λ i. let passes = (in_filter test lane xs i).1 in cc)
-
-pub out_distinct : (job : Written) (w : ℕ) → AreDistinct (lanes_out job w)
-out_distinct job w = distinct_filter (λ (lane : Lane). is_sender w lane.sender) (lanes job) (lanes_distinct job)
+-- ---- markers and ends
 
 -- the marker of a request on the lanes out that it covers
 pub markers_on : (setup : Outline) (w r : ℕ) (numbers : List ℕ) (lists : List (List Item)) → AreNumbersOf setup.job (lanes_out setup.job w) numbers → length lists ≡ length (lanes_out setup.job w)

@@ -13,21 +13,21 @@ use Rattle.sink_journal.specs.declared.journal.Entry.TheVariants as entry
 use Rattle.tuple_trace.specs.declared.tuple.Item.{Item}
 use Rattle.tuple_trace.specs.declared.tuple.Item.TheVariants as item
 use Rattle.flow_model.specs.Covers.{covers, covers_edge}
-use Rattle.flow_model.specs.Lanes.{is_sender, lanes, lanes_in, lanes_out, lanes_that, marked_lanes, senders}
+use Rattle.flow_model.specs.Lanes.{lanes, lanes_in, lanes_out, lanes_that, marked_lanes, senders}
 use Rattle.flow_model.specs.declared.topology.Lane.{Lane}
 use Rattle.flow_model.specs.Outline.{Outline, Post}
 use Rattle.flow_model.specs.Replay.{Local, Put, after, after_all, came_in, item_on, items_on, marker, put_on_each, puts, sent, shown}
 use Rattle.flow_model.specs.Workers.{post_at, posts}
-use Rattle.flow_model.proofs.ElementLemmas.{AreDistinct, IsIn, distinct_filter, filter_in, in_filter, in_of_place}
+use Rattle.flow_model.proofs.ElementLemmas.{AreDistinct, IsIn, distinct_filter, filter_in, in_filter}
 use Rattle.flow_model.proofs.JournalLemmas.{sent-append, shown-append}
 use Rattle.flow_model.proofs.LaneLemmas.{LaneIs, in_lanes_that, lane_is, lanes_that_in, sender_source, sender_worker}
 use Rattle.flow_replay.specs.declared.worker.Desk.{Desk}
 use Rattle.flow_replay.specs.Desks.{AllGain, AreTied, end_block, first_local, journal_at, marks, nothing, put_so_far, turn_block, turn_entries}
 use Rattle.flow_model.proofs.CoverLemmas.{AreCovering}
-use Rattle.flow_replay.proofs.FoldLemmas.{none_on, one_on, out_distinct}
 use Rattle.flow_replay.proofs.FollowLemmas.{ended_all, lanes_that-distinct}
 use Rattle.flow_model.proofs.LaneNumbers.{receiver_node}
 use Rattle.flow_model.proofs.PostPlaces.{post_at-get}
+use Rattle.flow_model.proofs.OutLanes.{goes_out, none_on, one_on, out_distinct}
 use Rattle.flow_replay.proofs.TieLemmas.{sent_by}
 use Rattle.flow_replay.proofs.WayLemmas.{receiver_below}
 
@@ -44,10 +44,6 @@ all_off [] l ls h = refl
 all_off (x ∷ xs) l ls h =
     filter_map-append (item_on l) (put_on_each x ls) (flat_map (λ (x : Item). put_on_each x ls) xs)
     ∙ (ap (λ (ys : List Item). ys ++ items_on l (flat_map (λ (x : Item). put_on_each x ls) xs)) (none_on x l ls h) ∙ all_off xs l ls h)
-
-pub goes_out : (job : Written) (n : ℕ) (l : Lane) (s : ℕ) → slice_get (lanes job) n ≡ Some l → l.sender ≡ Some s → IsIn l (lanes_out job s)
-goes_out job n l s g e =
-    filter_in (λ (lane : Lane). is_sender s lane.sender) l (lanes job) (in_of_place l (lanes job) n g) (ap (is_sender s) e ∙ eq-eqb s s refl)
 
 -- ---- entries of several lanes
 

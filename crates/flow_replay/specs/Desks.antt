@@ -15,7 +15,7 @@ use Rattle.flow_model.specs.declared.topology.Lane.{Lane}
 use Rattle.flow_model.specs.Outline.{Outline, Post}
 use Rattle.flow_model.specs.Replay.{Local, Put, after, after_all, items_on, sent, shown, visit_at}
 use Rattle.flow_model.specs.Requests.{change_of, func_with}
-use Rattle.flow_model.specs.Workers.{post_at, posts}
+use Rattle.flow_model.specs.Workers.{post_at}
 use Rattle.flow_replay.specs.declared.worker.Desk.{Desk}
 
 abbrev pub empty_desk : Desk

@@ -3,8 +3,9 @@ use Rattle.std.proofs.lemmas.Option.{slice_get_within}
 use Rattle.jobs.specs.Job.{written}
 use Rattle.flow_model.specs.Lanes.{lane_of, lanes}
 use Rattle.flow_model.specs.Setup.{outline}
+use Rattle.flow_model.proofs.OutLanes.{feeder_alone, lane_from_source}
 use Rattle.flow_replay.specs.Ways.{rank_in}
-use Rattle.flow_replay.proofs.RowLemmas.{feeder_alone, lane_from_source, row_fed}
+use Rattle.flow_replay.proofs.RowLemmas.{row_fed}
 use Rattle.flow_replay.proofs.WayLemmas.{found_lane}
 use Rattle.flow_replay.proofs.plain.feed_row.Goals as goal
 

@@ -1,5 +1,4 @@
 use Rattle.std.proofs.Common.{refl}
-use Rattle.jobs.specs.Job.{written}
 use Rattle.flow_model.specs.Setup.{outline}
 use Rattle.flow_model.specs.Workers.{post_at}
 use Rattle.flow_replay.specs.declared.worker.Desk.{Desk}

@@ -1,4 +1,4 @@
-use Rattle.std.proofs.Common.{◌≡◌, ◌∙◌, ◌+◌, ◌<◌, ℕ, ap, arith, sym, subst, take}
+use Rattle.std.proofs.Common.{◌∙◌, ◌+◌, ◌<◌, ℕ, ap, arith, sym, subst, take}
 use Rattle.std.specs.Prelude.{◌↔◌, IsTrue, length, slice_get}
 use Rattle.jobs.specs.Job.{written}
 use Rattle.flow_dag.specs.Masks.{Has}

@@ -3,8 +3,6 @@ use Rattle.std.specs.List.{range_with_len}
 use Rattle.std.proofs.lemmas.List.{length-map}
 use Rattle.jobs.specs.Job.{written}
 use Rattle.flow_model.specs.declared.topology.Lane.{Lane}
-use Rattle.flow_model.specs.declared.topology.OutEdge.{OutEdge}
-use Rattle.flow_model.specs.declared.topology.Topology.{Topology}
 use Rattle.flow_model.specs.declared.topology.WorkerAt.{WorkerAt}
 use Rattle.flow_model.specs.Lanes.{lanes}
 use Rattle.flow_model.specs.Topology.{numbers_out, numbers_in, worker_of}

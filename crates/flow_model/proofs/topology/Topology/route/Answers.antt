@@ -1,4 +1,4 @@
-use Rattle.std.proofs.Common.{◌<◌, Option, ap, length, sym, subst, ℕ}
+use Rattle.std.proofs.Common.{Option, ap, length, sym, subst, ℕ}
 use Rattle.flow_dag.specs.declared.edge.Edge.{Edge}
 use Rattle.jobs.specs.Job.{written}
 use Rattle.flow_model.specs.declared.topology.Topology.{Topology}

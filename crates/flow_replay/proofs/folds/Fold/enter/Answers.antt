@@ -1,9 +1,9 @@
-use Rattle.std.proofs.Common.{◌≡◌, ◌∙◌, ◌+◌, ◌<◌, ◌==◌, ℕ, [], List, true, false, filter, flat_map, get_or, length, map, inl, inr, refl, sym, ap, subst}
+use Rattle.std.proofs.Common.{◌≡◌, ◌∙◌, ◌+◌, ◌==◌, ℕ, [], List, true, false, filter, flat_map, length, map, inl, inr, refl, sym, ap, subst}
 use Rattle.std.specs.Prelude.{option_map}
 use Rattle.std.proofs.lemmas.Bool.{eq-eqb}
 use Rattle.std.proofs.lemmas.Bool.Decides.{eqb_tells}
 use Rattle.std.proofs.lemmas.Option.{same_Some}
-use Rattle.flow_model.specs.Workers.{post_at, posts}
+use Rattle.flow_model.specs.Workers.{post_at}
 use Rattle.flow_replay.specs.declared.folds.Onto.TheVariants as onto
 use Rattle.tuple_trace.specs.declared.tuple.Item.TheVariants as item
 use Rattle.operators.specs.declared.output.Output.{Output}
