@@ -24,11 +24,12 @@ use Rattle.flow_model.proofs.JournalLemmas.{IsExecution-append, after_all-append
 use Rattle.flow_worker.specs.Pairs.{Each}
 use Rattle.flow_worker.specs.Endpoints.{Gains, LaneInIs, IsSteadyIn, LaneOutIs, in_hand, planned}
 use Rattle.flow_model.specs.Dues.{AreDues}
+use Rattle.flow_model.proofs.OutLanes.{one_on, out_distinct}
 use Rattle.flow_worker.specs.Worker.{IsEndpointIn, IsEndpointOut, IsPlaced, IsWorker, Sends, ShowsTaken, WorkerIs, edges_of, local_now, numbers_in, progress_now}
 use Rattle.flow_worker.specs.Steps.{HasClosed, all_emptied, ended_entries}
 use Rattle.flow_worker.proofs.Pairs.{each_both, each_of, length_mapped, pairs_each, pairs_keep, pairs_length}
 use Rattle.flow_worker.proofs.Marking.{self_test, turned-append}
-use Rattle.flow_worker.proofs.PlaceLemmas.{ins_distinct, number_is, one_on, out_distinct, out_sends}
+use Rattle.flow_worker.proofs.PlaceLemmas.{ins_distinct, number_is, out_sends}
 use Rattle.flow_worker.proofs.Steadying.{KeepsSteady, steady_by}
 use Rattle.flow_worker.proofs.TurnLaw.{end_emptied, end_gains}
 

@@ -19,3 +19,8 @@ pub mod OutputLemmas
 pub mod Acted
 pub mod Making
 pub mod Beginning
+pub mod MaskLemmas
+pub mod HandMasks
+pub mod HandChoice
+pub mod InMasks
+pub mod OutMasks

@@ -25,9 +25,9 @@ use Rattle.flow_model.proofs.LaneLemmas.{in_enumerate, lane_self, same_lane}
 use Rattle.flow_model.proofs.LaneLemmas.{lanes_from as lanes_row}
 use Rattle.flow_model.specs.Topology.{first_with, out_edge, out_edges, first_worker}
 use Rattle.flow_model.specs.declared.topology.OutEdge.{OutEdge}
-use Rattle.flow_worker.proofs.PlaceLemmas.{out_distinct}
 use Rattle.flow_worker.proofs.OutLanes.{lanes_out-rows}
 use Rattle.flow_model.proofs.TopologyLemmas.{IsReached, found_out, is_reached, no_out}
+use Rattle.flow_model.proofs.OutLanes.{out_distinct}
 use Rattle.flow_worker.specs.Pairs.{Each, EachPair}
 use Rattle.flow_worker.specs.Endpoints.{Appended, HasRoom, LaneOutIs}
 use Rattle.flow_worker.specs.Steps.{items_at, items_if, place_from}

@@ -1,24 +1,24 @@
 -- The lanes of a worker that stands at its place.
-use Rattle.std.proofs.Common.{◌≡◌, ◌∙◌, ◌==◌, ◌&&◌, ◌<◌, ℕ, inl, inr, None, List, [], ◌∷◌, Bool, true, false, cond, filter, length, map, refl, sym, ap, subst, arith, Some, slice_get, append-nil}
-use Rattle.std.specs.List.{cons_option, enumerate_from, flat_map}
+use Rattle.std.proofs.Common.{◌≡◌, ◌∙◌, ◌==◌, ◌&&◌, ◌<◌, ℕ, List, [], ◌∷◌, Bool, true, cond, filter, length, map, refl, sym, ap, subst, arith, Some, slice_get, append-nil}
+use Rattle.std.specs.List.{enumerate_from, flat_map}
 use Rattle.std.proofs.lemmas.Bool.{and_parts, eq-eqb, eqb-true}
 use Rattle.jobs.specs.Written.{Written}
-use Rattle.tuple_trace.specs.declared.tuple.Item.{Item}
 use Rattle.tuple_trace.specs.declared.tuple.Item.TheVariants.{Mark}
 use Rattle.std.proofs.lemmas.Option.{same_Some, slice_get_within}
 use Rattle.flow_dag.specs.declared.graph.Graph.{Graph}
 use Rattle.flow_model.specs.Covers.{covers_edge}
 use Rattle.flow_model.specs.Dues.{edges_in}
 use Rattle.flow_worker.specs.Pairs.{Each}
-use Rattle.flow_model.specs.Lanes.{is_same_lane, is_sender, lanes, lanes_out, lanes_that, marked_lanes}
+use Rattle.flow_model.specs.Lanes.{is_sender, lanes, lanes_out, lanes_that, marked_lanes}
 use Rattle.flow_model.specs.declared.topology.Lane.{Lane}
 use Rattle.flow_model.specs.Outline.{Outline, Post}
 use Rattle.flow_model.specs.Workers.{post_at, posts}
 use Rattle.flow_model.specs.Replay.{items_on, marker, put_on_each}
 use Rattle.flow_model.proofs.ElementLemmas.{AreDistinct, IsIn, distinct_filter, distinct_map, filter_in, in_filter, in_of_place, map_in, place_of_in}
-use Rattle.flow_model.proofs.LaneLemmas.{enumerate_distinct, in_enumerate, in_lanes_that, lane_self, lanes_distinct, lanes_that_in, same_lane}
+use Rattle.flow_model.proofs.LaneLemmas.{enumerate_distinct, in_enumerate, in_lanes_that, lanes_that_in}
 use Rattle.flow_model.proofs.PostPlaces.{node_below, post_at-get}
 use Rattle.flow_model.proofs.WorkerLemmas.{worker_with}
+use Rattle.flow_model.proofs.OutLanes.{on_passing, out_distinct}
 use Rattle.flow_worker.specs.Endpoints.{LaneInIs, LaneOutIs}
 use Rattle.flow_worker.specs.Worker.{IsEndpointIn, IsEndpointOut, IsPlaced, WorkerIs, edges_of, numbers_in}
 use Rattle.flow_worker.proofs.Pairs.{each_at, each_map, each_of, get_map}
@@ -139,39 +139,6 @@ placed_within setup post w k = slice_get_within (posts setup.job) w.number post 
 
 pub placed_below : (setup : Outline) (post : Post) (w : WorkerIs) → IsPlaced setup post w → w.node < length setup.job.nodes
 placed_below setup post w k = subst (λ n. n < length setup.job.nodes) (placed_node setup post w k) (node_below setup.job w.number (placed_within setup post w k))
-
--- ---- an item on each of some lanes
-
-pub none_on : (item : Item) (lane : Lane) (xs : List Lane) → ¬ IsIn lane xs → items_on lane (put_on_each item xs) ≡ []
-none_on item lane [] out = refl
-none_on item lane (x ∷ xs) out = go (is_same_lane (Some x) lane) refl (none_on item lane xs (λ i. out (inr i)))
-  where
-    go : (b : Bool) → is_same_lane (Some x) lane ≡ b → items_on lane (put_on_each item xs) ≡ [] → cons_option (cond b (Some item) None) (items_on lane (put_on_each item xs)) ≡ []
-    go true same rest = absurd (out (inl (sym (same_Some x lane (same_lane (Some x) lane same)))))
-    go false other rest = rest
-
--- of distinct lanes, each gets the item once
-pub one_on : (item : Item) (lane : Lane) (xs : List Lane) → AreDistinct xs → IsIn lane xs → items_on lane (put_on_each item xs) ≡ item ∷ []
-one_on item lane [] distinct there = absurd there
-one_on item lane (x ∷ xs) distinct there = go (is_same_lane (Some x) lane) refl there (one_on item lane xs distinct.1)
-  where
-    go : (b : Bool) → is_same_lane (Some x) lane ≡ b → IsIn lane (x ∷ xs) → (IsIn lane xs → items_on lane (put_on_each item xs) ≡ item ∷ [])
-        → cons_option (cond b (Some item) None) (items_on lane (put_on_each item xs)) ≡ item ∷ []
-    go true same i rest =
-        let equal : x ≡ lane = same_Some x lane (same_lane (Some x) lane same) in
-        ap (λ (later : List Item). item ∷ later) (none_on item lane xs (subst (λ (l : Lane). ¬ IsIn l xs) equal distinct.0))
-    go false other (inl equal) rest = absurd (let same : is_same_lane (Some x) lane ≡ true = subst (λ (l : Lane). is_same_lane (Some l) lane ≡ true) equal (lane_self lane) in cc)
-    go false other (inr i) rest = rest i
-
-pub out_distinct : (job : Written) (w : ℕ) → AreDistinct (lanes_out job w)
-out_distinct job w = distinct_filter (λ (lane : Lane). is_sender w lane.sender) (lanes job) (lanes_distinct job)
-
-pub on_passing : (test : Lane → Bool) (item : Item) (lane : Lane) (xs : List Lane) → AreDistinct xs → IsIn lane xs → items_on lane (put_on_each item (filter test xs)) ≡ cond (test lane) (item ∷ []) []
-on_passing test item lane xs distinct there = go (test lane) refl
-  where
-    go : (b : Bool) → test lane ≡ b → items_on lane (put_on_each item (filter test xs)) ≡ cond b (item ∷ []) []
-    go true is = one_on item lane (filter test xs) (distinct_filter test xs distinct) (filter_in test lane xs there is)
-    go false is = none_on item lane (filter test xs) (λ i. let passes = (in_filter test lane xs i).1 in cc)
 
 -- what a turn puts on a lane out
 pub turn_puts : (setup : Outline) (w r cover : ℕ) (lane : Lane) → marker setup r ≡ Mark r cover ∷ [] → IsIn lane (lanes_out setup.job w)

@@ -1,5 +1,5 @@
 -- One hand is laid down.
-use Rattle.std.proofs.Common.{◌≡◌, ℕ, zero, suc, ◌<◌, List, [], ◌∷◌, set, get_or, length, ap, ◌∙◌, arith, Some, slice_get}
+use Rattle.std.proofs.Common.{◌≡◌, ℕ, zero, suc, ◌<◌, List, [], ◌∷◌, set, get_or, length, refl, ap, ◌∙◌, arith, Some, slice_get}
 use Rattle.std.proofs.lemmas.Option.{get_or_from_slice_get}
 use Rattle.tuple_trace.specs.declared.tuple.Tuple.{Tuple}
 use Rattle.tuple_trace.specs.declared.tuple.Item.TheVariants.{Carry}
@@ -20,3 +20,8 @@ same_at ins k d a g = get_or_from_slice_get ins k a d g
 
 pub same_tuple : (a : LaneInIs) (t u : Tuple) → a.hand ≡ Holds (Carry t) → a.hand ≡ Holds (Carry u) → t ≡ u
 same_tuple a t u p q = cc
+
+pub length_laid : (k : ℕ) (ins : List LaneInIs) → length (laid_down k ins) ≡ length ins
+length_laid k [] = refl
+length_laid zero (a ∷ more) = refl
+length_laid (suc k) (a ∷ more) = ap suc (length_laid k more)

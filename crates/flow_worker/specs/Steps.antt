@@ -1,5 +1,5 @@
 -- What the steps of a turn do.
-use Rattle.std.specs.Prelude.{◌≡◌, ℕ, zero, suc, ◌+◌, ◌<◌, ◌==◌, List, [], ◌∷◌, ◌++◌, true, length, map, Option, Some, None, slice_get, if◌then◌else◌}
+use Rattle.std.specs.Prelude.{◌≡◌, ℕ, zero, suc, ◌+◌, ◌<◌, ◌==◌, List, [], ◌∷◌, ◌++◌, true, get_or, length, map, set, Option, Some, None, slice_get, if◌then◌else◌}
 use Rattle.flow_dag.specs.Masks.{has}
 use Rattle.jobs.specs.Written.{Written}
 use Rattle.jobs.specs.declared.func.Func.{Func}
@@ -105,6 +105,15 @@ items_if (Some lane) puts = items_on lane puts
 -- the items that are put on the lane with this number
 abbrev pub items_at : Written → List Put → ℕ → List Item
 items_at job puts number = items_if (slice_get (lanes job) number) puts
+
+-- the item waits behind the earlier ones of the lane at a place
+abbrev pub pushed : Item → LaneOutIs → LaneOutIs
+pushed item out = record out { waiting = out.waiting ++ item ∷ [] }
+
+pub record PushedAt (place : ℕ) (item : Item) (outs more : List LaneOutIs) : Type 0 where
+  pub at : LaneOutIs
+  pub at_is : (d : LaneOutIs) → at ≡ pushed item (get_or outs place d)
+  pub set_is : more ≡ set outs place at
 
 -- a tuple is in hand at this place
 abbrev pub HasTuple : List LaneInIs → ℕ → Type 0

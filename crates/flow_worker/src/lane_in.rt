@@ -1,7 +1,7 @@
-ghost use Rattle.std.specs.Prelude.{◌≡◌, ◌≢◌, ℕ, ◌+◌, ◌<◌, ◌≤◌, [], IsTrue, length};
+ghost use Rattle.std.specs.Prelude.{◌≡◌, ◌≢◌, ℕ, ◌+◌, ◌<◌, ◌≤◌, [], IsTrue, false, length};
 ghost use Rattle.marker_align.specs.declared.held.Hand.TheVariants.{Empty};
-ghost use Rattle.flow_worker.specs.Pairs.{EachPair};
-ghost use Rattle.flow_worker.specs.Endpoints.{Filled, LaneInIs, all_taken};
+ghost use Rattle.flow_worker.specs.Endpoints.{Filled};
+ghost use Rattle.flow_worker.specs.Masks.{is_empty};
 ghost use Rattle.flow_worker.specs.Parts.{endpoint_in};
 
 use lane_core::{Lanes, Rx};
@@ -85,6 +85,8 @@ impl<L: Lanes> LaneIn<L> {
     pub fn fill(&mut self, need: &mut L::Need) -> bool
         ensures filled { Filled self.old self.new }
         ensures moved { IsTrue result → length self.old.taken < length self.new.taken }
+        ensures holds { IsTrue result → is_empty self.new.hand ≡ false }
+        ensures kept { result ≡ false → self.new.hand ≡ self.old.hand }
     {
         if let Hand::Holds(_) = &self.hand {
             return false;
@@ -125,18 +127,4 @@ impl<L: Lanes> LaneIn<L> {
         let LaneIn { end, .. } = self;
         end
     }
-}
-
-/// Takes into each empty hand. Returns whether any took an item.
-pub fn fill_all<L: Lanes>(ins: &mut [LaneIn<L>], need: &mut L::Need) -> bool
-    ensures filled { EachPair Filled ins.old ins.new }
-    ensures moved { IsTrue result → all_taken ins.old < all_taken ins.new }
-{
-    let mut moved = false;
-    for lane in ins {
-        if lane.fill(need) {
-            moved = true;
-        }
-    }
-    moved
 }

@@ -95,6 +95,7 @@ impl<L: Lanes> LaneOut<L> {
         requires steady { IsSteadyOut self.old }
         ensures flushed { Flushed self.old self.new }
         ensures moved { IsTrue result → length self.old.sent < length self.new.sent }
+        ensures memory { self.new.memory ≡ self.old.memory }
     {
         let mut moved = false;
         while let Some(item) = self.waiting.pop_front() {

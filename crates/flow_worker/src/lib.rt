@@ -18,6 +18,9 @@
 mod acts;
 mod lane_in;
 mod lane_out;
+mod lanes_in;
+mod lanes_out;
+mod masks;
 mod outputs;
 mod parts;
 mod worker;

@@ -1,5 +1,5 @@
 // The lanes of a function's outputs.
-ghost use Rattle.std.specs.Prelude.{◌≡◌, length, map};
+ghost use Rattle.std.specs.Prelude.{◌≡◌, [], length, map};
 ghost use Rattle.jobs.specs.Job.{written};
 ghost use Rattle.flow_model.specs.Outline.{Post as PostIs};
 ghost use Rattle.flow_model.specs.Replay.{put_out};
@@ -9,10 +9,12 @@ ghost use Rattle.flow_worker.specs.Endpoints.{Appended, HasRoom, LaneOutIs};
 ghost use Rattle.flow_worker.specs.Steps.{items_at, place_from};
 ghost use Rattle.flow_worker.specs.Worker.{IsSenderAt, numbers_out};
 
-use crate::lane_out::LaneOut;
+use crate::lanes_out::LanesOut;
 use flow_model::OutEdge;
 use lane_core::Lanes;
 use operators::{Job, Outs, lane_of};
+use std::alloc::Global;
+use std::mem;
 use tuple_trace::{Item, Tuple};
 
 // Returns the place, among the lanes out, of a tuple's lane on a port; `None` if no edge leaves
@@ -31,26 +33,31 @@ fn place_of(job: &Job, node: u32, edges: &[OutEdge], port: u32, tuple: &Tuple) -
     None
 }
 
-/// Adds each output to the waiting items of its lane, in order.
+/// Adds each output to the waiting items of its lane, in order. The list of outputs is left empty,
+/// with its memory. Takes no memory.
 pub fn enqueue_outputs<L: Lanes>(
+    alloc: Global,
     job: &Job,
     node: u32,
     edges: &[OutEdge],
-    outs: &mut [LaneOut<L>],
-    made: Outs,
+    outs: &mut LanesOut<L>,
+    made: &mut Outs,
 )
     requires post { (post : PostIs)
         × IsSenderAt (written job.now) node post (numbers_out outs.old) }
     requires edges { edges.now ≡ out_edges (written job.now) node }
-    requires room { Each (HasRoom (length made)) outs.old }
-    ensures { (post : PostIs) → IsSenderAt (written job.now) node post (numbers_out outs.old)
+    requires room { Each (HasRoom (length made.old)) outs.old }
+    ensures emptied { made.new ≡ [] }
+    ensures outs { (post : PostIs) → IsSenderAt (written job.now) node post (numbers_out outs.old)
         → EachPair (Appended (λ (out : LaneOutIs). items_at (written job.now)
-        (map (put_out (written job.now) post) made) out.number)) outs.old outs.new }
+        (map (put_out (written job.now) post) made.old) out.number)) outs.old outs.new }
 {
-    for output in made.into_vec() {
+    let mut left = mem::replace(made, Outs::new(alloc)).into_vec();
+    left.reverse();
+    while let Some(output) = left.pop() {
         if let Some(place) = place_of(job, node, edges, output.port, &output.tuple) {
-            let out = &mut outs[place];
-            out.push(Item::Carry(output.tuple));
+            outs.push_at(place, Item::Carry(output.tuple));
         }
     }
+    *made = Outs::from_vec(left);
 }

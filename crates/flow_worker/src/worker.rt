@@ -14,15 +14,16 @@ ghost use Rattle.flow_worker.specs.Steps.{PollsOnly, PutsOnly, TakesOnly};
 ghost use Rattle.flow_worker.specs.Turning.{IsDone, IsTurn};
 ghost use Rattle.flow_worker.specs.Worker.{IsWorker, hands};
 
-use crate::lane_in::{LaneIn, fill_all};
-use crate::lane_out::{LaneOut, flush_all};
+use crate::lanes_in::LanesIn;
+use crate::lanes_out::LanesOut;
 use crate::parts::{Parts, Worked, new_ins, new_outs, part_ins, part_outs};
 use crate::worker::acting::Acted;
 use control_box::Owner;
 use flow_model::{InForce, Setup, workers_keep_steady};
 use keyed_state::Keyed;
 use lane_core::Lanes;
-use marker_align::{Act, Due, decide_among};
+use marker_align::{Act, Due};
+use operators::Outs;
 use sink_journal::Entry;
 use std::alloc::Global;
 use std::marker::Model;
@@ -57,14 +58,16 @@ pub struct Worker<L: Lanes> {
     // The latest request turned, 0 for none.
     last: u64,
     due: Option<Due>,
-    ins: Vec<LaneIn<L>>,
-    outs: Vec<LaneOut<L>>,
+    ins: LanesIn<L>,
+    outs: LanesOut<L>,
     owner: Owner,
     closed: bool,
     // The place at which its search for a tuple begins.
     next: u32,
     // How many tuples it has processed.
     met: u64,
+    // The list of a function's outputs, empty between acts. It keeps its memory.
+    made: Outs,
     // Memory in which `finish` hands the endpoints back.
     spare_ins: Vec<L::Rx>,
     spare_outs: Vec<L::Tx>,
@@ -92,8 +95,8 @@ impl<L: Lanes> Model for Worker<L> {
       counts = w.counts;
       last = w.last;
       due = w.due;
-      ins = w.ins.items;
-      outs = w.outs.items;
+      ins = w.ins;
+      outs = w.outs;
       owner = w.owner;
       closed = w.closed;
       next = w.next;
@@ -101,7 +104,8 @@ impl<L: Lanes> Model for Worker<L> {
       spare_out = vec_capacity w.spare_outs;
     } };
 
-    ghost invariant = { λ w. (w.spare_ins.items ≡ []) × (w.spare_outs.items ≡ []) };
+    ghost invariant = { λ w.
+        (w.spare_ins.items ≡ []) × (w.spare_outs.items ≡ []) × (w.made ≡ []) };
 }
 
 impl<L: Lanes> Worker<L> {
@@ -147,12 +151,13 @@ impl<L: Lanes> Worker<L> {
             counts: Keyed::new(alloc),
             last: 0,
             due,
-            ins,
-            outs,
+            ins: LanesIn::new(ins),
+            outs: LanesOut::new(outs),
             owner,
             closed: false,
             next: 0,
             met: 0,
+            made: Outs::new(alloc),
             spare_ins,
             spare_outs,
         })
@@ -183,8 +188,8 @@ impl<L: Lanes> Worker<L> {
         } = self;
         Parts {
             worked: Worked::of(number, journal.into_items(), counts),
-            ins: part_ins(ins, spare_ins),
-            outs: part_outs(outs, spare_outs),
+            ins: part_ins(ins.into_vec(), spare_ins),
+            outs: part_outs(outs.into_vec(), spare_outs),
         }
     }
 
@@ -230,14 +235,14 @@ impl<L: Lanes> Worker<L> {
         ensures puts { PutsOnly self.old self.new }
         ensures moved { IsTrue result → all_sent self.old.outs < all_sent self.new.outs }
     {
-        flush_all(&mut self.outs, need)
+        self.outs.flush(need)
     }
 
     fn take_into_hands(&mut self, need: &mut L::Need) -> bool
         ensures takes { TakesOnly self.old self.new }
         ensures moved { IsTrue result → all_taken self.old.ins < all_taken self.new.ins }
     {
-        fill_all(&mut self.ins, need)
+        self.ins.fill(need)
     }
 
     // Polls the box. Returns whether the next due is posted.
@@ -258,7 +263,7 @@ impl<L: Lanes> Worker<L> {
     fn waits(&self) -> bool
         ensures { result ≡ list_any is_waiting self.now.outs }
     {
-        self.outs.iter().any(|out| out.is_waiting())
+        self.outs.is_waiting()
     }
 
     fn due(&self) -> Option<Due>
@@ -268,10 +273,9 @@ impl<L: Lanes> Worker<L> {
     }
 
     fn choose(&self, due: Option<&Due>, posted: bool) -> Act
-        requires few { length self.now.ins ≤ 127 }
         requires next { self.now.next < length self.now.ins }
         ensures { result ≡ decided (hands self.now) (option_copied due.entry) posted self.now.next }
     {
-        decide_among(self.ins.as_slice(), due, posted, self.next)
+        self.ins.decide(due, posted, self.next)
     }
 }

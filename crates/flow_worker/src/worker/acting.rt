@@ -11,13 +11,11 @@ ghost use Rattle.flow_worker.specs.Turning.{HasActed};
 ghost use Rattle.flow_worker.specs.Worker.{IsPlaced, hands};
 
 use crate::Worker;
-use crate::acts::{note_ends, note_markers, push_ends, push_markers, take_tuple, tuple_at};
-use crate::lane_out::reserve_each;
 use crate::outputs::enqueue_outputs;
 use flow_model::Setup;
 use lane_core::Lanes;
 use marker_align::{Act, Due};
-use operators::{Outs, apply, most_outputs, outputs_are_few};
+use operators::{apply, most_outputs, outputs_are_few};
 use sink_journal::Entry;
 use tuple_trace::{Gate, NoMemory, Visit};
 
@@ -90,16 +88,16 @@ impl<L: Lanes> Worker<L> {
         if self.journal.reserve(self.ins.len() + 1).is_err() {
             return Err(NoMemory);
         }
-        if reserve_each(&mut self.outs, 1).is_err() {
+        if self.outs.reserve(1).is_err() {
             return Err(NoMemory);
         }
         let request = due.request;
-        note_markers(&mut self.ins, due, &mut self.journal);
+        self.ins.note_markers(due, &mut self.journal);
         self.journal.push_reserved(Entry::Turned { request });
         setup.put_in_force(self.node, request, &mut self.in_force, &mut self.counts);
         self.last = request;
         self.due = setup.due_after(self.number, request);
-        push_markers(&mut self.outs, setup.covered_edges(request), due);
+        self.outs.push_markers(setup.covered_edges(request), due);
         self.owner.turned(self.owner.last_turned() + 1);
         Ok(())
     }
@@ -124,7 +122,7 @@ impl<L: Lanes> Worker<L> {
             return Err(NoMemory);
         }
         let most = most_outputs(func, ports);
-        if reserve_each(&mut self.outs, most).is_err() {
+        if self.outs.reserve(most).is_err() {
             return Err(NoMemory);
         }
         gate.pass(self.node, self.place, self.met);
@@ -133,20 +131,20 @@ impl<L: Lanes> Worker<L> {
             worker: self.place,
             last: self.last,
         };
-        let mut made = Outs::new(self.alloc);
-        let tuple = tuple_at(&self.ins, place);
-        let counts = &mut self.counts;
+        let tuple = self.ins.tuple_at(place);
+        let (counts, made) = (&mut self.counts, &mut self.made);
         if apply(
-            self.alloc, &setup.job, ports, visit, func, counts, tuple, &mut made,
+            self.alloc, &setup.job, ports, visit, func, counts, tuple, made,
         )
         .is_err()
         {
             return Err(NoMemory);
         }
-        let (lane, tuple) = take_tuple(&mut self.ins, place);
+        let (lane, tuple) = self.ins.take_tuple(place);
         self.journal.push_reserved(Entry::Met { lane, tuple });
         let edges = setup.out_edges(self.node);
-        enqueue_outputs(&setup.job, self.node, edges, &mut self.outs, made);
+        let (outs, made) = (&mut self.outs, &mut self.made);
+        enqueue_outputs(self.alloc, &setup.job, self.node, edges, outs, made);
         self.met = self.met.saturating_add(1);
         self.next = next_place(place, self.ins.len());
         Ok(())
@@ -161,11 +159,11 @@ impl<L: Lanes> Worker<L> {
         if self.journal.reserve(self.ins.len()).is_err() {
             return Err(NoMemory);
         }
-        if reserve_each(&mut self.outs, 1).is_err() {
+        if self.outs.reserve(1).is_err() {
             return Err(NoMemory);
         }
-        note_ends(&mut self.ins, &mut self.journal);
-        push_ends(&mut self.outs);
+        self.ins.note_ends(&mut self.journal);
+        self.outs.push_ends();
         self.closed = true;
         Ok(())
     }

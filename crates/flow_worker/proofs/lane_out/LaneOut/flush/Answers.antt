@@ -1,4 +1,4 @@
-use Rattle.std.proofs.Common.{List, ◌++◌, sym, subst}
+use Rattle.std.proofs.Common.{◌∙◌, List, ◌++◌, sym, subst}
 use Rattle.tuple_trace.specs.declared.tuple.Item.{Item}
 use Rattle.lane_core.specs.Steady.{IsSteady}
 use Rattle.lane_core.specs.declared.form.Origin.{Origin}
@@ -16,3 +16,9 @@ put-requires g c =
     let first : IsSteady o (planned c.args.self.now) = subst P (sym c.loop-item.invariant.origin) c.requires.steady in
     let second : IsSteady o (sent ++ c.loop-item.self-inside.waiting.items) = subst Q (sym c.loop-item.invariant.planned) first in
     MayFollow-in_steady o sent c.in-Some.item c.pop_front.new.self.items (subst R c.in-Some.ensures.items second)
+
+pub returns-in-Err-clause-memory : goal.returns-in-Err-clause-memory
+returns-in-Err-clause-memory g c = c.push_front_reserved.ensures.capacity ∙ (c.pop_front.ensures.capacity ∙ c.loop-item.invariant.memory)
+
+pub returns-clause-memory : goal.returns-clause-memory
+returns-clause-memory g c = c.pop_front.ensures.capacity ∙ c.loop-item.invariant.memory

@@ -1,4 +1,5 @@
 use Rattle.std.proofs.Common.{◌≡◌, ◌<◌, ◌≤◌, ◌++◌, length, true}
+use Rattle.std.specs.VecDeque.{deque_capacity}
 use Rattle.flow_worker.proofs.lane_out.LaneOut.flush.Given as goal
 
 abbrev pub invariant-loop-item : goal.invariant-loop-item
@@ -10,6 +11,7 @@ invariant-loop-item g l = record {
   planned : g.L.Tx.Tx.sent l.self-inside.end ++ l.self-inside.waiting.items ≡ l.fn.self.sent ++ l.fn.self.waiting;
   full : l.fn.self.full ≤ g.L.Tx.Tx.full l.self-inside.end;
   grew : length l.fn.self.sent ≤ length (g.L.Tx.Tx.sent l.self-inside.end);
+  memory : deque_capacity l.self-inside.waiting ≡ l.fn.self.memory;
   moved : l.moved ≡ true → length l.fn.self.sent < length (g.L.Tx.Tx.sent l.self-inside.end);
 }
 

@@ -6,6 +6,7 @@ use Rattle.flow_model.specs.Setup.{outline}
 use Rattle.flow_model.specs.Workers.{post_at}
 use Rattle.flow_model.specs.declared.topology.Lane.{Lane}
 use Rattle.flow_model.specs.declared.topology.WorkerAt.{WorkerAt}
+use Rattle.flow_model.proofs.FewLanes.{few_lanes}
 use Rattle.flow_model.proofs.PostPlaces.{get-post_at}
 use Rattle.flow_worker.specs.Pairs.{Each}
 use Rattle.flow_worker.specs.Parts.{EndpointIs, IsNewEndpoint, endpoint_in, endpoint_out}
@@ -33,6 +34,21 @@ new_outs-outs-requires-clause-there g c κs up =
     let job = (outline c.args.setup.now).job in
     subst (Each (λ (n : ℕ). n < length (lanes job))) (sym c.lanes_out.ensures) (lanes_there (λ (lane : Lane). is_sender c.args.number lane.sender) job)
 
+pub new-requires-3-clause-few : goal.new-requires-3-clause-few
+new-requires-3-clause-few g c κs up =
+    let job = (outline c.args.setup.now).job in
+    let F : g.row.L-Rx.Denot → EndpointIs = λ x. record { lane = g.L.Rx.Rx.lane x; number = g.L.Rx.Rx.number x; origin = g.L.Rx.Rx.origin x; items = g.L.Rx.Rx.taken x } in
+    let ins = c.new_ins-ins.result.items in
+    let long : length ins ≡ length c.args.ins.items = sym (length_mapped endpoint_in ins) ∙ (ap (λ (xs : List EndpointIs). length xs) c.new_ins-ins.ensures.ends ∙ length_mapped F c.args.ins.items) in
+    let all = ap (λ (xs : List ℕ). length xs) c.requires.ends.ins_are in
+    let each = length_mapped (λ (end : EndpointIs). end.number) (map F c.args.ins.items) in
+    let ends = length_mapped F c.args.ins.items in
+    let few = few_lanes job c.args.number (post_at job c.args.number) c.args.setup.now.job.lawful (get-post_at job c.args.number c.requires.there) in
+    omega (arith, long, all, each, ends, few)
+
+pub new-requires-3-clause-hands : goal.new-requires-3-clause-hands
+new-requires-3-clause-hands g c κs up = c.new_ins-ins.ensures.hands
+
 pub returns-clause-law : goal.returns-clause-law
 returns-clause-law g c =
     let setup = outline c.args.setup.now in
@@ -45,7 +61,7 @@ returns-clause-law g c =
     let outs = c.new_outs-outs.result.items in
     let long_in : length ins ≡ length c.args.ins.items = sym (length_mapped endpoint_in ins) ∙ (ap (λ (xs : List EndpointIs). length xs) c.new_ins-ins.ensures.ends ∙ length_mapped F c.args.ins.items) in
     let long_out : length outs ≡ length c.args.outs.items = sym (length_mapped endpoint_out outs) ∙ (ap (λ (xs : List EndpointIs). length xs) c.new_outs-outs.ensures.ends ∙ length_mapped G c.args.outs.items) in
-    begins setup post _
+    rw (c.new-3.ensures, c.new-4.ensures) (begins setup post _
     (stands setup post _ (map F c.args.ins.items) (map G c.args.outs.items) c.args.setup.now.job.lawful
     (record {
       post_is = get-post_at job c.args.number c.requires.there;
@@ -68,4 +84,4 @@ returns-clause-law g c =
       closed = refl;
       taken = new_hands job c.requires.ends.graph ins (subst (Each (IsNewEndpoint job c.requires.ends.graph)) (sym c.new_ins-ins.ensures.ends) c.requires.ends.new_in) c.new_ins-ins.ensures.hands;
       sent = new_waiting job c.requires.ends.graph outs (subst (Each (IsNewEndpoint job c.requires.ends.graph)) (sym c.new_outs-outs.ensures.ends) c.requires.ends.new_out) c.new_outs-outs.ensures.waiting;
-    })
+    }))

@@ -1,8 +1,6 @@
 use Rattle.flow_model.specs.Lanes.{out_numbers}
 use Rattle.std.proofs.Common.{◌≡◌, ℕ, refl, sym, ap, ◌∙◌, subst, List, [], ◌∷◌, ◌++◌, ◌+◌, ◌≤◌, ◌<◌, length, map, Some, slice_get, arith}
 use Rattle.std.specs.Option.{option_copied}
-use Rattle.std.proofs.lemmas.List.{with_items_is}
-use Rattle.std.specs.Vec.{with_items}
 use Rattle.jobs.specs.declared.func.Func.{Func}
 use Rattle.operators.specs.Meaning.{step}
 use Rattle.operators.specs.Ports.{most_outputs, out_ports}
@@ -21,13 +19,13 @@ use Rattle.flow_model.specs.Workers.{posts}
 use Rattle.flow_model.proofs.WorkerLemmas.{worker_with}
 use Rattle.flow_worker.specs.Endpoints.{Appended, Gains, HasRoom, LaneInIs, LaneOutIs, Reserved, SameButMemory}
 use Rattle.flow_worker.specs.Pairs.{Each, EachPair}
-use Rattle.flow_worker.specs.Steps.{HasTuple, items_at, laid_down}
+use Rattle.flow_worker.specs.Steps.{HasTuple, items_at}
 use Rattle.flow_worker.specs.Worker.{IsPlaced, IsSenderAt, WorkerIs, numbers_out}
 use Rattle.flow_worker.proofs.Gaining.{appended_by, gains, room}
-use Rattle.flow_worker.proofs.Pairs.{each_same, pairs_length}
+use Rattle.flow_worker.proofs.Pairs.{each_same}
 use Rattle.flow_worker.proofs.PlaceLemmas.{placed_below}
 use Rattle.flow_worker.proofs.Results.{err_fact, ok_fact}
-use Rattle.flow_worker.proofs.Taking.{same_tuple}
+use Rattle.flow_worker.proofs.Taking.{length_laid, same_tuple}
 use Rattle.flow_worker.proofs.worker.Worker.process.Goals as goal
 
 -- room for as many is room for fewer
@@ -86,66 +84,61 @@ enqueue_outputs-requires-clause-edges g c κs up =
 pub returns-then-is_err-3-clause-err : goal.returns-then-is_err-3-clause-err
 returns-then-is_err-3-clause-err g c =
     let was = c.self.inside.outs in
-    let now = c.reserve_each.new.outs in
+    let now = c.reserve-2.new.self in
     let n = c.most_outputs-most.result in
-    let p : EachPair (Reserved n) was.items now = subst (λ xs. EachPair (Reserved n) xs now) c.deref_mut.ensures.value (ok_fact c.reserve_each.result (sym c.is_err-2.ensures.value ∙ c.if-is_err-2.false) c.reserve_each.ensures.ok) in
-    let q : (with_items was now).items ≡ now = with_items_is was now (pairs_length (Reserved n) was.items now p ∙ sym was.ok.0) in
-    rw (← c.self.view_is) (record { rest = rw (c.reserve.ensures.items, err_fact c.apply.result (sym c.is_err-3.ensures.value ∙ c.if-is_err-3.true) c.apply.ensures.err_counts) refl; outs = rw q (only_memory n was.items now p) })
+    let p : EachPair (Reserved n) was now = ok_fact c.reserve-2.result (sym c.is_err-2.ensures.value ∙ c.if-is_err-2.false) c.reserve-2.ensures.ok in
+    rw (← c.self.view_is) (record { rest = rw (c.reserve.ensures.items, err_fact c.apply.result (sym c.is_err-3.ensures.value ∙ c.if-is_err-3.true) c.apply.ensures.err_counts) refl; outs = only_memory n was now p })
 
 pub enqueue_outputs-requires-clause-post : goal.enqueue_outputs-requires-clause-post
 enqueue_outputs-requires-clause-post g c κs up =
     let was = c.self.inside.outs in
-    let now = c.reserve_each.new.outs in
+    let now = c.reserve-2.new.self in
     let n = c.most_outputs-most.result in
-    let p : EachPair (Reserved n) was.items now = subst (λ xs. EachPair (Reserved n) xs now) c.deref_mut.ensures.value (ok_fact c.reserve_each.result (sym c.is_err-2.ensures.value ∙ c.if-is_err-2.false) c.reserve_each.ensures.ok) in
-    let q : (with_items was now).items ≡ now = with_items_is was now (pairs_length (Reserved n) was.items now p ∙ sym was.ok.0) in
+    let p : EachPair (Reserved n) was now = ok_fact c.reserve-2.result (sym c.is_err-2.ensures.value ∙ c.if-is_err-2.false) c.reserve-2.ensures.ok in
     let job = (outline c.args.setup.now).job in
     let post = c.requires.placed.0 in
-    let is : IsSenderAt job c.self.inside.node post (numbers_out was.items) =
+    let is : IsSenderAt job c.self.inside.node post (numbers_out was) =
     subst (λ (w : WorkerIs). IsSenderAt job w.node post (numbers_out w.outs)) (sym c.self.view_is) (sender (outline c.args.setup.now) post c.args.self.now c.requires.placed.1) in
-    (post, subst (λ ns. IsSenderAt job c.self.inside.node post ns) (sym (ap numbers_out (c.deref_mut-3.ensures.value ∙ q) ∙ numbers_kept n was.items now p)) is)
+    (post, subst (λ ns. IsSenderAt job c.self.inside.node post ns) (sym (numbers_kept n was now p)) is)
 
 pub enqueue_outputs-requires-clause-room : goal.enqueue_outputs-requires-clause-room
 enqueue_outputs-requires-clause-room g c κs up =
     let was = c.self.inside.outs in
-    let now = c.reserve_each.new.outs in
+    let now = c.reserve-2.new.self in
     let n = c.most_outputs-most.result in
-    let p : EachPair (Reserved n) was.items now = subst (λ xs. EachPair (Reserved n) xs now) c.deref_mut.ensures.value (ok_fact c.reserve_each.result (sym c.is_err-2.ensures.value ∙ c.if-is_err-2.false) c.reserve_each.ensures.ok) in
-    let q : (with_items was now).items ≡ now = with_items_is was now (pairs_length (Reserved n) was.items now p ∙ sym was.ok.0) in
+    let p : EachPair (Reserved n) was now = ok_fact c.reserve-2.result (sym c.is_err-2.ensures.value ∙ c.if-is_err-2.false) c.reserve-2.ensures.ok in
     let o = ok_fact c.apply.result (sym c.is_err-3.ensures.value ∙ c.if-is_err-3.false) c.apply.ensures.outputs in
     let job = (outline c.args.setup.now).job in
     let visit : Visit = record { node = c.self.inside.node; worker = c.self.inside.place; last = c.self.inside.last } in
     let most : most_outputs c.in-Some.func.now (out_ports job.edges c.self.inside.node) ≡ n = sym (c.most_outputs-most.ensures ∙ ap (most_outputs c.in-Some.func.now) c.ports-ports.ensures) in
     let few : length (step job visit c.in-Some.func.now c.self.inside.counts c.tuple_at-tuple.result.now).1 ≤ n =
     subst (λ m. length (step job visit c.in-Some.func.now c.self.inside.counts c.tuple_at-tuple.result.now).1 ≤ m) most (c.outputs_are_few.ensures job visit c.in-Some.func.now c.self.inside.counts c.tuple_at-tuple.result.now) in
-    let long : length c.apply.new.out ≤ n = subst (λ m. m ≤ n) (sym (ap length (made_is _ _ _ o c.new-made.ensures))) few in
-    rw (c.deref_mut-3.ensures.value, q) (fewer n (length c.apply.new.out) now long (room n was.items now p))
+    let long : length c.apply.new.out ≤ n = subst (λ m. m ≤ n) (sym (ap length (made_is _ _ _ o c.self.invariant.2))) few in
+    (fewer n (length c.apply.new.out) now long (room n was now p))
 
 pub next_place-self-inside-requires-clause-within : goal.next_place-self-inside-requires-clause-within
 next_place-self-inside-requires-clause-within g c =
-    let l : c.args.place < length c.self.inside.ins.items = subst (λ (w : WorkerIs). c.args.place < length w.ins) (sym c.self.view_is) c.requires.within in
-    omega (arith, c.len.ensures, c.self.inside.ins.ok.0, l)
+    let l : c.args.place < length c.self.inside.ins = subst (λ (w : WorkerIs). c.args.place < length w.ins) (sym c.self.view_is) c.requires.within in
+    let n = ap length c.take_tuple-lane.ensures.ins ∙ length_laid c.args.place c.self.inside.ins in
+    omega (arith, c.len.ensures.is, n, l)
 
 pub next_place-self-inside-requires-clause-few : goal.next_place-self-inside-requires-clause-few
-next_place-self-inside-requires-clause-few g c =
-    let l : length c.self.inside.ins.items ≤ 127 = subst (λ (w : WorkerIs). length w.ins ≤ 127) (sym c.self.view_is) c.requires.placed.1.few_in in
-    omega (arith, c.len.ensures, c.self.inside.ins.ok.0, l)
+next_place-self-inside-requires-clause-few g c = c.len.ensures.few
 
 pub returns-clause-ok : goal.returns-clause-ok
 returns-clause-ok g c post placed =
     let was = c.self.inside.outs in
-    let now = c.reserve_each.new.outs in
+    let now = c.reserve-2.new.self in
     let n = c.most_outputs-most.result in
-    let p : EachPair (Reserved n) was.items now = subst (λ xs. EachPair (Reserved n) xs now) c.deref_mut.ensures.value (ok_fact c.reserve_each.result (sym c.is_err-2.ensures.value ∙ c.if-is_err-2.false) c.reserve_each.ensures.ok) in
-    let q : (with_items was now).items ≡ now = with_items_is was now (pairs_length (Reserved n) was.items now p ∙ sym was.ok.0) in
+    let p : EachPair (Reserved n) was now = ok_fact c.reserve-2.result (sym c.is_err-2.ensures.value ∙ c.if-is_err-2.false) c.reserve-2.ensures.ok in
     let last = c.enqueue_outputs.new.outs in
     let setup = outline c.args.setup.now in
     let job = setup.job in
-    let held : HasTuple c.self.inside.ins.items c.args.place = subst (λ (w : WorkerIs). HasTuple w.ins c.args.place) (sym c.self.view_is) c.requires.held in
+    let held : HasTuple c.self.inside.ins c.args.place = subst (λ (w : WorkerIs). HasTuple w.ins c.args.place) (sym c.self.view_is) c.requires.held in
     let a : LaneInIs = held.0 in
     let t : Tuple = c.take_tuple-lane.result.1 in
-    let tk = c.take_tuple-lane.ensures.tuple a (subst (λ (xs : List LaneInIs). slice_get xs c.args.place ≡ Some a) (sym c.deref_mut-2.ensures.value) held.2) in
-    let at = c.tuple_at-tuple.ensures a (subst (λ (xs : List LaneInIs). slice_get xs c.args.place ≡ Some a) (sym c.deref.ensures.value) held.2) in
+    let tk = c.take_tuple-lane.ensures.tuple a held.2 in
+    let at = c.tuple_at-tuple.ensures a held.2 in
     let same : c.tuple_at-tuple.result.now ≡ t = same_tuple a c.tuple_at-tuple.result.now t at tk.1 in
     let func : Func = c.in-Some.func.now in
     let counts : Counts = c.self.inside.counts in
@@ -153,15 +146,14 @@ returns-clause-ok g c post placed =
     let vis = visits c.self.inside.node c.self.inside.place post local (subst (λ (w : WorkerIs). w.node ≡ post.node) (sym c.self.view_is) placed.node_is) (subst (λ (w : WorkerIs). w.place ≡ post.place) (sym c.self.view_is) placed.place_is) in
     let e = ap (λ (v : Visit). step job v func counts c.tuple_at-tuple.result.now) vis ∙ ap (λ (u : Tuple). step job (visit_at post local) func counts u) same in
     let o = ok_fact c.apply.result (sym c.is_err-3.ensures.value ∙ c.if-is_err-3.false) c.apply.ensures.outputs in
-    let made : c.apply.new.out ≡ (step job (visit_at post local) func counts t).1 = made_is _ _ _ o c.new-made.ensures ∙ ap (λ (s : Counts × List Output). s.1) e in
-    let is : IsSenderAt job c.self.inside.node post (numbers_out was.items) = subst (λ (w : WorkerIs). IsSenderAt job w.node post (numbers_out w.outs)) (sym c.self.view_is) (sender setup post c.args.self.now placed) in
-    let is' : IsSenderAt job c.self.inside.node post (numbers_out c.deref_mut-3.result.now) = subst (λ ns. IsSenderAt job c.self.inside.node post ns) (sym (ap numbers_out (c.deref_mut-3.ensures.value ∙ q) ∙ numbers_kept n was.items now p)) is in
+    let made : c.apply.new.out ≡ (step job (visit_at post local) func counts t).1 = made_is _ _ _ o c.self.invariant.2 ∙ ap (λ (s : Counts × List Output). s.1) e in
+    let is : IsSenderAt job c.self.inside.node post (numbers_out was) = subst (λ (w : WorkerIs). IsSenderAt job w.node post (numbers_out w.outs)) (sym c.self.view_is) (sender setup post c.args.self.now placed) in
+    let is' : IsSenderAt job c.self.inside.node post (numbers_out now) = subst (λ ns. IsSenderAt job c.self.inside.node post ns) (sym (numbers_kept n was now p)) is in
     let f : LaneOutIs → List Item = λ out. items_at job (map (put_out job post) c.apply.new.out) out.number in
     let h : LaneOutIs → List Item = λ out. items_at job (puts setup post local (Met a.number t)) out.number in
-    let d : EachPair (Appended f) now last = subst (λ xs. EachPair (Appended f) xs last) (c.deref_mut-3.ensures.value ∙ q) (c.enqueue_outputs.ensures post is') in
+    let d : EachPair (Appended f) now last = c.enqueue_outputs.ensures.outs post is' in
     let b : EachPair (Appended h) now last = appended_by f h now last (λ out. ap (λ (os : List Output). items_at job (map (put_out job post) os) out.number) made) d in
-    let all : EachPair (Gains h) was.items last = gains h n was.items now last (λ x m. refl) p b in
-    let r : (with_items (with_items was now) last).items ≡ last = with_items_is (with_items was now) last (pairs_length _ was.items last all ∙ sym was.ok.0) in
+    let all : EachPair (Gains h) was last = gains h n was now last (λ x m. refl) p b in
     rw (← c.self.view_is) (record {
       tuple = t;
       at = a;
@@ -170,9 +162,9 @@ returns-clause-ok g c post placed =
       held = tk.1;
       func_is = sym c.func_in.ensures ∙ ap option_copied c.in-Some.is;
       journal = rw (ap (λ (j : ReservedIs Entry). j.items) c.push_reserved.ensures, c.reserve.ensures.items, tk.0) refl;
-      ins = with_items_is c.self.inside.ins c.take_tuple-lane.new.ins (c.take_tuple-lane.auto.ins ∙ (ap length c.deref_mut-2.ensures.value ∙ sym c.self.inside.ins.ok.0)) ∙ (c.take_tuple-lane.ensures.ins ∙ ap (laid_down c.args.place) c.deref_mut-2.ensures.value);
-      outs = rw r all;
+      ins = c.take_tuple-lane.ensures.ins;
+      outs = all;
       counts = ok_fact c.apply.result (sym c.is_err-3.ensures.value ∙ c.if-is_err-3.false) c.apply.ensures.counts ∙ ap (λ (s : Counts × List Output). s.0) e;
-      next = subst (λ (n : ℕ). c.next_place-self-inside.result < n) (c.len.ensures ∙ c.self.inside.ins.ok.0) c.next_place-self-inside.ensures;
+      next = subst (λ (n : ℕ). c.next_place-self-inside.result < n) (c.len.ensures.is ∙ (ap length c.take_tuple-lane.ensures.ins ∙ length_laid c.args.place c.self.inside.ins)) c.next_place-self-inside.ensures;
       rest = refl;
     })

@@ -1,6 +1,4 @@
 use Rattle.std.proofs.Common.{◌≡◌, ℕ, refl, sym, ap, ◌∙◌, subst, List, [], ◌∷◌, ◌+◌, ◌<◌, Bool, cond, length}
-use Rattle.std.proofs.lemmas.List.{with_items_is}
-use Rattle.std.specs.Vec.{with_items}
 use Rattle.flow_dag.specs.Masks.{has}
 use Rattle.sink_journal.specs.declared.journal.Entry.{Entry}
 use Rattle.tuple_trace.specs.Reserved.{ReservedIs}
@@ -10,10 +8,10 @@ use Rattle.flow_model.specs.Dues.{IsDueAfter, edges_in}
 use Rattle.flow_model.specs.Setup.{outline}
 use Rattle.flow_model.specs.Workers.{post_at, posts}
 use Rattle.flow_worker.specs.Endpoints.{Appended, LaneOutIs, Reserved}
-use Rattle.flow_worker.specs.Steps.{emptied, marker_on}
+use Rattle.flow_worker.specs.Steps.{marker_on}
 use Rattle.flow_worker.specs.Pairs.{Each, EachPair}
 use Rattle.flow_worker.specs.Worker.{WorkerIs}
-use Rattle.flow_worker.proofs.Pairs.{each_same, pairs_each, pairs_length}
+use Rattle.flow_worker.proofs.Pairs.{each_same, pairs_each}
 use Rattle.flow_worker.proofs.Gaining.{appended_by, gains, room}
 use Rattle.flow_worker.proofs.PlaceLemmas.{placed_node, placed_within}
 use Rattle.flow_worker.proofs.LimitLemmas.{outs_small}
@@ -27,10 +25,9 @@ returns-then-is_err-clause-err g c =
 pub push_markers-requires-clause-room : goal.push_markers-requires-clause-room
 push_markers-requires-clause-room g c κs up =
     let was = c.self.inside.outs in
-    let now = c.reserve_each.new.outs in
-    let p : EachPair (Reserved 1) was.items now = subst (λ xs. EachPair (Reserved 1) xs now) c.deref_mut.ensures.value (ok_fact c.reserve_each.result (sym c.is_err-2.ensures.value ∙ c.if-is_err-2.false) c.reserve_each.ensures.ok) in
-    let q : (with_items was now).items ≡ now = with_items_is was now (pairs_length (Reserved 1) was.items now p ∙ sym was.ok.0) in
-    rw (c.deref_mut-3.ensures.value, q) (room 1 was.items now p)
+    let now = c.reserve-2.new.self in
+    let p : EachPair (Reserved 1) was now = ok_fact c.reserve-2.result (sym c.is_err-2.ensures.value ∙ c.if-is_err-2.false) c.reserve-2.ensures.ok in
+    (room 1 was now p)
 
 pub due_after-self-inside-requires : goal.due_after-self-inside-requires
 due_after-self-inside-requires g c =
@@ -39,39 +36,33 @@ due_after-self-inside-requires g c =
 pub push_markers-requires-clause-edges : goal.push_markers-requires-clause-edges
 push_markers-requires-clause-edges g c κs up =
     let was = c.self.inside.outs in
-    let now = c.reserve_each.new.outs in
-    let small : Each (λ (o : LaneOutIs). o.edge < 128) was.items =
+    let now = c.reserve-2.new.self in
+    let small : Each (λ (o : LaneOutIs). o.edge < 128) was =
     subst (λ (w : WorkerIs). Each (λ (o : LaneOutIs). o.edge < 128) w.outs) (sym c.self.view_is)
     (outs_small (outline c.args.setup.now) c.requires.placed.1.graph c.args.self.now.node c.args.self.now.outs c.args.setup.now.job.lawful c.requires.placed.1.ends_out) in
-    let p : EachPair (Reserved 1) was.items now = subst (λ xs. EachPair (Reserved 1) xs now) c.deref_mut.ensures.value (ok_fact c.reserve_each.result (sym c.is_err-2.ensures.value ∙ c.if-is_err-2.false) c.reserve_each.ensures.ok) in
-    let q : (with_items was now).items ≡ now = with_items_is was now (pairs_length (Reserved 1) was.items now p ∙ sym was.ok.0) in
-    rw (c.deref_mut-3.ensures.value, q)
-    (pairs_each (Reserved 1) (λ (o : LaneOutIs). o.edge < 128) (λ (o : LaneOutIs). o.edge < 128) was.items now (λ a b r l. subst (λ n. n < 128) (sym (ap (λ (o : LaneOutIs). o.edge) r.0)) l) p small)
+    let p : EachPair (Reserved 1) was now = ok_fact c.reserve-2.result (sym c.is_err-2.ensures.value ∙ c.if-is_err-2.false) c.reserve-2.ensures.ok in
+    (pairs_each (Reserved 1) (λ (o : LaneOutIs). o.edge < 128) (λ (o : LaneOutIs). o.edge < 128) was now (λ a b r l. subst (λ n. n < 128) (sym (ap (λ (o : LaneOutIs). o.edge) r.0)) l) p small)
 
 pub returns-clause-ok : goal.returns-clause-ok
 returns-clause-ok g c =
     let was = c.self.inside.outs in
-    let now = c.reserve_each.new.outs in
-    let last = c.push_markers.new.outs in
+    let now = c.reserve-2.new.self in
+    let last = c.push_markers.new.self in
     let due = c.args.due.now in
     let setup = outline c.args.setup.now in
     let mask = c.covered_edges.result in
     let f : LaneOutIs → List Item = λ out. cond (has mask out.edge) (Mark due.request due.cover ∷ []) [] in
     let h : LaneOutIs → List Item = marker_on setup due.request due.cover in
-    let p : EachPair (Reserved 1) was.items now = subst (λ xs. EachPair (Reserved 1) xs now) c.deref_mut.ensures.value (ok_fact c.reserve_each.result (sym c.is_err-2.ensures.value ∙ c.if-is_err-2.false) c.reserve_each.ensures.ok) in
-    let q : (with_items was now).items ≡ now = with_items_is was now (pairs_length (Reserved 1) was.items now p ∙ sym was.ok.0) in
-    let a : EachPair (Appended f) now last = subst (λ xs. EachPair (Appended f) xs last) (c.deref_mut-3.ensures.value ∙ q) c.push_markers.ensures in
+    let p : EachPair (Reserved 1) was now = ok_fact c.reserve-2.result (sym c.is_err-2.ensures.value ∙ c.if-is_err-2.false) c.reserve-2.ensures.ok in
+    let a : EachPair (Appended f) now last = c.push_markers.ensures in
     let b : EachPair (Appended h) now last = appended_by f h now last (λ out. ap (λ (t : Bool). cond t (Mark due.request due.cover ∷ []) []) (c.covered_edges.ensures out.edge)) a in
-    let all : EachPair _ was.items last = gains h 1 was.items now last (λ a m. refl) p b in
-    let r : (with_items (with_items was now) last).items ≡ last = with_items_is (with_items was now) last (pairs_length _ was.items last all ∙ sym was.ok.0) in
-    let ins : (with_items c.self.inside.ins c.note_markers.new.ins).items ≡ emptied due.lanes 0 c.self.inside.ins.items =
-    with_items_is c.self.inside.ins c.note_markers.new.ins (c.note_markers.auto.ins ∙ (ap length c.deref_mut-2.ensures.value ∙ sym c.self.inside.ins.ok.0)) ∙ (c.note_markers.ensures.ins ∙ ap (emptied due.lanes 0) c.deref_mut-2.ensures.value) in
+    let all : EachPair _ was last = gains h 1 was now last (λ a m. refl) p b in
     let node : (post_at setup.job c.self.inside.number).node ≡ c.self.inside.node =
     subst (λ (w : WorkerIs). (post_at setup.job w.number).node ≡ w.node) (sym c.self.view_is) (placed_node setup c.requires.placed.0 c.args.self.now c.requires.placed.1) in
     rw (← c.self.view_is) (record {
-      journal = rw (ap (λ (j : ReservedIs Entry). j.items) c.push_reserved.ensures, c.note_markers.ensures.journal, c.reserve.ensures.items, c.deref_mut-2.ensures.value) refl;
-      ins = ins;
-      outs = rw r all;
+      journal = rw (ap (λ (j : ReservedIs Entry). j.items) c.push_reserved.ensures, c.note_markers.ensures.journal, c.reserve.ensures.items) refl;
+      ins = c.note_markers.ensures.ins;
+      outs = all;
       func = c.put_in_force.ensures.func;
       counts = c.put_in_force.ensures.counts;
       last = refl;

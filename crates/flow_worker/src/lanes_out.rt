@@ -1,0 +1,186 @@
+// The lanes out of a worker, with a mask of those on which an item waits.
+ghost use Rattle.std.specs.Prelude.{◌≡◌, ◌<◌, ◌≤◌, [], ◌∷◌, IsTrue, OnErr, OnOk, get_or, if◌then◌else◌, length, ◌++◌};
+ghost use Rattle.std.specs.List.{list_any};
+ghost use Rattle.flow_dag.specs.Masks.{has};
+ghost use Rattle.tuple_trace.specs.declared.tuple.Item.TheVariants.{Mark, Last};
+ghost use Rattle.flow_worker.specs.Endpoints.{Appended, Flushed, HasRoom, IsSteadyOut, LaneOutIs, Reserved, SameButMemory, all_sent, is_waiting};
+ghost use Rattle.flow_worker.specs.Masks.{FlushedAt, IsMarkOf};
+ghost use Rattle.flow_worker.specs.Pairs.{Each, EachPair};
+ghost use Rattle.flow_worker.specs.Steps.{PushedAt};
+
+use crate::acts::{push_ends, push_markers};
+use crate::lane_out::{LaneOut, flush_all, reserve_each};
+use crate::masks::{first_places, take_place, with_place};
+use lane_core::Lanes;
+use marker_align::Due;
+use std::marker::Model;
+use tuple_trace::{Item, NoMemory};
+
+/// The lanes out of a worker, in the order of their numbers. A mask of those on which an item waits
+/// stands beside them. It has room for the first 128; of a worker with more, each lane is asked.
+#[derive(Drop)]
+pub struct LanesOut<L: Lanes> {
+    lanes: Vec<LaneOut<L>>,
+    // All of the first 128 places on which an item waits.
+    waiting: u128,
+    // Each lane has memory for this many items.
+    room: usize,
+}
+
+impl<L: Lanes> Model for LanesOut<L> {
+    ghost use Rattle.std.specs.Prelude.{List};
+    ghost use Rattle.flow_worker.specs.Endpoints.{LaneOutIs};
+    ghost use Rattle.flow_worker.specs.Masks.{AreMarked};
+
+    ghost Value = { List LaneOutIs };
+
+    ghost view = { λ o. o.lanes.items };
+
+    ghost invariant = { λ o. AreMarked o.waiting o.room o.lanes.items };
+}
+
+impl<L: Lanes> LanesOut<L> {
+    /// Keeps new lanes. Takes no memory.
+    pub fn new(lanes: Vec<LaneOut<L>>) -> LanesOut<L>
+        requires { Each (λ (out : LaneOutIs). out.waiting ≡ []) lanes.items }
+        ensures { result ≡ lanes.items }
+    {
+        LanesOut {
+            lanes,
+            waiting: 0,
+            room: 0,
+        }
+    }
+
+    /// Returns the lanes. Takes no memory.
+    pub fn into_vec(self) -> Vec<LaneOut<L>>
+        ensures { result.items ≡ self }
+    {
+        let LanesOut { lanes, .. } = self;
+        lanes
+    }
+
+    /// Returns whether an item waits on some lane.
+    pub fn is_waiting(&self) -> bool
+        ensures { result ≡ list_any is_waiting self.now }
+    {
+        if self.waiting == 0 && self.lanes.len() <= 128 {
+            return false;
+        }
+        self.lanes.iter().any(|out| out.is_waiting())
+    }
+
+    /// Puts waiting items, lane by lane, until the lane is full or none waits.
+    /// Returns whether it put one.
+    pub fn flush(&mut self, need: &mut L::Need) -> bool
+        requires steady { Each IsSteadyOut self.old }
+        ensures flushed { EachPair Flushed self.old self.new }
+        ensures moved { IsTrue result → all_sent self.old < all_sent self.new }
+    {
+        if self.len() > 128 {
+            return self.flush_each(need);
+        }
+        let mut moved = false;
+        let mut left = self.waiting_places();
+        while let Some(place) = take_place(&mut left) {
+            if (place as usize) < self.len() && self.flush_at(place, need) {
+                moved = true;
+            }
+        }
+        moved
+    }
+
+    fn len(&self) -> usize
+        ensures { result ≡ length self.now }
+    {
+        self.lanes.len()
+    }
+
+    fn waiting_places(&self) -> u128
+        ensures { IsMarkOf result self.now }
+    {
+        self.waiting
+    }
+
+    // Puts waiting items of the lane at a place. Returns whether it put one.
+    fn flush_at(&mut self, place: u32, need: &mut L::Need) -> bool
+        requires within { place < length self.old }
+        requires steady { Each IsSteadyOut self.old }
+        ensures flushed { FlushedAt place self.old self.new }
+        ensures moved { IsTrue result → all_sent self.old < all_sent self.new }
+    {
+        let lane = &mut self.lanes[place as usize];
+        let moved = lane.flush(need);
+        if !lane.is_waiting() && place < 128 {
+            self.waiting = with_place(self.waiting, place, false);
+        }
+        moved
+    }
+
+    fn flush_each(&mut self, need: &mut L::Need) -> bool
+        requires steady { Each IsSteadyOut self.old }
+        ensures flushed { EachPair Flushed self.old self.new }
+        ensures moved { IsTrue result → all_sent self.old < all_sent self.new }
+    {
+        self.room = 0;
+        self.waiting = u128::MAX;
+        flush_all(&mut self.lanes, need)
+    }
+
+    /// Takes memory for `more` further waiting items on each lane.
+    pub fn reserve(&mut self, more: usize) -> Result<(), NoMemory>
+        ensures ok { OnOk result (EachPair (Reserved more) self.old self.new) }
+        ensures err { OnErr result (EachPair SameButMemory self.old self.new) }
+    {
+        if more <= self.room && !self.is_waiting() {
+            return Ok(());
+        }
+        self.reserve_each(more)
+    }
+
+    fn reserve_each(&mut self, more: usize) -> Result<(), NoMemory>
+        ensures ok { OnOk result (EachPair (Reserved more) self.old self.new) }
+        ensures err { OnErr result (EachPair SameButMemory self.old self.new) }
+    {
+        self.room = 0;
+        if reserve_each(&mut self.lanes, more).is_err() {
+            return Err(NoMemory);
+        }
+        self.room = more;
+        Ok(())
+    }
+
+    /// Adds an item behind the waiting ones of the lane at a place, in reserved memory.
+    pub fn push_at(&mut self, place: usize, item: Item)
+        requires within { place < length self.old }
+        requires room { (d : LaneOutIs) → HasRoom 1 (get_or self.old place d) }
+        ensures { PushedAt place item self.old self.new }
+    {
+        self.lanes[place].push(item);
+        if place < 128 {
+            self.waiting = with_place(self.waiting, place as u32, true);
+        }
+    }
+
+    /// Adds the marker of the due to the waiting items of each lane whose edge is in the mask.
+    pub fn push_markers(&mut self, edges: u128, due: &Due)
+        requires room { Each (HasRoom 1) self.old }
+        requires edges { Each (λ (out : LaneOutIs). out.edge < 128) self.old }
+        ensures { EachPair (Appended (λ out. if has edges out.edge
+            then Mark due.now.request due.now.cover ∷ [] else [])) self.old self.new }
+    {
+        self.room = 0;
+        self.waiting = first_places(self.lanes.len());
+        push_markers(&mut self.lanes, edges, due);
+    }
+
+    /// Adds `Last` to the waiting items of each lane.
+    pub fn push_ends(&mut self)
+        requires room { Each (HasRoom 1) self.old }
+        ensures { EachPair (Appended (λ out. Last ∷ [])) self.old self.new }
+    {
+        self.room = 0;
+        self.waiting = first_places(self.lanes.len());
+        push_ends(&mut self.lanes);
+    }
+}

@@ -1,0 +1,77 @@
+// Sets of places as masks.
+ghost use Rattle.std.specs.Prelude.{◌≡◌, ◌≢◌, ℕ, ◌<◌, ◌≤◌, Some, nat_lt, not, ◌&&◌, true};
+ghost use Rattle.flow_dag.specs.Masks.{has};
+ghost use Rattle.flow_worker.specs.Masks.{IsFirstFrom, IsMaskWith, IsTakenFrom};
+
+use marker_align::LaneSet;
+
+/// Returns the mask with a place in it or out of it.
+pub fn with_place(mask: LaneSet, place: u32, is_in: bool) -> LaneSet
+    requires { place < 128 }
+    ensures { IsMaskWith place is_in mask result }
+{
+    if is_in {
+        mask | 1 << place
+    } else {
+        mask & !(1 << place)
+    }
+}
+
+/// Returns the places of a mask that are not in another.
+pub fn without(mask: LaneSet, other: LaneSet) -> LaneSet
+    ensures { (k : ℕ) → has result k ≡ (has mask k && not (has other k)) }
+{
+    mask & !other
+}
+
+/// Takes a place out of the mask, if it has one.
+pub fn take_place(mask: &mut LaneSet) -> Option<u32>
+    ensures { IsTakenFrom mask.old result mask.new }
+{
+    let was = *mask;
+    if was == 0 {
+        return None;
+    }
+    let (place, rest) = split_lowest(was);
+    *mask = rest;
+    Some(place)
+}
+
+// The lowest place of the mask, and the mask without it.
+fn split_lowest(mask: LaneSet) -> (u32, LaneSet)
+    requires { mask ≢ 0 }
+    ensures { IsTakenFrom mask (Some result.0) result.1 }
+{
+    (mask.trailing_zeros(), mask & (mask - 1))
+}
+
+/// Returns the first place of the mask from a place on.
+pub fn first_from(mask: LaneSet, from: u32) -> Option<u32>
+    requires { from < 128 }
+    ensures { IsFirstFrom mask from result }
+{
+    let rest = mask >> from;
+    if rest == 0 {
+        return None;
+    }
+    Some(from + rest.trailing_zeros())
+}
+
+/// Returns the mask of the first places.
+pub fn all_places(count: usize) -> LaneSet
+    requires { count ≤ 127 }
+    ensures { (k : ℕ) → has result k ≡ nat_lt k count }
+{
+    (1 << count as u32) - 1
+}
+
+/// Returns a mask of the first places, 128 at most.
+pub fn first_places(count: usize) -> u128
+    ensures { (k : ℕ) → k < 128 → k < count → has result k ≡ true }
+{
+    if count <= 127 {
+        all_places(count)
+    } else {
+        u128::MAX
+    }
+}
