@@ -1,4 +1,5 @@
-//! Tests of `coordinator`: the feeder of a whole job, with the owners of its boxes driven by hand.
+//! Tests of `coordinator` and `flow_ends`: a feeder with boxes driven by hand, and a whole run on one
+//! thread.
 #![tactic(auto)]
 
 #[cfg(test)]

@@ -1,3 +1,5 @@
+mod whole;
+
 ghost use Rattle.std.specs.Prelude.{◌≡◌, ℕ, [], IfOk, IfSome, Some, length, slice_get};
 ghost use Rattle.control_box.specs.Ends.{PosterIs};
 ghost use Rattle.jobs.specs.Job.{written};
@@ -9,6 +11,7 @@ ghost use Rattle.std.specs.Prelude.{false};
 
 use control_box::{Owner, Poster, make_box};
 use coordinator::{FeedTurn, Feeder, Feeding};
+use flow_ends::AllEndpoints;
 use flow_model::Setup;
 use job_file::{read_job, read_requests};
 use jobs::Job;
@@ -19,7 +22,6 @@ use std::alloc::Global;
 use std::sync::Wait;
 use tuple_trace::{NoMemory, OpenGate, Rows};
 use versions::{accepted_requests_stay_accepted, judge_all};
-use worker_tests::AllEndpoints;
 
 const CHAIN: &str = r#"columns = ["amount:cents"]
 node = [
@@ -115,8 +117,7 @@ fn fed<L: Lanes>(
 {
     let (posters, mut owners) = make_boxes(alloc, setup.workers())?;
     let AllEndpoints { feeder, .. } = AllEndpoints::make(alloc, form, setup, 64)?;
-    let (_, outs) = feeder.open();
-    let feeder: Feeder<L> = Feeder::make(alloc, setup, outs, posters, ())?;
+    let feeder: Feeder<L> = Feeder::make(alloc, setup, feeder, posters, ())?;
     let mut need = form.need();
     let owners = owners.as_mut_slice();
     Ok(feed_of(feeder, &mut need, setup, rows, owners, 100))

@@ -1,5 +1,5 @@
 -- A tuple that was nowhere may be put on each lane from a source.
-use Rattle.std.proofs.Common.{◌≡◌, ◌∙◌, ℕ, List, [], ◌∷◌, ◌++◌, inl, inr, true, false, refl, sym, ap, subst, map, Option, Some, None, slice_get}
+use Rattle.std.proofs.Common.{◌≡◌, ◌∙◌, ℕ, List, [], ◌∷◌, ◌++◌, true, false, refl, sym, ap, subst, length, map, Option, Some, None, slice_get}
 use Rattle.std.proofs.lemmas.Option.{same_Some, slice_get-get_or}
 use Rattle.flow_dag.specs.Edges.{HasEdge}
 use Rattle.flow_dag.specs.declared.edge.Edge.{Edge}
@@ -16,12 +16,14 @@ use Rattle.tuple_trace.specs.declared.tuple.Visit.{Visit}
 use Rattle.flow_model.specs.Agreement.{IsGraphOf}
 use Rattle.flow_model.specs.Lanes.{is_same_sender, lanes_that, senders}
 use Rattle.flow_model.specs.declared.topology.Lane.{Lane}
-use Rattle.flow_model.proofs.ElementLemmas.{IsIn, all_of_at}
+use Rattle.flow_model.proofs.ElementLemmas.{IsIn, all_of_at, in_of_place}
 use Rattle.flow_model.proofs.JobLemmas.{unentered}
 use Rattle.flow_model.proofs.LaneLemmas.{in_lanes_that, lane_is, sender_source}
-use Rattle.flow_worker.specs.Pairs.{Each}
-use Rattle.flow_worker.specs.Parts.{EndpointIs, IsNewEndpoint}
-use Rattle.worker_tests.specs.Sides.{AreFed, IsUnled, SideIs, is_fed}
+use Rattle.flow_worker.proofs.Pairs.{get_mapped}
+use Rattle.coordinator.specs.Starts.{AreNewOuts, IsNewOut}
+use Rattle.coordinator.specs.Views.{OutIs}
+use Rattle.flow_ends.specs.Sides.{feeder_sends}
+use Rattle.worker_tests.specs.Fed.{IsUnled}
 
 no_sender : (sender : Option ℕ) → is_same_sender None sender ≡ true → sender ≡ None
 no_sender None e = refl
@@ -33,31 +35,29 @@ unled job node law source a (i, edge, lt, at, (from, to)) =
     let k : is_source_node (slice_get job.nodes node) ≡ false = subst (λ v. is_source_node (slice_get job.nodes v) ≡ false) to (unentered job law i edge g) in
     cc
 
-fed_end : (job : Written) (graph : Graph) (end : EndpointIs) → IsLawful job → IsGraphOf job graph → IsNewEndpoint job graph end → IsIn end.number (lanes_that is_fed job) → IsUnled end.origin
-fed_end job graph end law is new i =
-    let (lane, at, fed) = in_lanes_that is_fed job end.number i in
+-- the endpoint of a lane from a source begins where no edge leads
+fed_end : (job : Written) (graph : Graph) (out : OutIs) → IsLawful job → IsGraphOf job graph → IsNewOut job graph out → IsIn out.number (lanes_that feeder_sends job) → IsUnled out.origin
+fed_end job graph out law is new i =
+    let (lane, at, fed) = in_lanes_that feeder_sends job out.number i in
     let same : new.lane ≡ lane = same_Some new.lane lane (sym new.numbered ∙ at) in
-    let k = lane_is job end.number new.lane new.numbered in
+    let k = lane_is job out.number new.lane new.numbered in
     let edge : k.edge ≡ new.edge = same_Some k.edge new.edge (sym k.edge_is ∙ new.edge_is) in
     let none : new.lane.sender ≡ None = ap (λ (l : Lane). l.sender) same ∙ no_sender lane.sender fed in
     let source : is_source_node (slice_get job.nodes k.edge.from) ≡ true = sender_source job k.edge.from (subst (λ (o : Option ℕ). IsIn o (senders job k.edge.from)) none k.sends) in
     let here : is_source_node (slice_get job.nodes new.edge.from) ≡ true = subst (λ (e : Edge). is_source_node (slice_get job.nodes e.from) ≡ true) edge source in
     subst IsUnled (sym new.origin_is) (λ a h. unled job new.edge.from law here a ((is a new.edge.from).0 h))
 
-fed_ends : (job : Written) (graph : Graph) (ends : List EndpointIs) (ns : List ℕ) → IsLawful job → IsGraphOf job graph → map (λ (end : EndpointIs). end.number) ends ≡ ns → ((n : ℕ) → IsIn n ns → IsIn n (lanes_that is_fed job)) → Each (IsNewEndpoint job graph) ends →
-    Each (λ (end : EndpointIs). IsUnled end.origin) ends
-fed_ends job graph [] ns law is e f new = tt
-fed_ends job graph (x ∷ xs) ns law is e f new = (
-  fed_end job graph x law is new.0 (f x.number (subst (IsIn x.number) e (inl refl))),
-  fed_ends job graph xs (map (λ (end : EndpointIs). end.number) xs) law is refl (λ n i. f n (subst (IsIn n) e (inr i))) new.1,
-)
+pub all_unled : (job : Written) (outs : List OutIs) (k : ℕ) (out : OutIs) → IsLawful job → AreNewOuts job outs → slice_get outs k ≡ Some out → IsUnled out.origin
+all_unled job outs k out law are g =
+    fed_end job are.graph out law are.graph_is (are.new k out g) (subst (IsIn out.number) are.numbers_are (in_of_place out.number (map (λ (o : OutIs). o.number) outs) k (get_mapped (λ (o : OutIs). o.number) outs k out g)))
 
-pub all_unled : (job : Written) (side : SideIs) → IsLawful job → AreFed job side → Each (λ (end : EndpointIs). IsUnled end.origin) side.outs
-all_unled job side law fed = fed_ends job fed.graph side.outs (lanes_that is_fed job) law fed.graph_is fed.numbers (λ n i. i) fed.new
-
-pub each_last : {A B : Type 0} (P : B → Type 0) (f : A → B) (xs : List A) (x : A) → Each P (map f (xs ++ x ∷ [])) → P (f x)
-each_last P f [] x e = e.0
-each_last P f (y ∷ ys) x e = each_last P f ys x e.1
+-- the last item of a list
+pub last_place : {A B : Type 0} (f : A → B) (xs ys : List A) (x : A) → ys ≡ xs ++ x ∷ [] → slice_get (map f ys) (length xs) ≡ Some (f x)
+last_place {A = A} f xs ys x e = ap (λ l. slice_get (map f l) (length xs)) e ∙ get_mapped f (xs ++ x ∷ []) (length xs) x (at xs)
+  where
+    at : (zs : List A) → slice_get (zs ++ x ∷ []) (length zs) ≡ Some x
+    at [] = refl
+    at (z ∷ zs) = at zs
 
 agrees_new : (t : Tuple) (x : Item) → t.trace ≡ [] → Agrees x (Carry t)
 agrees_new t (Carry u) e = tt

@@ -1,2 +1,2 @@
-pub mod Sides
 pub mod Crews
+pub mod Fed

@@ -1,6 +1,10 @@
 ghost use Rattle.std.specs.Prelude.{◌≡◌};
+ghost use Rattle.control_box.specs.Ends.{PosterIs};
+ghost use Rattle.flow_worker.specs.Pairs.{Each};
 
 use control_box::Poster;
+use std::alloc::Global;
+use tuple_trace::NoMemory;
 
 /// The feeder's end of a worker's box, with the number of its last post.
 #[derive(Drop)]
@@ -31,4 +35,15 @@ impl Control {
         self.posted = next;
         true
     }
+}
+
+/// Keeps the posters of new boxes, in their order.
+pub fn controls_of(alloc: Global, posters: Vec<Poster>) -> Result<Vec<Control>, NoMemory>
+    requires { Each (λ (p : PosterIs). p.posted ≡ 0) posters.items }
+{
+    let mut controls = Vec::new(alloc);
+    for poster in posters {
+        controls.push(Control::new(poster))?;
+    }
+    Ok(controls)
 }

@@ -1,9 +1,10 @@
 ghost use Rattle.std.specs.Prelude.{◌≡◌, ℕ, []};
 ghost use Rattle.flow_dag.specs.Graph.{IsEdge};
 ghost use Rattle.jobs.specs.Job.{written};
-ghost use Rattle.worker_tests.specs.Sides.{AreFed, IsUnled};
+ghost use Rattle.coordinator.specs.Starts.{AreNewOuts};
+ghost use Rattle.coordinator.specs.Views.{outs_of};
+ghost use Rattle.worker_tests.specs.Fed.{IsUnled};
 
-use crate::Side;
 use lane_core::{Lanes, Tx};
 use operators::Job;
 use tuple_trace::{Item, Tuple};
@@ -17,11 +18,12 @@ pub struct FedLane<L: Lanes> {
 
 impl<L: Lanes> FedLane<L> {
     /// Takes the last of the feeder's lanes, if it has one.
-    pub fn last_of(job: &Job, feeder: Side<L>) -> Option<FedLane<L>>
-        requires { AreFed (written job.now) feeder }
+    pub fn last_of(job: &Job, feeder: Vec<L::Tx>) -> Option<FedLane<L>>
+        requires { AreNewOuts (written job.now) (outs_of L.Tx.lane L.Tx.number L.Tx.origin
+            L.Tx.capacity L.Tx.sent L.Tx.full feeder.items) }
     {
-        let (_, mut outs) = feeder.open();
-        let end = outs.pop()?;
+        let mut feeder = feeder;
+        let end = feeder.pop()?;
         Some(FedLane { end })
     }
 

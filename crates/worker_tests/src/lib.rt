@@ -1,19 +1,14 @@
 //! Workers of whole jobs, driven by hand in tests.
 //!
-//! [`AllEndpoints::make`] makes each lane of a job, in any form, and sorts its two endpoints to the
-//! workers and the feeder. [`Crew::make`] makes each worker of a setup over them, with its box.
+//! [`FedLane`] feeds one lane of a crew by hand, and [`Control`] posts to one worker.
 #![tactic(auto)]
 
 mod control;
-mod crew;
 mod fed;
-mod lanes;
-mod side;
 #[cfg(test)]
 mod tests;
+mod turns;
 
-pub use control::Control;
-pub use crew::Crew;
+pub use control::{Control, controls_of};
 pub use fed::FedLane;
-pub use lanes::AllEndpoints;
-pub use side::Side;
+pub use turns::turn_at;

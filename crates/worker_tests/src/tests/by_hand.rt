@@ -7,8 +7,8 @@ ghost use Rattle.worker_tests.specs.Crews.{AreWorkers};
 
 use super::real_setups::setup_of;
 use super::watch::Watch;
-use crate::crew::turn_at;
-use crate::{Control, Crew, FedLane};
+use crate::{Control, FedLane, controls_of, turn_at};
+use flow_ends::Crew;
 use flow_model::Setup;
 use flow_worker::{Opened, Parts, Turn, Worker};
 use lane_core::{Lanes, QueueLanes};
@@ -278,10 +278,11 @@ fn drive<L: Lanes>(alloc: Global, form: &L) -> Result<Went, NoMemory> {
     };
     let Crew {
         workers,
-        controls,
-        feeder,
+        posters,
+        outs,
     } = Crew::make(alloc, form, &setup, 1)?;
-    let Some(fed) = FedLane::last_of(&setup.job, feeder) else {
+    let controls = controls_of(alloc, posters)?;
+    let Some(fed) = FedLane::last_of(&setup.job, outs) else {
         return Ok(Went::NoSetup);
     };
     let mut driven = Driven {

@@ -1,7 +1,7 @@
 // Workers of whole jobs.
 ghost use Rattle.job_file.specs.RequestSizes.{AreFew};
 
-use crate::Crew;
+use flow_ends::Crew;
 use flow_model::Setup;
 use flow_worker::Turn;
 use job_file::{read_job, read_requests};

@@ -1,6 +1,6 @@
 use Rattle.std.proofs.Common.{◌≡◌, ◌∙◌, ◌+◌, ◌++◌, ◌∷◌, [], List, ap, arith, length, length-append}
 use Rattle.control_box.specs.Ends.{PosterIs}
-use Rattle.coordinator_tests.proofs.Bridge.{each_more}
+use Rattle.flow_ends.proofs.Crewing.{placed_more}
 use Rattle.coordinator_tests.proofs.tests.make_boxes.Goals as goal
 
 pub loop-worker-preserved : goal.loop-worker-preserved
@@ -12,5 +12,5 @@ loop-worker-preserved c =
     let long : length qs ≡ length ps + 1 = ap (λ (xs : List PosterIs). length xs) pushed ∙ length-append ps (p ∷ []) in
     record {
       many = omega (arith, long, c.loop-worker.invariant.many);
-      unused = each_more (λ (p : PosterIs). (p.posted ≡ 0) × (p.loads ≡ [])) ps qs p pushed c.loop-worker.invariant.unused c.in_ok-poster.ensures.poster;
+      unused = placed_more (λ w (p : PosterIs). (p.posted ≡ 0) × (p.loads ≡ [])) ps qs p pushed c.loop-worker.invariant.unused c.in_ok-poster.ensures.poster;
     }

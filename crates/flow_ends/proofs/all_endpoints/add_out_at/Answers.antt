@@ -1,0 +1,12 @@
+use Rattle.std.proofs.Common.{[], ◌∷◌}
+use Rattle.std.proofs.lemmas.Option.{slice_get-get_or}
+use Rattle.flow_ends.specs.Sorted.{more_out}
+use Rattle.flow_ends.proofs.Sorting.{set-changed}
+use Rattle.flow_ends.proofs.Making.{on_ok}
+use Rattle.flow_ends.proofs.all_endpoints.add_out_at.Goals as goal
+
+pub returns : goal.returns
+returns g c =
+    on_ok c.push_out.result (λ e.
+    set-changed (more_out (record { lane = g.L.Tx.Tx.lane c.args.tx; number = g.L.Tx.Tx.number c.args.tx; origin = g.L.Tx.Tx.origin c.args.tx; items = g.L.Tx.Tx.sent c.args.tx } ∷ []))
+    c.args.workers.now c.args.worker _ c.push_out.new.self (slice_get-get_or c.args.workers.now c.args.worker c.index-workers-worker.result c.requires) e) c.push_out.ensures

@@ -1,0 +1,86 @@
+use Rattle.std.proofs.Common.{◌≡◌, ◌∙◌, ◌++◌, ◌∷◌, [], ℕ, List, ap, arith, length, length-append, subst, sym}
+use Rattle.std.specs.Vec.Iter.{into_iter_items}
+use Rattle.control_box.specs.Ends.{PosterIs}
+use Rattle.flow_model.specs.Begin.{at_first}
+use Rattle.flow_model.specs.Setup.{outline}
+use Rattle.flow_model.proofs.SizeLemmas.{posts-few}
+use Rattle.flow_worker.specs.Parts.{AreNewEndpoints, EndpointIs, endpoints}
+use Rattle.flow_worker.specs.Worker.{IsWorker, WorkerIs}
+use Rattle.flow_ends.specs.Sides.{SideIs, worker_side}
+use Rattle.flow_ends.proofs.Crewing.{all_made, has_number, next_side, placed_more, side_is, side_made}
+use Rattle.flow_ends.proofs.crew.make_workers.Goals as goal
+
+pub overflow_cast-number : goal.overflow_cast-number
+overflow_cast-number g c =
+    let few = posts-few (outline c.args.setup.now).job c.args.setup.now.job.lawful in
+    let long = next_side c.loop-side.workers.items c.args.sides.items (into_iter_items c.loop-side.side-iterator) (into_iter_items c.next.new.self) c.in-Some.side c.loop-side.invariant.sides c.in-Some.ensures.steps.0 in
+    omega (arith, few, c.requires.many, long.0, c.len-number.ensures, c.loop-side.workers.ok.0)
+
+pub make-requires-clause-ends : goal.make-requires-clause-ends
+make-requires-clause-ends g c κs within =
+    let job = (outline c.args.setup.now).job in
+    let workers = c.loop-side.workers.items in
+    let number : c.len-number.result ≡ length workers = c.len-number.ensures ∙ c.loop-side.workers.ok.0 in
+    let at = next_side workers c.args.sides.items _ (into_iter_items c.next.new.self) c.in-Some.side c.loop-side.invariant.sides c.in-Some.ensures.steps.0 in
+    let new : AreNewEndpoints job (length workers) c.in-Some.side.ins c.in-Some.side.outs = c.requires.sides (length workers) c.in-Some.side at.1 in
+    let I : List EndpointIs = endpoints g.L.Rx.Rx.lane g.L.Rx.Rx.number g.L.Rx.Rx.origin g.L.Rx.Rx.taken c.open-ins.result.0.items in
+    let O : List EndpointIs = endpoints g.L.Tx.Tx.lane g.L.Tx.Tx.number g.L.Tx.Tx.origin g.L.Tx.Tx.sent c.open-ins.result.1.items in
+    subst (λ (n : ℕ). AreNewEndpoints job n I O) (sym number)
+    (subst (λ (xs : List EndpointIs). AreNewEndpoints job (length workers) xs O) (sym c.open-ins.ensures.ins)
+    (subst (λ (xs : List EndpointIs). AreNewEndpoints job (length workers) c.in-Some.side.ins xs) (sym c.open-ins.ensures.outs) new))
+
+pub loop-side-preserved : goal.loop-side-preserved
+loop-side-preserved g c =
+    let setup = outline c.args.setup.now in
+    let workers = c.loop-side.workers.items in
+    let posters = c.loop-side.posters.items in
+    let its = into_iter_items c.loop-side.side-iterator in
+    let rest = into_iter_items c.next.new.self in
+    let side = c.in-Some.side in
+    let worker = c.in_ok-worker.worker in
+    let inv = c.loop-side.invariant in
+    let next = c.in-Some.ensures.steps in
+    let pushed : c.push.new.self.items ≡ workers ++ worker ∷ [] = c.in_ok-push.ensures.items in
+    let boxed : c.push-in-loop-side.new.self.items ≡ posters ++ c.in_ok-poster.poster ∷ [] = c.in_ok-push-2.ensures.items in
+    let same : worker_side worker ≡ side = side_is worker side (c.in_ok-worker.ensures.ins ∙ c.open-ins.ensures.ins) (c.in_ok-worker.ensures.outs ∙ c.open-ins.ensures.outs) in
+    let at = next_side workers c.args.sides.items its rest side inv.sides next.0 in
+    let new = c.requires.sides (length workers) side at.1 in
+    let number : worker.number ≡ length workers = has_number setup (at_first setup) worker side.ins (length workers) c.in_ok-worker.ensures.law (c.in_ok-worker.ensures.ins ∙ c.open-ins.ensures.ins) new.ins_are in
+    record {
+      may = tt;
+      finite = tt;
+      counted = let b = ap (λ (xs : List SideIs). length xs) next.0 in omega (arith, next.1, b, inv.counted);
+      sides = side_made workers c.push.new.self.items worker c.args.sides.items its rest side inv.sides next.0 pushed same;
+      made = placed_more (λ w v. (v.number ≡ w) × IsWorker setup (at_first setup) v) workers c.push.new.self.items worker pushed inv.made (number, c.in_ok-worker.ensures.law);
+      boxes =
+          let a = ap (λ (ws : List WorkerIs). length ws) pushed in
+          let b = ap (λ (ps : List PosterIs). length ps) boxed in
+          let d = length-append workers (worker ∷ []) in
+          let e = length-append posters (c.in_ok-poster.poster ∷ []) in
+          omega (arith, a, b, d, e, inv.boxes);
+      unused = placed_more (λ w (p : PosterIs). (p.posted ≡ 0) × (p.loads ≡ [])) posters c.push-in-loop-side.new.self.items c.in_ok-poster.poster boxed inv.unused c.in_ok-poster.ensures.poster;
+    }
+
+pub returns-clause-workers : goal.returns-clause-workers
+returns-clause-workers g c =
+    let inv = c.loop-side.invariant in
+    let none = c.in-None.ensures.steps.0 in
+    let all = all_made c.loop-side.workers.items c.args.sides.items (into_iter_items c.loop-side.side-iterator) inv.sides (omega (arith, none, inv.counted)) in
+    record {
+      many = all.0 ∙ c.requires.many;
+      number = λ w worker at. (inv.made w worker at).0;
+      law = λ w worker at. (inv.made w worker at).1;
+    }
+
+pub returns-clause-posters : goal.returns-clause-posters
+returns-clause-posters g c =
+    let inv = c.loop-side.invariant in
+    let none = c.in-None.ensures.steps.0 in
+    let all = all_made c.loop-side.workers.items c.args.sides.items (into_iter_items c.loop-side.side-iterator) inv.sides (omega (arith, none, inv.counted)) in
+    (inv.boxes ∙ (all.0 ∙ c.requires.many), inv.unused)
+
+pub returns-clause-sides : goal.returns-clause-sides
+returns-clause-sides g c =
+    let inv = c.loop-side.invariant in
+    let none = c.in-None.ensures.steps.0 in
+    (all_made c.loop-side.workers.items c.args.sides.items (into_iter_items c.loop-side.side-iterator) inv.sides (omega (arith, none, inv.counted))).1

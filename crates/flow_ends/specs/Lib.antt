@@ -1,0 +1,4 @@
+pub mod Sides
+pub mod Sorted
+pub mod Crews
+pub mod Ended

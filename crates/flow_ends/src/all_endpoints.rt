@@ -1,0 +1,135 @@
+// The endpoints of all lanes of a job, made one lane after another.
+ghost use Rattle.std.specs.Prelude.{◌≡◌, ℕ, ◌<◌, ◌≤◌, ◌∷◌, [], IfOk, IfSome, OnOk, Some, length, replicate, slice_get};
+ghost use Rattle.flow_model.specs.Lanes.{lanes};
+ghost use Rattle.flow_model.specs.Setup.{outline};
+ghost use Rattle.flow_model.specs.Workers.{posts};
+ghost use Rattle.flow_worker.specs.Parts.{AreNewEndpoints, endpoints};
+ghost use Rattle.coordinator.specs.Starts.{AreNewOuts};
+ghost use Rattle.coordinator.specs.Views.{outs_of};
+ghost use Rattle.flow_ends.specs.Sides.{AreMatched, SideIs, empty_side};
+ghost use Rattle.flow_ends.specs.Sorted.{AreNewAt, changed, more_in, more_out, with_fed, with_out};
+
+use crate::Side;
+use flow_dag::Graph;
+use flow_model::{Lane, Setup};
+use lane_core::{Lanes, Origin};
+use std::alloc::Global;
+use tuple_trace::NoMemory;
+
+/// The endpoints of all lanes of a job, sorted.
+#[derive(Drop)]
+pub struct AllEndpoints<L: Lanes> {
+    /// Those of the workers, by worker.
+    pub workers: Vec<Side<L>>,
+    /// The sending endpoints of the feeder, in the order of the lanes' numbers.
+    pub feeder: Vec<L::Tx>,
+}
+
+impl<L: Lanes> AllEndpoints<L> {
+    /// Makes each lane of the setup's job, which holds at most `cap` items, 1 to 64. The one error
+    /// is out of memory.
+    pub fn make(
+        alloc: Global,
+        form: &L,
+        setup: &Setup,
+        cap: u32,
+    ) -> Result<AllEndpoints<L>, NoMemory>
+        requires some { 1 ≤ cap }
+        requires few { cap ≤ 64 }
+        ensures many { IfOk result (λ made. length made.workers.items
+            ≡ length (posts (outline setup.now).job)) }
+        ensures workers { IfOk result (λ made. (w : ℕ) (side : SideIs)
+            → slice_get made.workers.items w ≡ Some side
+            → AreNewEndpoints (outline setup.now).job w side.ins side.outs) }
+        ensures feeder { IfOk result (λ made. AreNewOuts (outline setup.now).job
+            (outs_of L.Tx.lane L.Tx.number L.Tx.origin L.Tx.capacity L.Tx.sent L.Tx.full
+            made.feeder.items)) }
+        ensures matched { IfOk result (λ made. AreMatched made.workers.items
+            (endpoints L.Tx.lane L.Tx.number L.Tx.origin L.Tx.sent made.feeder.items)) }
+    {
+        let graph = setup.job.dag.graph();
+        let mut workers = new_sides(alloc, setup.workers() as usize)?;
+        let mut feeder = Vec::new(alloc);
+        let count = setup.topology.lanes.len() as u32;
+        for number in 0..count {
+            let lane = setup.lane(number);
+            let (tx, rx) = make_lane(alloc, form, setup, graph, number, lane, cap)?;
+            add_out(&mut workers, &mut feeder, lane.sender, tx)?;
+            add_in(&mut workers, lane.receiver, rx)?;
+        }
+        Ok(AllEndpoints { workers, feeder })
+    }
+}
+
+// Makes a lane of the job.
+fn make_lane<L: Lanes>(
+    alloc: Global,
+    form: &L,
+    setup: &Setup,
+    graph: Graph,
+    number: u32,
+    lane: Lane,
+    cap: u32,
+) -> Result<(L::Tx, L::Rx), NoMemory>
+    requires lane { slice_get (lanes (outline setup.now).job) number ≡ Some lane }
+    requires some { 1 ≤ cap }
+    requires few { cap ≤ 64 }
+    ensures tx { IfOk result (λ (tx, rx). AreNewAt (outline setup.now).job graph number
+        (endpoints L.Tx.lane L.Tx.number L.Tx.origin L.Tx.sent (tx ∷ []))) }
+    ensures rx { IfOk result (λ (tx, rx). AreNewAt (outline setup.now).job graph number
+        (endpoints L.Rx.lane L.Rx.number L.Rx.origin L.Rx.taken (rx ∷ []))) }
+    ensures lane { IfOk result (λ (tx, rx). L.Tx.lane tx ≡ L.Rx.lane rx) }
+{
+    let from = setup.job.dag.edge(lane.edge).from;
+    form.make(alloc, number, cap, Origin { graph, from })
+}
+
+// Adds a sending endpoint to its worker's side, or to the feeder's.
+fn add_out<L: Lanes>(
+    workers: &mut [Side<L>],
+    feeder: &mut Vec<L::Tx>,
+    sender: Option<u32>,
+    tx: L::Tx,
+) -> Result<(), NoMemory>
+    requires { IfSome sender (λ worker. worker < length workers.old) }
+    ensures workers { OnOk result (workers.new ≡ with_out sender
+        (endpoints L.Tx.lane L.Tx.number L.Tx.origin L.Tx.sent (tx ∷ [])) workers.old) }
+    ensures feeder { OnOk result
+        (endpoints L.Tx.lane L.Tx.number L.Tx.origin L.Tx.sent feeder.new.items
+        ≡ with_fed sender (endpoints L.Tx.lane L.Tx.number L.Tx.origin L.Tx.sent (tx ∷ []))
+        (endpoints L.Tx.lane L.Tx.number L.Tx.origin L.Tx.sent feeder.old.items)) }
+{
+    match sender {
+        Some(worker) => add_out_at(workers, worker, tx),
+        None => {
+            feeder.push(tx)?;
+            Ok(())
+        }
+    }
+}
+
+fn add_out_at<L: Lanes>(workers: &mut [Side<L>], worker: u32, tx: L::Tx) -> Result<(), NoMemory>
+    requires { worker < length workers.old }
+    ensures { OnOk result (workers.new ≡ changed (more_out
+        (endpoints L.Tx.lane L.Tx.number L.Tx.origin L.Tx.sent (tx ∷ []))) worker workers.old) }
+{
+    workers[worker as usize].push_out(tx)
+}
+
+fn add_in<L: Lanes>(workers: &mut [Side<L>], worker: u32, rx: L::Rx) -> Result<(), NoMemory>
+    requires { worker < length workers.old }
+    ensures { OnOk result (workers.new ≡ changed (more_in
+        (endpoints L.Rx.lane L.Rx.number L.Rx.origin L.Rx.taken (rx ∷ []))) worker workers.old) }
+{
+    workers[worker as usize].push_in(rx)
+}
+
+fn new_sides<L: Lanes>(alloc: Global, workers: usize) -> Result<Vec<Side<L>>, NoMemory>
+    ensures { IfOk result (λ sides. sides.items ≡ replicate workers empty_side) }
+{
+    let mut sides = Vec::new(alloc);
+    for _worker in 0..workers {
+        sides.push(Side::new(alloc))?;
+    }
+    Ok(sides)
+}

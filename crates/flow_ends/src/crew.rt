@@ -1,0 +1,84 @@
+// The workers of a setup, each over its endpoints and with its box.
+ghost use Rattle.std.specs.Prelude.{◌≡◌, ℕ, ◌<◌, ◌≤◌, IfOk, Some, length, map, slice_get};
+ghost use Rattle.flow_model.specs.Begin.{at_first};
+ghost use Rattle.flow_model.specs.Setup.{outline};
+ghost use Rattle.flow_model.specs.Workers.{posts};
+ghost use Rattle.flow_worker.specs.Parts.{AreNewEndpoints};
+ghost use Rattle.coordinator.specs.Starts.{AreNewOuts, AreUnused};
+ghost use Rattle.coordinator.specs.Views.{outs_of};
+ghost use Rattle.flow_ends.specs.Crews.{IsCrew};
+ghost use Rattle.flow_ends.specs.Ended.{fed_end};
+ghost use Rattle.flow_ends.specs.Sides.{AreMatched, SideIs, worker_side};
+
+use crate::{AllEndpoints, Side};
+use control_box::{Poster, make_box};
+use flow_model::Setup;
+use flow_worker::Worker;
+use lane_core::Lanes;
+use std::alloc::Global;
+use tuple_trace::NoMemory;
+
+/// The workers of a setup, and what its feeder is made of.
+#[derive(Drop)]
+pub struct Crew<L: Lanes> {
+    /// By their numbers.
+    pub workers: Vec<Worker<L>>,
+    /// The feeder's end of each worker's box, by worker.
+    pub posters: Vec<Poster>,
+    /// The feeder's sending endpoints, in the order of the lanes' numbers.
+    pub outs: Vec<L::Tx>,
+}
+
+impl<L: Lanes> Crew<L> {
+    /// Makes each worker at the beginning of a run, over lanes of this form that hold at most `cap`
+    /// items, 1 to 64. The one error is out of memory.
+    pub fn make(alloc: Global, form: &L, setup: &Setup, cap: u32) -> Result<Crew<L>, NoMemory>
+        requires some { 1 ≤ cap }
+        requires few { cap ≤ 64 }
+        ensures workers { IfOk result (λ crew. IsCrew (outline setup.now)
+            (at_first (outline setup.now)) crew.workers.items) }
+        ensures posters { IfOk result (λ crew. AreUnused (outline setup.now) crew.posters.items) }
+        ensures outs { IfOk result (λ crew. AreNewOuts (outline setup.now).job
+            (outs_of L.Tx.lane L.Tx.number L.Tx.origin L.Tx.capacity L.Tx.sent L.Tx.full
+            crew.outs.items)) }
+        ensures matched { IfOk result (λ crew. AreMatched (map worker_side crew.workers.items)
+            (map fed_end (outs_of L.Tx.lane L.Tx.number L.Tx.origin L.Tx.capacity L.Tx.sent
+            L.Tx.full crew.outs.items))) }
+    {
+        let AllEndpoints { workers, feeder } = AllEndpoints::make(alloc, form, setup, cap)?;
+        let (workers, posters) = make_workers(alloc, setup, workers)?;
+        Ok(Crew {
+            workers,
+            posters,
+            outs: feeder,
+        })
+    }
+}
+
+type Made<L> = (Vec<Worker<L>>, Vec<Poster>);
+
+fn make_workers<L: Lanes>(
+    alloc: Global,
+    setup: &Setup,
+    sides: Vec<Side<L>>,
+) -> Result<Made<L>, NoMemory>
+    requires many { length sides.items ≡ length (posts (outline setup.now).job) }
+    requires sides { (w : ℕ) (side : SideIs) → slice_get sides.items w ≡ Some side
+        → AreNewEndpoints (outline setup.now).job w side.ins side.outs }
+    ensures workers { IfOk result (λ made. IsCrew (outline setup.now)
+        (at_first (outline setup.now)) made.0.items) }
+    ensures posters { IfOk result (λ made. AreUnused (outline setup.now) made.1.items) }
+    ensures sides { IfOk result (λ made. map worker_side made.0.items ≡ sides.items) }
+{
+    let mut workers = Vec::new(alloc);
+    let mut posters = Vec::new(alloc);
+    for side in sides {
+        let (poster, owner) = make_box(alloc)?;
+        let (ins, outs) = side.open();
+        let number = workers.len() as u32;
+        let worker = Worker::make(alloc, setup, number, ins, outs, owner)?;
+        workers.push(worker)?;
+        posters.push(poster)?;
+    }
+    Ok((workers, posters))
+}

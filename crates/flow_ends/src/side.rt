@@ -1,0 +1,102 @@
+ghost use Rattle.std.specs.Prelude.{◌≡◌, [], ◌∷◌, ◌++◌, IfNone, IfSome, OnOk};
+ghost use Rattle.flow_worker.specs.Parts.{endpoints};
+ghost use Rattle.flow_ends.specs.Sides.{empty_side};
+ghost use Rattle.flow_ends.specs.Sorted.{more_in, more_out};
+
+use lane_core::Lanes;
+use std::alloc::Global;
+use std::marker::Model;
+use tuple_trace::NoMemory;
+
+/// The endpoints of a worker: those of its lanes in and those of its lanes out, each list in the
+/// order of the lanes' numbers.
+#[derive(Drop)]
+pub struct Side<L: Lanes> {
+    ins: Vec<L::Rx>,
+    outs: Vec<L::Tx>,
+}
+
+impl<L: Lanes> Model for Side<L> {
+    ghost use Rattle.flow_worker.specs.Parts.{endpoints};
+    ghost use Rattle.flow_ends.specs.Sides.{SideIs};
+
+    ghost Value = { SideIs };
+
+    ghost view = { λ s. record {
+      ins = endpoints L.Rx.lane L.Rx.number L.Rx.origin L.Rx.taken s.ins.items;
+      outs = endpoints L.Tx.lane L.Tx.number L.Tx.origin L.Tx.sent s.outs.items;
+    } };
+}
+
+impl<L: Lanes> Side<L> {
+    /// Makes a side without lanes. Takes no memory.
+    pub fn new(alloc: Global) -> Side<L>
+        ensures { result ≡ empty_side }
+    {
+        Side {
+            ins: Vec::new(alloc),
+            outs: Vec::new(alloc),
+        }
+    }
+
+    /// Makes a side of these endpoints. Takes no memory.
+    pub fn of(ins: Vec<L::Rx>, outs: Vec<L::Tx>) -> Side<L>
+        ensures { result ≡ record {
+          ins = endpoints L.Rx.lane L.Rx.number L.Rx.origin L.Rx.taken ins.items;
+          outs = endpoints L.Tx.lane L.Tx.number L.Tx.origin L.Tx.sent outs.items;
+        } }
+    {
+        Side { ins, outs }
+    }
+
+    /// Adds the receiving endpoint of the next lane in.
+    pub fn push_in(&mut self, end: L::Rx) -> Result<(), NoMemory>
+        ensures { OnOk result (self.new ≡ record self.old {
+          ins = self.old.ins
+              ++ endpoints L.Rx.lane L.Rx.number L.Rx.origin L.Rx.taken (end ∷ []);
+        }) }
+    {
+        self.ins.push(end)?;
+        Ok(())
+    }
+
+    /// Adds the sending endpoint of the next lane out.
+    pub fn push_out(&mut self, end: L::Tx) -> Result<(), NoMemory>
+        ensures { OnOk result (self.new ≡ record self.old {
+          outs = self.old.outs
+              ++ endpoints L.Tx.lane L.Tx.number L.Tx.origin L.Tx.sent (end ∷ []);
+        }) }
+    {
+        self.outs.push(end)?;
+        Ok(())
+    }
+
+    /// Removes the receiving endpoint of the last lane in, if there is one. Takes no memory.
+    pub fn pop_in(&mut self) -> Option<L::Rx>
+        ensures some { IfSome result (λ end. self.old ≡ more_in
+            (endpoints L.Rx.lane L.Rx.number L.Rx.origin L.Rx.taken (end ∷ [])) self.new) }
+        ensures none { IfNone result (self.old.ins ≡ []) }
+    {
+        self.ins.pop()
+    }
+
+    /// Removes the sending endpoint of the last lane out, if there is one. Takes no memory.
+    pub fn pop_out(&mut self) -> Option<L::Tx>
+        ensures some { IfSome result (λ end. self.old ≡ more_out
+            (endpoints L.Tx.lane L.Tx.number L.Tx.origin L.Tx.sent (end ∷ [])) self.new) }
+        ensures none { IfNone result (self.old.outs ≡ []) }
+    {
+        self.outs.pop()
+    }
+
+    /// Returns the receiving and the sending endpoints. Takes no memory.
+    pub fn open(self) -> (Vec<L::Rx>, Vec<L::Tx>)
+        ensures ins { endpoints L.Rx.lane L.Rx.number L.Rx.origin L.Rx.taken result.0.items
+            ≡ self.ins }
+        ensures outs { endpoints L.Tx.lane L.Tx.number L.Tx.origin L.Tx.sent result.1.items
+            ≡ self.outs }
+    {
+        let Side { ins, outs } = self;
+        (ins, outs)
+    }
+}
