@@ -1,0 +1,10 @@
+pub mod Bringing
+pub mod Keeps
+pub mod Totals
+pub mod Fixed
+pub mod Turns
+pub mod Uniting
+pub mod Order
+pub mod Seating
+pub mod Crewing
+pub mod Fed

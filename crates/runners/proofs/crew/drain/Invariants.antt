@@ -1,0 +1,11 @@
+use Rattle.std.proofs.Common.{◌≡◌}
+use Rattle.crossbeam_queue.specs.SegTies.{IsSegPassOf}
+use Rattle.runners.specs.Rule.{AreListed}
+use Rattle.runners.proofs.crew.drain.Given as goal
+
+abbrev pub invariant-loop : goal.invariant-loop
+invariant-loop g l = record {
+  queue : IsSegPassOf l.queue l.pass;
+  parts : l.pass.me.view.client.parts ≡ 16;
+  listed : AreListed g.C.Charter.ends l.runners.items l.pass.me.view.client.list;
+}

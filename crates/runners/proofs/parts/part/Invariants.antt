@@ -1,0 +1,11 @@
+use Rattle.std.proofs.Common.{◌≡◌}
+use Rattle.crossbeam_queue.specs.SegTies.{IsSegPassOf}
+use Rattle.runners.specs.Rule.{AreListed}
+use Rattle.runners.proofs.parts.part.Given as goal
+
+abbrev pub invariant-loop : goal.invariant-loop
+invariant-loop g l = record {
+  queue : IsSegPassOf l.queue l.pass;
+  part : l.pass.me.view.client.parts ≡ 1;
+  listed : AreListed g.C.Charter.ends l.kept.items l.pass.me.view.client.list;
+}

@@ -1,0 +1,10 @@
+use Rattle.std.proofs.Common.{ap, ◌∙◌}
+use Rattle.runners.specs.Rule.{times}
+use Rattle.runners.proofs.Fixed.{same_agree, same_numbers}
+use Rattle.runners.proofs.run.inside.Goals as goal
+
+pub returns-clause-once : goal.returns-clause-once
+returns-clause-once g c = λ x. ap (times x) (same_numbers _ _ c.in_ok-runners.ensures.fixed) ∙ c.in_ok-all.ensures.once x
+
+pub returns-clause-agree : goal.returns-clause-agree
+returns-clause-agree g c = same_agree g.C.Charter.ends _ _ c.in_ok-runners.ensures.fixed c.in_ok-all.ensures.agree

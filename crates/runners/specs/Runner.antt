@@ -1,0 +1,44 @@
+-- What contracts see of a runner, and what is true of each.
+use Rattle.std.specs.Prelude.{◌≡◌, ℕ, Bool, true, List, map}
+use Rattle.lane_core.specs.Lane.{LaneId}
+use Rattle.lane_core.specs.declared.form.Origin.{Origin}
+use Rattle.flow_model.specs.Begin.{Begin}
+use Rattle.flow_model.specs.Outline.{Outline}
+use Rattle.flow_worker.specs.Endpoints.{LaneInIs, LaneOutIs}
+use Rattle.flow_worker.specs.Turning.{IsDone}
+use Rattle.flow_worker.specs.Worker.{IsWorker, WorkerIs}
+
+-- What no turn changes of an endpoint: its lane, and that lane's number and origin.
+pub record EndIs : Type 0 where
+  pub lane : LaneId
+  pub number : ℕ
+  pub origin : Origin
+
+abbrev pub end_in : LaneInIs → EndIs
+end_in a = record { lane = a.lane; number = a.number; origin = a.origin }
+
+abbrev pub end_out : LaneOutIs → EndIs
+end_out out = record { lane = out.lane; number = out.number; origin = out.origin }
+
+-- The endpoints of a worker, in the order of its lanes.
+pub record EndsIs : Type 0 where
+  pub ins : List EndIs
+  pub outs : List EndIs
+
+abbrev pub ends_of : WorkerIs → EndsIs
+ends_of w = record { ins = map end_in w.ins; outs = map end_out w.outs }
+
+-- A runner: the number and the endpoints of its worker, and whether that is done.
+pub record RunnerIs : Type 0 where
+  pub number : ℕ
+  pub ends : EndsIs
+  pub is_done : Bool
+
+-- Each runner's worker has the law of a worker from the beginning on. The runner holds the setup,
+-- and knows its worker's number, and when it is done.
+pub record IsRunner (setup : Outline) (begin : Begin) (held : Outline) (number : ℕ) (w : WorkerIs)
+    (done : Bool) : Type 0 where
+  pub setup_is : held ≡ setup
+  pub number_is : number ≡ w.number
+  pub law : IsWorker held begin w
+  pub done_is : done ≡ true → IsDone w

@@ -1,0 +1,133 @@
+ghost use Rattle.std.specs.Prelude.{◌≡◌, [], IfOk, OnOk, length, map};
+ghost use Rattle.std.specs.List.{All, range_with_len};
+ghost use Rattle.std.specs.List.Sorted.{IsNonDecreasingBy, IsPermutation};
+ghost use Rattle.crossbeam_queue.specs.SegTies.{IsSegPassOf};
+ghost use Rattle.flow_model.specs.Setup.{outline};
+ghost use Rattle.flow_worker.specs.Turning.{IsDone};
+ghost use Rattle.flow_worker.specs.Worker.{IsWorker};
+ghost use Rattle.runners.specs.Crew.{fixed_in, number_in, runner_of};
+ghost use Rattle.runners.specs.Rule.{Agrees, AreListed, HasEachOf, HasEnded, fixed_of, numbers};
+
+use crate::charter::Charter;
+use crate::moves::{give, take};
+use crate::parts::Held;
+use crate::rule::{Queue, Tally};
+use crate::runner::Runner;
+use crate::steps::round;
+use crossbeam_queue::SegPass;
+use flow_model::Setup;
+use flow_worker::{Turn, Worker};
+use lane_core::Lanes;
+use std::alloc::Global;
+use std::sync::Wait;
+use std::sync::atomic::{AtomicBool, Ordering};
+use std::thread;
+use tuple_trace::{Gate, NoMemory};
+
+/// Pushes the runner of each worker, from the last to the first. A refused push ends the run. The one
+/// error is out of memory.
+pub fn push_all<'s, R: Wait, L: Lanes, C: Charter>(
+    rt: &R,
+    alloc: Global,
+    setup: &'s Setup,
+    queue: &Queue<'s, L, C>,
+    pass: &mut SegPass<Runner<'s, L, C>, Tally>,
+    mut workers: Vec<Worker<L>>,
+) -> Result<(), NoMemory>
+    requires queue { IsSegPassOf queue.now pass.old }
+    requires parts { pass.old.me.view.client.parts ≡ 16 }
+    requires listed { AreListed C.ends (map runner_of workers.items) pass.old.me.view.client.list }
+    requires setup { outline setup.now ≡ C.setup }
+    requires numbers { map number_in workers.items ≡ range_with_len 0 (length workers.items) }
+    requires law { All (IsWorker (outline setup.now) C.begin) workers.items }
+    ensures queue { IsSegPassOf queue.now pass.new }
+    ensures parts { pass.new.me.view.client.parts ≡ 16 }
+    ensures listed { OnOk result (AreListed C.ends [] pass.new.me.view.client.list) }
+{
+    while let Some(worker) = workers.pop() {
+        let number = workers.len() as u32;
+        let runner = Runner::new(alloc, setup, number, worker)?;
+        match give(rt, queue, pass, runner) {
+            Ok(()) => {}
+            Err(_) => return Err(NoMemory),
+        }
+    }
+    Ok(())
+}
+
+/// Pops all runners that are still in the queue. Each number is then here once.
+pub fn drain<'s, R: Wait, L: Lanes, C: Charter>(
+    rt: &R,
+    queue: &Queue<'s, L, C>,
+    own: Held<'s, L, C>,
+) -> Result<Vec<Runner<'s, L, C>>, NoMemory>
+    requires queue { IsSegPassOf queue.now own.pass }
+    requires parts { own.pass.me.view.client.parts ≡ 16 }
+    requires listed { AreListed C.ends own.runners.items own.pass.me.view.client.list }
+    ensures once { IfOk result (λ rs. HasEachOf (length C.ends) (numbers rs.items)) }
+    ensures agree { IfOk result (λ rs. All (Agrees C.ends) rs.items) }
+{
+    let Held {
+        mut runners,
+        mut pass,
+    } = own;
+    for _ in rt.forever() {
+        runners.reserve(1)?;
+        let Some(runner) = take(rt, queue, &mut pass) else {
+            return Ok(runners);
+        };
+        runners.push_reserved(runner);
+    }
+    Err(NoMemory)
+}
+
+/// Visits all runners until each is done.
+pub fn rounds<'s, R: Wait, L: Lanes, G: Gate, C: Charter>(
+    rt: &R,
+    need: &mut L::Need,
+    gate: &G,
+    stop: &AtomicBool,
+    mut runners: Vec<Runner<'s, L, C>>,
+) -> Result<Vec<Runner<'s, L, C>>, NoMemory>
+    ensures fixed { IfOk result (λ rs. map fixed_of rs.items
+        ≡ map fixed_of runners.entry.items) }
+    ensures done { IfOk result (λ rs. All HasEnded rs.items) }
+{
+    for _ in rt.forever() {
+        if stop.load(Ordering::SeqCst) {
+            break;
+        }
+        match round(need, gate, &mut runners) {
+            Turn::Done => return Ok(runners),
+            Turn::Moved => {}
+            Turn::Idle => thread::yield_now(),
+            Turn::NoMemory => break,
+        }
+    }
+    Err(NoMemory)
+}
+
+/// Sorts the runners by their numbers.
+pub fn sort_by_number<'s, L: Lanes, C: Charter>(runners: &mut Vec<Runner<'s, L, C>>)
+    ensures permutation { IsPermutation runners.old.items runners.new.items }
+    ensures order { IsNonDecreasingBy (λ r. r.number) runners.new.items }
+{
+    runners.sort_unstable_by_key(|r| r.number());
+}
+
+/// Returns the workers of runners that are done, in order.
+pub fn to_workers<'s, L: Lanes, C: Charter>(
+    alloc: Global,
+    runners: Vec<Runner<'s, L, C>>,
+) -> Result<Vec<Worker<L>>, NoMemory>
+    requires { All HasEnded runners.items }
+    ensures fixed { IfOk result (λ ws. map fixed_in ws.items ≡ map fixed_of runners.entry.items) }
+    ensures law { IfOk result (λ ws. All (IsWorker C.setup C.begin) ws.items) }
+    ensures done { IfOk result (λ ws. All IsDone ws.items) }
+{
+    let mut workers = Vec::with_capacity(alloc, runners.len())?;
+    for runner in runners {
+        workers.push_reserved(runner.into_worker());
+    }
+    Ok(workers)
+}

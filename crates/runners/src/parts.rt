@@ -1,0 +1,196 @@
+ghost use Rattle.std.specs.Prelude.{◌≡◌, [], IfErr, IfOk};
+ghost use Rattle.crossbeam_queue.specs.SegTies.{IsSegPassOf};
+ghost use Rattle.runners.specs.Rule.{AreListed, tally};
+
+use crate::charter::Charter;
+use crate::rule::{Queue, Tally};
+use crate::runner::Runner;
+use crate::steps::{Stepped, step};
+use crossbeam_queue::SegPass;
+use lane_core::Lanes;
+use std::alloc::Global;
+use std::snapshot::Snapshot;
+use std::sync::Wait;
+use std::sync::atomic::{AtomicBool, Ordering};
+use std::thread;
+use std::thread::{Promise, PromisedHandle, Scope, Threads};
+use tuple_trace::Gate;
+
+/// The runners that a thread keeps, and its pass.
+#[derive(Drop)]
+pub struct Held<'s, L: Lanes, C: Charter> {
+    pub runners: Vec<Runner<'s, L, C>>,
+    pub pass: SegPass<Runner<'s, L, C>, Tally>,
+}
+
+/// What a thread does: it steps until the queue is empty and its kept runners are done, or the stop
+/// word is set. It yields if nothing moved, and sets the stop word if memory runs out.
+pub fn part<'s, R: Wait, L: Lanes, G: Gate, C: Charter>(
+    rt: &R,
+    alloc: Global,
+    mut need: L::Need,
+    gate: &G,
+    stop: &AtomicBool,
+    queue: &Queue<'s, L, C>,
+    mut pass: SegPass<Runner<'s, L, C>, Tally>,
+) -> Held<'s, L, C>
+    requires queue { IsSegPassOf queue.now pass }
+    requires fresh { pass.me.view.client ≡ tally 1 [] }
+    ensures queue { IsSegPassOf queue.now result.pass }
+    ensures part { result.pass.me.view.client.parts ≡ 1 }
+    ensures listed { AreListed C.ends result.runners.items result.pass.me.view.client.list }
+{
+    let mut kept = Vec::new(alloc);
+    let mut held = false;
+    for _ in rt.forever() {
+        if stop.load(Ordering::SeqCst) {
+            break;
+        }
+        match step(
+            rt, &mut need, gate, queue, &mut pass, &mut kept, true, &mut held,
+        ) {
+            Stepped::End => break,
+            Stepped::Moved => {}
+            Stepped::Idle => thread::yield_now(),
+            Stepped::NoMemory => stop.store(true, Ordering::SeqCst),
+        }
+    }
+    Held {
+        runners: kept,
+        pass,
+    }
+}
+
+/// As [`part`], but the thread does nothing if its own word is set.
+pub fn part_unless<'s, R: Wait, L: Lanes, G: Gate, C: Charter>(
+    rt: &R,
+    alloc: Global,
+    need: L::Need,
+    gate: &G,
+    stop: &AtomicBool,
+    refused: &AtomicBool,
+    queue: &Queue<'s, L, C>,
+    pass: SegPass<Runner<'s, L, C>, Tally>,
+) -> Held<'s, L, C>
+    requires queue { IsSegPassOf queue.now pass }
+    requires fresh { pass.me.view.client ≡ tally 1 [] }
+    ensures queue { IsSegPassOf queue.now result.pass }
+    ensures part { result.pass.me.view.client.parts ≡ 1 }
+    ensures listed { AreListed C.ends result.runners.items result.pass.me.view.client.list }
+{
+    if refused.load(Ordering::SeqCst) {
+        return untouched(alloc, queue, pass);
+    }
+    part(rt, alloc, need, gate, stop, queue, pass)
+}
+
+fn untouched<'s, L: Lanes, C: Charter>(
+    alloc: Global,
+    queue: &Queue<'s, L, C>,
+    pass: SegPass<Runner<'s, L, C>, Tally>,
+) -> Held<'s, L, C>
+    requires queue { IsSegPassOf queue.now pass }
+    requires fresh { pass.me.view.client ≡ tally 1 [] }
+    ensures queue { IsSegPassOf queue.now result.pass }
+    ensures part { result.pass.me.view.client.parts ≡ 1 }
+    ensures listed { AreListed C.ends result.runners.items result.pass.me.view.client.list }
+{
+    let _ = queue;
+    Held {
+        runners: Vec::new(alloc),
+        pass,
+    }
+}
+
+/// What a thread promises: the runners that it keeps are those of its pass's list.
+#[derive(Drop)]
+pub struct PartPromise<'s, L: Lanes, C: Charter> {
+    pub queue: Snapshot<Queue<'s, L, C>>,
+}
+
+impl<'s, L: Lanes, C: Charter> Promise<Held<'s, L, C>> for PartPromise<'s, L, C> {
+    ghost use Rattle.std.specs.Prelude.{◌≡◌};
+    ghost use Rattle.crossbeam_queue.specs.SegTies.{IsSegPassOf};
+    ghost use Rattle.runners.specs.Rule.{AreListed};
+
+    ghost kept_by = { λ p b.
+        IsSegPassOf p.queue.value b.pass
+        × (b.pass.me.view.client.parts ≡ 1)
+        × AreListed C.ends b.runners.items b.pass.me.view.client.list };
+}
+
+/// A queue and a pass of it.
+#[derive(Drop)]
+pub struct Ticket<'q, 's: 'q, L: Lanes + 'q, C: Charter + 'q> {
+    pub queue: &'q Queue<'s, L, C>,
+    pub pass: SegPass<Runner<'s, L, C>, Tally>,
+}
+
+/// As [`part_unless`].
+pub fn part_of<'q, 's: 'q, R: Wait, L: Lanes + 'q, G: Gate, C: Charter + 'q>(
+    rt: &R,
+    alloc: Global,
+    need: L::Need,
+    gate: &G,
+    stop: &AtomicBool,
+    refused: &AtomicBool,
+    ticket: Ticket<'q, 's, L, C>,
+) -> Held<'s, L, C>
+    requires queue { IsSegPassOf ticket.queue.now ticket.pass }
+    requires fresh { ticket.pass.me.view.client ≡ tally 1 [] }
+    ensures queue { IsSegPassOf ticket.entry.queue.now result.pass }
+    ensures part { result.pass.me.view.client.parts ≡ 1 }
+    ensures listed { AreListed C.ends result.runners.items result.pass.me.view.client.list }
+{
+    let Ticket { queue, pass } = ticket;
+    part_unless(rt, alloc, need, gate, stop, refused, queue, pass)
+}
+
+/// Starts a thread of the scope. If none can be made, the thread's word is set, and its pass comes
+/// back.
+pub fn start_part<
+    'q,
+    's: 'q,
+    E,
+    R,
+    L: Lanes + 'q,
+    G: Gate + Sync + 'q,
+    C: Charter + Send + Sync + 'q,
+>(
+    scope: &'q Scope<'q, E>,
+    rt: &'q R,
+    alloc: Global,
+    need: L::Need,
+    gate: &'q G,
+    stop: &'q AtomicBool,
+    refused: &'q AtomicBool,
+    ticket: Ticket<'q, 's, L, C>,
+) -> Result<PromisedHandle<Held<'s, L, C>, PartPromise<'s, L, C>>, Held<'s, L, C>>
+where
+    R: Threads + Wait + Sync + 'q,
+    requires queue { IsSegPassOf ticket.queue.now ticket.pass }
+    requires fresh { ticket.pass.me.view.client ≡ tally 1 [] }
+    ensures started { IfOk result (λ h. h.promise.queue.value ≡ ticket.entry.queue.now) }
+    ensures here { IfErr result (λ b. IsSegPassOf ticket.entry.queue.now b.pass) }
+    ensures part { IfErr result (λ b. b.pass.me.view.client.parts ≡ 1) }
+    ensures listed { IfErr result (λ b. AreListed C.ends b.runners.items
+        b.pass.me.view.client.list) }
+{
+    let promise: PartPromise<'s, L, C> = PartPromise {
+        queue: Snapshot::of(ticket.queue),
+    };
+    let run = move ||
+        requires queue { IsSegPassOf ticket.queue.now ticket.pass }
+        requires fresh { ticket.pass.me.view.client ≡ tally 1 [] }
+        ensures queue { IsSegPassOf ticket.entry.queue.now result.pass }
+        ensures part { result.pass.me.view.client.parts ≡ 1 }
+        ensures listed { AreListed C.ends result.runners.items result.pass.me.view.client.list }
+    { part_of(rt, alloc, need, gate, stop, refused, ticket) };
+    match scope.spawn_with(promise, run) {
+        Ok(handle) => Ok(handle),
+        Err(error) => {
+            refused.store(true, Ordering::SeqCst);
+            Err((error.value)())
+        }
+    }
+}

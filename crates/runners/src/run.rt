@@ -1,0 +1,317 @@
+ghost use Rattle.std.specs.Prelude.{◌≡◌, ◌≤◌, IfOk, IsTrue, length, map, vec_len};
+ghost use Rattle.std.specs.List.{All, range_with_len};
+ghost use Rattle.crossbeam_queue.specs.SegTies.{IsSegPassOf};
+ghost use Rattle.jobs.specs.Nodes.{AreFromSources};
+ghost use Rattle.flow_model.specs.Setup.{outline};
+ghost use Rattle.flow_worker.specs.Pairs.{Each};
+ghost use Rattle.flow_worker.specs.Turning.{IsDone};
+ghost use Rattle.flow_worker.specs.Worker.{IsWorker};
+ghost use Rattle.coordinator.specs.Feeding.{IsFeeder};
+ghost use Rattle.runners.specs.Crew.{AreWorkers, HasFed, fixed_in, number_in, runner_of};
+ghost use Rattle.runners.specs.Rule.{Agrees, AreListed, HasEachOf, HasEnded, numbers};
+ghost use Rattle.runners.specs.Runner.{ends_of};
+
+use crate::charter::{Beginning, Charter};
+use crate::crew::{drain, push_all, rounds, sort_by_number, to_workers};
+use crate::lead::{Led, lead};
+use crate::moves::open;
+use crate::parts::Held;
+use crate::rule::{Queue, Tally};
+use crate::runner::Runner;
+use crate::threads::{join_all, start_all};
+use coordinator::Feeding;
+use crossbeam_queue::SegPass;
+use flow_model::Setup;
+use flow_worker::Worker;
+use lane_core::Lanes;
+use std::alloc::Global;
+use std::marker::Brand;
+use std::sync::Wait;
+use std::sync::atomic::{AtomicBool, Ordering};
+use std::thread;
+use std::thread::{Scope, Threads};
+use tuple_trace::{Gate, NoMemory, Rows};
+
+/// What a run leaves: its workers in the order of their numbers, and its feeder.
+#[derive(Drop)]
+pub struct Ran<L: Lanes, F: Drop> {
+    pub workers: Vec<Worker<L>>,
+    pub feeder: F,
+}
+
+/// What the threads leave: the runners in any order, and the feeder.
+#[derive(Drop)]
+pub struct Finished<'s, L: Lanes, F: Drop, C: Charter> {
+    pub runners: Vec<Runner<'s, L, C>>,
+    pub feeder: F,
+}
+
+/// What a run begins with: the queue, which has all runners, and the caller's part of it.
+#[derive(Drop)]
+pub struct Load<'q, 's: 'q, L: Lanes + 'q, F: Drop, C: Charter + 'q> {
+    pub queue: &'q Queue<'s, L, C>,
+    pub own: Held<'s, L, C>,
+    pub feeder: F,
+}
+
+/// Runs workers and a feeder on at most `threads` threads, 1 to 16, until all are done.
+///
+/// A worker is a runner, which moves between threads by a queue. A thread pops a runner, gives it
+/// up to 16 turns while they move something, and pushes it back unless it is done. The caller gives
+/// the feeder its turns. It pops runners only if no other thread was started, or once the feeder
+/// has stopped. If a thread can't be started, the others do its work.
+///
+/// `workers` stand in the order of their numbers, and come back so. The one error is out of memory;
+/// it gives up the workers and the feeder.
+pub fn run_all<R, L: Lanes + Sync, G: Gate + Sync, F: Feeding<L> + Drop, B: Beginning>(
+    rt: &R,
+    alloc: Global,
+    form: &L,
+    gate: &G,
+    threads: u32,
+    setup: &Setup,
+    rows: &Rows,
+    workers: Vec<Worker<L>>,
+    feeder: F,
+) -> Result<Ran<L, F>, NoMemory>
+where
+    R: Threads + Wait + Sync,
+    requires some { 1 ≤ threads }
+    requires few { threads ≤ 16 }
+    requires workers { AreWorkers (outline setup.now) B.begin workers.items }
+    requires feeder { IsFeeder F.LIVE (outline setup.now) B.begin rows.now (F.feeder feeder) }
+    requires rows { AreFromSources (outline setup.now).job rows.now }
+    ensures workers { IfOk result (λ r. AreWorkers (outline setup.now) B.begin r.workers.items) }
+    ensures done { IfOk result (λ r. Each IsDone r.workers.items) }
+    ensures fixed { IfOk result (λ r. map fixed_in r.workers.items ≡ map fixed_in workers.items) }
+    ensures feeder { IfOk result (λ r. HasFed F.LIVE (outline setup.now) B.begin rows.now F.kept
+        (F.feeder feeder) (F.rest feeder) (F.feeder r.feeder) (F.rest r.feeder)) }
+    ensures stopped { IfOk result (λ r. IsTrue (F.feeder r.feeder).stopped) }
+{
+    under::<R, L, G, F, Brand>(rt, alloc, form, gate, threads, setup, rows, workers, feeder)
+}
+
+// Runs them under a charter: opens a queue, runs, ends the queue, and sorts the workers.
+fn under<R, L: Lanes + Sync, G: Gate + Sync, F: Feeding<L> + Drop, C: Charter + Send + Sync>(
+    rt: &R,
+    alloc: Global,
+    form: &L,
+    gate: &G,
+    threads: u32,
+    setup: &Setup,
+    rows: &Rows,
+    workers: Vec<Worker<L>>,
+    feeder: F,
+) -> Result<Ran<L, F>, NoMemory>
+where
+    R: Threads + Wait + Sync,
+    requires some { 1 ≤ threads }
+    requires few { threads ≤ 16 }
+    requires setup { outline setup.now ≡ C.setup }
+    requires ends { C.ends ≡ map ends_of workers.items }
+    requires numbers { map number_in workers.items ≡ range_with_len 0 (length workers.items) }
+    requires law { All (IsWorker (outline setup.now) C.begin) workers.items }
+    requires feeder { IsFeeder F.LIVE (outline setup.now) C.begin rows.now (F.feeder feeder) }
+    requires rows { AreFromSources (outline setup.now).job rows.now }
+    ensures law { IfOk result (λ r. All (IsWorker (outline setup.now) C.begin) r.workers.items) }
+    ensures done { IfOk result (λ r. All IsDone r.workers.items) }
+    ensures fixed { IfOk result (λ r. map fixed_in r.workers.items ≡ map fixed_in workers.items) }
+    ensures feeder { IfOk result (λ r. HasFed F.LIVE (outline setup.now) C.begin rows.now F.kept
+        (F.feeder feeder) (F.rest feeder) (F.feeder r.feeder) (F.rest r.feeder)) }
+    ensures stopped { IfOk result (λ r. IsTrue (F.feeder r.feeder).stopped) }
+{
+    let Ok((queue, pass)) = open::<L, C>(alloc) else {
+        return Err(NoMemory);
+    };
+    let ran = filled(
+        rt, alloc, form, gate, threads, setup, rows, &queue, pass, workers, feeder,
+    );
+    queue.destroy();
+    let Finished {
+        mut runners,
+        feeder,
+    } = ran?;
+    sort_by_number(&mut runners);
+    let workers = to_workers(alloc, runners)?;
+    Ok(Ran { workers, feeder })
+}
+
+// Pushes all runners into the queue, and runs them.
+fn filled<'s, R, L: Lanes + Sync, G: Gate + Sync, F: Feeding<L> + Drop, C>(
+    rt: &R,
+    alloc: Global,
+    form: &L,
+    gate: &G,
+    threads: u32,
+    setup: &'s Setup,
+    rows: &Rows,
+    queue: &Queue<'s, L, C>,
+    mut pass: SegPass<Runner<'s, L, C>, Tally>,
+    workers: Vec<Worker<L>>,
+    feeder: F,
+) -> Result<Finished<'s, L, F, C>, NoMemory>
+where
+    R: Threads + Wait + Sync,
+    C: Charter + Send + Sync,
+    requires some { 1 ≤ threads }
+    requires few { threads ≤ 16 }
+    requires queue { IsSegPassOf queue.now pass }
+    requires parts { pass.me.view.client.parts ≡ 16 }
+    requires listed { AreListed C.ends (map runner_of workers.items) pass.me.view.client.list }
+    requires setup { outline setup.now ≡ C.setup }
+    requires numbers { map number_in workers.items ≡ range_with_len 0 (length workers.items) }
+    requires law { All (IsWorker (outline setup.now) C.begin) workers.items }
+    requires feeder { IsFeeder F.LIVE (outline setup.now) C.begin rows.now (F.feeder feeder) }
+    requires rows { AreFromSources (outline setup.now).job rows.now }
+    ensures once { IfOk result (λ r. HasEachOf (length C.ends) (numbers r.runners.items)) }
+    ensures agree { IfOk result (λ r. All (Agrees C.ends) r.runners.items) }
+    ensures done { IfOk result (λ r. All HasEnded r.runners.items) }
+    ensures feeder { IfOk result (λ r. HasFed F.LIVE (outline setup.now) C.begin rows.now F.kept
+        (F.feeder feeder) (F.rest feeder) (F.feeder r.feeder) (F.rest r.feeder)) }
+    ensures stopped { IfOk result (λ r. IsTrue (F.feeder r.feeder).stopped) }
+{
+    push_all(rt, alloc, setup, queue, &mut pass, workers)?;
+    let own = Held {
+        runners: Vec::new(alloc),
+        pass,
+    };
+    scoped(
+        rt, alloc, form, gate, threads, setup, rows, queue, own, feeder,
+    )
+}
+
+// Runs the queue on this thread and those that can be started.
+fn scoped<'s, R, L: Lanes + Sync, G: Gate + Sync, F: Feeding<L> + Drop, C>(
+    rt: &R,
+    alloc: Global,
+    form: &L,
+    gate: &G,
+    threads: u32,
+    setup: &Setup,
+    rows: &Rows,
+    queue: &Queue<'s, L, C>,
+    own: Held<'s, L, C>,
+    feeder: F,
+) -> Result<Finished<'s, L, F, C>, NoMemory>
+where
+    R: Threads + Wait + Sync,
+    C: Charter + Send + Sync,
+    requires some { 1 ≤ threads }
+    requires few { threads ≤ 16 }
+    requires queue { IsSegPassOf queue.now own.pass }
+    requires parts { own.pass.me.view.client.parts ≡ 16 }
+    requires listed { AreListed C.ends own.runners.items own.pass.me.view.client.list }
+    requires feeder { IsFeeder F.LIVE (outline setup.now) C.begin rows.now (F.feeder feeder) }
+    requires rows { AreFromSources (outline setup.now).job rows.now }
+    ensures once { IfOk result (λ r. HasEachOf (length C.ends) (numbers r.runners.items)) }
+    ensures agree { IfOk result (λ r. All (Agrees C.ends) r.runners.items) }
+    ensures done { IfOk result (λ r. All HasEnded r.runners.items) }
+    ensures feeder { IfOk result (λ r. HasFed F.LIVE (outline setup.now) C.begin rows.now F.kept
+        (F.feeder feeder) (F.rest feeder) (F.feeder r.feeder) (F.rest r.feeder)) }
+    ensures stopped { IfOk result (λ r. IsTrue (F.feeder r.feeder).stopped) }
+{
+    let stop = AtomicBool::new(false);
+    let words = cleared(alloc, threads)?;
+    let (stop, words) = (&stop, words.as_slice());
+    let load = Load { queue, own, feeder };
+    thread::scope(
+        thread::scope_env(),
+        rt,
+        move |scope|
+            requires queue { IsSegPassOf load.queue.now load.own.pass }
+            requires words { length words.now ≤ 15 }
+            requires parts { load.own.pass.me.view.client.parts ≡ 16 }
+            requires listed { AreListed C.ends load.own.runners.items
+                load.own.pass.me.view.client.list }
+            requires feeder { IsFeeder F.LIVE (outline setup.now) C.begin rows.now
+                (F.feeder load.feeder) }
+            requires rows { AreFromSources (outline setup.now).job rows.now }
+            ensures once { IfOk result (λ r. HasEachOf (length C.ends) (numbers r.runners.items)) }
+            ensures agree { IfOk result (λ r. All (Agrees C.ends) r.runners.items) }
+            ensures done { IfOk result (λ r. All HasEnded r.runners.items) }
+            ensures feeder { IfOk result (λ r. HasFed F.LIVE (outline setup.entry.now) C.begin
+                rows.entry.now F.kept (F.feeder load.entry.feeder) (F.rest load.entry.feeder)
+                (F.feeder r.feeder) (F.rest r.feeder)) }
+            ensures stopped { IfOk result (λ r. IsTrue (F.feeder r.feeder).stopped) }
+        { inside(scope, rt, alloc, form, gate, stop, words, setup, rows, load) },
+    )
+}
+
+// A word for each thread but the caller's.
+fn cleared(alloc: Global, threads: u32) -> Result<Vec<AtomicBool>, NoMemory>
+    requires some { 1 ≤ threads }
+    requires few { threads ≤ 16 }
+    ensures { IfOk result (λ v. vec_len v ≤ 15) }
+{
+    let mut words = Vec::new(alloc);
+    for _ in 1..threads {
+        if words.push(AtomicBool::new(false)).is_err() {
+            return Err(NoMemory);
+        }
+    }
+    Ok(words)
+}
+
+// Starts the threads, does the caller's part, joins them, and does what is left.
+fn inside<'q, 's: 'q, E, R, L: Lanes + 'q, G: Gate + Sync + 'q, F: Feeding<L> + Drop, C>(
+    scope: &'q Scope<'q, E>,
+    rt: &'q R,
+    alloc: Global,
+    form: &L,
+    gate: &'q G,
+    stop: &'q AtomicBool,
+    words: &'q [AtomicBool],
+    setup: &Setup,
+    rows: &Rows,
+    load: Load<'q, 's, L, F, C>,
+) -> Result<Finished<'s, L, F, C>, NoMemory>
+where
+    R: Threads + Wait + Sync + 'q,
+    C: Charter + Send + Sync + 'q,
+    requires queue { IsSegPassOf load.queue.now load.own.pass }
+    requires words { length words.now ≤ 15 }
+    requires parts { load.own.pass.me.view.client.parts ≡ 16 }
+    requires listed { AreListed C.ends load.own.runners.items load.own.pass.me.view.client.list }
+    requires feeder { IsFeeder F.LIVE (outline setup.now) C.begin rows.now (F.feeder load.feeder) }
+    requires rows { AreFromSources (outline setup.now).job rows.now }
+    ensures once { IfOk result (λ r. HasEachOf (length C.ends) (numbers r.runners.items)) }
+    ensures agree { IfOk result (λ r. All (Agrees C.ends) r.runners.items) }
+    ensures done { IfOk result (λ r. All HasEnded r.runners.items) }
+    ensures feeder { IfOk result (λ r. HasFed F.LIVE (outline setup.now) C.begin rows.now F.kept
+        (F.feeder load.entry.feeder) (F.rest load.entry.feeder) (F.feeder r.feeder)
+        (F.rest r.feeder)) }
+    ensures stopped { IfOk result (λ r. IsTrue (F.feeder r.feeder).stopped) }
+{
+    let Load { queue, own, feeder } = load;
+    let started = start_all(
+        scope,
+        rt,
+        alloc,
+        form,
+        gate,
+        stop,
+        words,
+        queue,
+        own,
+        Vec::new(alloc),
+    );
+    let Ok((own, handles)) = started else {
+        stop.store(true, Ordering::SeqCst);
+        return Err(NoMemory);
+    };
+    let mut need = form.need();
+    let alone = handles.is_empty();
+    let Led { own, feeder, fed } = lead(
+        rt, &mut need, gate, stop, setup, rows, queue, own, feeder, alone,
+    );
+    let Ok(own) = join_all(rt, queue, own, handles) else {
+        stop.store(true, Ordering::SeqCst);
+        return Err(NoMemory);
+    };
+    if !fed {
+        return Err(NoMemory);
+    }
+    let all = drain(rt, queue, own)?;
+    let runners = rounds(rt, &mut need, gate, stop, all)?;
+    Ok(Finished { runners, feeder })
+}
