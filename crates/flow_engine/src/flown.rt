@@ -1,0 +1,45 @@
+// What a run leaves.
+ghost use Rattle.std.specs.Prelude.{◌≡◌, ◌++◌, [], IfOk, map};
+ghost use Rattle.flow_worker.specs.Parts.{WorkedIs};
+ghost use Rattle.flow_engine.specs.Flown.{record_of};
+
+use flow_model::{RunRecord, Setup, States};
+use flow_worker::{Opened, Worked};
+use lane_core::Lanes;
+use sink_journal::{Feeds, Journals};
+use std::alloc::Global;
+use tuple_trace::NoMemory;
+
+/// What a run leaves: its setup, what the feeder did, and what each worker leaves, in the order of
+/// the workers' numbers.
+///
+/// Only turns of a worker over lanes of the form `L` make a [`Worked`], so the journals are those of
+/// workers.
+#[derive(Drop)]
+pub struct Flown<L: Lanes> {
+    pub setup: Setup,
+    pub feeds: Feeds,
+    pub crew: Vec<Worked<L>>,
+}
+
+impl<L: Lanes> Flown<L> {
+    /// The record of the run. The one error is out of memory; it gives up what the run left.
+    pub fn record(self, alloc: Global) -> Result<RunRecord, NoMemory>
+        ensures { IfOk result (λ ran. ran ≡ record_of self.setup self.feeds self.crew.items) }
+    {
+        let Flown { setup, feeds, crew } = self;
+        let mut journals = Journals::new(alloc);
+        let mut states = States::new(alloc);
+        for worked in crew {
+            let Opened { journal, state } = worked.open();
+            journals.push(journal)?;
+            states.push(state)?;
+        }
+        Ok(RunRecord {
+            setup,
+            feeds,
+            journals,
+            states,
+        })
+    }
+}

@@ -1,0 +1,17 @@
+//! The engine: a run of a setup on several threads.
+//!
+//! Workers and the feeder of a setup are made over lanes of some form. The workers move between
+//! threads until all are done, and the lanes are settled. [`run_flow`] answers the setup, the feed
+//! and what each worker left; [`Flown::record`] makes the record of them.
+//!
+//! ```
+//! let flown = run_flow(&rt, alloc, &RingLanes, setup, &rows, 4, 16, &OpenGate)?;
+//! let record = flown.record(alloc)?;
+//! ```
+#![tactic(auto)]
+
+mod flown;
+mod run;
+
+pub use flown::Flown;
+pub use run::run_flow;
