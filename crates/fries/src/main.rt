@@ -3,12 +3,13 @@
 #![tactic(auto)]
 
 use payments::{HostShelf, StdOut};
+use report::{Fault, FileIs};
 use std::alloc::{AllocError, Global};
 use std::fs::File;
 use std::process::ExitCode;
 use std::rt::Files;
 use std::{env, io};
-use top_call::{Fault, FileIs, fries};
+use top_call::fries;
 use tuple_trace::{OpenGate, Word};
 
 fn main(rt: HostRuntime) -> ExitCode {

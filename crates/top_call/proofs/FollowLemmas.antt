@@ -15,17 +15,18 @@ use Rattle.top_call.specs.Asked.{FirstAsked, PlanAsked, RunAsked}
 use Rattle.top_call.specs.Check.{AnswersCheck, FollowsCheck}
 use Rattle.top_call.specs.Ends.{EndsAfterRun, EndsStoring, StopsStoring}
 use Rattle.top_call.specs.First.{AnswersFirst, FollowsFirst, asked_job}
-use Rattle.top_call.specs.Lines.{sizes_line}
+use Rattle.report.specs.Lines.{sizes_line}
 use Rattle.top_call.specs.declared.answer.Answer.{Answer}
 use Rattle.top_call.specs.Outside.{FileText, IsExcused, Outside, Prints, PrintsFault}
 use Rattle.top_call.specs.Plan.{AnswersPlan, FollowsPlan, IsNoSetup, setup_lines}
 use Rattle.top_call.specs.Run.{AnswersRun, FollowsRun, IsNoRun}
 use Rattle.top_call.specs.Running.{files_of, run_lines}
-use Rattle.top_call.specs.Reading.{AreNoRequests, AreNoRows, AreRequestsOf, AreRowsOf, FollowsFile, HasRead, IsJobOf, IsRead, IsUnread, RefusesJob, RefusesRequests, RefusesRows, Tells, TellsJob, TellsRequests, limit_of}
-use Rattle.top_call.specs.declared.fault.Fault.{Fault}
-use Rattle.top_call.specs.declared.fault.Fault.TheVariants as fault
-use Rattle.top_call.specs.declared.fault.FileIs.{FileIs}
-use Rattle.top_call.specs.declared.fault.FileIs.TheVariants as file
+use Rattle.report.specs.Faults.{limit_of}
+use Rattle.top_call.specs.Reading.{AreNoRequests, AreNoRows, AreRequestsOf, AreRowsOf, FollowsFile, HasRead, IsJobOf, IsRead, IsUnread, RefusesJob, RefusesRequests, RefusesRows, Tells, TellsJob, TellsRequests}
+use Rattle.report.specs.declared.fault.Fault.{Fault}
+use Rattle.report.specs.declared.fault.Fault.TheVariants as fault
+use Rattle.report.specs.declared.fault.FileIs.{FileIs}
+use Rattle.report.specs.declared.fault.FileIs.TheVariants as file
 use Rattle.top_call.proofs.PrintLemmas.{prints_or}
 
 -- ---- bytes that are told

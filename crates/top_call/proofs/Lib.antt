@@ -1,4 +1,4 @@
 pub mod PrintLemmas
-pub mod ListLemmas
 pub mod FollowLemmas
+pub mod RunLemmas
 pub mod FirstLemmas

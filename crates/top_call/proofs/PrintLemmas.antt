@@ -4,10 +4,10 @@ use Rattle.std.specs.Prelude.{option_map}
 use Rattle.payments.specs.Causes.{GainsPrefix, GainsProperPrefix}
 use Rattle.tuple_trace.specs.Counts.{Rose}
 use Rattle.top_call.specs.Outside.{Prints}
-use Rattle.top_call.specs.FaultWords.{fault_line}
-use Rattle.top_call.specs.declared.fault.Fault.{Fault}
-use Rattle.top_call.specs.declared.fault.Fault.TheVariants as fault
-use Rattle.top_call.specs.declared.fault.FileIs.TheVariants as file
+use Rattle.report.specs.FaultWords.{fault_line}
+use Rattle.report.specs.declared.fault.Fault.{Fault}
+use Rattle.report.specs.declared.fault.Fault.TheVariants as fault
+use Rattle.report.specs.declared.fault.FileIs.TheVariants as file
 
 -- where memory runs out before a text is made, nothing of it is printed
 pub prints_nothing : (text : List ℕ) (old : Option (List ℕ)) (out : ℕ) (answer : Option Fault) → answer ≡ Some fault.NoMemory → Prints text old old out out answer

@@ -8,8 +8,8 @@ use Rattle.top_call.specs.Outside.{Outside, PrintsFault}
 use Rattle.top_call.specs.Plan.{AnswersPlan, FollowsPlan}
 use Rattle.top_call.specs.Run.{AnswersRun, FollowsRun}
 use Rattle.top_call.specs.declared.answer.Answer.{Answer}
-use Rattle.top_call.specs.declared.fault.Fault.{Fault}
-use Rattle.top_call.specs.declared.fault.Fault.TheVariants as fault
+use Rattle.report.specs.declared.fault.Fault.{Fault}
+use Rattle.report.specs.declared.fault.Fault.TheVariants as fault
 use Rattle.top_call.specs.declared.top.Outcome.{Outcome}
 
 -- what a call came to, but for its status

@@ -1,7 +1,8 @@
 -- What the words of a command line ask for.
-use Rattle.std.specs.Prelude.{◌^◌, ◌-◌, ℕ, ℤ, pos, Bool, false, true, not, List, [], ◌∷◌, ◌&&◌, nat_eq, Option, None, Some, option_map, codes, if◌then◌else◌}
+use Rattle.std.specs.Prelude.{◌^◌, ◌-◌, ◌≤◌, ⊤, ℕ, ℤ, pos, Bool, false, true, not, List, [], ◌∷◌, ◌&&◌, nat_eq, nat_le, Option, None, Some, option_map, codes, if◌then◌else◌}
 use Rattle.std.specs.Cmp.Lexicographic.{pointwise}
 use Rattle.tuple_trace.specs.Digits.{at_most, digits_of}
+use Rattle.top_call.specs.declared.command.EngineSize.{EngineSize}
 use Rattle.top_call.specs.declared.command.Command.{Command}
 use Rattle.top_call.specs.declared.command.Command.TheVariants as command
 use Rattle.top_call.specs.declared.command.First.{First as FirstWords}
@@ -22,11 +23,19 @@ pub record PlanAsked : Type 0 where
   pub requests : List ℕ
   pub ordered : Bool
 
--- what `run` is asked to do: the files of `plan`, the payments, and the alerts that it is to write
+-- an engine has 1 to 16 threads, and its lanes hold up to 1 to 64 items
+pub record IsSize (size : EngineSize) : Type 0 where
+  pub some_threads : 1 ≤ size.threads
+  pub few_threads : size.threads ≤ 16
+  pub some_items : 1 ≤ size.capacity
+  pub few_items : size.capacity ≤ 64
+
+-- what `run` is asked to do: the files of `plan`, the payments, the alerts that it is to write, and by how large an engine
 pub record RunAsked : Type 0 where
   pub plan : PlanAsked
   pub payments : List ℕ
   pub alerts : List ℕ
+  pub size : EngineSize
 
 -- a name of a file isn't empty and doesn't begin with a dash
 abbrev pub is_name : List ℕ → Bool
@@ -79,17 +88,61 @@ plan_of (job ∷ requests ∷ []) = plan_with job requests false
 plan_of (job ∷ requests ∷ flag ∷ []) = if is_ordered flag then plan_with job requests true else None
 plan_of words = None
 
--- the files of a plan, and those of the payments and the alerts
-abbrev pub run_with : Option PlanAsked → List ℕ → List ℕ → Option RunAsked
-run_with None payments alerts = None
-run_with (Some plan) payments alerts =
-    if is_name payments && is_name alerts then Some (record { plan = plan; payments = payments; alerts = alerts }) else None
+-- what is asked of the files of a plan, the payments and the alerts
+abbrev pub run_over : Option PlanAsked → List ℕ → List ℕ → EngineSize → Option RunAsked
+run_over None payments alerts size = None
+run_over (Some plan) payments alerts size =
+    if is_name payments && is_name alerts then Some (record { plan = plan; payments = payments; alerts = alerts; size = size }) else None
 
--- the words after `run`; the flag is the last of them
+-- a size, if its numbers are in their ranges
+abbrev pub size_within : ℕ → ℕ → Option EngineSize
+size_within threads capacity =
+    if (nat_le 1 threads && nat_le threads 16) && (nat_le 1 capacity && nat_le capacity 64) then
+    Some (record { threads = threads; capacity = capacity })
+    else None
+
+-- The number of an option, if the words begin with it, and the words behind it; else the usual number, and all words. None if there is no
+-- number where one has to stand.
+abbrev pub option_of : List ℕ → ℕ → List (List ℕ) → Option (ℕ × List (List ℕ))
+option_of name usual (word ∷ number ∷ rest) =
+    if pointwise nat_eq word name then option_map (λ value. (value, rest)) (at_most (2 ^ 32 - 1) (digits_of number))
+    else Some (usual, word ∷ number ∷ rest)
+option_of name usual words = Some (usual, words)
+
+-- the mode: the flag alone, or nothing
+abbrev pub mode_of : List (List ℕ) → Option Bool
+mode_of [] = Some false
+mode_of (flag ∷ []) = if is_ordered flag then Some true else None
+mode_of words = None
+
+-- the size of an engine and the mode
+abbrev pub with_mode : Option EngineSize → Option Bool → Option (EngineSize × Bool)
+with_mode (Some size) (Some ordered) = Some (size, ordered)
+with_mode None mode = None
+with_mode (Some size) None = None
+
+-- the capacity, and then the mode
+abbrev pub with_capacity : ℕ → Option (ℕ × List (List ℕ)) → Option (EngineSize × Bool)
+with_capacity threads None = None
+with_capacity threads (Some (capacity, rest)) = with_mode (size_within threads capacity) (mode_of rest)
+
+-- the threads, then the capacity, and then the mode
+abbrev pub with_threads : Option (ℕ × List (List ℕ)) → Option (EngineSize × Bool)
+with_threads None = None
+with_threads (Some (threads, rest)) = with_capacity threads (option_of (codes "--capacity") 16 rest)
+
+-- the options of `run` in their order: one thread and lanes of 16 items, if they aren't there
+abbrev pub options_of : List (List ℕ) → Option (EngineSize × Bool)
+options_of words = with_threads (option_of (codes "--threads") 1 words)
+
+-- the files of a plan, those of the payments and the alerts, and the size of the engine
+abbrev pub run_with : Option (EngineSize × Bool) → List ℕ → List ℕ → List ℕ → List ℕ → Option RunAsked
+run_with None job requests payments alerts = None
+run_with (Some (size, ordered)) job requests payments alerts = run_over (plan_with job requests ordered) payments alerts size
+
+-- the words after `run`: four names, and its options
 abbrev pub run_of : List (List ℕ) → Option RunAsked
-run_of (job ∷ requests ∷ payments ∷ alerts ∷ []) = run_with (plan_with job requests false) payments alerts
-run_of (job ∷ requests ∷ payments ∷ alerts ∷ flag ∷ []) =
-    if is_ordered flag then run_with (plan_with job requests true) payments alerts else None
+run_of (job ∷ requests ∷ payments ∷ alerts ∷ options) = run_with (options_of options) job requests payments alerts
 run_of words = None
 
 -- what a command line asks for
@@ -101,7 +154,8 @@ pub data Asked : Type 0 where
   Run : RunAsked → Asked
 
 -- What words ask for, in the plain forms `first PAYMENTS ALERTS MIN AFTER MIN2`, `check JOB`, `plan JOB REQUESTS` and
--- `run JOB REQUESTS PAYMENTS ALERTS`, of which the last two may end with `--ordered`. None if they have none of these.
+-- `run JOB REQUESTS PAYMENTS ALERTS`, of which the last two may end with `--ordered`. Before that, `run` may have `--threads N` and
+-- then `--capacity C`. None if they have none of these.
 abbrev pub asked_of : List (List ℕ) → Option Asked
 asked_of [] = None
 asked_of (command ∷ words) =
@@ -126,7 +180,8 @@ plan_asked files = record { job = files.job.now; requests = files.requests.now; 
 
 -- what the files of `run` ask for
 abbrev pub run_asked : RunFiles → RunAsked
-run_asked files = record { plan = plan_asked files.plan; payments = files.payments.now; alerts = files.alerts.now }
+run_asked files =
+    record { plan = plan_asked files.plan; payments = files.payments.now; alerts = files.alerts.now; size = files.size }
 
 -- what a `Command` asks for
 abbrev pub asked_by : Command → Asked
@@ -134,3 +189,8 @@ asked_by (command.First first) = First (first_asked first)
 asked_by (command.Check name) = Check name.now
 asked_by (command.Plan files) = Plan (plan_asked files)
 asked_by (command.Run files) = Run (run_asked files)
+
+-- the engine of a `run` has a size in range
+abbrev pub IsSized : Command → Type 0
+IsSized (command.Run files) = IsSize files.size
+IsSized _ = ⊤

@@ -2,11 +2,11 @@
 use Rattle.std.specs.Prelude.{◌≡◌, ◌⊎◌, ℕ, List, [], Option, None}
 use Rattle.jobs.specs.Written.{Written}
 use Rattle.top_call.specs.Ends.{PrintsLines, Stops}
-use Rattle.top_call.specs.Lines.{sizes_line}
+use Rattle.report.specs.Lines.{sizes_line}
 use Rattle.top_call.specs.Outside.{IsExcused, Outside, PrintsFault}
 use Rattle.top_call.specs.Reading.{FollowsJob, IsJobOf, IsNoJob, TellsJob}
 use Rattle.top_call.specs.declared.answer.Answer.{Answer}
-use Rattle.top_call.specs.declared.fault.Fault.{Fault}
+use Rattle.report.specs.declared.fault.Fault.{Fault}
 
 -- it read a job, and came to printing its sizes; it changed no file
 pub record PrintsSizes (name : List ℕ) (old new : Outside) (answer : Answer) : Type 0 where

@@ -3,8 +3,8 @@ use Rattle.std.specs.Prelude.{◌≡◌, ◌⊎◌, ◌∷◌, ℕ, List, [], Op
 use Rattle.payments.specs.Causes.{Faults}
 use Rattle.top_call.specs.Outside.{FileText, Outside, Prints, PrintsNothing, StoresNot, StoresNothing, StoresPart, StoresWhole}
 use Rattle.top_call.specs.declared.answer.Answer.{Answer}
-use Rattle.top_call.specs.declared.fault.Fault.{Fault}
-use Rattle.top_call.specs.declared.fault.Fault.TheVariants as fault
+use Rattle.report.specs.declared.fault.Fault.{Fault}
+use Rattle.report.specs.declared.fault.Fault.TheVariants as fault
 
 -- ---- before anything is stored or printed
 

@@ -15,7 +15,7 @@ use Rattle.top_call.specs.Outside.{IsExcused, Outside, PrintsFault}
 use Rattle.top_call.specs.Reading.{AreNoRows, AreRowsOf, FollowsRows, TellsRows}
 use Rattle.top_call.specs.Running.{IsRunOf, Runs}
 use Rattle.top_call.specs.declared.answer.Answer.{Answer}
-use Rattle.top_call.specs.declared.fault.Fault.{Fault}
+use Rattle.report.specs.declared.fault.Fault.{Fault}
 use Rattle.top_call.specs.declared.running.Done.{Done}
 
 -- ---- the run

@@ -1,8 +1,5 @@
 pub mod FirstJob
 pub mod Asked
-pub mod Faults
-pub mod FaultWords
-pub mod Lines
 pub mod Outside
 pub mod Reading
 pub mod Ends

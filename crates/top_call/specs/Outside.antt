@@ -3,11 +3,11 @@ use Rattle.std.specs.Prelude.{◌≡◌, ◌⊎◌, ◌≤◌, ◌++◌, ℕ, Li
 use Rattle.payments.specs.Causes.{Faults, GainsPrefix, GainsProperPrefix, WriteFailed}
 use Rattle.payments.specs.Files.{Files, HoldsProperPrefix, with_bytes}
 use Rattle.tuple_trace.specs.Counts.{Rose}
-use Rattle.top_call.specs.FaultWords.{fault_line}
-use Rattle.top_call.specs.declared.fault.Fault.{Fault}
-use Rattle.top_call.specs.declared.fault.Fault.TheVariants as fault
-use Rattle.top_call.specs.declared.fault.FileIs.{FileIs}
-use Rattle.top_call.specs.declared.fault.FileIs.TheVariants as file
+use Rattle.report.specs.FaultWords.{fault_line}
+use Rattle.report.specs.declared.fault.Fault.{Fault}
+use Rattle.report.specs.declared.fault.Fault.TheVariants as fault
+use Rattle.report.specs.declared.fault.FileIs.{FileIs}
+use Rattle.report.specs.declared.fault.FileIs.TheVariants as file
 
 -- The files and what was written to the standard output, where they are told; the faults that both have counted; and the file that the shelf
 -- made last, if its latest try to make one succeeded.

@@ -12,11 +12,11 @@ use Rattle.flow_model.specs.Setup.{outline}
 use Rattle.flow_model.specs.declared.setup.Setup.{Setup}
 use Rattle.top_call.specs.Asked.{PlanAsked}
 use Rattle.top_call.specs.Ends.{PrintsLines, Stops}
-use Rattle.top_call.specs.Lines.{plan_lines, refused_lines}
+use Rattle.report.specs.Lines.{plan_lines, refused_lines}
 use Rattle.top_call.specs.Outside.{IsExcused, Outside, PrintsFault}
 use Rattle.top_call.specs.Reading.{AreNoRequests, AreRequestsOf, FollowsJob, FollowsRequests, IsJobOf, IsNoJob, TellsJob, TellsRequests}
 use Rattle.top_call.specs.declared.answer.Answer.{Answer}
-use Rattle.top_call.specs.declared.fault.Fault.{Fault}
+use Rattle.report.specs.declared.fault.Fault.{Fault}
 
 -- ---- the setup
 

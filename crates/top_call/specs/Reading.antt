@@ -11,19 +11,12 @@ use Rattle.payments.specs.Reading.{rows_of}
 use Rattle.payments.specs.declared.read.PFault.TheVariants as rows
 use Rattle.tuple_trace.specs.declared.row.Row.{Row}
 use Rattle.versions.specs.declared.request.Request.{Request}
+use Rattle.report.specs.Faults.{limit_of}
 use Rattle.top_call.specs.Outside.{IsExcused, Outside}
-use Rattle.top_call.specs.declared.fault.Fault.{Fault}
-use Rattle.top_call.specs.declared.fault.Fault.TheVariants as fault
-use Rattle.top_call.specs.declared.fault.FileIs.{FileIs}
-use Rattle.top_call.specs.declared.fault.FileIs.TheVariants as file
-
--- how many bytes of a file are read at most: none of one that is only written
-abbrev pub limit_of : FileIs → ℕ
-limit_of file.Job = 1048576
-limit_of file.Requests = 1048576
-limit_of file.Payments = 67108864
-limit_of file.Alerts = 0
-limit_of file.Out = 0
+use Rattle.report.specs.declared.fault.Fault.{Fault}
+use Rattle.report.specs.declared.fault.Fault.TheVariants as fault
+use Rattle.report.specs.declared.fault.FileIs.{FileIs}
+use Rattle.report.specs.declared.fault.FileIs.TheVariants as file
 
 -- ---- what is read
 

@@ -12,7 +12,7 @@ use Rattle.top_call.specs.Plan.{AreSame, IsNoSetup}
 use Rattle.top_call.specs.Reading.{AreNoRows, AreRequestsOf, AreRowsOf, FollowsJob, FollowsRequests, FollowsRows, IsJobOf, TellsJob, TellsRequests, TellsRows}
 use Rattle.top_call.specs.Running.{IsRunOf, Runs}
 use Rattle.top_call.specs.declared.answer.Answer.{Answer}
-use Rattle.top_call.specs.declared.fault.Fault.{Fault}
+use Rattle.report.specs.declared.fault.Fault.{Fault}
 use Rattle.top_call.specs.declared.running.Done.{Done}
 
 -- what was run is what the files hold

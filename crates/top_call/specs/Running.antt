@@ -11,14 +11,15 @@ use Rattle.flow_model.specs.Record.{told}
 use Rattle.flow_model.specs.Run.{IsRun, Ran}
 use Rattle.flow_model.specs.Serial.{IsSerial, SeesPrefix, serial}
 use Rattle.flow_model.specs.Setup.{outline}
+use Rattle.flow_model.specs.declared.record.RunRecord.{RunRecord}
 use Rattle.serial_order.specs.Serials.{serial_line, serials}
 use Rattle.top_call.specs.Ends.{EndsAfterRun}
-use Rattle.top_call.specs.Lines.{alert_count, refused_lines, row_count, summary_line}
+use Rattle.report.specs.Lines.{alert_count, refused_lines, row_count, summary_line}
 use Rattle.top_call.specs.Outside.{FileText, Outside}
 use Rattle.top_call.specs.Plan.{IsSetupFor}
 use Rattle.top_call.specs.declared.answer.Answer.{Answer}
-use Rattle.top_call.specs.declared.fault.FileIs.TheVariants as file
-use Rattle.top_call.specs.declared.lines.Summary.{Summary}
+use Rattle.report.specs.declared.fault.FileIs.TheVariants as file
+use Rattle.report.specs.declared.lines.Summary.{Summary}
 use Rattle.top_call.specs.declared.running.Done.{Done}
 
 -- ---- the run
@@ -28,6 +29,13 @@ use Rattle.top_call.specs.declared.running.Done.{Done}
 pub record HaveOneOrder (rows : List Row) (ran : Ran) : Type 0 where
   pub prefix : (row : ℕ) → SeesPrefix ran row (serial ran row)
   pub alone : HasNoCounts ran.setup.job → IsSerial rows ran
+
+-- What is kept of a run: its record, how many requests there were, those of them that judging refused, and in ordered mode the number of each row.
+pub record IsDoneOf (ran : RunRecord) (requests : List Request) (rows : List Row) (done : Done) : Type 0 where
+  pub ran_is : done.ran ≡ ran
+  pub count : done.requests ≡ length requests
+  pub refused : done.refused ≡ ran.setup.judged.refused
+  pub numbers : IsTrue ran.setup.ordered → done.serial ≡ serials (told ran) rows
 
 -- The rows were run by the setup of the job and its requests in this mode, and judging refused just these. What the run leaves is consistent. In
 -- ordered mode rows and requests have one order, and each row has its number. How the requests of the record relate to those that judging accepts

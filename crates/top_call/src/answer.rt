@@ -1,8 +1,8 @@
 ghost use Rattle.std.specs.Prelude.{◌≡◌};
 ghost use Rattle.top_call.specs.Ends.{stopped as stopped_for};
 
-use crate::fault::Fault;
 use flow_model::RunRecord;
+use report::Fault;
 use std::alloc::Global;
 use versions::Refusals;
 

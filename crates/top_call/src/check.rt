@@ -1,16 +1,15 @@
 ghost use Rattle.std.specs.Result.{result_err};
 ghost use Rattle.jobs.specs.Job.{written};
 ghost use Rattle.top_call.specs.Check.{EndsCheck};
-ghost use Rattle.top_call.specs.Lines.{sizes_line as sizes_line_of};
+ghost use Rattle.report.specs.Lines.{sizes_line as sizes_line_of};
 ghost use Rattle.top_call.specs.Outside.{outside, Prints};
 
 use crate::answer::Answer;
-use crate::fault::Fault;
-use crate::lines::sizes_line;
 use crate::printing::print;
 use crate::reading::job_in;
 use jobs::Job;
 use payments::{Shelf, Sink};
+use report::{Fault, sizes_line};
 use std::alloc::Global;
 use tuple_trace::Word;
 use versions::Refusals;

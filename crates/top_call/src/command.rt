@@ -1,5 +1,5 @@
-ghost use Rattle.std.specs.Prelude.{◌≡◌, Some, option_copied, option_map};
-ghost use Rattle.top_call.specs.Asked.{asked_by, asked_of, first_asked, first_of as first_of_words, is_name as is_name_of, is_ordered as is_ordered_word, least_of as least_of_word, one_name, plan_asked, plan_of as plan_of_words, plan_with as plan_with_words, run_asked, run_of as run_of_words, run_with as run_with_words};
+ghost use Rattle.std.specs.Prelude.{◌≡◌, IfSome, Some, option_copied, option_map};
+ghost use Rattle.top_call.specs.Asked.{IsSize, IsSized, asked_by, asked_of, first_asked, first_of as first_of_words, is_name as is_name_of, is_ordered as is_ordered_word, least_of as least_of_word, mode_of as mode_of_words, one_name, option_of as option_of_words, options_of as options_of_words, plan_asked, plan_of as plan_of_words, plan_with as plan_with_words, run_asked, run_of as run_of_words, run_over as run_over_words, size_within as size_within_of};
 
 use tuple_trace::{Word, digits_up_to};
 
@@ -37,7 +37,14 @@ pub struct PlanFiles<'a> {
     pub ordered: bool,
 }
 
-/// The files of the command `run`.
+/// How many threads an engine has, 1 to 16, and how many items each of its lanes holds at most, 1 to 64.
+#[derive(Clone, Copy, Debug)]
+pub struct EngineSize {
+    pub threads: u32,
+    pub capacity: u32,
+}
+
+/// The files of the command `run`, and the engine that runs them.
 #[derive(Clone, Copy, Debug)]
 pub struct RunFiles<'a> {
     pub plan: PlanFiles<'a>,
@@ -45,16 +52,18 @@ pub struct RunFiles<'a> {
     pub payments: &'a Word,
     /// The file that the alerts are written to.
     pub alerts: &'a Word,
+    pub size: EngineSize,
 }
 
 /// The greatest number of rows that a request may wait for.
 const AFTER_MAX: u64 = 1_048_576;
 
 /// Reads the words after the program's name, in the plain forms `first PAYMENTS ALERTS MIN AFTER MIN2`, `check JOB`,
-/// `plan JOB REQUESTS` and `run JOB REQUESTS PAYMENTS ALERTS`. The last two may end with `--ordered`. None if they have none of them,
-/// or a number is outside its range.
+/// `plan JOB REQUESTS` and `run JOB REQUESTS PAYMENTS ALERTS`. The last two may end with `--ordered`, and before it `run` may have
+/// `--threads N` and then `--capacity C`. None if they have none of them, or a number is outside its range.
 pub fn command_of(words: &[Word]) -> Option<Command<'_>>
-    ensures { option_map asked_by result ≡ asked_of words.now }
+    ensures asked { option_map asked_by result ≡ asked_of words.now }
+    ensures sized { IfSome result IsSized }
 {
     let (command, rest) = words.split_first()?;
     if command.as_str() == "first" {
@@ -122,30 +131,78 @@ fn plan_with<'a>(job: &'a Word, requests: &'a Word, ordered: bool) -> Option<Pla
 }
 
 fn run_of(words: &[Word]) -> Option<RunFiles<'_>>
-    ensures { option_map run_asked result ≡ run_of_words words.now }
+    ensures asked { option_map run_asked result ≡ run_of_words words.now }
+    ensures sized { IfSome result (λ files. IsSize files.size) }
 {
-    match words {
-        [job, requests, payments, alerts] => {
-            run_with(plan_with(job, requests, false)?, payments, alerts)
-        }
-        [job, requests, payments, alerts, flag] if is_ordered(flag) => {
-            run_with(plan_with(job, requests, true)?, payments, alerts)
-        }
-        _ => None,
-    }
+    let [job, requests, payments, alerts, options @ ..] = words else {
+        return None;
+    };
+    let (size, ordered) = options_of(options)?;
+    run_over(plan_with(job, requests, ordered)?, payments, alerts, size)
 }
 
-fn run_with<'a>(plan: PlanFiles<'a>, payments: &'a Word, alerts: &'a Word) -> Option<RunFiles<'a>>
-    ensures { option_map run_asked result ≡ run_with_words (Some (plan_asked plan.entry)) payments.now alerts.now }
+fn run_over<'a>(
+    plan: PlanFiles<'a>,
+    payments: &'a Word,
+    alerts: &'a Word,
+    size: EngineSize,
+) -> Option<RunFiles<'a>>
+    ensures asked { option_map run_asked result ≡ run_over_words (Some (plan_asked plan.entry)) payments.now alerts.now size }
+    ensures size { IfSome result (λ files. files.size ≡ size) }
 {
     if is_name(payments) && is_name(alerts) {
         Some(RunFiles {
             plan,
             payments,
             alerts,
+            size,
         })
     } else {
         None
+    }
+}
+
+// The size of an engine, and whether rows and requests are to have one order.
+fn options_of(words: &[Word]) -> Option<(EngineSize, bool)>
+    ensures is { result ≡ options_of_words words.now }
+    ensures sized { IfSome result (λ options. IsSize options.0) }
+{
+    let (threads, words) = option_of(words, "--threads", 1)?;
+    let (capacity, words) = option_of(words, "--capacity", 16)?;
+    Some((size_within(threads, capacity)?, mode_of(words)?))
+}
+
+fn size_within(threads: u32, capacity: u32) -> Option<EngineSize>
+    ensures is { result ≡ size_within_of threads capacity }
+    ensures sized { IfSome result IsSize }
+{
+    if (1..=16).contains(&threads) && (1..=64).contains(&capacity) {
+        Some(EngineSize { threads, capacity })
+    } else {
+        None
+    }
+}
+
+// The number of the option with this name, and the words behind it; the usual number, if they don't begin with it.
+fn option_of<'a>(words: &'a [Word], name: &str, usual: u32) -> Option<(u32, &'a [Word])>
+    ensures { option_map (λ taken. (taken.0, taken.1.now)) result ≡ option_of_words name.now usual words.now }
+{
+    match words {
+        [option, number, rest @ ..] if option.as_str() == name => {
+            let number = digits_up_to(number.as_str().as_bytes(), u64::from(u32::MAX))?;
+            Some((number as u32, rest))
+        }
+        _ => Some((usual, words)),
+    }
+}
+
+fn mode_of(words: &[Word]) -> Option<bool>
+    ensures { result ≡ mode_of_words words.now }
+{
+    match words {
+        [] => Some(false),
+        [flag] if is_ordered(flag) => Some(true),
+        _ => None,
     }
 }
 

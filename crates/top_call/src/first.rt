@@ -7,11 +7,11 @@ ghost use Rattle.top_call.specs.Reading.{AreNoRows};
 
 use crate::answer::Answer;
 use crate::command::First;
-use crate::fault::Fault;
 use crate::job::{first_job, first_requests};
 use crate::reading::rows_in;
-use crate::running::{Done, leave_run, run_rows};
+use crate::running::{Done, leave_run, run_in_order};
 use payments::{Shelf, Sink};
+use report::Fault;
 use std::alloc::Global;
 
 /// Reads the payments and runs them, stores the alerts and prints the summary. The first fault ends it.
@@ -44,5 +44,5 @@ fn run_first<S: Shelf>(alloc: Global, first: First<'_>, shelf: &mut S) -> Result
     let job = first_job(alloc, first.least)?;
     let requests = first_requests(alloc, first)?;
     let rows = rows_in(alloc, &job, first.payments, shelf)?;
-    Ok(run_rows(alloc, job, &requests, &rows, false)?)
+    Ok(run_in_order(alloc, job, &requests, &rows)?)
 }

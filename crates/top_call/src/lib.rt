@@ -12,22 +12,14 @@
 mod answer;
 mod check;
 mod command;
-mod counts;
-mod fault;
-mod fault_words;
 mod first;
 mod job;
-mod lines;
 mod plan;
-mod plan_lines;
 mod printing;
 mod reading;
-mod refused_lines;
 mod run;
 mod running;
 mod top;
 mod writing;
 
-pub use fault::{Fault, FileIs};
-pub use lines::fault_line;
 pub use top::{Outcome, fries};

@@ -11,14 +11,12 @@ ghost use Rattle.top_call.specs.Plan.{AreSame, EndsPlan, IsNoSetup, IsSetupFor, 
 
 use crate::answer::Answer;
 use crate::command::PlanFiles;
-use crate::fault::Fault;
-use crate::plan_lines::push_plans;
 use crate::printing::print;
 use crate::reading::{job_in, requests_in};
-use crate::refused_lines::push_refused;
 use flow_model::{Setup, plans_are_least};
 use jobs::Job;
 use payments::{Shelf, Sink};
+use report::{Fault, push_plans, push_refused};
 use std::alloc::Global;
 use tuple_trace::{Bytes, NoMemory};
 use versions::{Judged, Refusals, Requests, accepted_requests_stay_accepted, judge_all};

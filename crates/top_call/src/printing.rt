@@ -1,8 +1,8 @@
 ghost use Rattle.std.specs.Result.{result_err};
 ghost use Rattle.top_call.specs.Outside.{Prints};
 
-use crate::fault::{Fault, FileIs};
 use payments::{Sink, SinkFault, write_all};
+use report::{Fault, FileIs};
 
 /// Prints a text. After a fault a prefix of it is printed; where it is empty, nothing is handed to the output.
 pub fn print<O: Sink>(out: &mut O, text: &[u8]) -> Result<(), Fault>

@@ -3,12 +3,12 @@ ghost use Rattle.std.specs.Prelude.{◌≡◌, IfOk, IfErr, OnOk};
 ghost use Rattle.jobs.specs.Job.{written};
 ghost use Rattle.jobs.specs.Nodes.{AreFromSources};
 ghost use Rattle.job_file.specs.RequestSizes.{AreFew};
-ghost use Rattle.top_call.specs.Reading.{AreNoRequests, AreNoRows, AreRequestsOf, AreRowsOf, IsJobOf, IsNoJob, IsRead, IsUnread, limit_of};
+ghost use Rattle.top_call.specs.Reading.{AreNoRequests, AreNoRows, AreRequestsOf, AreRowsOf, IsJobOf, IsNoJob, IsRead, IsUnread};
 
-use crate::fault::{Fault, FileIs};
 use job_file::{read_job, read_requests};
 use jobs::Job;
 use payments::{Shelf, ShelfFault, read_rows};
+use report::{Fault, FileIs};
 use std::alloc::Global;
 use tuple_trace::{Bytes, Rows, Word};
 use versions::Requests;

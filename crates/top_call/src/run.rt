@@ -1,38 +1,60 @@
 ghost use Rattle.std.specs.Prelude.{◌≡◌, IfOk, IfErr, OnOk, length};
 ghost use Rattle.jobs.specs.Nodes.{worker_count};
-ghost use Rattle.top_call.specs.Asked.{run_asked};
+ghost use Rattle.top_call.specs.Asked.{IsSize, run_asked};
 ghost use Rattle.top_call.specs.Outside.{outside};
 ghost use Rattle.top_call.specs.Run.{EndsRun, IsNoRun, IsRunOfFiles};
 
 use crate::answer::Answer;
 use crate::command::RunFiles;
-use crate::fault::Fault;
 use crate::reading::{job_in, requests_in, rows_in};
-use crate::running::{Done, leave_run, run_rows};
+use crate::running::{Done, leave_run, run_on_threads};
 use payments::{Shelf, Sink};
+use report::Fault;
 use std::alloc::Global;
+use std::sync::Wait;
+use std::thread::Threads;
+use tuple_trace::Gate;
 
 /// Reads a job, its requests and its payments, judges the requests and runs the payments, stores the alerts, and prints the refused
 /// requests and the summary. The first fault ends it.
-pub fn run_command<S: Shelf, O: Sink>(
+pub fn run_command<R, S, O, G>(
+    rt: &R,
     alloc: Global,
     files: RunFiles<'_>,
     shelf: &mut S,
     out: &mut O,
+    gate: &G,
 ) -> Answer
+where
+    R: Threads + Wait + Copy + Send + Sync + 'static,
+    S: Shelf,
+    O: Sink,
+    G: Gate + Sync,
+    requires { IsSize files.size }
     ensures { EndsRun (run_asked files.entry)
         (outside (S.files shelf.old) (S.faults shelf.old) (S.target shelf.old) (O.written out.old) (O.faults out.old))
         (outside (S.files shelf.new) (S.faults shelf.new) (S.target shelf.new) (O.written out.new) (O.faults out.new))
         result }
 {
-    match run_files(alloc, files, shelf) {
+    match run_files(rt, alloc, files, shelf, gate) {
         Ok(done) => leave_run(alloc, done, files.alerts, shelf, out),
         Err(fault) => Answer::stopped(alloc, fault),
     }
 }
 
 // Reads the files and runs what they hold.
-fn run_files<S: Shelf>(alloc: Global, files: RunFiles<'_>, shelf: &mut S) -> Result<Done, Fault>
+fn run_files<R, S, G>(
+    rt: &R,
+    alloc: Global,
+    files: RunFiles<'_>,
+    shelf: &mut S,
+    gate: &G,
+) -> Result<Done, Fault>
+where
+    R: Threads + Wait + Copy + Send + Sync + 'static,
+    S: Shelf,
+    G: Gate + Sync,
+    requires { IsSize files.size }
     ensures run { IfOk result (IsRunOfFiles (run_asked files.entry) (S.files shelf.old)) }
     ensures journals { IfOk result (λ done. length done.ran.journals ≡ worker_count done.ran.setup.job.nodes) }
     ensures counts { OnOk result (S.faults shelf.new ≡ S.faults shelf.old) }
@@ -43,5 +65,14 @@ fn run_files<S: Shelf>(alloc: Global, files: RunFiles<'_>, shelf: &mut S) -> Res
     let job = job_in(alloc, files.plan.job, shelf)?;
     let requests = requests_in(alloc, &job, files.plan.requests, shelf)?;
     let rows = rows_in(alloc, &job, files.payments, shelf)?;
-    Ok(run_rows(alloc, job, &requests, &rows, files.plan.ordered)?)
+    Ok(run_on_threads(
+        rt,
+        alloc,
+        gate,
+        files.size,
+        job,
+        &requests,
+        &rows,
+        files.plan.ordered,
+    )?)
 }

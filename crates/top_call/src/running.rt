@@ -1,32 +1,35 @@
 // What is run, and what a run leaves to be written.
-ghost use Rattle.std.specs.Prelude.{◌≡◌, IsTrue, Some, IfOk, length};
+ghost use Rattle.std.specs.Prelude.{◌≡◌, IsTrue, Some, IfOk, false, length};
 ghost use Rattle.std.specs.Result.{result_err};
 ghost use Rattle.jobs.specs.Job.{written};
 ghost use Rattle.jobs.specs.Nodes.{AreFromSources, worker_count};
 ghost use Rattle.job_file.specs.RequestSizes.{AreFew};
 ghost use Rattle.flow_model.specs.Record.{told};
 ghost use Rattle.flow_replay.specs.Order.{IsInOrder};
+ghost use Rattle.top_call.specs.Asked.{IsSize};
 ghost use Rattle.top_call.specs.Ends.{EndsAfterRun};
 ghost use Rattle.top_call.specs.Outside.{outside};
 ghost use Rattle.top_call.specs.Plan.{AreSame};
-ghost use Rattle.top_call.specs.Running.{alerts_of, files_of, run_lines as run_lines_of, serial_lines as serial_lines_of, summary_of as summary_of_done, IsRunOf};
+ghost use Rattle.top_call.specs.Running.{alerts_of, files_of, run_lines as run_lines_of, serial_lines as serial_lines_of, summary_of as summary_of_done, IsDoneOf, IsRunOf};
 ghost use Rattle.serial_order.specs.Serials.{serials};
 
 use crate::answer::Answer;
-use crate::counts::{alert_count, row_count};
-use crate::fault::Fault;
-use crate::lines::{Summary, summary_line};
+use crate::command::EngineSize;
 use crate::plan::setup_of;
-use crate::refused_lines::push_refused;
 use crate::writing::{Texts, write_texts};
+use flow_engine::run_flow;
 use flow_model::{RunRecord, ordered_runs_are_serial, runs_are_consistent};
 use flow_replay::plain_run;
 use jobs::Job;
+use lane_ring::RingLanes;
 use payments::{Shelf, Sink};
+use report::{Fault, Summary, alert_count, push_refused, row_count, summary_line};
 use serial_order::{Serial, push_serial_line, serial};
 use sink_journal::alerts_text;
 use std::alloc::Global;
-use tuple_trace::{Bytes, NoMemory, Rows, Word};
+use std::sync::Wait;
+use std::thread::Threads;
+use tuple_trace::{Bytes, Gate, NoMemory, Rows, Word};
 use versions::{Refusals, Requests};
 
 /// What was run.
@@ -41,25 +44,65 @@ pub struct Done {
     pub serial: Serial,
 }
 
-/// Judges the requests, and runs the rows and those that are accepted.
-pub fn run_rows(
+/// Judges the requests, and runs the rows and those that are accepted on one thread, one row after another.
+pub fn run_in_order(
     alloc: Global,
+    job: Job,
+    requests: &Requests,
+    rows: &Rows,
+) -> Result<Done, NoMemory>
+    requires few { AreFew requests.now }
+    requires sources { AreFromSources (written job) rows.now }
+    ensures run { IfOk result (IsRunOf AreSame false (written job) requests.now rows.now) }
+    ensures order { IfOk result (λ done. IsInOrder (length rows.now) (told done.ran)) }
+    ensures journals { IfOk result (λ done. length done.ran.journals ≡ worker_count done.ran.setup.job.nodes) }
+{
+    let setup = setup_of(alloc, job, requests, false)?;
+    runs_are_consistent(&setup, rows);
+    ordered_runs_are_serial(&setup, rows);
+    let ran = plain_run(alloc, setup, rows)?;
+    done_of(alloc, ran, requests, rows)
+}
+
+/// Judges the requests, and runs the rows and those that are accepted by an engine of this size.
+pub fn run_on_threads<R, G>(
+    rt: &R,
+    alloc: Global,
+    gate: &G,
+    size: EngineSize,
     job: Job,
     requests: &Requests,
     rows: &Rows,
     ordered: bool,
 ) -> Result<Done, NoMemory>
+where
+    R: Threads + Wait + Copy + Send + Sync + 'static,
+    G: Gate + Sync,
+    requires size { IsSize size }
     requires few { AreFew requests.now }
     requires sources { AreFromSources (written job) rows.now }
     ensures run { IfOk result (IsRunOf AreSame ordered (written job) requests.now rows.now) }
-    ensures order { IfOk result (λ done. IsInOrder (length rows.now) (told done.ran)) }
     ensures journals { IfOk result (λ done. length done.ran.journals ≡ worker_count done.ran.setup.job.nodes) }
 {
     let setup = setup_of(alloc, job, requests, ordered)?;
-    let refused = Refusals::from_slice(alloc, setup.judged.refused.as_slice())?;
     runs_are_consistent(&setup, rows);
     ordered_runs_are_serial(&setup, rows);
-    let ran = plain_run(alloc, setup, rows)?;
+    let EngineSize { threads, capacity } = size;
+    let flown = run_flow(rt, alloc, &RingLanes, setup, rows, threads, capacity, gate)?;
+    let ran = flown.record(alloc)?;
+    done_of(alloc, ran, requests, rows)
+}
+
+// What was run, with the refused requests, and in ordered mode the number of each row.
+fn done_of(
+    alloc: Global,
+    ran: RunRecord,
+    requests: &Requests,
+    rows: &Rows,
+) -> Result<Done, NoMemory>
+    ensures { IfOk result (IsDoneOf ran requests.now rows.now) }
+{
+    let refused = Refusals::from_slice(alloc, ran.setup.judged.refused.as_slice())?;
     let serial = serial_of(alloc, &ran, rows)?;
     Ok(Done {
         ran,

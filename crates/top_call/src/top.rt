@@ -1,11 +1,11 @@
 ghost use Rattle.std.specs.Prelude.{◌≡◌, IfNone, IfSome};
 ghost use Rattle.std.specs.Result.{result_err};
 ghost use Rattle.top_call.specs.Answers.{answer_of, Answers, AnswersUsage, Follows};
-ghost use Rattle.top_call.specs.Asked.{asked_by, asked_of, first_asked, plan_asked, run_asked};
+ghost use Rattle.top_call.specs.Asked.{IsSize, asked_by, asked_of, first_asked, plan_asked, run_asked};
 ghost use Rattle.top_call.specs.Check.{AnswersCheck, FollowsCheck};
 ghost use Rattle.top_call.specs.Ends.{stopped};
-ghost use Rattle.top_call.specs.FaultWords.{fault_line as fault_line_of};
-ghost use Rattle.top_call.specs.Faults.{status_for};
+ghost use Rattle.report.specs.FaultWords.{fault_line as fault_line_of};
+ghost use Rattle.report.specs.Faults.{status_for};
 ghost use Rattle.top_call.specs.First.{AnswersFirst, FollowsFirst};
 ghost use Rattle.top_call.specs.Outside.{outside, Prints, PrintsReport};
 ghost use Rattle.top_call.specs.Plan.{AnswersPlan, FollowsPlan};
@@ -14,15 +14,14 @@ ghost use Rattle.top_call.specs.Run.{AnswersRun, FollowsRun};
 use crate::answer::Answer;
 use crate::check::check_command;
 use crate::command::{Command, First, PlanFiles, RunFiles, command_of};
-use crate::fault::{Fault, FileIs};
 use crate::first::first_command;
-use crate::lines::fault_line;
 use crate::plan::plan_command;
 use crate::printing::print;
 use crate::run::run_command;
 use flow_model::RunRecord;
 use job_file::{faulty_is_no_job, files_have_one_fault};
 use payments::{Shelf, Sink};
+use report::{Fault, FileIs, fault_line};
 use std::alloc::Global;
 use std::sync::Wait;
 use std::thread::Threads;
@@ -46,14 +45,14 @@ pub struct Outcome {
 ///
 /// The words are those after the program's name. Files are reached by the shelf alone, and what is printed goes to `out`. A fault ends
 /// the call: nothing is done after it but to print its line, and once `out` has refused not even that. The statuses are those of
-/// [`Fault::status`]. The run stands on one thread, so no gate is called and no thread is started.
+/// [`Fault::status`]. `run` starts as many threads as its words ask for, and its workers call the gate.
 pub fn fries<R, S, O, G>(
-    _rt: &R,
+    rt: &R,
     alloc: Global,
     words: &[Word],
     shelf: &mut S,
     out: &mut O,
-    _gate: &G,
+    gate: &G,
 ) -> Outcome
 where
     R: Threads + Wait + Copy + Send + Sync + 'static,
@@ -78,7 +77,7 @@ where
         Some(Command::First(first)) => answer_first(alloc, first, shelf, out),
         Some(Command::Check(job)) => answer_check(alloc, job, shelf, out),
         Some(Command::Plan(files)) => answer_plan(alloc, files, shelf, out),
-        Some(Command::Run(files)) => answer_run(alloc, files, shelf, out),
+        Some(Command::Run(files)) => answer_run(rt, alloc, files, shelf, out, gate),
         None => answer_usage(alloc, out),
     };
     let status = status_of(&answer);
@@ -164,12 +163,20 @@ fn answer_plan<S: Shelf, O: Sink>(
     answer
 }
 
-fn answer_run<S: Shelf, O: Sink>(
+fn answer_run<R, S, O, G>(
+    rt: &R,
     alloc: Global,
     files: RunFiles<'_>,
     shelf: &mut S,
     out: &mut O,
+    gate: &G,
 ) -> Answer
+where
+    R: Threads + Wait + Copy + Send + Sync + 'static,
+    S: Shelf,
+    O: Sink,
+    G: Gate + Sync,
+    requires sized { IsSize files.size }
     ensures answers { AnswersRun (run_asked files.entry)
         (outside (S.files shelf.old) (S.faults shelf.old) (S.target shelf.old) (O.written out.old) (O.faults out.old))
         (outside (S.files shelf.new) (S.faults shelf.new) (S.target shelf.new) (O.written out.new) (O.faults out.new))
@@ -181,7 +188,7 @@ fn answer_run<S: Shelf, O: Sink>(
 {
     faulty_is_no_job();
     files_have_one_fault();
-    let answer = run_command(alloc, files, shelf, out);
+    let answer = run_command(rt, alloc, files, shelf, out, gate);
     report(alloc, answer.fault, out);
     answer
 }

@@ -5,9 +5,9 @@ ghost use Rattle.top_call.specs.Ends.{EndsStoring};
 ghost use Rattle.top_call.specs.Outside.{outside, StoresNot};
 ghost use Rattle.top_call.specs.Running.{alerts_file};
 
-use crate::fault::{Fault, FileIs};
 use crate::printing::print;
 use payments::{Shelf, ShelfFault, Sink, store};
+use report::{Fault, FileIs};
 use tuple_trace::{Bytes, Word};
 
 /// What a run leaves to be written.

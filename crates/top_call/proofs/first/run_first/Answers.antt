@@ -17,12 +17,12 @@ returns-clause-run g c =
     let asked = first_asked c.args.first in
     let files = g.S.Shelf.files c.args.shelf.now in
     let rows = c.in_ok-rows.rows in
-    let done = c.in_ok-run_rows.field-0 in
+    let done = c.in_ok-run_in_order.field-0 in
     let job : written c.in_ok-job.job ≡ asked_job asked = search rules in
     let requests : c.in_ok-requests.requests ≡ first_request asked.after asked.least_after ∷ [] = search rules in
-    let run : IsRunOf AreSame false (asked_job asked) (first_request asked.after asked.least_after ∷ []) rows done = rw (← job, ← requests) c.in_ok-run_rows.ensures.run in
+    let run : IsRunOf AreSame false (asked_job asked) (first_request asked.after asked.least_after ∷ []) rows done = rw (← job, ← requests) c.in_ok-run_in_order.ensures.run in
     first_runs asked files rows done
     (subst (λ (w : Written). AreRowsOf files asked.payments w rows) job c.in_ok-rows.ensures.rows)
     (subst AreRows c.rows.view_is c.rows.invariant)
     (subst (λ (w : Written). AreFromSources w rows) job c.in_ok-rows.ensures.sources)
-    run c.in_ok-run_rows.ensures.order
+    run c.in_ok-run_in_order.ensures.order

@@ -1,0 +1,3 @@
+pub mod Faults
+pub mod FaultWords
+pub mod Lines

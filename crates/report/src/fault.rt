@@ -1,0 +1,120 @@
+ghost use Rattle.std.specs.Prelude.{◌≡◌};
+ghost use Rattle.report.specs.Faults.{job_fault, payments_fault, requests_fault, status_of as status_of_fault};
+ghost use Rattle.report.specs.Faults.{limit_of};
+ghost use Rattle.report.specs.declared.fault.Fault.TheVariants.{NoMemory as OutOfMemory};
+
+use job_file::{JobFault, ReqFileFault};
+use payments::PFault;
+use std::alloc::AllocError;
+use tuple_trace::NoMemory;
+
+/// A file or stream that the program reads or writes.
+#[derive(Clone, Copy, Debug, PartialEq, Eq)]
+pub enum FileIs {
+    Job,
+    Requests,
+    Payments,
+    Alerts,
+    /// The standard output.
+    Out,
+}
+
+impl FileIs {
+    /// How many bytes of the file are read at most: none of one that is only written.
+    pub fn limit(self) -> u64
+        ensures { result ≡ limit_of self }
+    {
+        match self {
+            FileIs::Job | FileIs::Requests => 1_048_576,
+            FileIs::Payments => 67_108_864,
+            FileIs::Alerts | FileIs::Out => 0,
+        }
+    }
+}
+
+/// Why a command wasn't done to its end.
+#[derive(Clone, Copy, Debug, PartialEq, Eq)]
+pub enum Fault {
+    /// The words have no form that the program knows.
+    Usage,
+    /// The job file was read and is refused.
+    Job(JobFault),
+    /// The request file was read and is refused.
+    Requests(ReqFileFault),
+    /// The payments were read and are refused.
+    Payments(PFault),
+    /// A file couldn't be read.
+    Read(FileIs),
+    /// A file couldn't be made or written, or the standard output refused.
+    Write(FileIs),
+    NoMemory,
+    /// A file is longer than the program reads.
+    Long(FileIs),
+}
+
+impl Fault {
+    /// The status that the program ends with.
+    pub fn status(self) -> u8
+        ensures { result ≡ status_of_fault self }
+    {
+        match self {
+            Fault::Usage => 1,
+            Fault::Job(_) => 2,
+            Fault::Requests(_) => 3,
+            Fault::Payments(_) => 4,
+            Fault::Read(_) => 5,
+            Fault::Write(_) => 6,
+            Fault::NoMemory => 7,
+            Fault::Long(_) => 9,
+        }
+    }
+}
+
+impl From<NoMemory> for Fault {
+    ghost from_gives = { λ _ e. e ≡ OutOfMemory };
+
+    fn from(_: NoMemory) -> Self {
+        Fault::NoMemory
+    }
+}
+
+impl From<AllocError> for Fault {
+    ghost from_gives = { λ _ e. e ≡ OutOfMemory };
+
+    fn from(_: AllocError) -> Self {
+        Fault::NoMemory
+    }
+}
+
+impl From<JobFault> for Fault {
+    ghost from_gives = { λ p e. e ≡ job_fault p };
+
+    fn from(fault: JobFault) -> Self {
+        match fault {
+            JobFault::NoMemory => Fault::NoMemory,
+            refused => Fault::Job(refused),
+        }
+    }
+}
+
+impl From<ReqFileFault> for Fault {
+    ghost from_gives = { λ p e. e ≡ requests_fault p };
+
+    fn from(fault: ReqFileFault) -> Self {
+        match fault {
+            ReqFileFault::NoMemory => Fault::NoMemory,
+            refused => Fault::Requests(refused),
+        }
+    }
+}
+
+impl From<PFault> for Fault {
+    ghost from_gives = { λ p e. e ≡ payments_fault p };
+
+    fn from(fault: PFault) -> Self {
+        match fault {
+            PFault::NoMemory => Fault::NoMemory,
+            refused => Fault::Payments(refused),
+        }
+    }
+}

@@ -1,0 +1,190 @@
+// The lines of the plans of requests.
+ghost use Rattle.std.specs.Prelude.{◌≡◌, ◌<◌, ◌≤◌, ◌++◌, IfOk, OnOk, length, slice_get};
+ghost use Rattle.flow_dag.specs.Masks.{has};
+ghost use Rattle.jobs.specs.Job.{written};
+ghost use Rattle.report.specs.Lines.{edge_name as edge_name_of, edge_names as edge_names_of, is_part as is_part_of, listed as listed_of, name_of, node_names as node_names_of, part_count as part_count_of, plan_line, plan_lines};
+
+use cover_planner::Plan;
+use flow_dag::{Edge, has_bit, has_wide_bit};
+use jobs::{Job, NodeDef};
+use std::alloc::Global;
+use tuple_trace::{Bytes, Items, NoMemory};
+
+/// Texts in a row.
+type Texts = Items<Bytes>;
+
+/// Appends the lines of the plans of a job's requests, which are counted from 1.
+pub fn push_plans(
+    alloc: Global,
+    job: &Job,
+    plans: &[Plan],
+    text: &mut Bytes,
+) -> Result<(), NoMemory>
+    ensures { OnOk result (text.new ≡ text.old ++ plan_lines (written job.now) plans.now) }
+{
+    for (place, plan) in plans.iter().enumerate() {
+        push_plan(alloc, job, place as u64 + 1, plan, text)?;
+    }
+    Ok(())
+}
+
+fn push_plan(
+    alloc: Global,
+    job: &Job,
+    request: u64,
+    plan: &Plan,
+    text: &mut Bytes,
+) -> Result<(), NoMemory>
+    ensures { OnOk result (text.new ≡ text.old ++ plan_line (written job.now) request plan.now) }
+{
+    let (nodes, edges) = (job.nodes.as_slice(), job.dag.all_edges());
+    let parts = part_count(&plan.part);
+    push(
+        text,
+        b"request ",
+        format!(in alloc; "{request}")?.as_bytes(),
+    )?;
+    push(
+        text,
+        b" asked ",
+        node_list(alloc, nodes, plan.asked)?.as_slice(),
+    )?;
+    push(
+        text,
+        b" members ",
+        node_list(alloc, nodes, plan.members)?.as_slice(),
+    )?;
+    push(
+        text,
+        b" heads ",
+        node_list(alloc, nodes, plan.heads)?.as_slice(),
+    )?;
+    push(text, b" parts ", format!(in alloc; "{parts}")?.as_bytes())?;
+    push(
+        text,
+        b" edges ",
+        edge_list(alloc, nodes, edges, plan.edges)?.as_slice(),
+    )?;
+    text.extend_from_slice(b"\n")?;
+    Ok(())
+}
+
+fn push(text: &mut Bytes, label: &[u8], words: &[u8]) -> Result<(), NoMemory>
+    ensures { OnOk result (text.new ≡ text.old ++ label.now ++ words.now) }
+{
+    text.extend_from_slice(label)?;
+    text.extend_from_slice(words)
+}
+
+fn node_list(alloc: Global, nodes: &[NodeDef], mask: u64) -> Result<Bytes, NoMemory>
+    requires { length nodes.now ≤ 64 }
+    ensures { IfOk result (λ list. list ≡ listed_of (node_names_of nodes.now mask)) }
+{
+    let names = node_names(alloc, nodes, mask)?;
+    listed(alloc, names.as_slice())
+}
+
+fn edge_list(
+    alloc: Global,
+    nodes: &[NodeDef],
+    edges: &[Edge],
+    mask: u128,
+) -> Result<Bytes, NoMemory>
+    requires { length edges.now ≤ 128 }
+    ensures { IfOk result (λ list. list ≡ listed_of (edge_names_of nodes.now edges.now mask)) }
+{
+    let names = edge_names(alloc, nodes, edges, mask)?;
+    listed(alloc, names.as_slice())
+}
+
+// The texts with commas between them, and a dash where there are none.
+#[tactic(auto, using(crate::proofs::ListLemmas::join_two))]
+fn listed(alloc: Global, texts: &[Bytes]) -> Result<Bytes, NoMemory>
+    ensures { IfOk result (λ list. list ≡ listed_of texts.now) }
+{
+    let Some((first, later)) = texts.split_first() else {
+        return Bytes::from_slice(alloc, b"-");
+    };
+    let mut list = Bytes::from_slice(alloc, first.as_slice())?;
+    for text in later {
+        push(&mut list, b",", text.as_slice())?;
+    }
+    Ok(list)
+}
+
+fn node_names(alloc: Global, nodes: &[NodeDef], mask: u64) -> Result<Texts, NoMemory>
+    requires { length nodes.now ≤ 64 }
+    ensures { IfOk result (λ names. names ≡ node_names_of nodes.now mask) }
+{
+    let mut names = Texts::new(alloc);
+    for (number, node) in nodes.iter().enumerate() {
+        if has_node(mask, number as u32) {
+            names.push(Bytes::from_slice(alloc, node.name.as_slice())?)?;
+        }
+    }
+    Ok(names)
+}
+
+fn edge_names(
+    alloc: Global,
+    nodes: &[NodeDef],
+    edges: &[Edge],
+    mask: u128,
+) -> Result<Texts, NoMemory>
+    requires { length edges.now ≤ 128 }
+    ensures { IfOk result (λ names. names ≡ edge_names_of nodes.now edges.now mask) }
+{
+    let mut names = Texts::new(alloc);
+    for (number, edge) in edges.iter().enumerate() {
+        if has_edge(mask, number as u32) {
+            names.push(edge_name(alloc, nodes, edge)?)?;
+        }
+    }
+    Ok(names)
+}
+
+fn has_node(mask: u64, number: u32) -> bool
+    requires { number < 64 }
+    ensures { result ≡ has mask number }
+{
+    has_bit(mask, number)
+}
+
+fn has_edge(mask: u128, number: u32) -> bool
+    requires { number < 128 }
+    ensures { result ≡ has mask number }
+{
+    has_wide_bit(mask, number)
+}
+
+#[tactic(auto, unfolding(crate::specs::Lines::edge_name))]
+fn edge_name(alloc: Global, nodes: &[NodeDef], edge: &Edge) -> Result<Bytes, NoMemory>
+    ensures { IfOk result (λ name. name ≡ edge_name_of nodes.now edge.now) }
+{
+    let mut name = Bytes::from_slice(alloc, name_at(nodes, edge.from))?;
+    push(&mut name, b"-", name_at(nodes, edge.to))?;
+    Ok(name)
+}
+
+fn name_at(nodes: &[NodeDef], number: u32) -> &[u8]
+    ensures { result.now ≡ name_of (slice_get nodes.now number) }
+{
+    match nodes.get(number as usize) {
+        Some(node) => node.name.as_slice(),
+        None => &[],
+    }
+}
+
+fn part_count(parts: &[u8]) -> usize
+    ensures { result ≡ part_count_of parts.now }
+{
+    (0..parts.len())
+        .filter(|number| is_part(parts, *number))
+        .count()
+}
+
+fn is_part(parts: &[u8], number: usize) -> bool
+    ensures { result ≡ is_part_of parts.now number }
+{
+    parts.iter().any(|part| *part as usize == number)
+}

@@ -1,0 +1,19 @@
+use Rattle.std.proofs.Common.{◌∙◌, ap, false}
+use Rattle.std.proofs.lemmas.Result.{IfOk-weaker}
+use Rattle.jobs.specs.Job.{written}
+use Rattle.flow_model.specs.Record.{told}
+use Rattle.top_call.proofs.RunLemmas.{is_run_of, journals_of}
+use Rattle.top_call.proofs.running.run_in_order.Goals as goal
+
+pub returns-clause-run : goal.returns-clause-run
+returns-clause-run c =
+    IfOk-weaker c.done_of.result _ _ (λ done of. is_run_of false (written c.args.job) c.args.requests.now c.args.rows.now c.in_ok-setup.setup c.in_ok-ran.ran done c.in_ok-setup.ensures
+    (record { consistent = c.runs_are_consistent.ensures; prefix = c.ordered_runs_are_serial.ensures.prefix; serial = c.ordered_runs_are_serial.ensures.landings })
+    c.requires.sources c.in_ok-ran.ensures.same c.in_ok-ran.ensures.run of) c.done_of.ensures
+
+pub returns-clause-journals : goal.returns-clause-journals
+returns-clause-journals c =
+    IfOk-weaker c.done_of.result _ _ (λ done of. journals_of c.in_ok-setup.setup c.args.requests.now c.args.rows.now c.in_ok-ran.ran done c.in_ok-ran.ensures.run of) c.done_of.ensures
+
+pub returns-clause-order : goal.returns-clause-order
+returns-clause-order c = IfOk-weaker c.done_of.result _ _ (λ done of. rw of.ran_is c.in_ok-ran.ensures.order) c.done_of.ensures
