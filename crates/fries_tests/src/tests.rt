@@ -8,8 +8,10 @@ mod plan;
 mod run;
 mod texts;
 mod told;
+mod ways;
+mod words;
 
-use crate::tests::told::tells;
+use crate::tests::told::{tells, tells_feed, tells_turns};
 use flow_model::RunRecord;
 use payments::{Calls, MemoryShelf, MemorySink};
 use std::alloc::Global;
@@ -45,6 +47,24 @@ pub enum Wanted<'a> {
     Text(&'a str),
 }
 
+/// What of a record is compared.
+///
+/// That of `first` is determined as a whole. Of the engine's only some lines are: the rest depends on
+/// how the threads are scheduled.
+#[derive(Clone, Copy)]
+pub enum Ran<'a> {
+    /// There is no record.
+    Nothing,
+    /// There is one.
+    Something,
+    /// All lines.
+    Lines(&'a str),
+    /// The lines of the feed.
+    Feed(&'a str),
+    /// The lines of the turns.
+    Turns(&'a str),
+}
+
 /// What a call is to leave.
 #[derive(Clone, Copy)]
 pub struct Left<'a> {
@@ -54,7 +74,7 @@ pub struct Left<'a> {
     /// What is printed.
     pub out: &'a str,
     /// What the record tells, if there is one.
-    pub ran: Wanted<'a>,
+    pub ran: Ran<'a>,
 }
 
 impl<'a> Left<'a> {
@@ -64,7 +84,7 @@ impl<'a> Left<'a> {
             status,
             alerts: Wanted::Nothing,
             out,
-            ran: Wanted::Nothing,
+            ran: Ran::Nothing,
         }
     }
 
@@ -74,7 +94,7 @@ impl<'a> Left<'a> {
             status,
             alerts: Wanted::Text(alerts),
             out,
-            ran: Wanted::Something,
+            ran: Ran::Something,
         }
     }
 }
@@ -162,10 +182,12 @@ fn outcome_leaves(
     )
 }
 
-fn is_ran(alloc: Global, ran: &Option<RunRecord>, wanted: Wanted<'_>) -> Result<bool, NoMemory> {
+fn is_ran(alloc: Global, ran: &Option<RunRecord>, wanted: Ran<'_>) -> Result<bool, NoMemory> {
     match (ran, wanted) {
-        (None, Wanted::Nothing) | (Some(_), Wanted::Something) => Ok(true),
-        (Some(ran), Wanted::Text(lines)) => tells(alloc, ran, lines),
+        (None, Ran::Nothing) | (Some(_), Ran::Something) => Ok(true),
+        (Some(ran), Ran::Lines(lines)) => tells(alloc, ran, lines),
+        (Some(ran), Ran::Feed(lines)) => tells_feed(alloc, ran, lines),
+        (Some(ran), Ran::Turns(lines)) => tells_turns(alloc, ran, lines),
         _ => Ok(false),
     }
 }

@@ -1,12 +1,11 @@
 use crate::tests::run::{RUN, run_leaves};
 use crate::tests::texts::{CHAIN, FOUR_PAYMENTS};
-use crate::tests::{Around, Left, Wanted, alerts_on, shelf_leaves, shelf_of};
+use crate::tests::{Around, Left, Ran, Wanted, alerts_on, shelf_leaves, shelf_of};
 use flow_replay::{FuncTable, Landing, alone};
 use job_file::read_job;
 use jobs::{ColumnKind, Job};
 use payments::read_rows;
 use std::alloc::Global;
-use std::ops::Range;
 use std::sync::Wait;
 use std::thread::Threads;
 use tuple_trace::{Bytes, NoMemory, Row, Rows, Txt, Value};
@@ -148,20 +147,20 @@ fn push_alone(
     Ok(())
 }
 
-/// Adds the alerts of these rows, counted from 0, where each is sent through this job by itself.
+/// Adds the alerts of the rows whose flag is `old`. Each is sent through this job by itself.
 fn push_rows(
     alloc: Global,
     job: &str,
-    sink: &str,
-    payments: &str,
-    rows: Range<usize>,
+    rows: ByThemselves<'_>,
+    olds: &[bool],
+    old: bool,
     lines: &mut Lines,
 ) -> Result<(), NoMemory> {
     let job = job_of(alloc, job)?;
-    let all = rows_of(alloc, &job, payments)?;
-    for (place, row) in all.as_slice().iter().enumerate() {
-        if rows.contains(&place) {
-            push_alone(alloc, &job, sink, row, lines)?;
+    let all = rows_of(alloc, &job, rows.payments)?;
+    for (row, is_old) in all.as_slice().iter().zip(olds) {
+        if *is_old == old {
+            push_alone(alloc, &job, rows.sink, row, lines)?;
         }
     }
     Ok(())
@@ -190,32 +189,27 @@ fn same_lines(some: &[Txt], others: &[Txt]) -> bool {
             .all(|line| times(some, line) == times(others, line))
 }
 
-/// Rows that are sent through a job by themselves: those below `turn` through the old one, the others through the new one.
+/// Rows that are sent through a job by themselves: each through the old one if its flag is set, else
+/// through the new one.
 #[derive(Clone, Copy)]
 struct ByThemselves<'a> {
     old: &'a str,
     new: &'a str,
     sink: &'a str,
     payments: &'a str,
-    turn: usize,
+    /// The flags of all rows, in each way that may be.
+    ways: &'a [[bool; 4]],
 }
 
-/// The alerts of these rows.
-fn wanted(alloc: Global, rows: ByThemselves<'_>) -> Result<Lines, NoMemory> {
-    let ByThemselves {
-        old,
-        new,
-        sink,
-        payments,
-        turn,
-    } = rows;
+/// The alerts of these rows with these flags.
+fn wanted(alloc: Global, rows: ByThemselves<'_>, olds: &[bool]) -> Result<Lines, NoMemory> {
     let mut lines = Vec::new(alloc);
-    push_rows(alloc, old, sink, payments, 0..turn, &mut lines)?;
-    push_rows(alloc, new, sink, payments, turn..usize::MAX, &mut lines)?;
+    push_rows(alloc, rows.old, rows, olds, true, &mut lines)?;
+    push_rows(alloc, rows.new, rows, olds, false, &mut lines)?;
     Ok(lines)
 }
 
-/// Whether the alerts are a header and those of these rows, in any order.
+/// Whether the alerts are a header and those of these rows in one of the ways, in any order.
 fn are_alerts(alloc: Global, alerts: &Bytes, rows: ByThemselves<'_>) -> Result<bool, NoMemory> {
     let lines = lines_of(alloc, alerts.as_slice())?;
     match lines.split_first() {
@@ -225,7 +219,20 @@ fn are_alerts(alloc: Global, alerts: &Bytes, rows: ByThemselves<'_>) -> Result<b
 }
 
 fn are_wanted(alloc: Global, lines: &[Txt], rows: ByThemselves<'_>) -> Result<bool, NoMemory> {
-    let wanted = wanted(alloc, rows)?;
+    let mut found = false;
+    for olds in rows.ways {
+        found |= are_these(alloc, lines, rows, olds)?;
+    }
+    Ok(found)
+}
+
+fn are_these(
+    alloc: Global,
+    lines: &[Txt],
+    rows: ByThemselves<'_>,
+    olds: &[bool],
+) -> Result<bool, NoMemory> {
+    let wanted = wanted(alloc, rows, olds)?;
     Ok(same_lines(lines, &wanted))
 }
 
@@ -254,12 +261,20 @@ fn prints(out: &str) -> Left<'_> {
         status: 0,
         alerts: Wanted::Something,
         out,
-        ran: Wanted::Something,
+        ran: Ran::Something,
     }
 }
 
-/// Whether `run` of the wide job agrees with its rows by themselves: the first two by the job, the others by one with the step that requests
-/// give the map on the first way.
+/// Rows 1 and 2 may be old, rows 3 and 4 are new.
+const WAYS_OF_ROWS: [[bool; 4]; 4] = [
+    [false, false, false, false],
+    [false, true, false, false],
+    [true, false, false, false],
+    [true, true, false, false],
+];
+
+/// Whether `run` of the wide job agrees with its rows by themselves. The new job has this step in the
+/// map on the first way.
 fn wide_agrees<R>(
     rt: &R,
     alloc: Global,
@@ -296,7 +311,7 @@ where
         new,
         sink: "out",
         payments: PIECES,
-        turn: 2,
+        ways: &WAYS_OF_ROWS,
     };
     agrees(rt, alloc, Around::of(&files), &RUN, out, rows)
 }
@@ -344,7 +359,7 @@ fn four_payments_by_themselves(rt: HostRuntime) {
         new: CHAIN,
         sink: "alerts",
         payments: FOUR_PAYMENTS,
-        turn: 4,
+        ways: &[[true; 4]],
     };
     let out = "rows 4 alerts 2 requests 1 refused 0\n";
     assert!(rt;

@@ -1,5 +1,5 @@
 use crate::tests::texts::{FOUR_ALERTS, FOUR_PAYMENTS, HEADER, THREE_ALERTS, TWO_ALERTS};
-use crate::tests::{Around, Left, Wanted, leaves};
+use crate::tests::{Around, Left, Ran, Wanted, leaves};
 use std::alloc::Global;
 use std::sync::Wait;
 use std::thread::Threads;
@@ -85,7 +85,7 @@ fn four_payments(rt: HostRuntime) {
         status: 0,
         alerts: Wanted::Text(THREE_ALERTS),
         out: "rows 4 alerts 3 requests 1 refused 0\n",
-        ran: Wanted::Text(BETWEEN_ROWS),
+        ran: Ran::Lines(BETWEEN_ROWS),
     };
     assert!(rt; first_leaves(&rt, rt.alloc(), &FIRST, left));
 }
@@ -104,7 +104,7 @@ fn request_after_the_last_row(rt: HostRuntime) {
         status: 0,
         alerts: Wanted::Text(TWO_ALERTS),
         out: "rows 4 alerts 2 requests 1 refused 0\n",
-        ran: Wanted::Text(BEHIND_ALL_ROWS),
+        ran: Ran::Lines(BEHIND_ALL_ROWS),
     };
     assert!(rt; first_leaves(&rt, rt.alloc(), &words, left));
 }
@@ -135,56 +135,6 @@ alerts,1,a,\"A, \"\"B\"\" Ltd\",150.00,x;y
 fn marked_payments(rt: HostRuntime) {
     let left = Left::run(0, MARKED_ALERTS, "rows 1 alerts 1 requests 1 refused 0\n");
     assert!(rt; payments_leave(&rt, rt.alloc(), MARKED, &FIRST, left));
-}
-
-const FAULTY_WORDS: [&[&str]; 25] = [
-    &[],
-    &["check"],
-    &["check", "job.toml", "more"],
-    &["check", "-job"],
-    &["check", ""],
-    &["plan", "job.toml"],
-    &["plan", "job.toml", "-requests"],
-    &["plan", "job.toml", "requests.toml", "--order"],
-    &["plan", "job.toml", "--ordered", "requests.toml"],
-    &["check", "job.toml", "--ordered"],
-    &["run", "job.toml"],
-    &["run", "job.toml", "requests.toml", "pay.csv"],
-    &["run", "job.toml", "requests.toml", "pay.csv", ""],
-    &["first"],
-    &["run", "pay.csv", "alerts.csv", "10000", "2", "5000"],
-    &["First", "pay.csv", "alerts.csv", "10000", "2", "5000"],
-    &["first", "", "alerts.csv", "10000", "2", "5000"],
-    &["first", "pay.csv", "-alerts", "10000", "2", "5000"],
-    &["first", "pay.csv", "alerts.csv", "-1", "2", "5000"],
-    &["first", "pay.csv", "alerts.csv", "100.00", "2", "5000"],
-    &[
-        "first",
-        "pay.csv",
-        "alerts.csv",
-        "9223372036854775808",
-        "2",
-        "5000",
-    ],
-    &["first", "pay.csv", "alerts.csv", "10000", "1048577", "5000"],
-    &["first", "pay.csv", "alerts.csv", "10000", "2", ""],
-    &["first", "pay.csv", "alerts.csv", "10000", "2"],
-    &[
-        "first",
-        "pay.csv",
-        "alerts.csv",
-        "10000",
-        "2",
-        "5000",
-        "more",
-    ],
-];
-
-#[test]
-fn faulty_words(rt: HostRuntime) {
-    for words in FAULTY_WORDS {
-        assert!(rt; first_leaves(&rt, rt.alloc(), words, Left::lines(1, "fault 1 usage\n")));
-    }
 }
 
 const GREATEST: [&str; 6] = [
@@ -252,7 +202,7 @@ fn refusals_of_the_outside(rt: HostRuntime) {
         status: 6,
         alerts: Wanted::Nothing,
         out: "fault 6 alerts\n",
-        ran: Wanted::Something,
+        ran: Ran::Something,
     };
     assert!(rt;
         failing_leaves(&rt, rt.alloc(), &[1], &[], unmade),

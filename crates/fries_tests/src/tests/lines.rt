@@ -2,8 +2,8 @@
 
 use job_file::{JobFault, Named, Part, ReqFileFault, Which};
 use payments::PFault;
+use report::{Fault, FileIs, fault_line};
 use std::alloc::Global;
-use top_call::{Fault, FileIs, fault_line};
 
 const LINES: [(Fault, &str); 20] = [
     (Fault::Job(JobFault::NotToml), "fault 2 J1\n"),

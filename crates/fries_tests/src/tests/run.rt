@@ -1,8 +1,8 @@
 use crate::tests::texts::{
-    CHAIN, COPIES, FOUR_ALERTS, FOUR_PAYMENTS, HEADER, PAYMENTS, PAYMENTS_ALERTS,
-    PAYMENTS_REQUESTS, TEN_PAYMENTS, THREE_ALERTS, TWO_ALERTS,
+    CHAIN, FOUR_ALERTS, FOUR_PAYMENTS, HEADER, PAYMENTS, PAYMENTS_ALERTS, PAYMENTS_REQUESTS,
+    TEN_PAYMENTS,
 };
-use crate::tests::{Around, Left, Wanted, leaves};
+use crate::tests::{Around, Left, leaves};
 use std::alloc::Global;
 use std::sync::Wait;
 use std::thread::Threads;
@@ -43,33 +43,6 @@ fn header_alone(rt: HostRuntime) {
     assert!(rt; run_leaves(&rt, rt.alloc(), CHAIN, "", payments, left));
 }
 
-/// After which row the filter's threshold falls, and what that leaves.
-const FALLS: [(u64, &str, &str); 3] = [
-    (0, FOUR_ALERTS, "rows 4 alerts 4 requests 1 refused 0\n"),
-    (2, THREE_ALERTS, "rows 4 alerts 3 requests 1 refused 0\n"),
-    (99, TWO_ALERTS, "rows 4 alerts 2 requests 1 refused 0\n"),
-];
-
-#[test]
-fn four_payments(rt: HostRuntime) {
-    for (after, alerts, summary) in FALLS {
-        let left = Left::run(0, alerts, summary);
-        assert!(rt;
-            matches!(lowered_leaves(&rt, rt.alloc(), after, left), Ok(true)),
-            "{summary}"
-        );
-    }
-}
-
-/// Whether the four payments leave this where the threshold falls after this row.
-fn lowered_leaves<R>(rt: &R, alloc: Global, after: u64, left: Left<'_>) -> Result<bool, NoMemory>
-where
-    R: Threads + Wait + Copy + Send + Sync + 'static,
-{
-    let requests = format!(in alloc; "[[request]]\nafter = {after}\n{LOWER}")?;
-    Ok(run_leaves(rt, alloc, CHAIN, &requests, FOUR_PAYMENTS, left))
-}
-
 /// Lets payments from 50.00 on pass.
 const LOWER: &str = r#"
 [[request.change]]
@@ -79,7 +52,61 @@ kind = "filter"
 when = [["amount", ">=", 5000]]
 "#;
 
-/// Whether the four payments leave this where two requests let the threshold fall.
+/// Whether these payments leave this if the filter's threshold falls after a row.
+fn lowered_leaves<R>(
+    rt: &R,
+    alloc: Global,
+    after: u64,
+    payments: &str,
+    left: Left<'_>,
+) -> Result<bool, NoMemory>
+where
+    R: Threads + Wait + Copy + Send + Sync + 'static,
+{
+    let requests = format!(in alloc; "[[request]]\nafter = {after}\n{LOWER}")?;
+    Ok(run_leaves(rt, alloc, CHAIN, &requests, payments, left))
+}
+
+#[test]
+fn request_before_the_first_row(rt: HostRuntime) {
+    let left = Left::run(0, FOUR_ALERTS, "rows 4 alerts 4 requests 1 refused 0\n");
+    assert!(rt;
+        matches!(
+            lowered_leaves(&rt, rt.alloc(), 0, FOUR_PAYMENTS, left),
+            Ok(true)
+        )
+    );
+}
+
+/// Two payments for which both thresholds decide the same way, and two for which they don't.
+///
+/// A request may overtake the rows before it, so nothing else about their alerts is determined.
+const TWO_AND_TWO: &str = "source,account,merchant,amount,tags
+card,a,m,120.00,
+card,b,m,30.00,
+card,c,m,50.00,
+card,d,m,99.99,
+";
+
+const ALERTS_OF_TWO_AND_TWO: &str = "sink,row,account,merchant,amount,tags
+alerts,1,a,m,120.00,
+alerts,3,c,m,50.00,
+alerts,4,d,m,99.99,
+";
+
+#[test]
+fn later_rows_meet_the_request(rt: HostRuntime) {
+    let lines = "rows 4 alerts 3 requests 1 refused 0\n";
+    let left = Left::run(0, ALERTS_OF_TWO_AND_TWO, lines);
+    assert!(rt;
+        matches!(
+            lowered_leaves(&rt, rt.alloc(), 2, TWO_AND_TWO, left),
+            Ok(true)
+        )
+    );
+}
+
+/// Whether those four payments leave this if two requests let the threshold fall.
 fn lowered_twice_leaves<R>(rt: &R, alloc: Global, left: Left<'_>) -> Result<bool, NoMemory>
 where
     R: Threads + Wait + Copy + Send + Sync + 'static,
@@ -87,97 +114,20 @@ where
     let requests = format!(in alloc;
         "[[request]]\nafter = 2\n{LOWER}\n[[request]]\nafter = 3\n{LOWER}"
     )?;
-    Ok(run_leaves(rt, alloc, CHAIN, &requests, FOUR_PAYMENTS, left))
+    Ok(run_leaves(rt, alloc, CHAIN, &requests, TWO_AND_TWO, left))
 }
 
 #[test]
 fn stale_request(rt: HostRuntime) {
     let lines = "refused 2 Q4 change 1 current 1\nrows 4 alerts 3 requests 2 refused 1\n";
-    let left = Left::run(8, THREE_ALERTS, lines);
+    let left = Left::run(8, ALERTS_OF_TWO_AND_TWO, lines);
     assert!(rt; matches!(lowered_twice_leaves(&rt, rt.alloc(), left), Ok(true)));
 }
 
-/// What is told of the ten payments. Worker 0 is `rate`, 1 is `big`, 2 is `hot`, 3 and 4 are those of `tally`, 5 is `review`, 6 is `often` and 7 is
-/// `watch`.
-const TEN_TOLD: &str = "fed 1
-fed 2
-fed 3
-fed 4
-issued 1
-fed 5
-fed 6
-fed 7
-fed 8
-issued 2
-fed 9
-fed 10
-stopped
-0 met 1
-0 met 2
-0 met 3
-0 met 4
-0 met 5
-0 met 6
-0 met 7
-0 met 8
-0 met 9
-0 met 10
-0 ended
-0 ended
-1 met 1
-1 met 2
-1 met 3
-1 met 4
-1 turned 1
-1 met 5
-1 met 6
-1 met 7
-1 met 8
-1 met 9
-1 met 10
-1 ended
-2 met 2
-2 met 3
-2 marked 1
-2 turned 1
-2 met 5
-2 met 6
-2 met 7
-2 ended
-3 met 4
-3 ended
-4 met 1
-4 met 8
-4 met 9
-4 met 10
-4 ended
-5 met 2
-5 met 6
-5 ended
-6 met 1
-6 met 4
-6 met 8
-6 turned 2
-6 met 9
-6 met 10
-6 ended
-6 ended
-7 met 9
-7 met 10
-7 ended
-3 counts 1 dee
-4 counts 2 ann
-4 counts 2 gus
-";
-
 #[test]
 fn payments_job(rt: HostRuntime) {
-    let left = Left {
-        status: 8,
-        alerts: Wanted::Text(PAYMENTS_ALERTS),
-        out: "refused 3 Q4 change 1 current 1\nrows 10 alerts 4 requests 3 refused 1\n",
-        ran: Wanted::Text(TEN_TOLD),
-    };
+    let lines = "refused 3 Q4 change 1 current 1\nrows 10 alerts 4 requests 3 refused 1\n";
+    let left = Left::run(8, PAYMENTS_ALERTS, lines);
     assert!(rt;
         run_leaves(
             &rt,
@@ -242,137 +192,6 @@ alerts,1,a,\"A, \"\"B\"\" Ltd\",150.00,
 fn quoted_merchant(rt: HostRuntime) {
     let left = Left::run(0, QUOTED_ALERTS, "rows 1 alerts 1 requests 0 refused 0\n");
     assert!(rt; run_leaves(&rt, rt.alloc(), CHAIN, "", QUOTED, left));
-}
-
-/// Two requests that wait for the same row.
-const TWO_REQUESTS: &str = r#"
-[[request]]
-after = 3
-change = [{ node = "x", from = 0, kind = "map", steps = [["amount", "add", "amount", 1]] }]
-[[request]]
-after = 3
-change = [{ node = "y", from = 0, kind = "map", steps = [["amount", "sub", "amount", 1]] }]
-"#;
-
-/// A filter with a map on each of its two ways.
-const TWO_WAYS: &str = r#"
-columns = ["amount:cents"]
-node = [
-  { name = "card", kind = "source" },
-  { name = "g", kind = "filter", when = [["amount", ">=", 100]] },
-  { name = "x", kind = "map", steps = [] },
-  { name = "y", kind = "map", steps = [] },
-  { name = "out", kind = "sink", columns = ["amount"] },
-]
-edge = [
-  { from = "card", to = "g" },
-  { from = "g", to = "x" },
-  { from = "g", port = 1, to = "y" },
-  { from = "x", to = "out" },
-  { from = "y", to = "out" },
-]
-"#;
-
-/// What is told of five payments on two ways. Worker 0 is `g`, 1 is `x`, 2 is `y` and 3 is `out`.
-const TWO_WAYS_TOLD: &str = "fed 1
-fed 2
-fed 3
-issued 1
-issued 2
-fed 4
-fed 5
-stopped
-0 met 1
-0 met 2
-0 met 3
-0 met 4
-0 met 5
-0 ended
-1 met 1
-1 met 3
-1 turned 1
-1 met 5
-1 ended
-2 met 2
-2 turned 2
-2 met 4
-2 ended
-3 met 1
-3 met 2
-3 met 3
-3 met 4
-3 met 5
-3 ended
-3 ended
-";
-
-const TWO_WAYS_ALERTS: &str = "sink,row,amount
-out,1,1.00
-out,2,0.50
-out,3,2.00
-out,4,0.49
-out,5,3.01
-";
-
-#[test]
-fn two_requests_after_one_row(rt: HostRuntime) {
-    let payments = "source,amount\ncard,1\ncard,0.50\ncard,2\ncard,0.50\ncard,3\n";
-    let left = Left {
-        status: 0,
-        alerts: Wanted::Text(TWO_WAYS_ALERTS),
-        out: "rows 5 alerts 5 requests 2 refused 0\n",
-        ran: Wanted::Text(TWO_WAYS_TOLD),
-    };
-    assert!(rt; run_leaves(&rt, rt.alloc(), TWO_WAYS, TWO_REQUESTS, payments, left));
-}
-
-/// Adds a cent on the way of one of two copies, after row 1.
-const ON_ONE_COPY: &str = r#"
-[[request]]
-after = 1
-change = [{ node = "a", from = 0, kind = "map", steps = [["amount", "add", "amount", 1]] }]
-"#;
-
-const COPIES_ALERTS: &str = "sink,row,amount
-o,1,1.00
-o,2,2.01
-p,1,1.00
-p,2,2.00
-";
-
-/// What is told of two copied payments. Worker 0 is `r`, 1 is `a`, 2 is `b`, 3 is `o` and 4 is `p`.
-const COPIES_TOLD: &str = "fed 1
-issued 1
-fed 2
-stopped
-0 met 1
-0 met 2
-0 ended
-1 met 1
-1 turned 1
-1 met 2
-1 ended
-2 met 1
-2 met 2
-2 ended
-3 met 1
-3 met 2
-3 ended
-4 met 1
-4 met 2
-4 ended
-";
-
-#[test]
-fn copies_that_do_not_meet(rt: HostRuntime) {
-    let left = Left {
-        status: 0,
-        alerts: Wanted::Text(COPIES_ALERTS),
-        out: "rows 2 alerts 4 requests 1 refused 0\n",
-        ran: Wanted::Text(COPIES_TOLD),
-    };
-    let payments = "source,amount\ncard,1\ncard,2\n";
-    assert!(rt; run_leaves(&rt, rt.alloc(), COPIES, ON_ONE_COPY, payments, left));
 }
 
 /// The first request of the payments job, before the first row.

@@ -11,6 +11,37 @@ pub fn tells(alloc: Global, ran: &RunRecord, lines: &str) -> Result<bool, NoMemo
     Ok(told(alloc, ran)?.as_slice() == lines.as_bytes())
 }
 
+/// Whether these are the lines of the feed of a record.
+pub fn tells_feed(alloc: Global, ran: &RunRecord, lines: &str) -> Result<bool, NoMemory> {
+    let mut feed = Bytes::new(alloc);
+    push_feeds(alloc, ran.feeds.as_slice(), &mut feed)?;
+    Ok(feed.as_slice() == lines.as_bytes())
+}
+
+/// Whether these are the lines of the turns of a record.
+pub fn tells_turns(alloc: Global, ran: &RunRecord, lines: &str) -> Result<bool, NoMemory> {
+    let mut turns = Bytes::new(alloc);
+    for (worker, journal) in ran.journals.as_slice().iter().enumerate() {
+        push_turns(alloc, worker, journal.as_slice(), &mut turns)?;
+    }
+    Ok(turns.as_slice() == lines.as_bytes())
+}
+
+fn push_turns(
+    alloc: Global,
+    worker: usize,
+    journal: &[Entry],
+    lines: &mut Bytes,
+) -> Result<(), NoMemory> {
+    for entry in journal {
+        if let Entry::Turned { request } = entry {
+            let line = format!(in alloc; "{worker} turned {request}\n")?;
+            lines.extend_from_slice(line.as_bytes())?;
+        }
+    }
+    Ok(())
+}
+
 // The feed, then worker by worker its journal and its counts.
 fn told(alloc: Global, ran: &RunRecord) -> Result<Bytes, NoMemory> {
     let mut lines = Bytes::new(alloc);

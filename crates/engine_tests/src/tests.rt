@@ -1,0 +1,161 @@
+mod gates;
+mod lines;
+mod overtaking;
+mod plain;
+mod schedules;
+mod seen;
+mod side_by_side;
+mod texts;
+
+use crate::tests::seen::{Seen, Wanted, are_wanted, is_printed, met_before_turn};
+use payments::{Calls, MemoryShelf, MemorySink};
+use std::alloc::Global;
+use std::sync::Wait;
+use std::thread::Threads;
+use top_call::{Outcome, fries};
+use tuple_trace::{Bytes, Gate, NoMemory, Word};
+
+/// What `run` is called with: the texts of its files, and the numbers of its options.
+#[derive(Clone, Copy)]
+pub struct Input<'a> {
+    pub job: &'a str,
+    pub requests: &'a str,
+    pub payments: &'a str,
+    pub threads: &'a str,
+    pub capacity: &'a str,
+}
+
+const ALERTS: &str = "alerts.csv";
+
+/// Calls `run` with this gate, over files in memory, and sees whether it leaves what is wanted.
+pub fn run<R, G>(
+    rt: &R,
+    alloc: Global,
+    gate: &G,
+    input: Input<'_>,
+    wanted: Wanted<'_>,
+) -> Result<Seen, NoMemory>
+where
+    R: Threads + Wait + Copy + Send + Sync + 'static,
+    G: Gate + Sync,
+{
+    let words = [
+        "run",
+        "job.toml",
+        "requests.toml",
+        "payments.csv",
+        ALERTS,
+        "--threads",
+        input.threads,
+        "--capacity",
+        input.capacity,
+    ];
+    let words = words_of(alloc, &words)?;
+    run_words(rt, alloc, gate, input, &words, wanted)
+}
+
+fn run_words<R, G>(
+    rt: &R,
+    alloc: Global,
+    gate: &G,
+    input: Input<'_>,
+    words: &[Word],
+    wanted: Wanted<'_>,
+) -> Result<Seen, NoMemory>
+where
+    R: Threads + Wait + Copy + Send + Sync + 'static,
+    G: Gate + Sync,
+{
+    let mut shelf = shelf_of(alloc, input)?;
+    run_over(rt, alloc, gate, words, &mut shelf, wanted)
+}
+
+fn run_over<R, G>(
+    rt: &R,
+    alloc: Global,
+    gate: &G,
+    words: &[Word],
+    shelf: &mut MemoryShelf,
+    wanted: Wanted<'_>,
+) -> Result<Seen, NoMemory>
+where
+    R: Threads + Wait + Copy + Send + Sync + 'static,
+    G: Gate + Sync,
+{
+    let mut out = MemorySink::new(alloc, Calls::new(alloc));
+    let outcome = call(rt, alloc, words, shelf, &mut out, gate);
+    see(alloc, &outcome, out.written(), shelf, wanted)
+}
+
+// The top call. It stands in a function without clauses, since a caller of its contract is dear to
+// prove.
+fn call<R, G>(
+    rt: &R,
+    alloc: Global,
+    words: &[Word],
+    shelf: &mut MemoryShelf,
+    out: &mut MemorySink,
+    gate: &G,
+) -> Outcome
+where
+    R: Threads + Wait + Copy + Send + Sync + 'static,
+    G: Gate + Sync,
+{
+    fries(rt, alloc, words, shelf, out, gate)
+}
+
+fn see(
+    alloc: Global,
+    outcome: &Outcome,
+    printed: &[u8],
+    shelf: &MemoryShelf,
+    wanted: Wanted<'_>,
+) -> Result<Seen, NoMemory> {
+    let ended = outcome.status == wanted.status && is_printed(printed, wanted.printed);
+    let name = word(alloc, ALERTS)?;
+    Ok(Seen {
+        is_wanted: ended && are_wanted(bytes_of(shelf.get(&name)), wanted.alerts),
+        met: [
+            met_before_turn(&outcome.ran, 0),
+            met_before_turn(&outcome.ran, 1),
+        ],
+    })
+}
+
+fn bytes_of(file: Option<&Bytes>) -> &[u8] {
+    match file {
+        Some(bytes) => bytes.as_slice(),
+        None => &[],
+    }
+}
+
+fn words_of(alloc: Global, texts: &[&str]) -> Result<Vec<Word>, NoMemory> {
+    let mut words = Vec::new(alloc);
+    for text in texts {
+        words.push(word(alloc, text)?)?;
+    }
+    Ok(words)
+}
+
+fn word(alloc: Global, text: &str) -> Result<Word, NoMemory> {
+    Ok(Word::from_string(text.to_string(alloc)?))
+}
+
+fn shelf_of(alloc: Global, input: Input<'_>) -> Result<MemoryShelf, NoMemory> {
+    let files = [
+        ("job.toml", input.job),
+        ("requests.toml", input.requests),
+        ("payments.csv", input.payments),
+    ];
+    let mut shelf = MemoryShelf::new(alloc, 1_000_000, Calls::new(alloc));
+    for (name, text) in files {
+        put(alloc, name, text, &mut shelf)?;
+    }
+    Ok(shelf)
+}
+
+fn put(alloc: Global, name: &str, text: &str, shelf: &mut MemoryShelf) -> Result<(), NoMemory> {
+    let name = word(alloc, name)?;
+    let bytes = Bytes::from_slice(alloc, text.as_bytes())?;
+    shelf.put(name, bytes).map_err(|_| NoMemory)
+}

@@ -1,0 +1,117 @@
+use crate::tests::seen::{Alerts, Wanted};
+use crate::tests::texts::{PAYMENTS, PAYMENTS_ALERTS, PAYMENTS_REQUESTS, TEN_PAYMENTS};
+use crate::tests::{Input, run};
+use std::alloc::Global;
+use std::sync::Wait;
+use std::thread::Threads;
+use tuple_trace::OpenGate;
+
+const THREADS: [&str; 4] = ["1", "2", "4", "16"];
+
+const CAPACITIES: [&str; 4] = ["1", "2", "16", "64"];
+
+const PAYMENTS_LEAVE: Wanted<'static> = Wanted {
+    status: 8,
+    printed: Some("refused 3 Q4 change 1 current 1\nrows 10 alerts 4 requests 3 refused 1\n"),
+    alerts: Alerts::Text(PAYMENTS_ALERTS),
+};
+
+/// Whether the payments job leaves its alerts.
+fn payments_end<R>(rt: &R, alloc: Global, threads: &str, capacity: &str) -> bool
+where
+    R: Threads + Wait + Copy + Send + Sync + 'static,
+{
+    let input = Input {
+        job: PAYMENTS,
+        requests: PAYMENTS_REQUESTS,
+        payments: TEN_PAYMENTS,
+        threads,
+        capacity,
+    };
+    match run(rt, alloc, &OpenGate, input, PAYMENTS_LEAVE) {
+        Ok(seen) => seen.is_wanted,
+        Err(_) => false,
+    }
+}
+
+#[test]
+fn payments_job(rt: HostRuntime) {
+    for threads in THREADS {
+        for capacity in CAPACITIES {
+            assert!(rt;
+                payments_end(&rt, rt.alloc(), threads, capacity),
+                "{threads} {capacity}"
+            );
+        }
+    }
+}
+
+/// Rows of `p` go over `a` to `b`, rows of `q` go to `b` at once.
+const BESIDE: &str = r#"
+columns = ["amount:cents"]
+node = [
+  { name = "p", kind = "source" },
+  { name = "q", kind = "source" },
+  { name = "a", kind = "map", steps = [] },
+  { name = "b", kind = "map", steps = [] },
+  { name = "out", kind = "sink", columns = ["amount"] },
+]
+edge = [
+  { from = "p", to = "a" },
+  { from = "a", to = "b" },
+  { from = "q", to = "b" },
+  { from = "b", to = "out" },
+]
+"#;
+
+/// Changes both maps, after row 2.
+const BOTH_MAPS: &str = r#"
+[[request]]
+after = 2
+change = [
+  { node = "a", from = 0, kind = "map", steps = [["amount", "add", "amount", 1]] },
+  { node = "b", from = 0, kind = "map", steps = [["amount", "add", "amount", 10]] },
+]
+"#;
+
+/// Rows 1, 2 and 4 meet old or new functions, and row 1 the old or the new ones at both maps. Row 3
+/// was fed after the request, so it meets the new ones.
+const BESIDE_LEAVES: Wanted<'static> = Wanted {
+    status: 0,
+    printed: Some("rows 4 alerts 4 requests 1 refused 0\n"),
+    alerts: Alerts::OneOf(&[
+        ("out,1,1.00", "out,1,1.11"),
+        ("out,2,2.00", "out,2,2.10"),
+        ("out,3,3.11", "none"),
+        ("out,4,4.00", "out,4,4.10"),
+    ]),
+};
+
+fn beside_ends<R>(rt: &R, alloc: Global, threads: &str, capacity: &str) -> bool
+where
+    R: Threads + Wait + Copy + Send + Sync + 'static,
+{
+    let input = Input {
+        job: BESIDE,
+        requests: BOTH_MAPS,
+        payments: "source,amount\np,1\nq,2\np,3\nq,4\n",
+        threads,
+        capacity,
+    };
+    match run(rt, alloc, &OpenGate, input, BESIDE_LEAVES) {
+        Ok(seen) => seen.is_wanted && matches!(seen.met, [Some(_), Some(_)]),
+        Err(_) => false,
+    }
+}
+
+#[test]
+fn beside_the_head(rt: HostRuntime) {
+    for threads in THREADS {
+        for capacity in CAPACITIES {
+            assert!(rt;
+                beside_ends(&rt, rt.alloc(), threads, capacity),
+                "{threads} {capacity}"
+            );
+        }
+    }
+}
