@@ -2,6 +2,7 @@ mod change_cases;
 mod changing;
 mod edge_cases;
 mod files;
+mod func_cases;
 mod job_cases;
 mod judging;
 mod kinds;

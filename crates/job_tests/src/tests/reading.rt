@@ -1,6 +1,6 @@
 // Job files, and the first fault of each.
 use super::files::{CHAIN, PAYMENTS, ROOF};
-use super::{edge_cases, job_cases, joined};
+use super::{edge_cases, func_cases, job_cases, joined};
 use job_file::{JobFault, faulty_is_no_job, files_have_one_fault, read_job};
 use jobs::{
     Job, functions_fit, jobs_have_one_fault, refused_is_unlawful, roofs_hold, weight,
@@ -77,6 +77,13 @@ fn answer_with_name(alloc: Global, name: &str) -> Answer {
 #[test]
 fn faults_and_where_they_stand(rt: HostRuntime) {
     for (text, piece, want) in job_cases::CASES.iter().copied() {
+        assert_eq!(rt; answer_to(rt.alloc(), text, piece), want, "at {piece}");
+    }
+}
+
+#[test]
+fn functions_are_refused_where_they_stand(rt: HostRuntime) {
+    for (text, piece, want) in func_cases::CASES.iter().copied() {
         assert_eq!(rt; answer_to(rt.alloc(), text, piece), want, "at {piece}");
     }
 }
