@@ -4,3 +4,4 @@ mod cases;
 mod fixtures;
 mod outside;
 mod rows;
+mod sure;

@@ -5,3 +5,4 @@ pub mod Memory
 pub mod Reading
 pub mod Records
 pub mod Spelling
+pub mod Sure

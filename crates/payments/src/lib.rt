@@ -12,10 +12,12 @@ mod read;
 mod records;
 mod row;
 mod spelling;
+mod sure;
 mod whole;
 
 pub use host::{HostShelf, StdOut};
 pub use memory::{Calls, MemoryShelf, MemorySink};
 pub use outside::{Shelf, ShelfFault, Sink, SinkFault};
 pub use read::{PFault, read_rows};
+pub use sure::{SureShelf, SureSink};
 pub use whole::{store, write_all};
