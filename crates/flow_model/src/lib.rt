@@ -37,9 +37,10 @@ pub use laws::{
     setups_are_planned, sources_are_unentered, workers_have_few_lanes,
 };
 pub use ordered::ordered_runs_are_serial;
-pub use record::{RunRecord, States};
+pub use record::RunRecord;
 pub use runs::{
     runs_are_fresh, runs_are_one_table, runs_are_whole, runs_keep_steady, workers_keep_steady,
 };
 pub use setup::{Plans, Setup};
+pub use sink_journal::States;
 pub use topology::{Lane, LaneNumbers, OutEdge, OutEdges, Topology, WorkerAt};

@@ -1,12 +1,7 @@
 ghost use Rattle.std.specs.Prelude.{◌≡◌, ◌<◌, Some, length, slice_get};
 
 use crate::Setup;
-use keyed_state::Keyed;
-use sink_journal::{Feeds, Journal, Journals};
-use tuple_trace::Items;
-
-/// The counts of all workers, in the order of the workers.
-pub type States = Items<Keyed>;
+use sink_journal::{Feeds, Journal, Journals, States};
 
 /// What a run leaves: what the feeder did, what each worker did, and the counts of each worker at the end.
 #[derive(Drop)]

@@ -1,5 +1,6 @@
-ghost use Rattle.std.specs.Prelude.{◌≡◌, ◌++◌, ◌∷◌, [], OnOk, IfSome, Some, slice_get};
+ghost use Rattle.std.specs.Prelude.{◌≡◌, ◌++◌, ◌∷◌, [], OnOk, IfSome, Some, slice_get, string_bytes};
 ghost use Rattle.csv.specs.Records.{fields_of};
+ghost use Rattle.sink_journal.specs.Audit.{dotted};
 ghost use Rattle.sink_journal.specs.Printed.{cell};
 
 use csv::ByteRecord;
@@ -76,6 +77,18 @@ impl Cells {
         Ok(())
     }
 
+    /// Appends a cell with these numbers, and dots between them.
+    pub(crate) fn push_dotted(&mut self, numbers: &[u32]) -> Result<(), NoMemory>
+        ensures { OnOk result (self.new ≡ self.old ++ dotted numbers.now ∷ []) }
+    {
+        write_dotted(&mut self.digits, numbers)?;
+        if self.raw.push_field(self.digits.as_bytes()).is_err() {
+            self.raw.clear();
+            return Err(NoMemory);
+        }
+        Ok(())
+    }
+
     /// Appends a cell with the field at a place as a column of this kind shows it, or an empty cell where the column isn't shown.
     pub(crate) fn push_field(
         &mut self,
@@ -93,6 +106,21 @@ impl Cells {
             None => self.push(b""),
         }
     }
+}
+
+// Makes a text of these numbers, with dots between them.
+fn write_dotted(text: &mut String, numbers: &[u32]) -> Result<(), NoMemory>
+    ensures { OnOk result (string_bytes text.new ≡ dotted numbers.now) }
+{
+    text.clear();
+    let Some((first, later)) = numbers.split_first() else {
+        return Ok(());
+    };
+    write!(text, "{first}")?;
+    for number in later {
+        write!(text, ".{number}")?;
+    }
+    Ok(())
 }
 
 /// A number of cents. It prints as an optional `-`, the whole part, a point and two digits.

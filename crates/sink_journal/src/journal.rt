@@ -1,3 +1,4 @@
+use keyed_state::Keyed;
 use tuple_trace::{Items, Tuple};
 
 /// One step of a worker. A lane is given by its number among all lanes of the job.
@@ -18,6 +19,9 @@ pub type Journal = Items<Entry>;
 
 /// The journals of all workers: node by node in the order of the nodes, and the workers of a node by their places. Sources have none.
 pub type Journals = Items<Journal>;
+
+/// The counts that the workers hold at the end, in the order of [`Journals`].
+pub type States = Items<Keyed>;
 
 /// One step of the feeder.
 #[derive(Clone, Copy, Debug, PartialEq, Eq)]

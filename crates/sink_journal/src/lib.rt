@@ -4,9 +4,11 @@
 #![tactic(auto)]
 
 mod alerts;
+mod audit;
 mod cells;
 mod journal;
 mod sheet;
 
 pub use alerts::alerts_text;
-pub use journal::{Entry, Feed, Feeds, Journal, Journals};
+pub use audit::{Noted, RefusalCode, audit_text};
+pub use journal::{Entry, Feed, Feeds, Journal, Journals, States};
