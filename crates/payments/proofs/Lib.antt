@@ -4,4 +4,5 @@ pub mod RecordLemmas
 pub mod Rest
 pub mod RowLemmas
 pub mod LimitLemmas
+pub mod MadeLemmas
 pub mod SpellingLemmas

@@ -1,6 +1,7 @@
 pub mod Causes
 pub mod Files
 pub mod Host
+pub mod Made
 pub mod Memory
 pub mod Reading
 pub mod Records

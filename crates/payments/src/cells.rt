@@ -118,7 +118,8 @@ fn value_of(
     }
 }
 
-fn first_value(alloc: Global, kind: ColumnKind) -> Value
+/// What an own column starts as.
+pub(crate) fn first_value(alloc: Global, kind: ColumnKind) -> Value
     ensures { result ≡ first_value_of kind }
 {
     match kind {

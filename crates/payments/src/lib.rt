@@ -6,6 +6,7 @@
 
 mod cells;
 mod host;
+mod make;
 mod memory;
 mod outside;
 mod read;
@@ -16,6 +17,7 @@ mod sure;
 mod whole;
 
 pub use host::{HostShelf, StdOut};
+pub use make::make_rows;
 pub use memory::{Calls, MemoryShelf, MemorySink};
 pub use outside::{Shelf, ShelfFault, Sink, SinkFault};
 pub use read::{PFault, read_rows};
