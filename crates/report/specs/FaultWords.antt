@@ -23,6 +23,7 @@ file_words file.Job = codes "job"
 file_words file.Requests = codes "requests"
 file_words file.Payments = codes "payments"
 file_words file.Alerts = codes "alerts"
+file_words file.Audit = codes "audit"
 file_words file.Out = codes "out"
 
 abbrev pub part_words : Part → List ℕ

@@ -54,4 +54,5 @@ limit_of file.Job = 1048576
 limit_of file.Requests = 1048576
 limit_of file.Payments = 67108864
 limit_of file.Alerts = 0
+limit_of file.Audit = 0
 limit_of file.Out = 0

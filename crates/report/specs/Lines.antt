@@ -14,6 +14,8 @@ use Rattle.sink_journal.specs.declared.journal.Entry.{Entry}
 use Rattle.sink_journal.specs.declared.journal.Feed.{Feed}
 use Rattle.sink_journal.specs.declared.journal.Feed.TheVariants as feed
 use Rattle.sink_journal.specs.Alerts.{met}
+use Rattle.sink_journal.specs.Audit.{code_word}
+use Rattle.sink_journal.specs.declared.audit.Noted.{Noted}
 use Rattle.versions.specs.declared.fault.QFault.{QFault}
 use Rattle.versions.specs.declared.fault.QFault.TheVariants as refusal
 use Rattle.versions.specs.declared.in_order.Refused.{Refused}
@@ -118,17 +120,37 @@ plan_lines job plans = flat_map (λ (request, plan). plan_line job request plan)
 
 -- ---- requests that are refused
 
+-- the number of the code by which a request is refused
+abbrev pub code_of : QFault → ℕ
+code_of (refusal.NoNode change) = 1
+code_of (refusal.Fixed change) = 2
+code_of (refusal.NodeTwice change) = 3
+code_of (refusal.Stale change current) = 4
+code_of (refusal.IllTyped change) = 5
+code_of (refusal.KindOrKey change) = 6
+code_of (refusal.BadCarry change) = 7
+code_of refusal.Empty = 8
+code_of (refusal.Backwards last) = 9
+
+-- what stands behind the code: what the fault names
+abbrev pub named_by : QFault → List ℕ
+named_by (refusal.NoNode change) = codes " change " ++ decimal change
+named_by (refusal.Fixed change) = codes " change " ++ decimal change
+named_by (refusal.NodeTwice change) = codes " change " ++ decimal change
+named_by (refusal.Stale change current) = codes " change " ++ decimal change ++ codes " current " ++ decimal current
+named_by (refusal.IllTyped change) = codes " change " ++ decimal change
+named_by (refusal.KindOrKey change) = codes " change " ++ decimal change
+named_by (refusal.BadCarry change) = codes " change " ++ decimal change
+named_by refusal.Empty = []
+named_by (refusal.Backwards last) = codes " last " ++ decimal last
+
 -- why a request is refused: a code, and what it names
 abbrev pub refusal_words : QFault → List ℕ
-refusal_words (refusal.NoNode change) = codes "Q1 change " ++ decimal change
-refusal_words (refusal.Fixed change) = codes "Q2 change " ++ decimal change
-refusal_words (refusal.NodeTwice change) = codes "Q3 change " ++ decimal change
-refusal_words (refusal.Stale change current) = codes "Q4 change " ++ decimal change ++ codes " current " ++ decimal current
-refusal_words (refusal.IllTyped change) = codes "Q5 change " ++ decimal change
-refusal_words (refusal.KindOrKey change) = codes "Q6 change " ++ decimal change
-refusal_words (refusal.BadCarry change) = codes "Q7 change " ++ decimal change
-refusal_words refusal.Empty = codes "Q8"
-refusal_words (refusal.Backwards last) = codes "Q9 last " ++ decimal last
+refusal_words fault = code_word (code_of fault) ++ named_by fault
+
+-- a refused request, as an audit notes it
+abbrev pub noted : Refused → Noted
+noted refused = record { place = refused.place; code = code_of refused.fault }
 
 -- the line of a refused request
 abbrev pub refused_line : Refused → List ℕ

@@ -15,6 +15,7 @@ pub enum FileIs {
     Requests,
     Payments,
     Alerts,
+    Audit,
     /// The standard output.
     Out,
 }
@@ -27,7 +28,7 @@ impl FileIs {
         match self {
             FileIs::Job | FileIs::Requests => 1_048_576,
             FileIs::Payments => 67_108_864,
-            FileIs::Alerts | FileIs::Out => 0,
+            FileIs::Alerts | FileIs::Audit | FileIs::Out => 0,
         }
     }
 }

@@ -31,6 +31,7 @@ impl fmt::Display for FileIs {
             FileIs::Requests => write!(f, "requests"),
             FileIs::Payments => write!(f, "payments"),
             FileIs::Alerts => write!(f, "alerts"),
+            FileIs::Audit => write!(f, "audit"),
             FileIs::Out => write!(f, "out"),
         }
     }

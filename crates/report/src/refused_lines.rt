@@ -1,7 +1,8 @@
 // The lines of requests that are refused.
-ghost use Rattle.std.specs.Prelude.{◌≡◌, ◌++◌, Some, IfOk, OnOk, string_bytes};
-ghost use Rattle.report.specs.Lines.{refusal_words, refused_line as refused_line_of, refused_lines};
+ghost use Rattle.std.specs.Prelude.{◌≡◌, ◌++◌, Some, IfOk, OnOk, map, string_bytes};
+ghost use Rattle.report.specs.Lines.{code_of as code_of_fault, noted as noted_as, refusal_words, refused_line as refused_line_of, refused_lines};
 
+use sink_journal::{Noted, RefusalCode};
 use std::alloc::Global;
 use std::fmt;
 use tuple_trace::{Bytes, NoMemory};
@@ -15,17 +16,54 @@ impl fmt::Display for RefusalWords {
     ghost output = { λ refusal. Some (refusal_words refusal.0) };
 
     fn fmt<W: fmt::Write>(&self, f: &mut fmt::Formatter<W>) -> fmt::Result {
+        let code = RefusalCode(code_of(self.0));
         match self.0 {
-            QFault::NoNode(change) => write!(f, "Q1 change {change}"),
-            QFault::Fixed(change) => write!(f, "Q2 change {change}"),
-            QFault::NodeTwice(change) => write!(f, "Q3 change {change}"),
-            QFault::Stale(change, current) => write!(f, "Q4 change {change} current {current}"),
-            QFault::IllTyped(change) => write!(f, "Q5 change {change}"),
-            QFault::KindOrKey(change) => write!(f, "Q6 change {change}"),
-            QFault::BadCarry(change) => write!(f, "Q7 change {change}"),
-            QFault::Empty => write!(f, "Q8"),
-            QFault::Backwards(last) => write!(f, "Q9 last {last}"),
+            QFault::NoNode(change)
+            | QFault::Fixed(change)
+            | QFault::NodeTwice(change)
+            | QFault::IllTyped(change)
+            | QFault::KindOrKey(change)
+            | QFault::BadCarry(change) => write!(f, "{code} change {change}"),
+            QFault::Stale(change, current) => {
+                write!(f, "{code} change {change} current {current}")
+            }
+            QFault::Empty => write!(f, "{code}"),
+            QFault::Backwards(last) => write!(f, "{code} last {last}"),
         }
+    }
+}
+
+// The number of the code by which a request is refused, 1 to 9.
+fn code_of(fault: QFault) -> u8
+    ensures { result ≡ code_of_fault fault }
+{
+    match fault {
+        QFault::NoNode(_) => 1,
+        QFault::Fixed(_) => 2,
+        QFault::NodeTwice(_) => 3,
+        QFault::Stale(..) => 4,
+        QFault::IllTyped(_) => 5,
+        QFault::KindOrKey(_) => 6,
+        QFault::BadCarry(_) => 7,
+        QFault::Empty => 8,
+        QFault::Backwards(_) => 9,
+    }
+}
+
+/// Notes refused requests for the audit of a run, in their order.
+pub fn noted(alloc: Global, refused: &[Refused]) -> Result<Vec<Noted>, NoMemory>
+    ensures { IfOk result (λ noted. noted.items ≡ map noted_as refused.now) }
+{
+    let noted = refused.iter().map(|refused| note(*refused)).collect(alloc)?;
+    Ok(noted)
+}
+
+fn note(refused: Refused) -> Noted
+    ensures { result ≡ noted_as refused }
+{
+    Noted {
+        place: refused.place,
+        code: code_of(refused.fault),
     }
 }
 
