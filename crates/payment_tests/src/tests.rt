@@ -1,5 +1,6 @@
 mod alerts;
 mod applied;
+mod audit;
 mod cases;
 mod fixtures;
 mod outside;

@@ -1,0 +1,133 @@
+// The text of an audit.
+use job_file::read_job;
+use jobs::{Job, worker_count};
+use keyed_state::Keyed;
+use payments::read_rows;
+use sink_journal::{Entry, Feed, Feeds, Journal, Journals, Noted, States, audit_text};
+use std::alloc::Global;
+use tuple_trace::{Bytes, NoMemory, Tuple, Txt};
+
+/// A source, a count of two workers and a sink. The lanes 0 and 1 lead to the count, and 2 and 3 from
+/// it to the sink.
+const COUNT: &str = r#"
+columns = ["account:text", "seen:number:own"]
+node = [
+  { name = "card", kind = "source" },
+  { name = "tally", kind = "count", workers = 2, key = "account", add = 1, into = "seen" },
+  { name = "out", kind = "sink", columns = [] },
+]
+edge = [
+  { from = "card", to = "tally" },
+  { from = "tally", to = "out" },
+]
+"#;
+
+const REFUSED: [Noted; 2] = [Noted { place: 2, code: 4 }, Noted { place: 64, code: 9 }];
+
+const FEEDS: [Feed; 4] = [Feed::Fed(1), Feed::Issued(1), Feed::Fed(2), Feed::Stopped];
+
+/// The counts of the first worker of `tally`. The others have none.
+const COUNTS: [(&str, i64); 3] = [("b", -7), ("a,\"x", i64::MAX), ("a", 2)];
+
+const AUDIT: &str = r#"entry,node,worker,lane,number,extra
+refused,,,,2,Q4
+refused,,,,64,Q9
+fed,,,,1,
+issued,,,,1,
+fed,,,,2,
+stopped,,,,,
+met,tally,0,0,1,
+marked,tally,0,0,1,
+turned,tally,0,,1,
+ended,tally,0,0,,
+state,tally,0,,2,a
+state,tally,0,,9223372036854775807,"a,""x"
+state,tally,0,,-7,b
+ended,tally,1,1,,
+met,out,0,2,1,2
+met,out,0,3,1,3.0.12
+ended,out,0,2,,
+ended,out,0,3,,
+"#;
+
+// The tuple of the one row.
+fn tuple_of(alloc: Global, job: &Job) -> Result<Tuple, NoMemory> {
+    let Ok(rows) = read_rows(alloc, job, b"source,account\ncard,ann\n") else {
+        return Err(NoMemory);
+    };
+    match rows.as_slice().first() {
+        Some(row) => row.tuple.copy(),
+        None => Err(NoMemory),
+    }
+}
+
+// The entry of a tuple that was born so.
+fn met(tuple: &Tuple, lane: u32, birth: &[u32]) -> Result<Entry, NoMemory> {
+    let mut tuple = tuple.copy()?;
+    for index in birth {
+        tuple = tuple.child(*index)?;
+    }
+    Ok(Entry::Met { lane, tuple })
+}
+
+fn journals_of(alloc: Global, tuple: &Tuple) -> Result<Journals, NoMemory> {
+    let mut first = Journal::new(alloc);
+    first.push(met(tuple, 0, &[])?)?;
+    first.push(Entry::Marked {
+        lane: 0,
+        request: 1,
+    })?;
+    first.push(Entry::Turned { request: 1 })?;
+    first.push(Entry::Ended { lane: 0 })?;
+    let mut second = Journal::new(alloc);
+    second.push(Entry::Ended { lane: 1 })?;
+    let mut sink = Journal::new(alloc);
+    sink.push(met(tuple, 2, &[2])?)?;
+    sink.push(met(tuple, 3, &[3, 0, 12])?)?;
+    sink.push(Entry::Ended { lane: 2 })?;
+    sink.push(Entry::Ended { lane: 3 })?;
+    Ok(Journals::from_vec(Vec::from_array(alloc, [first, second, sink])?))
+}
+
+fn states_of(alloc: Global) -> Result<States, NoMemory> {
+    let mut counts = Keyed::new(alloc);
+    for (key, count) in COUNTS {
+        counts.bump(&Txt::from_slice(alloc, key.as_bytes())?, count)?;
+    }
+    Ok(States::from_vec(Vec::from_array(alloc, [counts, Keyed::new(alloc), Keyed::new(alloc)])?))
+}
+
+fn text_of(
+    alloc: Global,
+    job: &Job,
+    journals: &Journals,
+    states: &States,
+) -> Result<Bytes, NoMemory> {
+    let count = worker_count(job);
+    if journals.len() as u64 != count || states.len() as u64 != count {
+        return Err(NoMemory);
+    }
+    let feeds = Feeds::from_slice(alloc, &FEEDS)?;
+    audit_text(alloc, job, &REFUSED, &feeds, journals, states)
+}
+
+fn audit_of(alloc: Global) -> Result<Bytes, NoMemory> {
+    let Ok(job) = read_job(alloc, COUNT.as_bytes()) else {
+        return Err(NoMemory);
+    };
+    let journals = journals_of(alloc, &tuple_of(alloc, &job)?)?;
+    let states = states_of(alloc)?;
+    text_of(alloc, &job, &journals, &states)
+}
+
+fn is_audit(alloc: Global, text: &str) -> bool {
+    match audit_of(alloc) {
+        Ok(audit) => audit.as_slice() == text.as_bytes(),
+        Err(_) => false,
+    }
+}
+
+#[test]
+fn audit_of_each_kind_of_record(rt: HostRuntime) {
+    assert!(rt; is_audit(rt.alloc(), AUDIT));
+}
