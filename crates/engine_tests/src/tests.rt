@@ -1,12 +1,16 @@
 mod gates;
+mod lawful;
 mod lines;
 mod overtaking;
 mod plain;
+mod random;
+mod random_jobs;
 mod schedules;
 mod seen;
 mod side_by_side;
 mod texts;
 
+use crate::tests::lawful::is_lawful;
 use crate::tests::seen::{Seen, Wanted, are_wanted, is_printed, met_before_turn};
 use payments::{Calls, MemoryShelf, MemorySink};
 use std::alloc::Global;
@@ -119,6 +123,7 @@ fn see(
             met_before_turn(&outcome.ran, 0),
             met_before_turn(&outcome.ran, 1),
         ],
+        is_lawful: is_lawful(&outcome.ran),
     })
 }
 

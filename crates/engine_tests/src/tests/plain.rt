@@ -16,8 +16,8 @@ use std::thread::Threads;
 use tuple_trace::{Bytes, NoMemory, OpenGate};
 use versions::{Judged, accepted_requests_stay_accepted, judge_all};
 
-/// The alerts of the plain executor.
-fn plain_alerts(alloc: Global, input: Input<'_>) -> Result<Bytes, NoMemory> {
+/// The alerts of the plain executor. It is an error if a reader refuses a text.
+pub fn plain_alerts(alloc: Global, input: Input<'_>) -> Result<Bytes, NoMemory> {
     let ran = plainly(alloc, input)?;
     alerts_of(alloc, &ran)
 }
@@ -192,6 +192,6 @@ fn same_as_the_plain_executor(rt: HostRuntime) {
 }
 
 #[test]
-fn two_hundred_runs(rt: HostRuntime) {
-    assert!(rt; matches!(are_same(&rt, rt.alloc(), wide(), 200), Ok(true)));
+fn wide_job_as_the_plain_executor(rt: HostRuntime) {
+    assert!(rt; matches!(are_same(&rt, rt.alloc(), wide(), 50), Ok(true)));
 }

@@ -99,11 +99,13 @@ where
         capacity,
     };
     match run(rt, alloc, &OpenGate, input, BESIDE_LEAVES) {
-        Ok(seen) => seen.is_wanted && matches!(seen.met, [Some(_), Some(_)]),
+        Ok(seen) => seen.is_wanted && seen.is_lawful && matches!(seen.met, [Some(_), Some(_)]),
         Err(_) => false,
     }
 }
 
+// The first map is the head, so its journal has row 3 after its turn. The second takes the marker
+// from the first, and then nothing from it until it has turned.
 #[test]
 fn beside_the_head(rt: HostRuntime) {
     for threads in THREADS {

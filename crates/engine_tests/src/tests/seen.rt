@@ -38,6 +38,8 @@ pub struct Seen {
     pub is_wanted: bool,
     /// How many tuples each of workers 0 and 1 met before it turned a request, if it turned one.
     pub met: [Option<u64>; 2],
+    /// Whether the journals of all workers are lawful.
+    pub is_lawful: bool,
 }
 
 impl Seen {
