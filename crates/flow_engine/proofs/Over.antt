@@ -17,7 +17,7 @@ use Rattle.flow_worker.specs.Worker.{WorkerIs}
 use Rattle.coordinator.specs.Feeding.{IsFeeder}
 use Rattle.coordinator.specs.Views.{FeederIs, OutIs, end_of}
 use Rattle.runners.specs.Crew.{AreWorkers, fixed_in, number_in}
-use Rattle.runners.specs.Runner.{EndIs, EndsIs, end_in, end_out}
+use Rattle.runner.specs.Runner.{EndIs, EndsIs, end_in, end_out}
 use Rattle.flow_ends.specs.Crews.{IsCrew}
 use Rattle.flow_ends.specs.Ended.{IsOver, fed_end, worked_of}
 use Rattle.flow_ends.specs.Sides.{AreMatched, lane_ids, worker_side}

@@ -15,10 +15,10 @@ use Rattle.flow_model.proofs.SizeLemmas.{posts-few}
 use Rattle.flow_worker.specs.Pairs.{Each}
 use Rattle.flow_worker.specs.Worker.{IsWorker, WorkerIs}
 use Rattle.runners.specs.Crew.{AreWorkers, fixed_in, number_in, runner_of}
-use Rattle.runners.specs.Rule.{Agrees, AreListed, fixed_of, numbers, times, without}
-use Rattle.runners.specs.Runner.{EndsIs, RunnerIs, ends_of}
-use Rattle.runners.proofs.Bringing.{agreed, given, has}
-use Rattle.runners.proofs.Keeps.{last_and_rest}
+use Rattle.runner.specs.Rule.{Agrees, AreListed, fixed_of, numbers, times, without}
+use Rattle.runner.specs.Runner.{EndsIs, RunnerIs, ends_of}
+use Rattle.runner.proofs.Bringing.{agreed, given, has}
+use Rattle.runner.proofs.Keeps.{last_and_rest}
 
 pub numbers_runners : (ws : List WorkerIs) → numbers (map runner_of ws) ≡ map number_in ws
 numbers_runners [] = refl

@@ -1,8 +1,3 @@
-pub mod Bringing
-pub mod Keeps
-pub mod Totals
-pub mod Fixed
-pub mod Turns
 pub mod Uniting
 pub mod Order
 pub mod Seating

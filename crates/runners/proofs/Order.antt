@@ -7,7 +7,7 @@ use Rattle.std.proofs.lemmas.List.Sorted.{sum_by-IsPermutation}
 use Rattle.std.proofs.lemmas.List.Sums.{sum_by-cons}
 use Rattle.std.proofs.lemmas.Bool.{cases_lt}
 use Rattle.std.proofs.lemmas.Bool.Decides.{nat_tests}
-use Rattle.runners.specs.Rule.{one_if, times}
+use Rattle.runner.specs.Rule.{one_if, times}
 
 one_unless : (x y : ℕ) → x < y → one_if (y == x) ≡ 0
 one_unless x y lt = grind (arith, nat_tests)

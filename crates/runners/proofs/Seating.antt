@@ -8,9 +8,9 @@ use Rattle.std.proofs.lemmas.List.{get_or-map, length-map}
 use Rattle.std.proofs.lemmas.List.FromFn.{get_or-range_with_len}
 use Rattle.flow_worker.specs.Worker.{WorkerIs}
 use Rattle.runners.specs.Crew.{fixed_in, number_in, runner_of}
-use Rattle.runners.specs.Runner.{EndsIs, RunnerIs, ends_of}
-use Rattle.runners.specs.Rule.{Agrees, AreListed, HasEachOf, numbers, one_if, fixed_of, times, up_to}
-use Rattle.runners.proofs.Keeps.{times-up_to}
+use Rattle.runner.specs.Runner.{EndsIs, RunnerIs, ends_of}
+use Rattle.runner.specs.Rule.{Agrees, AreListed, HasEachOf, numbers, one_if, fixed_of, times, up_to}
+use Rattle.runner.proofs.Keeps.{times-up_to}
 use Rattle.runners.proofs.Crewing.{ends_runners, fixed_runners, numbers_runners}
 use Rattle.runners.proofs.Order.{in_order, times_range}
 

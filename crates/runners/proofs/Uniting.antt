@@ -3,10 +3,10 @@ use Rattle.std.proofs.Common.{◌≡◌, ℕ, ◌<◌, ◌++◌, ◌∷◌, [], 
 use Rattle.std.specs.List.{All}
 use Rattle.std.proofs.lemmas.List.{map-append}
 use Rattle.std.proofs.lemmas.List.Elements.{All-append}
-use Rattle.runners.specs.Runner.{RunnerIs, EndsIs}
-use Rattle.runners.specs.Rule.{times, without, numbers, Agrees, AreListed}
-use Rattle.runners.proofs.Keeps.{times-append}
-use Rattle.runners.proofs.Bringing.{has, agreed, given, in_hand}
+use Rattle.runner.specs.Runner.{RunnerIs, EndsIs}
+use Rattle.runner.specs.Rule.{times, without, numbers, Agrees, AreListed}
+use Rattle.runner.proofs.Keeps.{times-append}
+use Rattle.runner.proofs.Bringing.{has, agreed, given, in_hand}
 
 module _ (charter : List EndsIs) where
   pub united : (rs bs cs : List RunnerIs) (list more all : List ℕ) → cs ≡ rs ++ bs → all ≡ list ++ more → AreListed charter rs list → AreListed charter bs more → AreListed charter cs all

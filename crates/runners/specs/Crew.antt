@@ -7,7 +7,7 @@ use Rattle.flow_model.specs.Outline.{Outline}
 use Rattle.flow_worker.specs.Worker.{IsWorker, WorkerIs}
 use Rattle.coordinator.specs.Feeding.{IsFeeder}
 use Rattle.coordinator.specs.Views.{FeederIs, end_of}
-use Rattle.runners.specs.Runner.{EndsIs, RunnerIs, ends_of}
+use Rattle.runner.specs.Runner.{EndsIs, RunnerIs, ends_of}
 
 abbrev pub number_in : WorkerIs → ℕ
 number_in w = w.number

@@ -1,3 +1,1 @@
-pub mod Runner
-pub mod Rule
 pub mod Crew

@@ -15,16 +15,11 @@
 //! ```
 #![tactic(auto)]
 
-mod charter;
 mod crew;
 mod lead;
-mod moves;
 mod parts;
-mod rule;
 mod run;
-mod runner;
-mod steps;
 mod threads;
 
-pub use charter::Beginning;
 pub use run::{Ran, run_all};
+pub use runner::Beginning;

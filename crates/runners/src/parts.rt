@@ -1,13 +1,10 @@
 ghost use Rattle.std.specs.Prelude.{◌≡◌, [], IfErr, IfOk};
 ghost use Rattle.crossbeam_queue.specs.SegTies.{IsSegPassOf};
-ghost use Rattle.runners.specs.Rule.{AreListed, tally};
+ghost use Rattle.runner.specs.Rule.{AreListed, tally};
 
-use crate::charter::Charter;
-use crate::rule::{Queue, Tally};
-use crate::runner::Runner;
-use crate::steps::{Stepped, step};
 use crossbeam_queue::SegPass;
 use lane_core::Lanes;
+use runner::{Charter, Queue, Runner, Stepped, Tally, step};
 use std::alloc::Global;
 use std::snapshot::Snapshot;
 use std::sync::Wait;
@@ -111,7 +108,7 @@ pub struct PartPromise<'s, L: Lanes, C: Charter> {
 impl<'s, L: Lanes, C: Charter> Promise<Held<'s, L, C>> for PartPromise<'s, L, C> {
     ghost use Rattle.std.specs.Prelude.{◌≡◌};
     ghost use Rattle.crossbeam_queue.specs.SegTies.{IsSegPassOf};
-    ghost use Rattle.runners.specs.Rule.{AreListed};
+    ghost use Rattle.runner.specs.Rule.{AreListed};
 
     ghost kept_by = { λ p b.
         IsSegPassOf p.queue.value b.pass

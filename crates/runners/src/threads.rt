@@ -1,13 +1,11 @@
 ghost use Rattle.std.specs.Prelude.{◌≡◌, ◌<◌, ◌≤◌, ◌+◌, [], IfErr, IfOk, length, vec_capacity, vec_len};
 ghost use Rattle.std.specs.List.{All};
 ghost use Rattle.crossbeam_queue.specs.SegTies.{IsSegPassOf};
-ghost use Rattle.runners.specs.Rule.{AreListed};
+ghost use Rattle.runner.specs.Rule.{AreListed};
 
-use crate::charter::Charter;
-use crate::moves::{share, unite};
 use crate::parts::{Held, PartPromise, Ticket, start_part};
-use crate::rule::Queue;
 use lane_core::Lanes;
+use runner::{Charter, Queue, share, unite};
 use std::alloc::Global;
 use std::sync::Wait;
 use std::sync::atomic::AtomicBool;

@@ -1,5 +1,5 @@
 use Rattle.std.proofs.Common.{ap, rules}
-use Rattle.runners.specs.declared.rule.Tally.{Tally}
+use Rattle.runner.specs.declared.rule.Tally.{Tally}
 use Rattle.runners.proofs.Uniting.{taken}
 use Rattle.runners.proofs.crew.drain.Goals as goal
 

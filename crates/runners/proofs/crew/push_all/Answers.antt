@@ -1,5 +1,5 @@
 use Rattle.std.proofs.Common.{◌∙◌, ap, arith}
-use Rattle.runners.specs.declared.rule.Tally.{Tally}
+use Rattle.runner.specs.declared.rule.Tally.{Tally}
 use Rattle.runners.proofs.Crewing.{agreed_last, as_runner, few_workers, law_last, named_last, numbers_last, pushed}
 use Rattle.runners.proofs.crew.push_all.Goals as goal
 

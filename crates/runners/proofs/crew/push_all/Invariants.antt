@@ -4,7 +4,7 @@ use Rattle.crossbeam_queue.specs.SegTies.{IsSegPassOf}
 use Rattle.flow_model.specs.Setup.{outline}
 use Rattle.flow_worker.specs.Worker.{IsWorker}
 use Rattle.runners.specs.Crew.{number_in, runner_of}
-use Rattle.runners.specs.Rule.{AreListed}
+use Rattle.runner.specs.Rule.{AreListed}
 use Rattle.runners.proofs.crew.push_all.Given as goal
 
 abbrev pub invariant-loop-worker : goal.invariant-loop-worker

@@ -1,5 +1,5 @@
 use Rattle.std.proofs.Common.{◌≡◌, map}
-use Rattle.runners.specs.Rule.{fixed_of}
+use Rattle.runner.specs.Rule.{fixed_of}
 use Rattle.runners.proofs.crew.rounds.Given as goal
 
 abbrev pub invariant-loop : goal.invariant-loop

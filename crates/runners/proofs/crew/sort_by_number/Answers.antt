@@ -1,6 +1,6 @@
 use Rattle.std.proofs.Common.{rules}
 use Rattle.std.proofs.lemmas.List.Sorted.{IsNonDecreasingBy-from_sort_by_key}
-use Rattle.runners.specs.Runner.{RunnerIs}
+use Rattle.runner.specs.Runner.{RunnerIs}
 use Rattle.runners.proofs.crew.sort_by_number.Goals as goal
 
 pub returns-clause-order : goal.returns-clause-order

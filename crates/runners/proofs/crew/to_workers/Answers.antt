@@ -2,8 +2,8 @@ use Rattle.std.proofs.Common.{◌≡◌, ◌++◌, ◌∷◌, [], List, ap, ap�
 use Rattle.std.specs.Vec.Iter.{into_iter_items}
 use Rattle.flow_worker.specs.Turning.{IsDone}
 use Rattle.flow_worker.specs.Worker.{IsWorker, WorkerIs}
-use Rattle.runners.specs.Rule.{HasEnded}
-use Rattle.runners.specs.Runner.{RunnerIs}
+use Rattle.runner.specs.Rule.{HasEnded}
+use Rattle.runner.specs.Runner.{RunnerIs}
 use Rattle.runners.proofs.Crewing.{all_more, all_rest, fixed_more}
 use Rattle.runners.proofs.crew.to_workers.Goals as goal
 

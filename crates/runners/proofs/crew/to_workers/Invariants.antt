@@ -5,7 +5,7 @@ use Rattle.std.specs.Vec.Iter.{into_iter_items, into_iter_len}
 use Rattle.flow_worker.specs.Turning.{IsDone}
 use Rattle.flow_worker.specs.Worker.{IsWorker}
 use Rattle.runners.specs.Crew.{fixed_in}
-use Rattle.runners.specs.Rule.{HasEnded, fixed_of}
+use Rattle.runner.specs.Rule.{HasEnded, fixed_of}
 use Rattle.runners.proofs.crew.to_workers.Given as goal
 
 -- the workers so far, with the runners that are left, are those of all runners

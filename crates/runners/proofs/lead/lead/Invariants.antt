@@ -2,7 +2,7 @@ use Rattle.std.proofs.Common.{◌≡◌}
 use Rattle.crossbeam_queue.specs.SegTies.{IsSegPassOf}
 use Rattle.flow_model.specs.Setup.{outline}
 use Rattle.runners.specs.Crew.{HasFed}
-use Rattle.runners.specs.Rule.{AreListed}
+use Rattle.runner.specs.Rule.{AreListed}
 use Rattle.runners.proofs.lead.lead.Given as goal
 
 abbrev pub invariant-loop : goal.invariant-loop

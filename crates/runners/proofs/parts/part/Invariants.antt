@@ -1,6 +1,6 @@
 use Rattle.std.proofs.Common.{◌≡◌}
 use Rattle.crossbeam_queue.specs.SegTies.{IsSegPassOf}
-use Rattle.runners.specs.Rule.{AreListed}
+use Rattle.runner.specs.Rule.{AreListed}
 use Rattle.runners.proofs.parts.part.Given as goal
 
 abbrev pub invariant-loop : goal.invariant-loop

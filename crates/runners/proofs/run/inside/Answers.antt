@@ -1,6 +1,6 @@
 use Rattle.std.proofs.Common.{ap, ◌∙◌}
-use Rattle.runners.specs.Rule.{times}
-use Rattle.runners.proofs.Fixed.{same_agree, same_numbers}
+use Rattle.runner.specs.Rule.{times}
+use Rattle.runner.proofs.Fixed.{same_agree, same_numbers}
 use Rattle.runners.proofs.run.inside.Goals as goal
 
 pub returns-clause-once : goal.returns-clause-once

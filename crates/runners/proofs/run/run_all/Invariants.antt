@@ -1,6 +1,6 @@
 use Rattle.std.proofs.Common.{map}
 use Rattle.flow_model.specs.Setup.{outline}
-use Rattle.runners.specs.Runner.{ends_of}
+use Rattle.runner.specs.Runner.{ends_of}
 use Rattle.runners.proofs.run.run_all.Given as goal
 
 -- the charter of a run: its setup, its beginning, and the endpoints of its workers

@@ -1,7 +1,7 @@
 use Rattle.std.proofs.Common.{◌∙◌, ap}
 use Rattle.std.proofs.lemmas.List.Sorted.{All-permutation}
-use Rattle.runners.specs.declared.rule.Tally.{Tally}
-use Rattle.runners.specs.Rule.{HasEnded}
+use Rattle.runner.specs.declared.rule.Tally.{Tally}
+use Rattle.runner.specs.Rule.{HasEnded}
 use Rattle.runners.proofs.Seating.{listed_runners, seated_workers}
 use Rattle.runners.proofs.run.under.Goals as goal
 

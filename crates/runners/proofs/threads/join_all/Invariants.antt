@@ -1,7 +1,7 @@
 use Rattle.std.proofs.Common.{◌≡◌, ◌<◌, ◌+◌, vec_len}
 use Rattle.std.specs.List.{All}
 use Rattle.crossbeam_queue.specs.SegTies.{IsSegPassOf}
-use Rattle.runners.specs.Rule.{AreListed}
+use Rattle.runner.specs.Rule.{AreListed}
 use Rattle.runners.proofs.threads.join_all.Given as goal
 
 abbrev pub invariant-loop-handle : goal.invariant-loop-handle

@@ -1,5 +1,5 @@
 use Rattle.std.proofs.Common.{ap}
-use Rattle.runners.specs.declared.rule.Tally.{Tally}
+use Rattle.runner.specs.declared.rule.Tally.{Tally}
 use Rattle.runners.proofs.Uniting.{united}
 use Rattle.runners.proofs.threads.take_in.Goals as goal
 

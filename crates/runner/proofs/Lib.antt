@@ -1,0 +1,5 @@
+pub mod Bringing
+pub mod Keeps
+pub mod Totals
+pub mod Fixed
+pub mod Turns
