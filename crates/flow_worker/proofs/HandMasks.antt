@@ -48,6 +48,12 @@ each_set P (x ∷ xs) (suc n) z e h = (e.0, each_set P xs n z e.1 h)
 
 -- ---- pairs, place by place
 
+-- of one item
+pub one_pair : {A : Type 0} (R : A → A → Type 0) (xs : List A) (z : A) → length xs ≡ 1 → R (get_or xs 0 z) z → EachPair R xs (set xs 0 z)
+one_pair R [] z e r = absurd (let n : 0 ≡ 1 = e in omega (arith, n))
+one_pair R (x ∷ []) z e r = (r, tt)
+one_pair R (x ∷ y ∷ more) z e r = absurd (let n : suc (suc (length more)) ≡ 1 = e in omega (arith, n))
+
 -- where the mask has the place, it is as it was; elsewhere the two are related
 pub record IsLeft {A : Type 0} (R : A → A → Type 0) (mask : ℕ) (xs ys : List A) : Type 0 where
   pub long : length ys ≡ length xs

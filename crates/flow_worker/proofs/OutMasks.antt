@@ -2,7 +2,7 @@
 use Rattle.std.proofs.Common.{◌≡◌, ◌∙◌, ◌⊎◌, inl, inr, ℕ, zero, suc, ◌+◌, ◌<◌, ◌≤◌, ◌==◌, ◌||◌, nat_lt, List, [], ◌∷◌, Bool, true, false, cond, get_or, set, length, refl, sym, ap, subst, arith}
 use Rattle.std.specs.List.{list_any}
 use Rattle.std.proofs.lemmas.Bool.Decides.{eqb_tells, nat_tests}
-use Rattle.std.proofs.lemmas.List.{length-append, nil_from_length}
+use Rattle.std.proofs.lemmas.List.{length-append, length-set, nil_from_length}
 use Rattle.flow_dag.specs.Masks.{has}
 use Rattle.flow_worker.specs.Endpoints.{Flushed, IsSteadyOut, all_sent, LaneOutIs, Reserved, SameButMemory, is_waiting}
 use Rattle.flow_worker.specs.Masks.{AreMarked, FlushedAt, IsMarkOf, IsMaskWith, passes}
@@ -150,6 +150,15 @@ cleared_marks mask after room place outs z d l idle mem with_ are =
 pub pushed_marks : (mask after room place : ℕ) (outs : List LaneOutIs) (z d : LaneOutIs) → place < length outs → z.memory ≡ (get_or outs place d).memory → IsMaskWith place true mask after → AreMarked mask room outs → AreMarked after room (set outs place z)
 pushed_marks mask after room place outs z d l mem with_ are =
     set_marks mask after room place outs z d l (let r = each_get (λ (o : LaneOutIs). room ≤ o.memory) outs place d are.room_is l in omega (arith, r, mem)) (λ k ne e. other_place place k true mask after with_ ne e) (λ few w. this_place place mask after with_) are
+
+pub one_marked : (mask room place : ℕ) (outs : List LaneOutIs) (z d : LaneOutIs) → length outs ≡ 1 → place < length outs → z.memory ≡ (get_or outs place d).memory → AreMarked mask room outs → AreMarked 1 room (set outs place z)
+one_marked mask room place outs z d one l mem are = record {
+  waiting_is = λ k few w. first k (let p = passes_within is_waiting (set outs place z) k w in let n = length-set outs place z in omega (arith, p, n, one));
+  room_is = each_set (λ (o : LaneOutIs). room ≤ o.memory) outs place z are.room_is (let r = each_get (λ (o : LaneOutIs). room ≤ o.memory) outs place d are.room_is l in omega (arith, r, mem));
+}
+  where
+    first : (k : ℕ) → k ≡ 0 → has 1 k ≡ true
+    first k e = subst (λ j. has 1 j ≡ true) (sym e) refl
 
 pub far_marks : (mask room place : ℕ) (outs : List LaneOutIs) (z d : LaneOutIs) → place < length outs → (place < 128 → ⊥) → z.memory ≡ (get_or outs place d).memory → AreMarked mask room outs → AreMarked mask room (set outs place z)
 far_marks mask room place outs z d l far mem are =

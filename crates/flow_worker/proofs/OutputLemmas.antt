@@ -1,5 +1,5 @@
 -- Where the outputs of a worker go.
-use Rattle.std.proofs.Common.{◌≡◌, ◌∙◌, ◌+◌, ◌==◌, ◌<◌, ◌≤◌, ℕ, zero, suc, List, [], ◌∷◌, ◌++◌, inl, inr, Bool, true, false, cond, map, filter, length, set, get_or, refl, sym, ap, subst, arith, Some, None, Option, slice_get, append_assoc, append-nil, length-append}
+use Rattle.std.proofs.Common.{◌≡◌, ◌∙◌, ◌+◌, ◌==◌, ◌<◌, ◌≤◌, ℕ, zero, suc, List, [], ◌∷◌, ◌++◌, inl, inr, Bool, true, false, cond, map, filter, drop, length, set, get_or, refl, sym, ap, subst, arith, Some, None, Option, slice_get, append_assoc, append-nil, length-append}
 use Rattle.std.specs.Prelude.{option_map}
 use Rattle.std.specs.List.{cons_option, enumerate_from, flat_map}
 use Rattle.std.proofs.lemmas.Bool.{eq-eqb, eqb-true}
@@ -19,7 +19,7 @@ use Rattle.flow_model.specs.declared.topology.Lane.{Lane}
 use Rattle.flow_model.specs.Outline.{Post}
 use Rattle.flow_model.specs.Replay.{item_on, put_out}
 use Rattle.flow_model.specs.Workers.{posts, posts_of}
-use Rattle.flow_model.proofs.PostLemmas.{post_by}
+use Rattle.flow_model.proofs.PostLemmas.{length-posts_of, post_by}
 use Rattle.flow_model.proofs.ElementLemmas.{IsIn, in_filter, in_of_place, same_place}
 use Rattle.flow_model.proofs.LaneLemmas.{in_enumerate, lane_self, same_lane}
 use Rattle.flow_model.proofs.LaneLemmas.{lanes_from as lanes_row}
@@ -32,7 +32,7 @@ use Rattle.flow_worker.specs.Pairs.{Each, EachPair}
 use Rattle.flow_worker.specs.Endpoints.{Appended, HasRoom, LaneOutIs}
 use Rattle.flow_worker.specs.Steps.{items_at, items_if, place_from}
 use Rattle.flow_worker.specs.Worker.{IsSenderAt, numbers_out}
-use Rattle.flow_worker.proofs.Pairs.{get_map, get_mapped, length_mapped}
+use Rattle.flow_worker.proofs.Pairs.{front, get_map, get_mapped, length_mapped}
 
 -- ---- the edges out
 
@@ -50,6 +50,38 @@ edge_within job node i exits d same l = exit_edge job node i (get_or exits i d) 
     there [] i l = absurd (omega arith)
     there (x ∷ xs) zero l = refl
     there (x ∷ xs) (suc i) l = there xs i (omega arith)
+
+-- along an edge with one receiver each tuple comes to that one
+pub one_receiver : (job : Written) (node i : ℕ) (exits : List OutEdge) (d : OutEdge) (tuple : Tuple) → IsLawful job → exits ≡ out_edges job node → i < length exits
+    → (get_or exits i d).receivers ≡ 1 → worker_along job (get_or exits i d).edge tuple ≡ 0
+one_receiver job node i exits d tuple law same l one =
+    let exit : OutEdge = get_or exits i d in
+    let edges : List (ℕ × Edge) = filter (λ (p : ℕ × Edge). p.1.from == node) (enumerate_from 0 job.edges) in
+    let p = get_map (out_edge job) edges i exit (subst (λ xs. slice_get xs i ≡ Some exit) same (there exits i l)) in
+    let q = in_enumerate 0 job.edges p.0 (in_filter (λ (p : ℕ × Edge). p.1.from == node) p.0 (enumerate_from 0 job.edges) (in_of_place p.0 edges i p.1)).0 in
+    let at : slice_get job.edges p.0.0 ≡ Some p.0.1 = subst (λ n. slice_get job.edges n ≡ Some p.0.1) (let e = q.1 in omega (arith, e)) q.2 in
+    let reached = is_reached job p.0.0 p.0.1 tuple (worker_along job p.0.0 tuple) law at refl in
+    let number : exit.edge ≡ p.0.0 = ap (λ (x : OutEdge). x.edge) p.2 in
+    let many : exit.receivers ≡ length (posts_of job p.0.1.to) = ap (λ (x : OutEdge). x.receivers) p.2 in
+    let all = length-posts_of job p.0.1.to reached.def reached.node_is in
+    let below = reached.below in
+    ap (λ n. worker_along job n tuple) number ∙ omega (arith, below, many, all, one)
+  where
+    there : (xs : List OutEdge) (i : ℕ) → i < length xs → slice_get xs i ≡ Some (get_or xs i d)
+    there [] i l = absurd (omega arith)
+    there (x ∷ xs) zero l = refl
+    there (x ∷ xs) (suc i) l = there xs i (omega arith)
+
+-- so the place of its one lane is where its lanes begin
+pub only_place : (job : Written) (node i : ℕ) (exits : List OutEdge) (d : OutEdge) (port first : ℕ) (tuple : Tuple) → IsLawful job → exits ≡ out_edges job node → i < length exits
+    → (get_or exits i d).port ≡ port → (get_or exits i d).receivers ≡ 1 → Some first ≡ place_from job first (drop i exits) port tuple
+only_place job node i exits d port first tuple law same l p one =
+    let exit : OutEdge = get_or exits i d in
+    let t : (exit.port == port) ≡ true = grind (arith, p, nat_tests) in
+    let z = one_receiver job node i exits d tuple law same l one in
+    let e : Some first ≡ Some (first + worker_along job exit.edge tuple) = ap Some (omega (arith, z)) in
+    let f : place_from job first (exit ∷ drop (i + 1) exits) port tuple ≡ Some (first + worker_along job exit.edge tuple) = rw t refl in
+    e ∙ (sym f ∙ ap (λ xs. place_from job first xs port tuple) (sym (front exits i d l)))
 
 -- ---- places of lanes
 

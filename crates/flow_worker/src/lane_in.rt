@@ -91,12 +91,12 @@ impl<L: Lanes> LaneIn<L> {
         if let Hand::Holds(_) = &self.hand {
             return false;
         }
-        match self.end.take(need) {
-            Some(item) => {
-                self.hand = Hand::Holds(item);
-                true
-            }
-            None => false,
+        let Some(item) = self.end.take(need) else {
+            return false;
+        };
+        match mem::replace(&mut self.hand, Hand::Holds(item)) {
+            Hand::Empty => true,
+            Hand::Holds(_) => unreachable!(),
         }
     }
 

@@ -91,6 +91,7 @@ impl<L: Lanes> LaneOut<L> {
 
     /// Puts waiting items, in order, until the lane is full or none waits.
     /// Returns whether it put one.
+    #[inline(always)]
     pub fn flush(&mut self, need: &mut L::Need) -> bool
         requires steady { IsSteadyOut self.old }
         ensures flushed { Flushed self.old self.new }

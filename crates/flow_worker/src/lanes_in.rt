@@ -80,6 +80,18 @@ impl<L: Lanes> LanesIn<L> {
         ensures filled { EachPair Filled self.old self.new }
         ensures moved { IsTrue result → all_taken self.old < all_taken self.new }
     {
+        if self.len() == 1 {
+            return self.fill_at(0, need);
+        }
+        self.fill_each(need)
+    }
+
+    // Apart, so that a worker with one lane doesn't pay for masks.
+    #[inline(never)]
+    fn fill_each(&mut self, need: &mut L::Need) -> bool
+        ensures filled { EachPair Filled self.old self.new }
+        ensures moved { IsTrue result → all_taken self.old < all_taken self.new }
+    {
         let mut moved = false;
         let mut left = self.empty_places();
         while let Some(place) = take_place(&mut left) {
@@ -96,7 +108,9 @@ impl<L: Lanes> LanesIn<L> {
         self.empty
     }
 
-    // Takes into the empty hand at a place. Returns whether it took an item.
+    // Takes into the empty hand at a place. Returns whether it took an item. It is inlined, since a
+    // shift of a mask costs nothing where the place is known.
+    #[inline(always)]
     fn fill_at(&mut self, place: u32, need: &mut L::Need) -> bool
         requires within { place < length self.old }
         ensures filled { FilledAt place self.old self.new }
@@ -200,10 +214,9 @@ impl<L: Lanes> LanesIn<L> {
         ensures tuple { (a : LaneInIs) → slice_get self.old place ≡ Some a
             → (a.number ≡ result.0) × (a.hand ≡ Holds (Carry result.1)) }
     {
-        let taken = take_tuple(&mut self.lanes, place);
         self.empty = with_place(self.empty, place, true);
         self.tuples = with_place(self.tuples, place, false);
-        taken
+        take_tuple(&mut self.lanes, place)
     }
 }
 

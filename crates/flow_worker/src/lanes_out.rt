@@ -77,6 +77,19 @@ impl<L: Lanes> LanesOut<L> {
         ensures flushed { EachPair Flushed self.old self.new }
         ensures moved { IsTrue result → all_sent self.old < all_sent self.new }
     {
+        if self.len() == 1 {
+            return self.flush_at(0, need);
+        }
+        self.flush_marked(need)
+    }
+
+    // Apart, so that a worker with one lane doesn't pay for masks.
+    #[inline(never)]
+    fn flush_marked(&mut self, need: &mut L::Need) -> bool
+        requires steady { Each IsSteadyOut self.old }
+        ensures flushed { EachPair Flushed self.old self.new }
+        ensures moved { IsTrue result → all_sent self.old < all_sent self.new }
+    {
         if self.len() > 128 {
             return self.flush_each(need);
         }
@@ -102,7 +115,9 @@ impl<L: Lanes> LanesOut<L> {
         self.waiting
     }
 
-    // Puts waiting items of the lane at a place. Returns whether it put one.
+    // Puts waiting items of the lane at a place. Returns whether it put one. It is inlined, since a
+    // shift of a mask costs nothing where the place is known.
+    #[inline(always)]
     fn flush_at(&mut self, place: u32, need: &mut L::Need) -> bool
         requires within { place < length self.old }
         requires steady { Each IsSteadyOut self.old }
@@ -138,6 +153,7 @@ impl<L: Lanes> LanesOut<L> {
         self.reserve_each(more)
     }
 
+    #[inline(never)]
     fn reserve_each(&mut self, more: usize) -> Result<(), NoMemory>
         ensures ok { OnOk result (EachPair (Reserved more) self.old self.new) }
         ensures err { OnErr result (EachPair SameButMemory self.old self.new) }
@@ -157,7 +173,9 @@ impl<L: Lanes> LanesOut<L> {
         ensures { PushedAt place item self.old self.new }
     {
         self.lanes[place].push(item);
-        if place < 128 {
+        if self.lanes.len() == 1 {
+            self.waiting = 1;
+        } else if place < 128 {
             self.waiting = with_place(self.waiting, place as u32, true);
         }
     }

@@ -5,12 +5,15 @@ ghost use Rattle.flow_worker.specs.Masks.{IsFirstFrom, IsMaskWith, IsTakenFrom};
 
 use marker_align::LaneSet;
 
-/// Returns the mask with a place in it or out of it.
+/// Returns the mask with a place in it or out of it. A shift of 128 bits is dear, and place 0, the
+/// one place of most workers, needs none.
 pub fn with_place(mask: LaneSet, place: u32, is_in: bool) -> LaneSet
     requires { place < 128 }
     ensures { IsMaskWith place is_in mask result }
 {
-    if is_in {
+    if place == 0 {
+        if is_in { mask | 1 } else { mask & !1 }
+    } else if is_in {
         mask | 1 << place
     } else {
         mask & !(1 << place)
@@ -45,11 +48,14 @@ fn split_lowest(mask: LaneSet) -> (u32, LaneSet)
     (mask.trailing_zeros(), mask & (mask - 1))
 }
 
-/// Returns the first place of the mask from a place on.
+/// Returns the first place of the mask from a place on. Place 0 is tried without a shift.
 pub fn first_from(mask: LaneSet, from: u32) -> Option<u32>
     requires { from < 128 }
     ensures { IsFirstFrom mask from result }
 {
+    if mask & 1 == 1 && from == 0 {
+        return Some(0);
+    }
     let rest = mask >> from;
     if rest == 0 {
         return None;

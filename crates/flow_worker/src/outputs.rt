@@ -18,7 +18,9 @@ use std::mem;
 use tuple_trace::{Item, Tuple};
 
 // Returns the place, among the lanes out, of a tuple's lane on a port; `None` if no edge leaves
-// the node on that port. Takes no memory.
+// the node on that port. Takes no memory. It is not inlined: so the output stays in one piece and is
+// moved as one.
+#[inline(never)]
 fn place_of(job: &Job, node: u32, edges: &[OutEdge], port: u32, tuple: &Tuple) -> Option<usize>
     requires { edges.now ≡ out_edges (written job.now) node }
     ensures { result ≡ place_from (written job.now) 0 edges.now port tuple.now }
@@ -26,6 +28,9 @@ fn place_of(job: &Job, node: u32, edges: &[OutEdge], port: u32, tuple: &Tuple) -
     let mut first = 0;
     for edge in edges {
         if edge.port == port {
+            if edge.receivers == 1 {
+                return Some(first);
+            }
             return Some(first + lane_of(job, edge.edge, tuple) as usize);
         }
         first += edge.receivers as usize;

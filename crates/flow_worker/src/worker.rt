@@ -2,7 +2,6 @@ mod acting;
 
 ghost use Rattle.std.specs.Prelude.{◌≡◌, ℕ, ◌<◌, ◌≤◌, ◌↔◌, IfOk, IsTrue, false, length, map};
 ghost use Rattle.std.specs.List.{list_any};
-ghost use Rattle.std.specs.Option.{option_copied};
 ghost use Rattle.marker_align.specs.Decision.{decided};
 ghost use Rattle.flow_model.specs.Begin.{Begin, at_first};
 ghost use Rattle.flow_model.specs.Setup.{outline};
@@ -215,9 +214,8 @@ impl<L: Lanes> Worker<L> {
         }
         let took = self.take_into_hands(need);
         let posted = self.poll();
-        let due = self.due();
-        let act = self.choose(due.as_ref(), posted);
-        match self.act(setup, gate, due, act) {
+        let act = self.choose(posted);
+        match self.act(setup, gate, act) {
             Acted::Starved => Turn::NoMemory,
             Acted::Held => { if put || took { Turn::Moved } else { Turn::Idle } }
             Acted::Did => {
@@ -266,16 +264,16 @@ impl<L: Lanes> Worker<L> {
         self.outs.is_waiting()
     }
 
-    fn due(&self) -> Option<Due>
+    pub(crate) fn due(&self) -> Option<Due>
         ensures { result ≡ self.now.due }
     {
         self.due
     }
 
-    fn choose(&self, due: Option<&Due>, posted: bool) -> Act
+    fn choose(&self, posted: bool) -> Act
         requires next { self.now.next < length self.now.ins }
-        ensures { result ≡ decided (hands self.now) (option_copied due.entry) posted self.now.next }
+        ensures { result ≡ decided (hands self.now) self.now.due posted self.now.next }
     {
-        self.ins.decide(due, posted, self.next)
+        self.ins.decide(self.due.as_ref(), posted, self.next)
     }
 }

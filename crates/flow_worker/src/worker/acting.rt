@@ -32,23 +32,18 @@ pub(crate) enum Acted {
 
 impl<L: Lanes> Worker<L> {
     // Does the act, unless it has to wait.
-    pub(crate) fn act<G: Gate>(
-        &mut self,
-        setup: &Setup,
-        gate: &G,
-        due: Option<Due>,
-        act: Act,
-    ) -> Acted
+    pub(crate) fn act<G: Gate>(&mut self, setup: &Setup, gate: &G, act: Act) -> Acted
         requires placed { (post : PostIs) × IsPlaced (outline setup.now) post self.old }
         requires func { (func : FuncIs)
             × (func_at (outline setup.now) self.old.node self.old.in_force ≡ Some func) }
-        requires few { IfSome due (λ (d : DueIs). self.old.owner.turned < d.request) }
-        requires act { (posted : Bool) × (act ≡ decided (hands self.old) due posted self.old.next) }
+        requires few { IfSome self.old.due (λ (d : DueIs). self.old.owner.turned < d.request) }
+        requires act { (posted : Bool)
+            × (act ≡ decided (hands self.old) self.old.due posted self.old.next) }
         ensures { (post : PostIs) → IsPlaced (outline setup.now) post self.old
-            → HasActed (outline setup.now) post due act result self.old self.new }
+            → HasActed (outline setup.now) post self.old.due act result self.old self.new }
     {
         match act {
-            Act::Turn(_) => match due {
+            Act::Turn(_) => match self.due() {
                 Some(due) => match self.turn_for(setup, &due) {
                     Ok(()) => Acted::Did,
                     Err(_) => Acted::Starved,
@@ -79,6 +74,7 @@ impl<L: Lanes> Worker<L> {
 
     // Turns for a request: notes its markers and the turn, puts its change in force, adds its
     // marker to the covered lanes out, and acknowledges.
+    #[inline(never)]
     fn turn_for(&mut self, setup: &Setup, due: &Due) -> Result<(), NoMemory>
         requires placed { (post : PostIs) × IsPlaced (outline setup.now) post self.old }
         requires few { self.old.owner.turned < due.now.request }
@@ -151,6 +147,7 @@ impl<L: Lanes> Worker<L> {
     }
 
     // Closes: notes the end of each lane in, and adds `Last` to each lane out.
+    #[inline(never)]
     fn close(&mut self) -> Result<(), NoMemory>
         requires few { length self.old.ins ≤ 127 }
         ensures ok { OnOk result (HasClosed self.old self.new) }

@@ -1,6 +1,6 @@
-use Rattle.std.proofs.Common.{arith}
+use Rattle.std.proofs.Common.{◌∙◌, arith}
 use Rattle.jobs.specs.Job.{written}
-use Rattle.flow_worker.proofs.OutputLemmas.{edge_within, outs_few}
+use Rattle.flow_worker.proofs.OutputLemmas.{edge_within, only_place, outs_few}
 use Rattle.flow_worker.proofs.outputs.place_of.Goals as goal
 
 pub lane_of-requires : goal.lane_of-requires
@@ -19,3 +19,8 @@ overflow_add-first c =
     let small = c.loop-edge.invariant.small in
     let here = c.loop-edge-test.true in
     omega arith
+
+pub returns-then-edge-eq1 : goal.returns-then-edge-eq1
+returns-then-edge-eq1 c =
+    only_place (written c.args.job.now) c.args.node c.loop-edge.edge-index c.args.edges.now _ c.args.port c.loop-edge.first c.args.tuple.now c.args.job.now.lawful c.requires c.loop-edge-test.true c.if-edge-port.true c.if-edge-eq1.true
+    ∙ c.loop-edge.invariant.place

@@ -1,59 +1,12 @@
-use Rattle.std.proofs.Common.{◌∙◌, ℕ, List, Option, Some, sym, subst, arith}
+use Rattle.std.proofs.Common.{List, sym, subst, arith}
 use Rattle.flow_worker.specs.Endpoints.{Filled, LaneInIs}
-use Rattle.flow_worker.specs.Masks.{IsTakenFrom, has_empty}
-use Rattle.flow_worker.proofs.HandMasks.{IsLeft, fewer_left, first_left, none_left, passes_within, step_left}
-use Rattle.flow_worker.proofs.InMasks.{filled_grows, kept_full}
+use Rattle.flow_worker.specs.Pairs.{EachPair}
+use Rattle.flow_worker.proofs.HandMasks.{one_pair}
 use Rattle.flow_worker.proofs.lanes_in.LanesIn.fill.Goals as goal
 
-pub loop-place-init : goal.loop-place-init
-loop-place-init g c =
-    let ins = c.args.self.now in
-    let mask = c.empty_places-left.result in
-    record {
-      left = first_left Filled mask ins (λ k d l e. kept_full ins k d l (sym (c.empty_places-left.ensures k) ∙ e));
-      within = λ k e. passes_within has_empty ins k (sym (c.empty_places-left.ensures k) ∙ e);
-      grew = omega arith;
-      moved = λ e. absurd (cc);
-    }
-
-pub loop-place-preserved-then-fill_at : goal.loop-place-preserved-then-fill_at
-loop-place-preserved-then-fill_at g c =
-    let ins = c.args.self.now in
-    let place = c.in-Some.place in
-    let before = c.loop-place.left in
-    let after = c.take_place.new.mask in
+pub returns-then-len-eq1-clause-filled : goal.returns-then-len-eq1-clause-filled
+returns-then-len-eq1-clause-filled g c =
     let f = c.fill_at.ensures.filled in
-    let taken : IsTakenFrom before (Some place) after = subst (λ (o : Option ℕ). IsTakenFrom before o after) c.in-Some.is c.take_place.ensures in
-    let grew = c.loop-place.invariant.grew in
-    let more = c.fill_at.ensures.moved c.if-fill_at.true in
-    record {
-      left = subst (λ (xs : List LaneInIs). IsLeft Filled after ins xs) (sym f.set_is) (step_left Filled place before after ins c.loop-place.self f.at taken (c.loop-place.invariant.within place taken.1) f.filled c.loop-place.invariant.left);
-      within = λ k e. c.loop-place.invariant.within k (fewer_left place before after k taken e);
-      grew = omega (arith, grew, more);
-      moved = λ e. omega (arith, grew, more);
-    }
-
-pub loop-place-preserved : goal.loop-place-preserved
-loop-place-preserved g c =
-    let ins = c.args.self.now in
-    let place = c.in-Some.place in
-    let before = c.loop-place.left in
-    let after = c.take_place.new.mask in
-    let f = c.fill_at.ensures.filled in
-    let taken : IsTakenFrom before (Some place) after = subst (λ (o : Option ℕ). IsTakenFrom before o after) c.in-Some.is c.take_place.ensures in
-    let grew = c.loop-place.invariant.grew in
-    let long = c.loop-place.invariant.left.long in
-    let l = c.loop-place.invariant.within place taken.1 in
-    let more = filled_grows place c.loop-place.self c.fill_at.new.self f (omega (arith, long, l)) in
-    record {
-      left = subst (λ (xs : List LaneInIs). IsLeft Filled after ins xs) (sym f.set_is) (step_left Filled place before after ins c.loop-place.self f.at taken l f.filled c.loop-place.invariant.left);
-      within = λ k e. c.loop-place.invariant.within k (fewer_left place before after k taken e);
-      grew = omega (arith, grew, more);
-      moved = λ e. let m = c.loop-place.invariant.moved e in omega (arith, m, more);
-    }
-
-pub returns-clause-filled : goal.returns-clause-filled
-returns-clause-filled g c =
-    let before = c.loop-place.left in
-    let after = c.take_place.new.mask in
-    none_left Filled before after c.args.self.now c.loop-place.self (subst (λ (o : Option ℕ). IsTakenFrom before o after) c.in_default.is c.take_place.ensures) c.loop-place.invariant.left
+    let a = c.len.ensures.is in
+    let b = c.if-len-eq1.true in
+    subst (λ (xs : List LaneInIs). EachPair Filled c.args.self.now xs) (sym f.set_is) (one_pair Filled c.args.self.now f.at (omega (arith, a, b)) f.filled)

@@ -2,7 +2,7 @@ use Rattle.std.proofs.Common.{◌≡◌, ◌<◌, ◌≤◌, true}
 use Rattle.flow_worker.specs.Endpoints.{Flushed, IsSteadyOut, all_sent}
 use Rattle.flow_worker.specs.Pairs.{Each}
 use Rattle.flow_worker.proofs.HandMasks.{IsLeft}
-use Rattle.flow_worker.proofs.lanes_out.LanesOut.flush.Given as goal
+use Rattle.flow_worker.proofs.lanes_out.LanesOut.flush_marked.Given as goal
 
 abbrev pub invariant-loop-place : goal.invariant-loop-place
 invariant-loop-place g l = record {

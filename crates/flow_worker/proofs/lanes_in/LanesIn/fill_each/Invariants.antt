@@ -2,7 +2,7 @@ use Rattle.std.proofs.Common.{◌≡◌, ◌<◌, ◌≤◌, ℕ, length, true}
 use Rattle.flow_dag.specs.Masks.{has}
 use Rattle.flow_worker.specs.Endpoints.{Filled, all_taken}
 use Rattle.flow_worker.proofs.HandMasks.{IsLeft}
-use Rattle.flow_worker.proofs.lanes_in.LanesIn.fill.Given as goal
+use Rattle.flow_worker.proofs.lanes_in.LanesIn.fill_each.Given as goal
 
 abbrev pub invariant-loop-place : goal.invariant-loop-place
 invariant-loop-place g l = record {
