@@ -6,6 +6,7 @@ use payments::{HostShelf, StdOut};
 use report::{Fault, FileIs};
 use std::alloc::{AllocError, Global};
 use std::fs::File;
+use std::io::ErrorKind;
 use std::process::ExitCode;
 use std::rt::Files;
 use std::{env, io};
@@ -38,13 +39,18 @@ fn take_standard_descriptors<R: Files>(rt: &R) -> io::Result<[R::File; 3]> {
     ])
 }
 
-// The words after the program's name. Words that aren't UTF-8 are read as none.
+// The words after the program's name. Words that aren't UTF-8 are read as none. The one error is
+// out of memory.
 fn words_of(rt: &HostRuntime, alloc: Global) -> Result<Vec<Word>, AllocError> {
     let mut words = Vec::new(alloc);
-    if let Ok(args) = env::args(rt) {
-        for text in args.skip(1) {
-            words.push(Word::from_string(text))?;
+    match env::args(rt) {
+        Ok(args) => {
+            for text in args.skip(1) {
+                words.push(Word::from_string(text))?;
+            }
         }
+        Err(error) if error.kind() == ErrorKind::OutOfMemory => return Err(AllocError),
+        Err(_) => {}
     }
     Ok(words)
 }
