@@ -1,7 +1,8 @@
 //! The program `fries`: it hands its words to [`top_call::fries`], over the files and the standard output of the host, and ends with
-//! the status that it returns.
+//! the status that it returns. What the status means is told on the standard error, in sentences.
 #![tactic(auto)]
 
+use advice::{Call, HostLook, advice};
 use payments::{HostShelf, StdOut};
 use report::{Fault, FileIs};
 use std::alloc::{AllocError, Global};
@@ -10,7 +11,7 @@ use std::io::ErrorKind;
 use std::process::ExitCode;
 use std::rt::Files;
 use std::{env, io};
-use top_call::fries;
+use top_call::{Outcome, fries};
 use tuple_trace::{OpenGate, Word};
 
 fn main(rt: HostRuntime) -> ExitCode {
@@ -25,7 +26,20 @@ fn main(rt: HostRuntime) -> ExitCode {
     let mut shelf = HostShelf::new(rt);
     let mut out = StdOut::new(rt);
     let outcome = fries(&rt, alloc, &words, &mut shelf, &mut out, &OpenGate);
+    tell(&rt, alloc, &words, &outcome);
     ExitCode::from(outcome.status)
+}
+
+// Tells on the standard error what ended the call, or why requests were refused. What comes of that changes nothing.
+fn tell(rt: &HostRuntime, alloc: Global, words: &[Word], outcome: &Outcome) {
+    let call = Call {
+        words,
+        fault: outcome.fault,
+        refused: outcome.refused.as_slice(),
+    };
+    if let Ok(text) = advice(alloc, call, &mut HostLook::new(*rt)) {
+        let _ = eprint!(rt; "{text}");
+    }
 }
 
 // A file that is opened gets the least descriptor that is free. If the program is started without one of the three standard ones, the

@@ -1,0 +1,69 @@
+-- The codes under which the table tells of a fault: those that are printed, and a status where there is none.
+use Rattle.std.specs.Prelude.{ℕ, List, codes}
+use Rattle.job_file.specs.declared.fault.JobFault.{JobFault}
+use Rattle.job_file.specs.declared.fault.JobFault.TheVariants as job
+use Rattle.job_file.specs.declared.fault.ReqFileFault.{ReqFileFault}
+use Rattle.job_file.specs.declared.fault.ReqFileFault.TheVariants as requests
+use Rattle.payments.specs.declared.read.PFault.{PFault}
+use Rattle.payments.specs.declared.read.PFault.TheVariants as rows
+use Rattle.report.specs.declared.fault.Fault.{Fault}
+use Rattle.report.specs.declared.fault.Fault.TheVariants as fault
+use Rattle.report.specs.declared.fault.FileIs.{FileIs}
+use Rattle.report.specs.declared.fault.FileIs.TheVariants as file
+use Rattle.versions.specs.declared.fault.QFault.{QFault}
+use Rattle.versions.specs.declared.fault.QFault.TheVariants as refusal
+
+abbrev pub job_code : JobFault → List ℕ
+job_code job.NotToml = codes "J1"
+job_code (job.Shape _) = codes "J2"
+job_code (job.Limit which number) = codes "J3"
+job_code (job.NameTwice named place) = codes "J4"
+job_code (job.NoSuchEnd edge) = codes "J5"
+job_code (job.Ports node) = codes "J6"
+job_code (job.Cycle node) = codes "J7"
+job_code (job.Column node) = codes "J8"
+job_code (job.NoTable node) = codes "J9"
+job_code (job.Weight weight) = codes "J10"
+job_code job.NoMemory = codes "7"
+
+abbrev pub requests_code : ReqFileFault → List ℕ
+requests_code requests.NotToml = codes "F1"
+requests_code (requests.Shape _) = codes "F2"
+requests_code (requests.Limit which number) = codes "F3"
+requests_code requests.NoMemory = codes "7"
+
+abbrev pub payments_code : PFault → List ℕ
+payments_code rows.NoHeader = codes "P1"
+payments_code rows.Header = codes "P2"
+payments_code (rows.Length row) = codes "P3"
+payments_code (rows.Source row) = codes "P4"
+payments_code (rows.Value row column) = codes "P5"
+payments_code (rows.TextLong row column) = codes "P6"
+payments_code (rows.TooMuch row) = codes "P7"
+payments_code rows.NoMemory = codes "7"
+
+-- a write fault: the standard output has a row of its own
+abbrev pub write_code : FileIs → List ℕ
+write_code file.Out = codes "6 out"
+write_code _ = codes "6"
+
+abbrev pub code_of : Fault → List ℕ
+code_of fault.Usage = codes "1"
+code_of (fault.Job code) = job_code code
+code_of (fault.Requests code) = requests_code code
+code_of (fault.Payments code) = payments_code code
+code_of (fault.Read file) = codes "5"
+code_of (fault.Write file) = write_code file
+code_of fault.NoMemory = codes "7"
+code_of (fault.Long file) = codes "9"
+
+abbrev pub refusal_code : QFault → List ℕ
+refusal_code (refusal.NoNode change) = codes "Q1"
+refusal_code (refusal.Fixed change) = codes "Q2"
+refusal_code (refusal.NodeTwice change) = codes "Q3"
+refusal_code (refusal.Stale change current) = codes "Q4"
+refusal_code (refusal.IllTyped change) = codes "Q5"
+refusal_code (refusal.KindOrKey change) = codes "Q6"
+refusal_code (refusal.BadCarry change) = codes "Q7"
+refusal_code refusal.Empty = codes "Q8"
+refusal_code (refusal.Backwards last) = codes "Q9"

@@ -1,0 +1,211 @@
+// The whole message of a call.
+ghost use Rattle.std.specs.Prelude.{◌≡◌, [], ℕ, List, None, IfOk, IfSome, string_bytes};
+ghost use Rattle.advice.specs.Codes.{code_of, refusal_code};
+ghost use Rattle.advice.specs.Told.{Tells, message as message_of};
+
+use crate::call::{Call, role_of};
+use crate::codes::{help_of, help_of_refusal};
+use crate::job_places::job_place;
+use crate::look::Look;
+use crate::place::Place;
+use crate::request_places::{push_number, push_refused, request_place};
+use crate::row_places::row_place;
+use crate::shown::push_shown;
+use crate::table::{Help, REFUSED};
+use job_file::read_job;
+use report::{Fault, FileIs};
+use std::alloc::{AllocError, Global};
+use std::fmt::Write;
+use toml::Table;
+use tuple_trace::{Bytes, NoMemory};
+use versions::Refused;
+
+/// What is told of a call whose status isn't 0, and nothing of any other.
+///
+/// The first line names the file, the code with what it names, and the place by its name and its
+/// line. The lines after it say what the code means and what to do. Refused requests have such lines
+/// each. Files are looked at again, and if one can't be, its names and lines are left out.
+///
+/// # Errors
+///
+/// [`NoMemory`] if the text itself has no room.
+pub fn advice<L: Look>(alloc: Global, call: Call<'_>, look: &mut L) -> Result<String, NoMemory>
+    ensures quiet { call.entry.fault ≡ None → call.entry.refused.now ≡ [] →
+        IfOk result (λ text. string_bytes text ≡ []) }
+    ensures fault { IfSome call.entry.fault (λ fault.
+        IfOk result (λ text. Tells (code_of fault) (string_bytes text))) }
+{
+    match call.fault {
+        Some(fault) => Ok(fault_text(alloc, call, fault, look)?),
+        None if call.refused.is_empty() => Ok(String::new(alloc)),
+        None => Ok(refusals_text(alloc, call, look)?),
+    }
+}
+
+// ---- a message
+
+fn message(alloc: Global, head: &str, help: Help, detail: &str) -> Result<String, AllocError>
+    ensures text { IfOk result (λ text. string_bytes text ≡ message_of head.now help detail.now) }
+    ensures tells { (code : List ℕ) → help.code.now ≡ code →
+        IfOk result (λ text. Tells code (string_bytes text)) }
+{
+    let Help { cause, cure, .. } = help;
+    Ok(format!(in alloc; "{head}\n  {cause}\n{detail}  {cure}\n")?)
+}
+
+// A sentence on a line of its own, and nothing if there is none.
+fn detail_line(alloc: Global, detail: &str) -> Result<String, AllocError> {
+    let detail = detail.trim();
+    if detail.is_empty() {
+        Ok(String::new(alloc))
+    } else {
+        format!(in alloc; "  {detail}\n")
+    }
+}
+
+// ---- faults
+
+fn fault_text<L: Look>(
+    alloc: Global,
+    call: Call<'_>,
+    fault: Fault,
+    look: &mut L,
+) -> Result<String, AllocError>
+    ensures { IfOk result (λ text. Tells (code_of fault) (string_bytes text)) }
+{
+    let place = match place_of(alloc, call, fault, look) {
+        Ok(place) => place,
+        Err(NoMemory) => Place::new(alloc),
+    };
+    let head = head_of(alloc, call, fault, place.note.as_str())?;
+    let detail = detail_line(alloc, place.detail.as_str())?;
+    message(alloc, head.as_str(), help_of(fault), detail.as_str())
+}
+
+// The first line: the file, the words of the fault if it has a code, and the names of the place.
+fn head_of(alloc: Global, call: Call<'_>, fault: Fault, note: &str) -> Result<String, AllocError> {
+    let mut out = String::new(alloc);
+    match fault {
+        Fault::Job(_) => push_coded(call, FileIs::Job, fault, &mut out)?,
+        Fault::Requests(_) => push_coded(call, FileIs::Requests, fault, &mut out)?,
+        Fault::Payments(_) => push_coded(call, FileIs::Payments, fault, &mut out)?,
+        Fault::Read(file) | Fault::Write(file) | Fault::Long(file) => {
+            push_file(call, file, &mut out)?
+        }
+        Fault::Usage => out.push_str("fries: usage")?,
+        Fault::NoMemory => out.push_str("fries: memory")?,
+    }
+    if !note.is_empty() {
+        write!(out, " ({note})")?;
+    }
+    Ok(out)
+}
+
+fn push_coded(
+    call: Call<'_>,
+    file: FileIs,
+    fault: Fault,
+    out: &mut String,
+) -> Result<(), AllocError> {
+    push_file(call, file, out)?;
+    write!(out, ": {fault}")
+}
+
+fn push_file(call: Call<'_>, file: FileIs, out: &mut String) -> Result<(), AllocError> {
+    let title = role_of(file).title;
+    match call.name_of(file) {
+        Some(name) => {
+            write!(out, "fries: {title} ")?;
+            push_shown(name.as_str(), out)
+        }
+        // Rows without a file are those that `make` makes.
+        None if file == FileIs::Payments => out.push_str("fries: made rows"),
+        None => write!(out, "fries: {title}"),
+    }
+}
+
+// What the files tell of the place of a fault.
+fn place_of<L: Look>(
+    alloc: Global,
+    call: Call<'_>,
+    fault: Fault,
+    look: &mut L,
+) -> Result<Place, NoMemory> {
+    match fault {
+        Fault::Job(fault) => match file_of(alloc, call, FileIs::Job, look) {
+            Some(job) => Ok(job_place(alloc, job.as_slice(), fault)?),
+            None => Ok(Place::new(alloc)),
+        },
+        Fault::Requests(fault) => match file_of(alloc, call, FileIs::Requests, look) {
+            Some(requests) => Ok(request_place(alloc, requests.as_slice(), fault)?),
+            None => Ok(Place::new(alloc)),
+        },
+        Fault::Payments(fault) => {
+            let job = match file_of(alloc, call, FileIs::Job, look) {
+                Some(job) => read_job(alloc, job.as_slice()).ok(),
+                None => None,
+            };
+            let rows = file_of(alloc, call, FileIs::Payments, look);
+            let rows = match &rows {
+                Some(rows) => rows.as_slice(),
+                None => &[],
+            };
+            Ok(row_place(alloc, job.as_ref(), rows, fault)?)
+        }
+        Fault::Long(file) => {
+            let mut place = Place::new(alloc);
+            let most = file.limit();
+            write!(place.detail, "At most {most} bytes are read of it.")?;
+            Ok(place)
+        }
+        Fault::Usage | Fault::Read(_) | Fault::Write(_) | Fault::NoMemory => Ok(Place::new(alloc)),
+    }
+}
+
+// The bytes of a file of the call.
+fn file_of<L: Look>(alloc: Global, call: Call<'_>, file: FileIs, look: &mut L) -> Option<Bytes> {
+    look.look(alloc, call.name_of(file)?, file.limit())
+}
+
+// ---- refused requests
+
+fn refusals_text<L: Look>(
+    alloc: Global,
+    call: Call<'_>,
+    look: &mut L,
+) -> Result<String, AllocError> {
+    let mut head = String::new(alloc);
+    push_file(call, FileIs::Requests, &mut head)?;
+    let mut out = message(alloc, head.as_str(), REFUSED, "")?;
+    let bytes = file_of(alloc, call, FileIs::Requests, look);
+    let bytes = match &bytes {
+        Some(bytes) => bytes.as_slice(),
+        None => &[],
+    };
+    let table = toml::table_from_slice(alloc, bytes).ok();
+    for refused in call.refused {
+        let file = match &table {
+            Some(table) => Some((table, bytes)),
+            None => None,
+        };
+        out.push_str(refusal_text(alloc, file, *refused)?.as_str())?;
+    }
+    Ok(out)
+}
+
+fn refusal_text(
+    alloc: Global,
+    file: Option<(&Table, &[u8])>,
+    refused: Refused,
+) -> Result<String, AllocError>
+    ensures { IfOk result (λ text. Tells (refusal_code refused.fault) (string_bytes text)) }
+{
+    let help = help_of_refusal(refused.fault);
+    let code = help.code;
+    let mut head = format!(in alloc; "{code} at ")?;
+    push_refused(file, refused, &mut head)?;
+    let mut number = String::new(alloc);
+    push_number(refused.fault, &mut number)?;
+    let detail = detail_line(alloc, number.as_str())?;
+    message(alloc, head.as_str(), help, detail.as_str())
+}

@@ -1,0 +1,87 @@
+// Which row of the table tells of a fault.
+ghost use Rattle.std.specs.Prelude.{◌≡◌};
+ghost use Rattle.advice.specs.Codes.{code_of, job_code, payments_code, refusal_code, requests_code};
+
+use crate::table::*;
+use job_file::{JobFault, ReqFileFault};
+use payments::PFault;
+use report::{Fault, FileIs};
+use versions::QFault;
+
+/// What is said of a fault.
+pub fn help_of(fault: Fault) -> Help
+    ensures { result.code.now ≡ code_of fault }
+{
+    match fault {
+        Fault::Usage => USAGE,
+        Fault::Job(fault) => help_of_job(fault),
+        Fault::Requests(fault) => help_of_requests(fault),
+        Fault::Payments(fault) => help_of_payments(fault),
+        Fault::Read(_) => READ,
+        Fault::Write(FileIs::Out) => OUT,
+        Fault::Write(_) => WRITE,
+        Fault::NoMemory => MEMORY,
+        Fault::Long(_) => LONG,
+    }
+}
+
+fn help_of_job(fault: JobFault) -> Help
+    ensures { result.code.now ≡ job_code fault }
+{
+    match fault {
+        JobFault::NotToml => J1,
+        JobFault::Shape(_) => J2,
+        JobFault::Limit(..) => J3,
+        JobFault::NameTwice(..) => J4,
+        JobFault::NoSuchEnd(_) => J5,
+        JobFault::Ports(_) => J6,
+        JobFault::Cycle(_) => J7,
+        JobFault::Column(_) => J8,
+        JobFault::NoTable(_) => J9,
+        JobFault::Weight(_) => J10,
+        JobFault::NoMemory => MEMORY,
+    }
+}
+
+fn help_of_requests(fault: ReqFileFault) -> Help
+    ensures { result.code.now ≡ requests_code fault }
+{
+    match fault {
+        ReqFileFault::NotToml => F1,
+        ReqFileFault::Shape(_) => F2,
+        ReqFileFault::Limit(..) => F3,
+        ReqFileFault::NoMemory => MEMORY,
+    }
+}
+
+fn help_of_payments(fault: PFault) -> Help
+    ensures { result.code.now ≡ payments_code fault }
+{
+    match fault {
+        PFault::NoHeader => P1,
+        PFault::Header => P2,
+        PFault::Length(_) => P3,
+        PFault::Source(_) => P4,
+        PFault::Value(..) => P5,
+        PFault::TextLong(..) => P6,
+        PFault::TooMuch(_) => P7,
+        PFault::NoMemory => MEMORY,
+    }
+}
+
+/// What is said of a refused request.
+pub fn help_of_refusal(fault: QFault) -> Help
+    ensures { result.code.now ≡ refusal_code fault }
+{
+    match fault {
+        QFault::NoNode(_) => Q1,
+        QFault::Fixed(_) => Q2,
+        QFault::NodeTwice(_) => Q3,
+        QFault::Stale(..) => Q4,
+        QFault::IllTyped(_) => Q5,
+        QFault::KindOrKey(_) => Q6,
+        QFault::BadCarry(_) => Q7,
+        QFault::Empty => Q8,
+        QFault::Backwards(_) => Q9,
+    }
+}

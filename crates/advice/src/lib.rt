@@ -1,0 +1,24 @@
+//! What the program tells people on standard error, beside the fixed lines on standard output.
+//!
+//! ```text
+//! let call = Call { words: &words, fault: outcome.fault, refused: outcome.refused.as_slice() };
+//! let told = advice(alloc, call, &mut HostLook::new(rt))?;
+//! ```
+#![tactic(auto)]
+
+mod advice_text;
+mod call;
+mod codes;
+mod job_places;
+mod look;
+mod place;
+mod request_places;
+mod row_places;
+mod shown;
+mod table;
+
+pub use advice_text::advice;
+pub use call::Call;
+pub use codes::{help_of, help_of_refusal};
+pub use look::{HostLook, Look, ShelfLook};
+pub use table::Help;

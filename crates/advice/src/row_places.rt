@@ -1,0 +1,187 @@
+// What a payments file and its job tell of the place of a fault.
+use crate::place::Place;
+use crate::shown::{line_at, push_bytes};
+use csv::{ByteRecord, ReaderBuilder};
+use jobs::{ColumnKind, Job, is_source, weight};
+use payments::PFault;
+use std::alloc::{AllocError, Global};
+use std::fmt::Write;
+
+/// How many tuples a run may bring to its nodes.
+const WORK_MAX: u64 = 1 << 20;
+
+/// What the bytes of a payments file, and their job if it is known, tell of the place of a fault.
+pub(crate) fn row_place(
+    alloc: Global,
+    job: Option<&Job>,
+    bytes: &[u8],
+    fault: PFault,
+) -> Result<Place, AllocError> {
+    let mut place = Place::new(alloc);
+    match fault {
+        PFault::NoHeader | PFault::Header => push_header(job, &mut place.detail)?,
+        PFault::Length(row) => {
+            if let Some(found) = record_at(alloc, bytes, row) {
+                found.push_line(&mut place.note)?;
+                let (count, width) = (found.cells.len(), found.width);
+                write!(
+                    place.detail,
+                    "It has {count} fields, and the header has {width}."
+                )?;
+            }
+        }
+        PFault::Source(row) => {
+            if let Some(found) = record_at(alloc, bytes, row) {
+                found.push_line(&mut place.note)?;
+                found.push_field(0, &mut place.detail)?;
+            }
+            push_sources(job, &mut place.detail)?;
+        }
+        PFault::Value(row, column) | PFault::TextLong(row, column) => {
+            if let Some(found) = record_at(alloc, bytes, row) {
+                found.push_line(&mut place.note)?;
+                if let Some(job) = job {
+                    push_column(job, column, &mut place.note)?;
+                    found.push_field(cell_of(job, column), &mut place.detail)?;
+                }
+            }
+        }
+        PFault::TooMuch(_) => push_most_rows(job, &mut place.detail)?,
+        PFault::NoMemory => {}
+    }
+    Ok(place)
+}
+
+// A record, with the line that it begins at and the number of fields of the header.
+#[derive(Drop)]
+struct Found {
+    cells: ByteRecord,
+    line: u64,
+    width: usize,
+}
+
+impl Found {
+    fn push_line(&self, out: &mut String) -> Result<(), AllocError> {
+        let line = self.line;
+        write!(out, "line {line}")
+    }
+
+    fn push_field(&self, place: usize, out: &mut String) -> Result<(), AllocError> {
+        match self.cells.get(place) {
+            Some(field) => {
+                out.push_str("It is ")?;
+                push_bytes(field, out)?;
+                out.push_str(". ")
+            }
+            None => Ok(()),
+        }
+    }
+}
+
+// The record of a row: the header is that of row 0.
+fn record_at(alloc: Global, bytes: &[u8], row: u64) -> Option<Found> {
+    let mut reader = ReaderBuilder::new()
+        .has_headers(false)
+        .flexible(true)
+        .from_reader(alloc, bytes);
+    let mut cells = ByteRecord::new(alloc);
+    if !reader.read_byte_record(&mut cells).ok()? {
+        return None;
+    }
+    let width = cells.len();
+    for _ in 0..row {
+        if !reader.read_byte_record(&mut cells).ok()? {
+            return None;
+        }
+    }
+    let start = first_byte(bytes, cells.position()?.byte());
+    Some(Found {
+        line: line_at(bytes, start),
+        cells,
+        width,
+    })
+}
+
+// Where a record begins that is looked for from this place on: after the ends of lines.
+fn first_byte(bytes: &[u8], from: u64) -> usize {
+    let mut start = 0usize;
+    for (place, byte) in bytes.iter().enumerate() {
+        if place as u64 >= from && *byte != b'\n' && *byte != b'\r' {
+            return place;
+        }
+        start = place;
+    }
+    start
+}
+
+fn push_header(job: Option<&Job>, out: &mut String) -> Result<(), AllocError> {
+    let Some(job) = job else {
+        return Ok(());
+    };
+    out.push_str("The header of this job is `source")?;
+    for column in job.columns.as_slice() {
+        if !column.own {
+            out.push(',')?;
+            push_name(column.name.as_slice(), out)?;
+        }
+    }
+    out.push_str("`.")
+}
+
+fn push_sources(job: Option<&Job>, out: &mut String) -> Result<(), AllocError> {
+    let Some(job) = job else {
+        return Ok(());
+    };
+    out.push_str("The sources are ")?;
+    let mut between = "";
+    for node in job.nodes.as_slice() {
+        if is_source(&node.func) {
+            out.push_str(between)?;
+            push_bytes(node.name.as_slice(), out)?;
+            between = ", ";
+        }
+    }
+    out.push('.')
+}
+
+fn push_column(job: &Job, number: u32, out: &mut String) -> Result<(), AllocError> {
+    if let Some(column) = job.columns.as_slice().get(number as usize) {
+        out.push_str(", ")?;
+        push_bytes(column.name.as_slice(), out)?;
+        out.push_str(match column.kind {
+            ColumnKind::Text => ", a text",
+            ColumnKind::Number => ", a number",
+            ColumnKind::Cents => ", an amount",
+        })?;
+    }
+    Ok(())
+}
+
+// Which field of a record holds a column. The source's name is the first; own columns have no field.
+fn cell_of(job: &Job, column: u32) -> usize {
+    let mut cell = 1usize;
+    for before in job.columns.as_slice().iter().take(column as usize) {
+        if !before.own {
+            cell = cell.saturating_add(1);
+        }
+    }
+    cell
+}
+
+fn push_most_rows(job: Option<&Job>, out: &mut String) -> Result<(), AllocError> {
+    let Some(job) = job else {
+        return Ok(());
+    };
+    let weight = weight(job);
+    match WORK_MAX.checked_div(weight) {
+        Some(most) => write!(out, "The weight is {weight}, so {most} rows are the most."),
+        None => Ok(()),
+    }
+}
+
+fn push_name(name: &[u8], out: &mut String) -> Result<(), AllocError> {
+    match std::str::from_utf8(name) {
+        Ok(name) => out.push_str(name),
+        Err(_) => Ok(()),
+    }
+}

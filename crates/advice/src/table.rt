@@ -1,0 +1,228 @@
+//! What is said of each code. docs/ERRORS.md is made from these rows by tools/errors.
+
+/// What is said of a code, in plain sentences.
+#[derive(Clone, Copy, Debug)]
+pub struct Help {
+    /// The code as it is printed, or the status of a fault that has no code.
+    pub code: &'static str,
+    /// What the code means.
+    pub cause: &'static str,
+    /// What to do.
+    pub cure: &'static str,
+}
+
+pub const USAGE: Help = Help {
+    code: "1",
+    cause: "These words have no form that the program knows.",
+    cure: "Type `fries --help` for the forms of all commands.",
+};
+
+pub const J1: Help = Help {
+    code: "J1",
+    cause: "The job file is no TOML document.",
+    cure: "Correct the text there: strings stand in quotes, and each node begins with `[[node]]`.",
+};
+
+pub const J2: Help = Help {
+    code: "J2",
+    cause: "This key is missing, isn't in the layout, or its value isn't of the form it asks for.",
+    cure: "Compare the keys of the file with the layout in docs/JOBS.md.",
+};
+
+pub const J3: Help = Help {
+    code: "J3",
+    cause: "A count or a size in the job file is outside its limit.",
+    cure: "Bring the count or the size within its limit.",
+};
+
+pub const J4: Help = Help {
+    code: "J4",
+    cause: "This node or column has the name of an earlier one.",
+    cure: "Give one of the two another name.",
+};
+
+pub const J5: Help = Help {
+    code: "J5",
+    cause: "An end of this edge names no node.",
+    cure: "Write the names of nodes in `from` and `to`, or add the missing node.",
+};
+
+pub const J6: Help = Help {
+    code: "J6",
+    cause: "The node's edges aren't those of its kind, or two of them lead to one node.",
+    cure: "Add or remove edges, or change their `port`.",
+};
+
+pub const J7: Help = Help {
+    code: "J7",
+    cause: "The node lies on a cycle: tuples could come back to it.",
+    cure: "Remove an edge of the cycle, so that all ways end at sinks.",
+};
+
+pub const J8: Help = Help {
+    code: "J8",
+    cause: "A column, test or literal of this node doesn't fit, or an entry of its table doesn't.",
+    cure: "Check each column's name and kind; a text takes only the tests `=` and `!=`.",
+};
+
+pub const J9: Help = Help {
+    code: "J9",
+    cause: "The table that this node names isn't there.",
+    cure: "Add it under `[tables]`, or name a table that is there.",
+};
+
+pub const J10: Help = Help {
+    code: "J10",
+    cause: "The job is too heavy: one row may bring more than 1,024 tuples to its nodes.",
+    cure: "Lower `most` and `roof` of splits, or let fewer ways follow them.",
+};
+
+pub const F1: Help = Help {
+    code: "F1",
+    cause: "The request file is no TOML document.",
+    cure: "Correct the text there: strings stand in quotes; a request begins with `[[request]]`.",
+};
+
+pub const F2: Help = Help {
+    code: "F2",
+    cause: "This key is missing, isn't in the layout, or its value isn't of the form it asks for.",
+    cure: "Compare the keys of the file with the layout in docs/REQUESTS.md.",
+};
+
+pub const F3: Help = Help {
+    code: "F3",
+    cause: "A count or a size in the request file is outside its limit.",
+    cure: "Bring the count or the size within its limit.",
+};
+
+pub const P1: Help = Help {
+    code: "P1",
+    cause: "The payments file has no record, not even a header.",
+    cure: "Write the header as its first line.",
+};
+
+pub const P2: Help = Help {
+    code: "P2",
+    cause: "The first record isn't `source` and the names of the job's columns, in their order.",
+    cure: "Correct the header; leave out the columns that the job marks `own`.",
+};
+
+pub const P3: Help = Help {
+    code: "P3",
+    cause: "This row has another number of fields than the header.",
+    cure: "Write one field for each column, and quote a field that has a comma.",
+};
+
+pub const P4: Help = Help {
+    code: "P4",
+    cause: "The first field of this row names no source of the job.",
+    cure: "Write the name of a source node there.",
+};
+
+pub const P5: Help = Help {
+    code: "P5",
+    cause: "This field isn't spelled as its column asks, or its value is out of range.",
+    cure: "A number is digits after an optional `-`; an amount may add `.` and 1 or 2 digits.",
+};
+
+pub const P6: Help = Help {
+    code: "P6",
+    cause: "The text in this field has more than 48 bytes.",
+    cure: "Shorten the text.",
+};
+
+pub const P7: Help = Help {
+    code: "P7",
+    cause: "There are more rows than the weight of the job allows.",
+    cure: "Run fewer rows at a time, or make the job lighter.",
+};
+
+pub const Q1: Help = Help {
+    code: "Q1",
+    cause: "The change names no node of the job.",
+    cure: "Correct the name.",
+};
+
+pub const Q2: Help = Help {
+    code: "Q2",
+    cause: "The change names a source, a sink or a replicate, which never change.",
+    cure: "Remove the change.",
+};
+
+pub const Q3: Help = Help {
+    code: "Q3",
+    cause: "An earlier change of this request names the same node.",
+    cure: "Keep one of the two.",
+};
+
+pub const Q4: Help = Help {
+    code: "Q4",
+    cause: "The change was written for another version of its node than the one in force.",
+    cure: "See what the accepted requests before it changed, and then correct `from`.",
+};
+
+pub const Q5: Help = Help {
+    code: "Q5",
+    cause: "The new function doesn't fit the job: a column, a table, a test or a literal.",
+    cure: "Check each name against the job, and each literal against its column's kind.",
+};
+
+pub const Q6: Help = Help {
+    code: "Q6",
+    cause: "The node can't become this kind, count by this key, or make so many pieces.",
+    cure: "Keep the kind and the key, or raise the node's `roof` in the job file.",
+};
+
+pub const Q7: Help = Help {
+    code: "Q7",
+    cause: "The carry stands at a node that isn't a count, or it divides by less than 1.",
+    cure: "Remove the carry, or write a divisor of at least 1.",
+};
+
+pub const Q8: Help = Help {
+    code: "Q8",
+    cause: "The request has no change.",
+    cure: "Add a change, or remove the request.",
+};
+
+pub const Q9: Help = Help {
+    code: "Q9",
+    cause: "The request is for an earlier row than an accepted one before it.",
+    cure: "Put the requests in the order of `after`.",
+};
+
+pub const READ: Help = Help {
+    code: "5",
+    cause: "The file couldn't be read.",
+    cure: "Check its name, and that you may read it.",
+};
+
+pub const WRITE: Help = Help {
+    code: "6",
+    cause: "The file couldn't be made or written; it may hold a beginning of its text.",
+    cure: "Check its folder, that you may write there, and that the disk has room.",
+};
+
+pub const OUT: Help = Help {
+    code: "6 out",
+    cause: "The standard output couldn't be written; files that the command makes are whole.",
+    cure: "Keep the reader of the output open, or send the output to a file.",
+};
+
+pub const MEMORY: Help = Help {
+    code: "7",
+    cause: "Memory ran out.",
+    cure: "Run fewer rows at a time, or give the program more memory.",
+};
+
+pub const REFUSED: Help = Help {
+    code: "8",
+    cause: "Requests were refused: nothing of them is done, and all others are.",
+    cure: "Correct or remove each request that is named here.",
+};
+
+pub const LONG: Help = Help {
+    code: "9",
+    cause: "The file is longer than the program reads.",
+    cure: "Shorten it; payments may be cut into several files, for several runs.",
+};

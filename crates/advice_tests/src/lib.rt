@@ -1,0 +1,5 @@
+//! The tests of `advice`. They stand beside it, so that none of its functions is proved again for them.
+#![tactic(auto)]
+
+#[cfg(test)]
+mod tests;

@@ -1,0 +1,187 @@
+use crate::tests::{Case, JOB, RUN, is_told, with};
+use job_file::{read_job, read_requests};
+use report::Fault;
+use std::alloc::Global;
+use tuple_trace::NoMemory;
+use versions::judge_all;
+
+const REQUESTS: &str = r#"[[request]]
+after = 1
+
+[[request.change]]
+node = "big"
+from = 0
+kind = "filter"
+when = [["amount", ">=", 200]]
+"#;
+
+const FAULTS: &[Case] = &[
+    Case {
+        old: "[[request.change]]",
+        new: "[[request.change]",
+        told: "fries: request file `requests.toml`: F1 (line 4)
+  The request file is no TOML document.
+  There the reader found: unclosed array table, expected `]]`.
+  Correct the text there: strings stand in quotes; a request begins with `[[request]]`.
+",
+    },
+    Case {
+        old: "from",
+        new: "form",
+        told: "fries: request file `requests.toml`: F2 from
+  This key is missing, isn't in the layout, or its value isn't of the form it asks for.
+  Compare the keys of the file with the layout in docs/REQUESTS.md.
+",
+    },
+    Case {
+        old: "after = 1",
+        new: "after = 1048577",
+        told: "fries: request file `requests.toml`: F3 after 1048577
+  A count or a size in the request file is outside its limit.
+  A request's `after` is 0 to 1,048,576.
+  Bring the count or the size within its limit.
+",
+    },
+];
+
+/// What is told first of all refusals.
+const HEAD: &str = "fries: request file `requests.toml`
+  Requests were refused: nothing of them is done, and all others are.
+  Correct or remove each request that is named here.
+";
+
+const REFUSALS: &[Case] = &[
+    Case {
+        old: "node = \"big\"",
+        new: "node = \"bgi\"",
+        told: "Q1 at request 1, line 1, change 1 of `bgi`
+  The change names no node of the job.
+  Correct the name.
+",
+    },
+    Case {
+        old: "node = \"big\"",
+        new: "node = \"card\"",
+        told: "Q2 at request 1, line 1, change 1 of `card`
+  The change names a source, a sink or a replicate, which never change.
+  Remove the change.
+",
+    },
+    Case {
+        old: "200]]\n",
+        new: "200]]\n[[request.change]]\nnode = \"big\"\nfrom = 0\nkind = \"map\"\nsteps = []\n",
+        told: "Q3 at request 1, line 1, change 2 of `big`
+  An earlier change of this request names the same node.
+  Keep one of the two.
+",
+    },
+    Case {
+        old: "from = 0",
+        new: "from = 1",
+        told: "Q4 at request 1, line 1, change 1 of `big`
+  The change was written for another version of its node than the one in force.
+  The node has version 0.
+  See what the accepted requests before it changed, and then correct `from`.
+",
+    },
+    Case {
+        old: "amount",
+        new: "amont",
+        told: "Q5 at request 1, line 1, change 1 of `big`
+  The new function doesn't fit the job: a column, a table, a test or a literal.
+  Check each name against the job, and each literal against its column's kind.
+",
+    },
+    Case {
+        old: "kind = \"filter\"\nwhen = [[\"amount\", \">=\", 200]]",
+        new: "kind = \"split\"\non = \"account\"\nby = \";\"\nmost = 2",
+        told: "Q6 at request 1, line 1, change 1 of `big`
+  The node can't become this kind, count by this key, or make so many pieces.
+  Keep the kind and the key, or raise the node's `roof` in the job file.
+",
+    },
+    Case {
+        old: "from = 0",
+        new: "from = 0\ncarry = \"reset\"",
+        told: "Q7 at request 1, line 1, change 1 of `big`
+  The carry stands at a node that isn't a count, or it divides by less than 1.
+  Remove the carry, or write a divisor of at least 1.
+",
+    },
+    Case {
+        old: "[[request]]",
+        new: "[[request]]\nafter = 0\n[[request]]",
+        told: "Q8 at request 1, line 1
+  The request has no change.
+  Add a change, or remove the request.
+",
+    },
+    Case {
+        old: "200]]\n",
+        new: r#"200]]
+[[request]]
+after = 0
+[[request.change]]
+node = "big"
+from = 1
+kind = "filter"
+when = []
+"#,
+        told: "Q9 at request 2, line 9
+  The request is for an earlier row than an accepted one before it.
+  The accepted one is for row 1.
+  Put the requests in the order of `after`.
+",
+    },
+];
+
+// Whether the fault of this request file has its sentences.
+fn is_fault(alloc: Global, case: Case) -> Result<bool, NoMemory> {
+    let text = with(alloc, REQUESTS, case)?;
+    let Ok(job) = read_job(alloc, JOB.as_bytes()) else {
+        return Err(NoMemory);
+    };
+    let Err(fault) = read_requests(alloc, &job, text.as_bytes()) else {
+        return Ok(false);
+    };
+    let files = [("requests.toml", text.as_str())];
+    is_told(
+        alloc,
+        &files,
+        RUN,
+        Some(Fault::Requests(fault)),
+        &[],
+        case.told,
+    )
+}
+
+// Whether what is refused of this request file has its sentences.
+fn is_refusal(alloc: Global, case: Case) -> Result<bool, NoMemory> {
+    let text = with(alloc, REQUESTS, case)?;
+    let Ok(job) = read_job(alloc, JOB.as_bytes()) else {
+        return Err(NoMemory);
+    };
+    let Ok(requests) = read_requests(alloc, &job, text.as_bytes()) else {
+        return Ok(false);
+    };
+    let judged = judge_all(alloc, &job, &requests)?;
+    let refused = judged.refused.as_slice();
+    let told = case.told;
+    let told = format!(in alloc; "{HEAD}{told}")?;
+    let files = [("requests.toml", text.as_str())];
+    is_told(alloc, &files, RUN, None, refused, told.as_str())
+}
+
+#[test]
+fn each_fault_of_a_request_file_is_told(rt: HostRuntime) {
+    for case in FAULTS {
+        assert!(rt; matches!(is_fault(rt.alloc(), *case), Ok(true)));
+    }
+}
+
+#[test]
+fn each_refused_request_is_told(rt: HostRuntime) {
+    for case in REFUSALS {
+        assert!(rt; matches!(is_refusal(rt.alloc(), *case), Ok(true)));
+    }
+}
