@@ -1,4 +1,4 @@
-//! The tests of `advice`. They stand beside it, so that none of its functions is proved again for them.
+//! The tests of `advice`. They stand beside it, so that none of its functions is proved again.
 #![tactic(auto)]
 
 #[cfg(test)]
