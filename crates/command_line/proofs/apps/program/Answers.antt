@@ -1,0 +1,17 @@
+use Rattle.std.proofs.Common.{◌∙◌, ap, codes}
+use Rattle.std.proofs.lemmas.Result.{IfOk-weaker}
+use Rattle.clap.specs.Simple.{app_of_fields}
+use Rattle.clap.specs.Words.{new_app}
+use Rattle.command_line.specs.Apps.{IsApp, without_its_name}
+use Rattle.command_line.proofs.AppLemmas.{sub_added}
+use Rattle.command_line.proofs.apps.program.Goals as goal
+
+pub returns : goal.returns
+returns c =
+    let named : IsApp c.no_binary_name.result (without_its_name (new_app (codes "fries"))) =
+    (ap app_of_fields c.no_binary_name.ensures ∙ ap without_its_name c.new.ensures.app, ap (λ fields. fields.has_globals) c.no_binary_name.ensures ∙ c.new.ensures.local) in
+    let with_first = sub_added _ _ _ _ _ named c.in_ok-first.ensures c.in_ok-subcommand.ensures in
+    let with_check = sub_added _ _ _ _ _ with_first c.in_ok-check.ensures c.in_ok-subcommand-2.ensures in
+    let with_plan = sub_added _ _ _ _ _ with_check c.in_ok-plan.ensures c.in_ok-subcommand-3.ensures in
+    let with_run = sub_added _ _ _ _ _ with_plan c.in_ok-run.ensures c.in_ok-subcommand-4.ensures in
+    IfOk-weaker c.subcommand-5.result _ _ (λ made adds. sub_added _ _ made _ _ with_run c.in_ok-make.ensures adds) c.subcommand-5.ensures

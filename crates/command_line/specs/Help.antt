@@ -1,0 +1,81 @@
+-- What is printed to explain the program.
+use Rattle.std.specs.Prelude.{◌++◌, codes}
+use Rattle.command_line.specs.Form.{Text}
+use Rattle.command_line.specs.declared.topic.Topic.{Topic}
+use Rattle.command_line.specs.declared.topic.Topic.TheVariants as topic
+
+abbrev pub version_line : Text
+version_line = codes "fries 0.1.0\n"
+
+abbrev pub help_of : Topic → Text
+help_of topic.Program =
+    codes "fries - changes operators of a dataflow while payments flow through it\n"
+    ++ codes "\n"
+    ++ codes "usage: fries COMMAND NAMES [OPTIONS]\n"
+    ++ codes "\n"
+    ++ codes "  check JOB                                   prints the sizes of a job\n"
+    ++ codes "  plan JOB REQUESTS                           prints what each request changes\n"
+    ++ codes "  run JOB REQUESTS PAYMENTS ALERTS AUDIT      runs payments through a job\n"
+    ++ codes "  make JOB SEED ROWS                          runs rows that are made up\n"
+    ++ codes "  first PAYMENTS ALERTS MIN AFTER MIN2        runs the smallest job\n"
+    ++ codes "\n"
+    ++ codes "Options stand anywhere after the command, as two words or one: --threads 2, --threads=2.\n"
+    ++ codes "`fries COMMAND --help` explains a command, `fries --version` prints the version.\n"
+    ++ codes "\n"
+    ++ codes "example: fries check job.toml\n"
+help_of topic.First =
+    codes "usage: fries first PAYMENTS ALERTS MIN AFTER MIN2\n"
+    ++ codes "\n"
+    ++ codes "Runs payments through one filter, whose least amount changes on the way.\n"
+    ++ codes "\n"
+    ++ codes "  PAYMENTS  file to read: payments as CSV\n"
+    ++ codes "  ALERTS    file to write: the payments that pass, as CSV\n"
+    ++ codes "  MIN       least amount at first, in cents, 0 to 9223372036854775807\n"
+    ++ codes "  AFTER     rows before the change, 0 to 1048576\n"
+    ++ codes "  MIN2      least amount after the change, in cents, 0 to 9223372036854775807\n"
+    ++ codes "\n"
+    ++ codes "example: fries first pay.csv alerts.csv 10000 2 5000\n"
+help_of topic.Check =
+    codes "usage: fries check JOB\n"
+    ++ codes "\n"
+    ++ codes "Reads a job and prints how many nodes, edges and workers it has, and its weight.\n"
+    ++ codes "\n"
+    ++ codes "  JOB       file to read: a job as TOML\n"
+    ++ codes "\n"
+    ++ codes "example: fries check job.toml\n"
+help_of topic.Plan =
+    codes "usage: fries plan JOB REQUESTS [--ordered]\n"
+    ++ codes "\n"
+    ++ codes "Prints for each request which nodes and edges its change covers, or why it is refused.\n"
+    ++ codes "\n"
+    ++ codes "  JOB        file to read: a job as TOML\n"
+    ++ codes "  REQUESTS   file to read: requests as TOML\n"
+    ++ codes "  --ordered  plans for one order of all rows and requests; without it, rows alone are whole\n"
+    ++ codes "\n"
+    ++ codes "example: fries plan job.toml requests.toml\n"
+help_of topic.Run =
+    codes "usage: fries run JOB REQUESTS PAYMENTS ALERTS AUDIT [OPTIONS]\n"
+    ++ codes "\n"
+    ++ codes "Runs payments through a job, while requests change its operators.\n"
+    ++ codes "\n"
+    ++ codes "  JOB           file to read: a job as TOML\n"
+    ++ codes "  REQUESTS      file to read: requests as TOML\n"
+    ++ codes "  PAYMENTS      file to read: payments as CSV\n"
+    ++ codes "  ALERTS        file to write: what comes to the sinks, as CSV\n"
+    ++ codes "  AUDIT         file to write: what each worker did, as CSV; another word than ALERTS\n"
+    ++ codes "  --threads N   threads, 1 to 16; without it, 1\n"
+    ++ codes "  --capacity C  items on a lane, 1 to 64; without it, 16\n"
+    ++ codes "  --ordered     gives rows and requests one order; without it, rows alone are whole\n"
+    ++ codes "\n"
+    ++ codes "example: fries run job.toml requests.toml pay.csv alerts.csv audit.csv --threads 4\n"
+help_of topic.Make =
+    codes "usage: fries make JOB SEED ROWS [--threads N]\n"
+    ++ codes "\n"
+    ++ codes "Makes rows from a seed, runs them without requests, and prints the summary alone.\n"
+    ++ codes "\n"
+    ++ codes "  JOB          file to read: a job as TOML\n"
+    ++ codes "  SEED         what the rows are made from, 0 to 18446744073709551615\n"
+    ++ codes "  ROWS         rows, 0 to 4294967295; times the weight of the job at most 1048576\n"
+    ++ codes "  --threads N  threads, 1 to 16; without it, 1\n"
+    ++ codes "\n"
+    ++ codes "example: fries make job.toml 7 1000\n"

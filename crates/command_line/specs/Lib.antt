@@ -1,0 +1,5 @@
+pub mod Apps
+pub mod Asked
+pub mod Form
+pub mod Help
+pub mod Views

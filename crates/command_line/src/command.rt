@@ -1,0 +1,215 @@
+ghost use Rattle.std.specs.Prelude.{◌≡◌, ◌≢◌, ◌≤◌, IfOk, IfErr, IfSome, Some, None, drop, length, slice_get};
+ghost use Rattle.command_line.specs.Asked.{IsSized, asked_after, asked_alone, asked_by, asked_of, asks_help as asks_help_of, is_help as is_help_word, is_version as is_version_word, topic_of as topic_of_word};
+ghost use Rattle.command_line.specs.Views.{texts};
+ghost use Rattle.command_line.specs.declared.command.WordsFault.TheVariants.{NoMemory as OutOfMemory};
+
+use crate::Topic;
+use crate::apps::program;
+use crate::form::form_of;
+use crate::parts::has_form;
+use crate::values::command_with;
+use std::alloc::Global;
+use tuple_trace::{NoMemory, Word};
+
+/// What the program is asked to do.
+#[derive(Debug, Drop)]
+pub enum Command {
+    First(First),
+    /// To read this job file, and print the sizes of its job.
+    Check(Word),
+    Plan(PlanFiles),
+    Run(RunFiles),
+    Make(Make),
+    /// To explain the program or one of its commands.
+    Help(Topic),
+    /// To say which version of the program this is.
+    Version,
+}
+
+/// What the command `first` is asked to do.
+#[derive(Debug, Drop)]
+pub struct First {
+    /// The file that the payments are read from.
+    pub payments: Word,
+    /// The file that the alerts are written to.
+    pub alerts: Word,
+    /// From how many cents on a payment passes at first.
+    pub least: i64,
+    /// After how many rows the request is issued.
+    pub after: u64,
+    /// From how many cents on a payment passes from the request on.
+    pub least_after: i64,
+}
+
+/// The files of the command `plan`.
+#[derive(Debug, Drop)]
+pub struct PlanFiles {
+    pub job: Word,
+    pub requests: Word,
+    /// Whether rows and requests are to have one order.
+    pub ordered: bool,
+}
+
+/// How many threads an engine has, 1 to 16, and how many items each of its lanes holds at most, 1 to 64.
+#[derive(Clone, Copy, Debug)]
+pub struct EngineSize {
+    pub threads: u32,
+    pub capacity: u32,
+}
+
+/// The files of the command `run`, and the engine that runs them.
+#[derive(Debug, Drop)]
+pub struct RunFiles {
+    pub plan: PlanFiles,
+    /// The file that the payments are read from.
+    pub payments: Word,
+    /// The file that the alerts are written to.
+    pub alerts: Word,
+    /// The file that the audit is written to. Its name is another word than that of the alerts.
+    pub audit: Word,
+    pub size: EngineSize,
+}
+
+/// What the command `make` is asked to do.
+#[derive(Debug, Drop)]
+pub struct Make {
+    pub job: Word,
+    /// What the generator of rows starts from.
+    pub seed: u64,
+    /// How many rows are made, below 2^32.
+    pub rows: u64,
+    /// How many threads the engine has, 1 to 16.
+    pub threads: u32,
+}
+
+/// Why words are no command.
+#[derive(Clone, Copy, Debug, PartialEq, Eq)]
+pub enum WordsFault {
+    /// The words are no full form of a command, and ask for neither help nor the version.
+    Usage,
+    NoMemory,
+}
+
+impl From<NoMemory> for WordsFault {
+    ghost from_gives = { λ _ e. e ≡ OutOfMemory };
+
+    fn from(_: NoMemory) -> Self {
+        WordsFault::NoMemory
+    }
+}
+
+/// What the words after the program's name ask for.
+///
+/// A command is followed by its names in their order. Its options stand at any place among them, each once at most: `--threads N` or
+/// `--threads=N`. The program tests this by itself, and `clap` then reads the values. `--help` or `-h` alone, or directly after a command
+/// and last, asks for help; `--version` or `-V` alone asks for the version.
+///
+/// # Errors
+///
+/// [`WordsFault::Usage`] if the words are none of this, or a number is outside its range. The one other answer is out of memory.
+pub fn command_of(alloc: Global, words: &[Word]) -> Result<Command, WordsFault>
+    ensures asked { IfOk result (λ command. asked_of words.now ≡ Some (asked_by command)) }
+    ensures sized { IfOk result IsSized }
+    ensures usage { IfErr result (λ fault. fault ≢ WordsFault.NoMemory → asked_of words.now ≡ None) }
+{
+    let words = strings_of(alloc, words)?;
+    let Some((first, rest)) = words.split_first() else {
+        return Err(WordsFault::Usage);
+    };
+    match topic_of(first) {
+        Some(topic) if asks_help(rest) => Ok(Command::Help(topic)),
+        Some(topic) => command_after(alloc, topic, &words),
+        None if rest.is_empty() => alone(first),
+        None => Err(WordsFault::Usage),
+    }
+}
+
+// What a command is asked to do by the words that follow its own.
+fn command_after<'w>(
+    alloc: Global,
+    topic: Topic,
+    words: &'w [&'w str],
+) -> Result<Command, WordsFault>
+    requires command { IfSome (slice_get (texts words.now) 0) (λ word. topic_of_word word ≡ Some topic) }
+    requires some { 1 ≤ length words.now }
+    ensures asked { IfOk result (λ command. asked_after topic (drop 1 (texts words.now)) ≡ Some (asked_by command)) }
+    ensures sized { IfOk result IsSized }
+    ensures usage { IfErr result (λ fault. fault ≢ WordsFault.NoMemory → asked_after topic (drop 1 (texts words.now)) ≡ None) }
+{
+    if !has_form(alloc, &form_of(topic), &words[1..])? {
+        return Err(WordsFault::Usage);
+    }
+    let Ok(program) = program(alloc) else {
+        return Err(WordsFault::NoMemory);
+    };
+    let Ok(matches) = program.try_get_matches_from(words) else {
+        return Err(WordsFault::NoMemory);
+    };
+    match matches.subcommand_matches(words[0]) {
+        Some(values) => command_with(alloc, topic, values),
+        None => Err(WordsFault::NoMemory),
+    }
+}
+
+fn topic_of(word: &str) -> Option<Topic>
+    ensures { result ≡ topic_of_word word.now }
+{
+    if word == "first" {
+        Some(Topic::First)
+    } else if word == "check" {
+        Some(Topic::Check)
+    } else if word == "plan" {
+        Some(Topic::Plan)
+    } else if word == "run" {
+        Some(Topic::Run)
+    } else if word == "make" {
+        Some(Topic::Make)
+    } else {
+        None
+    }
+}
+
+fn asks_help(words: &[&str]) -> bool
+    ensures { result ≡ asks_help_of (texts words.now) }
+{
+    match words {
+        [word] => is_help(word),
+        _ => false,
+    }
+}
+
+fn alone(word: &str) -> Result<Command, WordsFault>
+    ensures asked { IfOk result (λ command. asked_alone word.now ≡ Some (asked_by command)) }
+    ensures sized { IfOk result IsSized }
+    ensures usage { IfErr result (λ fault. asked_alone word.now ≡ None) }
+{
+    if is_help(word) {
+        Ok(Command::Help(Topic::Program))
+    } else if is_version(word) {
+        Ok(Command::Version)
+    } else {
+        Err(WordsFault::Usage)
+    }
+}
+
+fn is_help(word: &str) -> bool
+    ensures { result ≡ is_help_word word.now }
+{
+    word == "--help" || word == "-h"
+}
+
+fn is_version(word: &str) -> bool
+    ensures { result ≡ is_version_word word.now }
+{
+    word == "--version" || word == "-V"
+}
+
+fn strings_of<'w>(alloc: Global, words: &'w [Word]) -> Result<Vec<&'w str>, NoMemory>
+    ensures { IfOk result (λ strings. texts strings.items ≡ words.now) }
+{
+    let mut strings = Vec::new(alloc);
+    for word in words {
+        strings.push(word.as_str())?;
+    }
+    Ok(strings)
+}

@@ -1,0 +1,84 @@
+// The full form of each command.
+ghost use Rattle.std.specs.Prelude.{◌≡◌};
+ghost use Rattle.command_line.specs.Asked.{capacity_option, form_of, ordered_flag, threads_option};
+ghost use Rattle.command_line.specs.Views.{flag_view, form_view, option_view};
+
+use crate::Topic;
+
+/// An option with a value: its name, its word, and the start of the one word that has the value too.
+#[derive(Clone, Copy)]
+pub(crate) struct ValueOption {
+    pub(crate) id: &'static str,
+    pub(crate) word: &'static str,
+    pub(crate) start: &'static str,
+}
+
+/// An option without a value.
+#[derive(Clone, Copy)]
+pub(crate) struct Flag {
+    pub(crate) id: &'static str,
+    pub(crate) word: &'static str,
+}
+
+/// What may follow the word of a command: its names in order, and its options at any place.
+#[derive(Clone, Copy)]
+pub(crate) struct Form {
+    pub(crate) names: &'static [&'static str],
+    pub(crate) options: &'static [ValueOption],
+    pub(crate) flags: &'static [Flag],
+}
+
+const THREADS: ValueOption = ValueOption {
+    id: "threads",
+    word: "--threads",
+    start: "--threads=",
+};
+
+const CAPACITY: ValueOption = ValueOption {
+    id: "capacity",
+    word: "--capacity",
+    start: "--capacity=",
+};
+
+const ORDERED: Flag = Flag {
+    id: "ordered",
+    word: "--ordered",
+};
+
+/// The full form of the words after a command. Nothing follows the program's name alone.
+pub(crate) fn form_of(topic: Topic) -> Form
+    ensures { form_view result ≡ form_of topic }
+{
+    match topic {
+        Topic::Program => Form {
+            names: &[],
+            options: &[],
+            flags: &[],
+        },
+        Topic::First => Form {
+            names: &["payments", "alerts", "min", "after", "min2"],
+            options: &[],
+            flags: &[],
+        },
+        Topic::Check => Form {
+            names: &["job"],
+            options: &[],
+            flags: &[],
+        },
+        Topic::Plan => Form {
+            names: &["job", "requests"],
+            options: &[],
+            flags: &[ORDERED],
+        },
+        Topic::Run => Form {
+            names: &["job", "requests", "payments", "alerts", "audit"],
+            options: &[THREADS, CAPACITY],
+            flags: &[ORDERED],
+        },
+        Topic::Make => Form {
+            names: &["job", "seed", "rows"],
+            options: &[THREADS],
+            flags: &[],
+        },
+    }
+}

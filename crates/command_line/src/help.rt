@@ -1,0 +1,110 @@
+ghost use Rattle.std.specs.Prelude.{◌≡◌};
+ghost use Rattle.command_line.specs.Help.{help_of, version_line};
+
+use crate::Topic;
+
+/// What is printed to explain the program or a command: its names, its options, and an example.
+pub fn help_text(topic: Topic) -> &'static str
+    ensures { result.now ≡ help_of topic }
+{
+    match topic {
+        Topic::Program => PROGRAM,
+        Topic::First => FIRST,
+        Topic::Check => CHECK,
+        Topic::Plan => PLAN,
+        Topic::Run => RUN,
+        Topic::Make => MAKE,
+    }
+}
+
+/// The line that says which version of the program this is.
+pub fn version_text() -> &'static str
+    ensures { result.now ≡ version_line }
+{
+    VERSION
+}
+
+const VERSION: &str = "fries 0.1.0\n";
+
+const PROGRAM: &str = "\
+fries - changes operators of a dataflow while payments flow through it
+
+usage: fries COMMAND NAMES [OPTIONS]
+
+  check JOB                                   prints the sizes of a job
+  plan JOB REQUESTS                           prints what each request changes
+  run JOB REQUESTS PAYMENTS ALERTS AUDIT      runs payments through a job
+  make JOB SEED ROWS                          runs rows that are made up
+  first PAYMENTS ALERTS MIN AFTER MIN2        runs the smallest job
+
+Options stand anywhere after the command, as two words or one: --threads 2, --threads=2.
+`fries COMMAND --help` explains a command, `fries --version` prints the version.
+
+example: fries check job.toml
+";
+
+const FIRST: &str = "\
+usage: fries first PAYMENTS ALERTS MIN AFTER MIN2
+
+Runs payments through one filter, whose least amount changes on the way.
+
+  PAYMENTS  file to read: payments as CSV
+  ALERTS    file to write: the payments that pass, as CSV
+  MIN       least amount at first, in cents, 0 to 9223372036854775807
+  AFTER     rows before the change, 0 to 1048576
+  MIN2      least amount after the change, in cents, 0 to 9223372036854775807
+
+example: fries first pay.csv alerts.csv 10000 2 5000
+";
+
+const CHECK: &str = "\
+usage: fries check JOB
+
+Reads a job and prints how many nodes, edges and workers it has, and its weight.
+
+  JOB       file to read: a job as TOML
+
+example: fries check job.toml
+";
+
+const PLAN: &str = "\
+usage: fries plan JOB REQUESTS [--ordered]
+
+Prints for each request which nodes and edges its change covers, or why it is refused.
+
+  JOB        file to read: a job as TOML
+  REQUESTS   file to read: requests as TOML
+  --ordered  plans for one order of all rows and requests; without it, rows alone are whole
+
+example: fries plan job.toml requests.toml
+";
+
+const RUN: &str = "\
+usage: fries run JOB REQUESTS PAYMENTS ALERTS AUDIT [OPTIONS]
+
+Runs payments through a job, while requests change its operators.
+
+  JOB           file to read: a job as TOML
+  REQUESTS      file to read: requests as TOML
+  PAYMENTS      file to read: payments as CSV
+  ALERTS        file to write: what comes to the sinks, as CSV
+  AUDIT         file to write: what each worker did, as CSV; another word than ALERTS
+  --threads N   threads, 1 to 16; without it, 1
+  --capacity C  items on a lane, 1 to 64; without it, 16
+  --ordered     gives rows and requests one order; without it, rows alone are whole
+
+example: fries run job.toml requests.toml pay.csv alerts.csv audit.csv --threads 4
+";
+
+const MAKE: &str = "\
+usage: fries make JOB SEED ROWS [--threads N]
+
+Makes rows from a seed, runs them without requests, and prints the summary alone.
+
+  JOB          file to read: a job as TOML
+  SEED         what the rows are made from, 0 to 18446744073709551615
+  ROWS         rows, 0 to 4294967295; times the weight of the job at most 1048576
+  --threads N  threads, 1 to 16; without it, 1
+
+example: fries make job.toml 7 1000
+";

@@ -1,0 +1,11 @@
+/// What help is asked about.
+#[derive(Clone, Copy, Debug, PartialEq, Eq)]
+pub enum Topic {
+    /// The program with all its commands.
+    Program,
+    First,
+    Check,
+    Plan,
+    Run,
+    Make,
+}
