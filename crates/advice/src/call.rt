@@ -30,6 +30,7 @@ pub(crate) fn role_of(file: FileIs) -> Role {
         FileIs::Requests => ("request file", Some(1), None),
         FileIs::Payments => ("payments file", Some(2), Some(0)),
         FileIs::Alerts => ("alerts file", Some(3), Some(1)),
+        FileIs::Audit => ("audit file", Some(4), None),
         FileIs::Out => ("standard output", None, None),
     };
     Role {
