@@ -223,7 +223,7 @@ follows_first asked old new answer a =
           let run = r.is_so in
           record {
             payments = follows_read file.Payments (λ bytes. rows_of job bytes ≡ Ok run.rows) (RefusesRows job) asked.payments old new answer.fault (no_rows job run.rows) run.of_rows;
-            done = λ rows tells. ran_or_excused (files_of asked.alerts r.done) (run_lines r.done) old a.between new answer.fault r.ends a.prints;
+            done = λ rows tells. ran_or_excused (files_of asked.alerts None r.done) (run_lines r.done) old a.between new answer.fault r.ends a.prints;
           }
     ]
 
@@ -316,6 +316,6 @@ follows_run excludes have asked old new answer a =
                 (subst (λ (j : Written). AreRequestsOf old.files asked.plan.requests j of.requests) (same job tells) of.of_requests);
             payments = λ job requests tells more. follows_read file.Payments (λ bytes. rows_of job bytes ≡ Ok of.rows) (RefusesRows job) asked.payments old new answer.fault
                 (no_rows job of.rows) (subst (λ (j : Written). AreRowsOf old.files asked.payments j of.rows) (same job tells) of.of_rows);
-            done = λ job requests rows tells more most. ran_or_excused (files_of asked.alerts r.done) (run_lines r.done) old a.between new answer.fault r.ends a.prints;
+            done = λ job requests rows tells more most. ran_or_excused (files_of asked.alerts (Some asked.audit) r.done) (run_lines r.done) old a.between new answer.fault r.ends a.prints;
           }
     ]

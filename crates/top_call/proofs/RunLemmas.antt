@@ -60,6 +60,13 @@ journals_of setup requests rows ran done run of =
     subst (λ (r : RunRecord). length r.journals ≡ worker_count r.setup.job.nodes) (sym of.ran_is)
     (run.run.one_journal_each ∙ length-posts_from 0 0 ran.setup.job.nodes)
 
+-- and the counts of each worker
+pub states_of : (setup : Setup) (requests : List Request) (rows : List Row) (ran : RunRecord) (done : Done) → IsRun (outline setup) rows (told ran) → IsDoneOf ran requests rows done
+    → length done.ran.states ≡ worker_count done.ran.setup.job.nodes
+states_of setup requests rows ran done run of =
+    subst (λ (r : RunRecord). length r.states ≡ worker_count r.setup.job.nodes) (sym of.ran_is)
+    (run.run.one_state_each ∙ length-posts_from 0 0 ran.setup.job.nodes)
+
 -- the record of what a run on threads left is that of a run
 pub run_so : (setup left : Setup) (rows : List Row) (feeds : List Feed) (crew : List WorkedIs) (ran : RunRecord) → left ≡ setup → IsRun (outline setup) rows (ended (outline setup) feeds crew)
     → ran ≡ record_of left feeds crew → IsRun (outline setup) rows (told ran)

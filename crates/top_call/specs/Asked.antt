@@ -30,11 +30,12 @@ pub record IsSize (size : EngineSize) : Type 0 where
   pub some_items : 1 ≤ size.capacity
   pub few_items : size.capacity ≤ 64
 
--- what `run` is asked to do: the files of `plan`, the payments, the alerts that it is to write, and by how large an engine
+-- what `run` is asked to do: the files of `plan`, the payments, the alerts and the audit that it is to write, and by how large an engine
 pub record RunAsked : Type 0 where
   pub plan : PlanAsked
   pub payments : List ℕ
   pub alerts : List ℕ
+  pub audit : List ℕ
   pub size : EngineSize
 
 -- a name of a file isn't empty and doesn't begin with a dash
@@ -88,11 +89,17 @@ plan_of (job ∷ requests ∷ []) = plan_with job requests false
 plan_of (job ∷ requests ∷ flag ∷ []) = if is_ordered flag then plan_with job requests true else None
 plan_of words = None
 
--- what is asked of the files of a plan, the payments and the alerts
-abbrev pub run_over : Option PlanAsked → List ℕ → List ℕ → EngineSize → Option RunAsked
-run_over None payments alerts size = None
-run_over (Some plan) payments alerts size =
-    if is_name payments && is_name alerts then Some (record { plan = plan; payments = payments; alerts = alerts; size = size }) else None
+-- two names of files that are written, which differ
+abbrev pub are_two_names : List ℕ → List ℕ → Bool
+are_two_names first second = is_name first && is_name second && not (pointwise nat_eq first second)
+
+-- what is asked of the files of a plan, the payments, the alerts and the audit
+abbrev pub run_over : Option PlanAsked → List ℕ → List ℕ → List ℕ → EngineSize → Option RunAsked
+run_over None payments alerts audit size = None
+run_over (Some plan) payments alerts audit size =
+    if is_name payments && are_two_names alerts audit then
+    Some (record { plan = plan; payments = payments; alerts = alerts; audit = audit; size = size })
+    else None
 
 -- a size, if its numbers are in their ranges
 abbrev pub size_within : ℕ → ℕ → Option EngineSize
@@ -135,14 +142,16 @@ with_threads (Some (threads, rest)) = with_capacity threads (option_of (codes "-
 abbrev pub options_of : List (List ℕ) → Option (EngineSize × Bool)
 options_of words = with_threads (option_of (codes "--threads") 1 words)
 
--- the files of a plan, those of the payments and the alerts, and the size of the engine
-abbrev pub run_with : Option (EngineSize × Bool) → List ℕ → List ℕ → List ℕ → List ℕ → Option RunAsked
-run_with None job requests payments alerts = None
-run_with (Some (size, ordered)) job requests payments alerts = run_over (plan_with job requests ordered) payments alerts size
+-- the files of a plan, those of the payments, the alerts and the audit, and the size of the engine
+abbrev pub run_with : Option (EngineSize × Bool) → List ℕ → List ℕ → List ℕ → List ℕ → List ℕ → Option RunAsked
+run_with None job requests payments alerts audit = None
+run_with (Some (size, ordered)) job requests payments alerts audit =
+    run_over (plan_with job requests ordered) payments alerts audit size
 
--- the words after `run`: four names, and its options
+-- the words after `run`: five names, and its options
 abbrev pub run_of : List (List ℕ) → Option RunAsked
-run_of (job ∷ requests ∷ payments ∷ alerts ∷ options) = run_with (options_of options) job requests payments alerts
+run_of (job ∷ requests ∷ payments ∷ alerts ∷ audit ∷ options) =
+    run_with (options_of options) job requests payments alerts audit
 run_of words = None
 
 -- what a command line asks for
@@ -154,7 +163,7 @@ pub data Asked : Type 0 where
   Run : RunAsked → Asked
 
 -- What words ask for, in the plain forms `first PAYMENTS ALERTS MIN AFTER MIN2`, `check JOB`, `plan JOB REQUESTS` and
--- `run JOB REQUESTS PAYMENTS ALERTS`, of which the last two may end with `--ordered`. Before that, `run` may have `--threads N` and
+-- `run JOB REQUESTS PAYMENTS ALERTS AUDIT`, of which the last two may end with `--ordered`. Before that, `run` may have `--threads N` and
 -- then `--capacity C`. None if they have none of these.
 abbrev pub asked_of : List (List ℕ) → Option Asked
 asked_of [] = None
@@ -180,8 +189,13 @@ plan_asked files = record { job = files.job.now; requests = files.requests.now; 
 
 -- what the files of `run` ask for
 abbrev pub run_asked : RunFiles → RunAsked
-run_asked files =
-    record { plan = plan_asked files.plan; payments = files.payments.now; alerts = files.alerts.now; size = files.size }
+run_asked files = record {
+  plan = plan_asked files.plan;
+  payments = files.payments.now;
+  alerts = files.alerts.now;
+  audit = files.audit.now;
+  size = files.size;
+}
 
 -- what a `Command` asks for
 abbrev pub asked_by : Command → Asked

@@ -1,5 +1,5 @@
 -- What a call of `run` answers, why, and what it leaves.
-use Rattle.std.specs.Prelude.{◌≡◌, ◌⊎◌, List, Option, None}
+use Rattle.std.specs.Prelude.{◌≡◌, ◌⊎◌, List, Option, None, Some}
 use Rattle.jobs.specs.Written.{Written}
 use Rattle.payments.specs.Causes.{Faults}
 use Rattle.payments.specs.Files.{Files}
@@ -36,7 +36,7 @@ IsNoRun asked files old new why =
 
 -- how a call of `run` ends, before the line of its fault is printed
 abbrev pub EndsRun : RunAsked → Outside → Outside → Answer → Type 0
-EndsRun asked old new answer = Stops (IsNoRun asked old.files) old new answer ⊎ Runs (IsRunOfFiles asked old.files) asked.alerts old new answer
+EndsRun asked old new answer = Stops (IsNoRun asked old.files) old new answer ⊎ Runs (IsRunOfFiles asked old.files) asked.alerts (Some asked.audit) old new answer
 
 -- what a call of `run` answers, leaves and prints
 pub record AnswersRun (asked : RunAsked) (old new : Outside) (answer : Answer) : Type 0 where

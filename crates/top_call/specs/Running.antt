@@ -1,8 +1,9 @@
 -- What a call runs, and what it writes of that.
-use Rattle.std.specs.Prelude.{◌≡◌, ◌++◌, ◌∷◌, ℕ, Bool, IsTrue, List, [], Some, length, if◌then◌else◌}
+use Rattle.std.specs.Prelude.{◌≡◌, ◌++◌, ◌∷◌, ℕ, Bool, IsTrue, List, [], Option, None, Some, length, map, if◌then◌else◌}
 use Rattle.jobs.specs.Job.{written}
 use Rattle.jobs.specs.Written.{Written}
 use Rattle.sink_journal.specs.Alerts.{alerts}
+use Rattle.sink_journal.specs.Audit.{audit}
 use Rattle.tuple_trace.specs.declared.row.Row.{Row}
 use Rattle.versions.specs.declared.request.Request.{Request}
 use Rattle.flow_model.specs.Consistent.{IsConsistent}
@@ -14,7 +15,7 @@ use Rattle.flow_model.specs.Setup.{outline}
 use Rattle.flow_model.specs.declared.record.RunRecord.{RunRecord}
 use Rattle.serial_order.specs.Serials.{serial_line, serials}
 use Rattle.top_call.specs.Ends.{EndsAfterRun}
-use Rattle.report.specs.Lines.{alert_count, refused_lines, row_count, summary_line}
+use Rattle.report.specs.Lines.{alert_count, noted, refused_lines, row_count, summary_line}
 use Rattle.top_call.specs.Outside.{FileText, Outside}
 use Rattle.top_call.specs.Plan.{IsSetupFor}
 use Rattle.top_call.specs.declared.answer.Answer.{Answer}
@@ -55,13 +56,23 @@ pub record IsRunOf (Keeps : List Request → List Request → Type 0) (ordered :
 abbrev pub alerts_of : Done → List ℕ
 alerts_of done = alerts (written done.ran.setup.job) done.ran.journals
 
+-- the text of the audit
+abbrev pub audit_of : Done → List ℕ
+audit_of done =
+    audit (written done.ran.setup.job) (map noted done.refused) done.ran.feeds done.ran.journals done.ran.states
+
 -- an alerts file
 abbrev pub alerts_file : List ℕ → List ℕ → FileText
 alerts_file name text = record { is = file.Alerts; name = name; text = text }
 
+-- an audit file, if there is a name for one
+abbrev pub audit_files : Option (List ℕ) → List ℕ → List FileText
+audit_files None text = []
+audit_files (Some name) text = record { is = file.Audit; name = name; text = text } ∷ []
+
 -- the files that are written of it, in their order
-abbrev pub files_of : List ℕ → Done → List FileText
-files_of alerts done = alerts_file alerts (alerts_of done) ∷ []
+abbrev pub files_of : List ℕ → Option (List ℕ) → Done → List FileText
+files_of alerts audit done = alerts_file alerts (alerts_of done) ∷ audit_files audit (audit_of done)
 
 abbrev pub summary_of : Done → Summary
 summary_of done = record {
@@ -80,9 +91,9 @@ abbrev pub run_lines : Done → List ℕ
 run_lines done = (refused_lines done.refused ++ serial_lines done) ++ summary_line (summary_of done)
 
 -- the call ran something that is so, and came to storing its files and printing the lines of that
-pub record Runs (IsSo : Done → Type 0) (alerts : List ℕ) (old new : Outside) (answer : Answer) : Type 0 where
+pub record Runs (IsSo : Done → Type 0) (alerts : List ℕ) (audit : Option (List ℕ)) (old new : Outside) (answer : Answer) : Type 0 where
   pub done : Done
   pub is_so : IsSo done
-  pub ends : EndsAfterRun (files_of alerts done) (run_lines done) old new answer.fault
+  pub ends : EndsAfterRun (files_of alerts audit done) (run_lines done) old new answer.fault
   pub refused : answer.refused ≡ done.refused
   pub ran : answer.ran ≡ Some done.ran

@@ -1,5 +1,5 @@
 ghost use Rattle.std.specs.Prelude.{◌≡◌, IfSome, Some, option_copied, option_map};
-ghost use Rattle.top_call.specs.Asked.{IsSize, IsSized, asked_by, asked_of, first_asked, first_of as first_of_words, is_name as is_name_of, is_ordered as is_ordered_word, least_of as least_of_word, mode_of as mode_of_words, one_name, option_of as option_of_words, options_of as options_of_words, plan_asked, plan_of as plan_of_words, plan_with as plan_with_words, run_asked, run_of as run_of_words, run_over as run_over_words, size_within as size_within_of};
+ghost use Rattle.top_call.specs.Asked.{IsSize, IsSized, asked_by, asked_of, first_asked, first_of as first_of_words, are_two_names as are_two_names_of, is_name as is_name_of, is_ordered as is_ordered_word, least_of as least_of_word, mode_of as mode_of_words, one_name, option_of as option_of_words, options_of as options_of_words, plan_asked, plan_of as plan_of_words, plan_with as plan_with_words, run_asked, run_of as run_of_words, run_over as run_over_words, size_within as size_within_of};
 
 use tuple_trace::{Word, digits_up_to};
 
@@ -52,6 +52,8 @@ pub struct RunFiles<'a> {
     pub payments: &'a Word,
     /// The file that the alerts are written to.
     pub alerts: &'a Word,
+    /// The file that the audit is written to; it has another name.
+    pub audit: &'a Word,
     pub size: EngineSize,
 }
 
@@ -59,7 +61,7 @@ pub struct RunFiles<'a> {
 const AFTER_MAX: u64 = 1_048_576;
 
 /// Reads the words after the program's name, in the plain forms `first PAYMENTS ALERTS MIN AFTER MIN2`, `check JOB`,
-/// `plan JOB REQUESTS` and `run JOB REQUESTS PAYMENTS ALERTS`. The last two may end with `--ordered`, and before it `run` may have
+/// `plan JOB REQUESTS` and `run JOB REQUESTS PAYMENTS ALERTS AUDIT`. The last two may end with `--ordered`, and before it `run` may have
 /// `--threads N` and then `--capacity C`. None if they have none of them, or a number is outside its range.
 pub fn command_of(words: &[Word]) -> Option<Command<'_>>
     ensures asked { option_map asked_by result ≡ asked_of words.now }
@@ -134,27 +136,31 @@ fn run_of(words: &[Word]) -> Option<RunFiles<'_>>
     ensures asked { option_map run_asked result ≡ run_of_words words.now }
     ensures sized { IfSome result (λ files. IsSize files.size) }
 {
-    let [job, requests, payments, alerts, options @ ..] = words else {
+    let [job, requests, payments, alerts, audit, options @ ..] = words else {
         return None;
     };
     let (size, ordered) = options_of(options)?;
-    run_over(plan_with(job, requests, ordered)?, payments, alerts, size)
+    let plan = plan_with(job, requests, ordered)?;
+    run_over(plan, payments, alerts, audit, size)
 }
 
 fn run_over<'a>(
     plan: PlanFiles<'a>,
     payments: &'a Word,
     alerts: &'a Word,
+    audit: &'a Word,
     size: EngineSize,
 ) -> Option<RunFiles<'a>>
-    ensures asked { option_map run_asked result ≡ run_over_words (Some (plan_asked plan.entry)) payments.now alerts.now size }
+    ensures asked { option_map run_asked result ≡
+        run_over_words (Some (plan_asked plan.entry)) payments.now alerts.now audit.now size }
     ensures size { IfSome result (λ files. files.size ≡ size) }
 {
-    if is_name(payments) && is_name(alerts) {
+    if is_name(payments) && are_two_names(alerts, audit) {
         Some(RunFiles {
             plan,
             payments,
             alerts,
+            audit,
             size,
         })
     } else {
@@ -211,6 +217,13 @@ fn is_ordered(word: &Word) -> bool
     ensures { result ≡ is_ordered_word word.now }
 {
     word.as_str() == "--ordered"
+}
+
+// Whether these words may name two files, and differ.
+fn are_two_names(first: &Word, second: &Word) -> bool
+    ensures { result ≡ are_two_names_of first.now second.now }
+{
+    is_name(first) && is_name(second) && first.as_str() != second.as_str()
 }
 
 // Whether a word may name a file.

@@ -9,7 +9,7 @@ use crate::answer::Answer;
 use crate::command::First;
 use crate::job::{first_job, first_requests};
 use crate::reading::rows_in;
-use crate::running::{Done, leave_run, run_in_order};
+use crate::running::{Done, Outputs, leave_run, run_in_order};
 use payments::{Shelf, Sink};
 use report::Fault;
 use std::alloc::Global;
@@ -26,8 +26,12 @@ pub fn first_command<S: Shelf, O: Sink>(
         (outside (S.files shelf.new) (S.faults shelf.new) (S.target shelf.new) (O.written out.new) (O.faults out.new))
         result }
 {
+    let names = Outputs {
+        alerts: first.alerts,
+        audit: None,
+    };
     match run_first(alloc, first, shelf) {
-        Ok(done) => leave_run(alloc, done, first.alerts, shelf, out),
+        Ok(done) => leave_run(alloc, done, names, shelf, out),
         Err(fault) => Answer::stopped(alloc, fault),
     }
 }
@@ -36,6 +40,7 @@ pub fn first_command<S: Shelf, O: Sink>(
 fn run_first<S: Shelf>(alloc: Global, first: First<'_>, shelf: &mut S) -> Result<Done, Fault>
     ensures run { IfOk result (IsFirstRun (first_asked first.entry) (S.files shelf.old)) }
     ensures journals { IfOk result (λ done. length done.ran.journals ≡ worker_count done.ran.setup.job.nodes) }
+    ensures states { IfOk result (λ done. length done.ran.states ≡ worker_count done.ran.setup.job.nodes) }
     ensures counts { OnOk result (S.faults shelf.new ≡ S.faults shelf.old) }
     ensures files { S.files shelf.new ≡ S.files shelf.old }
     ensures target { S.target shelf.new ≡ S.target shelf.old }

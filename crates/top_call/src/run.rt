@@ -7,7 +7,7 @@ ghost use Rattle.top_call.specs.Run.{EndsRun, IsNoRun, IsRunOfFiles};
 use crate::answer::Answer;
 use crate::command::RunFiles;
 use crate::reading::{job_in, requests_in, rows_in};
-use crate::running::{Done, leave_run, run_on_threads};
+use crate::running::{Done, Outputs, leave_run, run_on_threads};
 use payments::{Shelf, Sink};
 use report::Fault;
 use std::alloc::Global;
@@ -15,8 +15,9 @@ use std::sync::Wait;
 use std::thread::Threads;
 use tuple_trace::Gate;
 
-/// Reads a job, its requests and its payments, judges the requests and runs the payments, stores the alerts, and prints the refused
-/// requests and the summary. The first fault ends it.
+/// Reads a job, its requests and its payments, judges the requests and runs the payments, stores the
+/// alerts and then the audit, and prints the refused requests and the summary. The first fault ends
+/// it.
 pub fn run_command<R, S, O, G>(
     rt: &R,
     alloc: Global,
@@ -36,8 +37,12 @@ where
         (outside (S.files shelf.new) (S.faults shelf.new) (S.target shelf.new) (O.written out.new) (O.faults out.new))
         result }
 {
+    let names = Outputs {
+        alerts: files.alerts,
+        audit: Some(files.audit),
+    };
     match run_files(rt, alloc, files, shelf, gate) {
-        Ok(done) => leave_run(alloc, done, files.alerts, shelf, out),
+        Ok(done) => leave_run(alloc, done, names, shelf, out),
         Err(fault) => Answer::stopped(alloc, fault),
     }
 }
@@ -57,6 +62,7 @@ where
     requires { IsSize files.size }
     ensures run { IfOk result (IsRunOfFiles (run_asked files.entry) (S.files shelf.old)) }
     ensures journals { IfOk result (λ done. length done.ran.journals ≡ worker_count done.ran.setup.job.nodes) }
+    ensures states { IfOk result (λ done. length done.ran.states ≡ worker_count done.ran.setup.job.nodes) }
     ensures counts { OnOk result (S.faults shelf.new ≡ S.faults shelf.old) }
     ensures files { S.files shelf.new ≡ S.files shelf.old }
     ensures target { S.target shelf.new ≡ S.target shelf.old }

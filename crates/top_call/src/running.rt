@@ -1,5 +1,5 @@
 // What is run, and what a run leaves to be written.
-ghost use Rattle.std.specs.Prelude.{◌≡◌, IsTrue, Some, IfOk, false, length};
+ghost use Rattle.std.specs.Prelude.{◌≡◌, IsTrue, Some, IfOk, false, length, option_copied};
 ghost use Rattle.std.specs.Result.{result_err};
 ghost use Rattle.jobs.specs.Job.{written};
 ghost use Rattle.jobs.specs.Nodes.{AreFromSources, worker_count};
@@ -10,22 +10,22 @@ ghost use Rattle.top_call.specs.Asked.{IsSize};
 ghost use Rattle.top_call.specs.Ends.{EndsAfterRun};
 ghost use Rattle.top_call.specs.Outside.{outside};
 ghost use Rattle.top_call.specs.Plan.{AreSame};
-ghost use Rattle.top_call.specs.Running.{alerts_of, files_of, run_lines as run_lines_of, serial_lines as serial_lines_of, summary_of as summary_of_done, IsDoneOf, IsRunOf};
+ghost use Rattle.top_call.specs.Running.{audit_of, files_of, run_lines as run_lines_of, serial_lines as serial_lines_of, summary_of as summary_of_done, IsDoneOf, IsRunOf};
 ghost use Rattle.serial_order.specs.Serials.{serials};
 
 use crate::answer::Answer;
 use crate::command::EngineSize;
 use crate::plan::setup_of;
-use crate::writing::{Texts, write_texts};
+use crate::writing::{FileText, Texts, write_texts};
 use flow_engine::run_flow;
 use flow_model::{RunRecord, ordered_runs_are_serial, runs_are_consistent};
 use flow_replay::plain_run;
 use jobs::Job;
 use lane_ring::RingLanes;
 use payments::{Shelf, Sink};
-use report::{Fault, Summary, alert_count, push_refused, row_count, summary_line};
+use report::{Fault, FileIs, Summary, alert_count, noted, push_refused, row_count, summary_line};
 use serial_order::{Serial, push_serial_line, serial};
-use sink_journal::alerts_text;
+use sink_journal::{alerts_text, audit_text};
 use std::alloc::Global;
 use std::sync::Wait;
 use std::thread::Threads;
@@ -56,6 +56,7 @@ pub fn run_in_order(
     ensures run { IfOk result (IsRunOf AreSame false (written job) requests.now rows.now) }
     ensures order { IfOk result (λ done. IsInOrder (length rows.now) (told done.ran)) }
     ensures journals { IfOk result (λ done. length done.ran.journals ≡ worker_count done.ran.setup.job.nodes) }
+    ensures states { IfOk result (λ done. length done.ran.states ≡ worker_count done.ran.setup.job.nodes) }
 {
     let setup = setup_of(alloc, job, requests, false)?;
     runs_are_consistent(&setup, rows);
@@ -83,6 +84,7 @@ where
     requires sources { AreFromSources (written job) rows.now }
     ensures run { IfOk result (IsRunOf AreSame ordered (written job) requests.now rows.now) }
     ensures journals { IfOk result (λ done. length done.ran.journals ≡ worker_count done.ran.setup.job.nodes) }
+    ensures states { IfOk result (λ done. length done.ran.states ≡ worker_count done.ran.setup.job.nodes) }
 {
     let setup = setup_of(alloc, job, requests, ordered)?;
     runs_are_consistent(&setup, rows);
@@ -123,23 +125,33 @@ fn serial_of(alloc: Global, ran: &RunRecord, rows: &Rows) -> Result<Serial, NoMe
     }
 }
 
-/// Stores the alerts of a run, and then prints its lines. The first fault ends it.
+/// The names of the files that a run is written to.
+#[derive(Clone, Copy, Debug)]
+pub struct Outputs<'a> {
+    pub alerts: &'a Word,
+    /// That of the audit, if one is to be written.
+    pub audit: Option<&'a Word>,
+}
+
+/// Stores the files of a run, and then prints its lines. The first fault ends it.
 pub fn leave_run<S: Shelf, O: Sink>(
     alloc: Global,
     done: Done,
-    alerts: &Word,
+    names: Outputs<'_>,
     shelf: &mut S,
     out: &mut O,
 ) -> Answer
-    requires { length done.ran.journals ≡ worker_count done.ran.setup.job.nodes }
-    ensures ends { EndsAfterRun (files_of alerts.now done) (run_lines_of done)
+    requires journals { length done.ran.journals ≡ worker_count done.ran.setup.job.nodes }
+    requires states { length done.ran.states ≡ worker_count done.ran.setup.job.nodes }
+    ensures ends { EndsAfterRun
+        (files_of names.entry.alerts.now (option_copied names.entry.audit) done) (run_lines_of done)
         (outside (S.files shelf.old) (S.faults shelf.old) (S.target shelf.old) (O.written out.old) (O.faults out.old))
         (outside (S.files shelf.new) (S.faults shelf.new) (S.target shelf.new) (O.written out.new) (O.faults out.new))
         result.fault }
     ensures refused { result.refused ≡ done.refused }
     ensures ran { result.ran ≡ Some done.ran }
 {
-    let fault = write_run(alloc, &done, alerts, shelf, out).err();
+    let fault = write_run(alloc, &done, names, shelf, out).err();
     let Done { ran, refused, .. } = done;
     Answer {
         fault,
@@ -151,29 +163,78 @@ pub fn leave_run<S: Shelf, O: Sink>(
 fn write_run<S: Shelf, O: Sink>(
     alloc: Global,
     done: &Done,
-    alerts: &Word,
+    names: Outputs<'_>,
     shelf: &mut S,
     out: &mut O,
 ) -> Result<(), Fault>
-    requires { length done.now.ran.journals ≡ worker_count done.now.ran.setup.job.nodes }
-    ensures { EndsAfterRun (files_of alerts.now done.now) (run_lines_of done.now)
+    requires journals { length done.now.ran.journals ≡ worker_count done.now.ran.setup.job.nodes }
+    requires states { length done.now.ran.states ≡ worker_count done.now.ran.setup.job.nodes }
+    ensures { EndsAfterRun
+        (files_of names.entry.alerts.now (option_copied names.entry.audit) done.now) (run_lines_of done.now)
         (outside (S.files shelf.old) (S.faults shelf.old) (S.target shelf.old) (O.written out.old) (O.faults out.old))
         (outside (S.files shelf.new) (S.faults shelf.new) (S.target shelf.new) (O.written out.new) (O.faults out.new))
         (result_err result) }
 {
-    let texts = texts_of(alloc, done)?;
-    write_texts(&texts, alerts, shelf, out)
+    let texts = texts_of(alloc, done, names)?;
+    write_texts(&texts, shelf, out)
 }
 
-fn texts_of(alloc: Global, done: &Done) -> Result<Texts, NoMemory>
-    requires { length done.now.ran.journals ≡ worker_count done.now.ran.setup.job.nodes }
-    ensures alerts { IfOk result (λ texts. texts.alerts ≡ alerts_of done.now) }
+fn texts_of<'a>(alloc: Global, done: &Done, names: Outputs<'a>) -> Result<Texts<'a>, NoMemory>
+    requires journals { length done.now.ran.journals ≡ worker_count done.now.ran.setup.job.nodes }
+    requires states { length done.now.ran.states ≡ worker_count done.now.ran.setup.job.nodes }
+    ensures files { IfOk result (λ texts. texts.files.items ≡
+        files_of names.entry.alerts.now (option_copied names.entry.audit) done.now) }
     ensures lines { IfOk result (λ texts. texts.lines ≡ run_lines_of done.now) }
 {
     Ok(Texts {
-        alerts: alerts_text(alloc, &done.ran.setup.job, &done.ran.journals)?,
+        files: files_in(alloc, done, names)?,
         lines: run_lines(alloc, done)?,
     })
+}
+
+// The files with their texts, in the order in which they are stored.
+fn files_in<'a>(
+    alloc: Global,
+    done: &Done,
+    names: Outputs<'a>,
+) -> Result<Vec<FileText<'a>>, NoMemory>
+    requires journals { length done.now.ran.journals ≡ worker_count done.now.ran.setup.job.nodes }
+    requires states { length done.now.ran.states ≡ worker_count done.now.ran.setup.job.nodes }
+    ensures { IfOk result (λ files. files.items ≡
+        files_of names.entry.alerts.now (option_copied names.entry.audit) done.now) }
+{
+    let alerts = FileText {
+        file: FileIs::Alerts,
+        name: names.alerts,
+        text: alerts_text(alloc, &done.ran.setup.job, &done.ran.journals)?,
+    };
+    let Some(name) = names.audit else {
+        return Ok(Vec::from_array(alloc, [alerts])?);
+    };
+    let audit = FileText {
+        file: FileIs::Audit,
+        name,
+        text: audit_in(alloc, done)?,
+    };
+    Ok(Vec::from_array(alloc, [alerts, audit])?)
+}
+
+fn audit_in(alloc: Global, done: &Done) -> Result<Bytes, NoMemory>
+    requires journals { length done.now.ran.journals ≡ worker_count done.now.ran.setup.job.nodes }
+    requires states { length done.now.ran.states ≡ worker_count done.now.ran.setup.job.nodes }
+    ensures { IfOk result (λ text. text ≡ audit_of done.now) }
+{
+    let ran = &done.ran;
+    let refused = noted(alloc, done.refused.as_slice())?;
+    let job = &ran.setup.job;
+    audit_text(
+        alloc,
+        job,
+        refused.as_slice(),
+        &ran.feeds,
+        &ran.journals,
+        &ran.states,
+    )
 }
 
 fn run_lines(alloc: Global, done: &Done) -> Result<Bytes, NoMemory>

@@ -2,7 +2,7 @@ use Rattle.std.proofs.Common.{◌∙◌, ap, false}
 use Rattle.std.proofs.lemmas.Result.{IfOk-weaker}
 use Rattle.jobs.specs.Job.{written}
 use Rattle.flow_model.specs.Record.{told}
-use Rattle.top_call.proofs.RunLemmas.{is_run_of, journals_of}
+use Rattle.top_call.proofs.RunLemmas.{is_run_of, journals_of, states_of}
 use Rattle.top_call.proofs.running.run_in_order.Goals as goal
 
 pub returns-clause-run : goal.returns-clause-run
@@ -14,6 +14,10 @@ returns-clause-run c =
 pub returns-clause-journals : goal.returns-clause-journals
 returns-clause-journals c =
     IfOk-weaker c.done_of.result _ _ (λ done of. journals_of c.in_ok-setup.setup c.args.requests.now c.args.rows.now c.in_ok-ran.ran done c.in_ok-ran.ensures.run of) c.done_of.ensures
+
+pub returns-clause-states : goal.returns-clause-states
+returns-clause-states c =
+    IfOk-weaker c.done_of.result _ _ (λ done of. states_of c.in_ok-setup.setup c.args.requests.now c.args.rows.now c.in_ok-ran.ran done c.in_ok-ran.ensures.run of) c.done_of.ensures
 
 pub returns-clause-order : goal.returns-clause-order
 returns-clause-order c = IfOk-weaker c.done_of.result _ _ (λ done of. rw of.ran_is c.in_ok-ran.ensures.order) c.done_of.ensures

@@ -2,7 +2,7 @@ use Rattle.std.proofs.Common.{◌∙◌, ap}
 use Rattle.std.proofs.lemmas.Result.{IfOk-weaker}
 use Rattle.jobs.specs.Job.{written}
 use Rattle.flow_model.specs.declared.record.RunRecord.{RunRecord}
-use Rattle.top_call.proofs.RunLemmas.{is_run_of, journals_of, run_so}
+use Rattle.top_call.proofs.RunLemmas.{is_run_of, journals_of, run_so, states_of}
 use Rattle.top_call.proofs.running.run_on_threads.Goals as goal
 
 pub returns-clause-run : goal.returns-clause-run
@@ -15,4 +15,9 @@ returns-clause-run g c =
 pub returns-clause-journals : goal.returns-clause-journals
 returns-clause-journals g c =
     IfOk-weaker c.done_of.result _ _ (λ done of. journals_of c.in_ok-setup.setup c.args.requests.now c.args.rows.now c.in_ok-ran.ran done (run_so c.in_ok-setup.setup c.in_ok-flown.flown.setup c.args.rows.now c.in_ok-flown.flown.feeds c.in_ok-flown.flown.crew.items c.in_ok-ran.ran
+    c.in_ok-flown.ensures.setup c.in_ok-flown.ensures.run c.in_ok-ran.ensures) of) c.done_of.ensures
+
+pub returns-clause-states : goal.returns-clause-states
+returns-clause-states g c =
+    IfOk-weaker c.done_of.result _ _ (λ done of. states_of c.in_ok-setup.setup c.args.requests.now c.args.rows.now c.in_ok-ran.ran done (run_so c.in_ok-setup.setup c.in_ok-flown.flown.setup c.args.rows.now c.in_ok-flown.flown.feeds c.in_ok-flown.flown.crew.items c.in_ok-ran.ran
     c.in_ok-flown.ensures.setup c.in_ok-flown.ensures.run c.in_ok-ran.ensures) of) c.done_of.ensures

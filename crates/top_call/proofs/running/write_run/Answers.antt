@@ -2,4 +2,4 @@ use Rattle.std.proofs.Common.{inr}
 use Rattle.top_call.proofs.running.write_run.Goals as goal
 
 pub returns : goal.returns
-returns g c = inr (rw (c.in_ok-texts.ensures.alerts, c.in_ok-texts.ensures.lines) at c.write_texts.ensures)
+returns g c = inr (rw (c.in_ok-texts.ensures.files, c.in_ok-texts.ensures.lines) at c.write_texts.ensures)
