@@ -11,7 +11,7 @@ mod side_by_side;
 mod texts;
 
 use crate::tests::lawful::is_lawful;
-use crate::tests::seen::{Seen, Wanted, are_wanted, is_printed, met_before_turn};
+use crate::tests::seen::{Seen, Wanted, are_wanted, is_audit, is_printed, met_before_turn};
 use payments::{Calls, MemoryShelf, MemorySink};
 use std::alloc::Global;
 use std::sync::Wait;
@@ -31,6 +31,8 @@ pub struct Input<'a> {
 
 const ALERTS: &str = "alerts.csv";
 
+const AUDIT: &str = "audit.csv";
+
 /// Calls `run` with this gate, over files in memory, and sees whether it leaves what is wanted.
 pub fn run<R, G>(
     rt: &R,
@@ -49,6 +51,7 @@ where
         "requests.toml",
         "payments.csv",
         ALERTS,
+        AUDIT,
         "--threads",
         input.threads,
         "--capacity",
@@ -116,9 +119,12 @@ fn see(
     wanted: Wanted<'_>,
 ) -> Result<Seen, NoMemory> {
     let ended = outcome.status == wanted.status && is_printed(printed, wanted.printed);
-    let name = word(alloc, ALERTS)?;
+    let alerts = word(alloc, ALERTS)?;
+    let audit = word(alloc, AUDIT)?;
     Ok(Seen {
-        is_wanted: ended && are_wanted(bytes_of(shelf.get(&name)), wanted.alerts),
+        is_wanted: ended
+            && are_wanted(bytes_of(shelf.get(&alerts)), wanted.alerts)
+            && is_audit(bytes_of(shelf.get(&audit)), wanted.audit),
         met: [
             met_before_turn(&outcome.ran, 0),
             met_before_turn(&outcome.ran, 1),

@@ -11,7 +11,7 @@ mod told;
 mod ways;
 mod words;
 
-use crate::tests::told::{tells, tells_feed, tells_turns};
+use crate::tests::told::{has_audit, tells_feed, tells_turns};
 use flow_model::RunRecord;
 use payments::{Calls, MemoryShelf, MemorySink};
 use std::alloc::Global;
@@ -39,12 +39,19 @@ impl<'a> Around<'a> {
     }
 }
 
-/// What a text is to be: there is none, or some, or this one.
+/// What a file is to be.
 #[derive(Clone, Copy)]
 pub enum Wanted<'a> {
+    /// It isn't compared.
+    Any,
+    /// There is none.
     Nothing,
+    /// There is one.
     Something,
+    /// It holds this text.
     Text(&'a str),
+    /// It holds the first bytes of this text, so many.
+    Part(&'a str, usize),
 }
 
 /// What of a record is compared.
@@ -57,8 +64,8 @@ pub enum Ran<'a> {
     Nothing,
     /// There is one.
     Something,
-    /// All lines.
-    Lines(&'a str),
+    /// Its audit, without refused requests.
+    Audit(&'a str),
     /// The lines of the feed.
     Feed(&'a str),
     /// The lines of the turns.
@@ -71,6 +78,8 @@ pub struct Left<'a> {
     pub status: u8,
     /// What stands under `alerts.csv`.
     pub alerts: Wanted<'a>,
+    /// What stands under `audit.csv`.
+    pub audit: Wanted<'a>,
     /// What is printed.
     pub out: &'a str,
     /// What the record tells, if there is one.
@@ -78,21 +87,34 @@ pub struct Left<'a> {
 }
 
 impl<'a> Left<'a> {
-    /// A status and printed lines, but no alerts and no record.
+    /// A status and printed lines, but no file and no record.
     pub fn lines(status: u8, out: &'a str) -> Self {
         Left {
             status,
             alerts: Wanted::Nothing,
+            audit: Wanted::Nothing,
             out,
             ran: Ran::Nothing,
         }
     }
 
     /// The same with alerts, and with some record.
+    pub fn alerts(status: u8, alerts: &'a str, out: &'a str) -> Self {
+        Left {
+            status,
+            alerts: Wanted::Text(alerts),
+            audit: Wanted::Nothing,
+            out,
+            ran: Ran::Something,
+        }
+    }
+
+    /// The same, and with some audit.
     pub fn run(status: u8, alerts: &'a str, out: &'a str) -> Self {
         Left {
             status,
             alerts: Wanted::Text(alerts),
+            audit: Wanted::Something,
             out,
             ran: Ran::Something,
         }
@@ -178,29 +200,38 @@ fn outcome_leaves(
         outcome.status == left.status
             && out.written() == left.out.as_bytes()
             && is_ran(alloc, &outcome.ran, left.ran)?
-            && has_alerts(alloc, shelf, left.alerts)?,
+            && holds(alloc, shelf, "alerts.csv", left.alerts)?
+            && holds(alloc, shelf, "audit.csv", left.audit)?,
     )
 }
 
 fn is_ran(alloc: Global, ran: &Option<RunRecord>, wanted: Ran<'_>) -> Result<bool, NoMemory> {
     match (ran, wanted) {
         (None, Ran::Nothing) | (Some(_), Ran::Something) => Ok(true),
-        (Some(ran), Ran::Lines(lines)) => tells(alloc, ran, lines),
+        (Some(ran), Ran::Audit(text)) => has_audit(alloc, ran, text),
         (Some(ran), Ran::Feed(lines)) => tells_feed(alloc, ran, lines),
         (Some(ran), Ran::Turns(lines)) => tells_turns(alloc, ran, lines),
         _ => Ok(false),
     }
 }
 
-fn has_alerts(alloc: Global, shelf: &MemoryShelf, wanted: Wanted<'_>) -> Result<bool, NoMemory> {
-    let name = word(alloc, "alerts.csv")?;
+fn holds(
+    alloc: Global,
+    shelf: &MemoryShelf,
+    name: &str,
+    wanted: Wanted<'_>,
+) -> Result<bool, NoMemory> {
+    let name = word(alloc, name)?;
     Ok(is_text(shelf.get(&name), wanted))
 }
 
 fn is_text(bytes: Option<&Bytes>, wanted: Wanted<'_>) -> bool {
     match (bytes, wanted) {
-        (None, Wanted::Nothing) | (Some(_), Wanted::Something) => true,
+        (_, Wanted::Any) | (None, Wanted::Nothing) | (Some(_), Wanted::Something) => true,
         (Some(bytes), Wanted::Text(text)) => bytes.as_slice() == text.as_bytes(),
+        (Some(bytes), Wanted::Part(text, count)) => {
+            bytes.len() == count && text.as_bytes().starts_with(bytes.as_slice())
+        }
         _ => false,
     }
 }

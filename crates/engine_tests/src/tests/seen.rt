@@ -10,6 +10,7 @@ pub struct Wanted<'a> {
     /// `None` if it isn't compared.
     pub printed: Option<&'a str>,
     pub alerts: Alerts<'a>,
+    pub audit: Audit<'a>,
 }
 
 /// Status 0, and anything else.
@@ -17,6 +18,7 @@ pub const DONE: Wanted<'static> = Wanted {
     status: 0,
     printed: None,
     alerts: Alerts::Any,
+    audit: Audit::Any,
 };
 
 /// What the stored alerts are to be.
@@ -29,6 +31,18 @@ pub enum Alerts<'a> {
     Lines(&'a [u8]),
     /// One line of each pair, once.
     OneOf(&'a [(&'a str, &'a str)]),
+}
+
+/// What the stored audit is to be.
+#[derive(Clone, Copy)]
+pub enum Audit<'a> {
+    Any,
+    /// It has so many lines. This text is left of it without those of the workers of these nodes.
+    Without {
+        nodes: &'a [&'a str],
+        lines: usize,
+        rest: &'a str,
+    },
 }
 
 /// What is seen of a call.
@@ -88,6 +102,50 @@ fn have_one_of_each(alerts: &[u8], pairs: &[(&str, &str)]) -> bool {
         well &= found == (1, 0) || found == (0, 1);
     }
     well
+}
+
+/// Whether this audit is wanted.
+pub fn is_audit(audit: &[u8], wanted: Audit<'_>) -> bool {
+    match (str::from_utf8(audit), wanted) {
+        (_, Audit::Any) => true,
+        (Ok(audit), Audit::Without { nodes, lines, rest }) => {
+            audit.lines().count() == lines && leaves(audit, nodes, rest)
+        }
+        (Err(_), Audit::Without { .. }) => false,
+    }
+}
+
+fn leaves(audit: &str, nodes: &[&str], rest: &str) -> bool {
+    let mut wanted = rest.lines();
+    let mut well = true;
+    for line in audit.lines() {
+        if !is_of(node_of(line), nodes) {
+            well &= is_line(wanted.next(), line);
+        }
+    }
+    well && wanted.next().is_none()
+}
+
+fn is_line(wanted: Option<&str>, line: &str) -> bool {
+    match wanted {
+        Some(wanted) => wanted == line,
+        None => false,
+    }
+}
+
+fn is_of(node: &str, nodes: &[&str]) -> bool {
+    nodes.iter().any(|name| *name == node)
+}
+
+// The second field of a record.
+fn node_of(line: &str) -> &str {
+    let Some((_, rest)) = line.split_once(',') else {
+        return "";
+    };
+    match rest.split_once(',') {
+        Some((node, _)) => node,
+        None => "",
+    }
 }
 
 /// How many tuples a worker met before it turned a request, if it turned one.

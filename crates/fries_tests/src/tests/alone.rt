@@ -260,6 +260,7 @@ fn prints(out: &str) -> Left<'_> {
     Left {
         status: 0,
         alerts: Wanted::Something,
+        audit: Wanted::Any,
         out,
         ran: Ran::Something,
     }

@@ -42,41 +42,43 @@ where
     leaves(rt, alloc, around, &FIRST, left)
 }
 
-/// What is told of the four payments where the request is issued after row 2. Worker 0 is `big`, worker 1 is `alerts`.
-const BETWEEN_ROWS: &str = "fed 1
-fed 2
-issued 1
-fed 3
-fed 4
-stopped
-0 met 1
-0 met 2
-0 turned 1
-0 met 3
-0 met 4
-0 ended
-1 met 2
-1 met 3
-1 met 4
-1 ended
+/// The audit of the four payments where the request is issued after row 2.
+const BETWEEN_ROWS: &str = "entry,node,worker,lane,number,extra
+fed,,,,1,
+fed,,,,2,
+issued,,,,1,
+fed,,,,3,
+fed,,,,4,
+stopped,,,,,
+met,big,0,0,1,
+met,big,0,0,2,
+turned,big,0,,1,
+met,big,0,0,3,
+met,big,0,0,4,
+ended,big,0,0,,
+met,alerts,0,1,2,
+met,alerts,0,1,3,
+met,alerts,0,1,4,
+ended,alerts,0,1,,
 ";
 
-/// What is told of them where it is issued after the last row.
-const BEHIND_ALL_ROWS: &str = "fed 1
-fed 2
-fed 3
-fed 4
-issued 1
-stopped
-0 met 1
-0 met 2
-0 met 3
-0 met 4
-0 turned 1
-0 ended
-1 met 2
-1 met 4
-1 ended
+/// Their audit where it is issued after the last row.
+const BEHIND_ALL_ROWS: &str = "entry,node,worker,lane,number,extra
+fed,,,,1,
+fed,,,,2,
+fed,,,,3,
+fed,,,,4,
+issued,,,,1,
+stopped,,,,,
+met,big,0,0,1,
+met,big,0,0,2,
+met,big,0,0,3,
+met,big,0,0,4,
+turned,big,0,,1,
+ended,big,0,0,,
+met,alerts,0,1,2,
+met,alerts,0,1,4,
+ended,alerts,0,1,,
 ";
 
 #[test]
@@ -85,7 +87,8 @@ fn four_payments(rt: HostRuntime) {
         status: 0,
         alerts: Wanted::Text(THREE_ALERTS),
         out: "rows 4 alerts 3 requests 1 refused 0\n",
-        ran: Ran::Lines(BETWEEN_ROWS),
+        audit: Wanted::Nothing,
+        ran: Ran::Audit(BETWEEN_ROWS),
     };
     assert!(rt; first_leaves(&rt, rt.alloc(), &FIRST, left));
 }
@@ -93,7 +96,7 @@ fn four_payments(rt: HostRuntime) {
 #[test]
 fn request_before_the_first_row(rt: HostRuntime) {
     let words = ["first", "pay.csv", "alerts.csv", "10000", "0", "5000"];
-    let left = Left::run(0, FOUR_ALERTS, "rows 4 alerts 4 requests 1 refused 0\n");
+    let left = Left::alerts(0, FOUR_ALERTS, "rows 4 alerts 4 requests 1 refused 0\n");
     assert!(rt; first_leaves(&rt, rt.alloc(), &words, left));
 }
 
@@ -104,14 +107,15 @@ fn request_after_the_last_row(rt: HostRuntime) {
         status: 0,
         alerts: Wanted::Text(TWO_ALERTS),
         out: "rows 4 alerts 2 requests 1 refused 0\n",
-        ran: Ran::Lines(BEHIND_ALL_ROWS),
+        audit: Wanted::Nothing,
+        ran: Ran::Audit(BEHIND_ALL_ROWS),
     };
     assert!(rt; first_leaves(&rt, rt.alloc(), &words, left));
 }
 
 #[test]
 fn header_without_a_line_feed(rt: HostRuntime) {
-    let left = Left::run(0, HEADER, "rows 0 alerts 0 requests 1 refused 0\n");
+    let left = Left::alerts(0, HEADER, "rows 0 alerts 0 requests 1 refused 0\n");
     assert!(rt;
         payments_leave(
             &rt,
@@ -133,7 +137,7 @@ alerts,1,a,\"A, \"\"B\"\" Ltd\",150.00,x;y
 
 #[test]
 fn marked_payments(rt: HostRuntime) {
-    let left = Left::run(0, MARKED_ALERTS, "rows 1 alerts 1 requests 1 refused 0\n");
+    let left = Left::alerts(0, MARKED_ALERTS, "rows 1 alerts 1 requests 1 refused 0\n");
     assert!(rt; payments_leave(&rt, rt.alloc(), MARKED, &FIRST, left));
 }
 
@@ -148,7 +152,7 @@ const GREATEST: [&str; 6] = [
 
 #[test]
 fn greatest_numbers(rt: HostRuntime) {
-    let left = Left::run(0, HEADER, "rows 4 alerts 0 requests 1 refused 0\n");
+    let left = Left::alerts(0, HEADER, "rows 4 alerts 0 requests 1 refused 0\n");
     assert!(rt; first_leaves(&rt, rt.alloc(), &GREATEST, left));
 }
 
@@ -201,6 +205,7 @@ fn refusals_of_the_outside(rt: HostRuntime) {
     let unmade = Left {
         status: 6,
         alerts: Wanted::Nothing,
+        audit: Wanted::Nothing,
         out: "fault 6 alerts\n",
         ran: Ran::Something,
     };
@@ -208,9 +213,9 @@ fn refusals_of_the_outside(rt: HostRuntime) {
         failing_leaves(&rt, rt.alloc(), &[1], &[], unmade),
         "unmade"
     );
-    let cut = Left::run(6, "sink,row,account", "fault 6 alerts\n");
+    let cut = Left::alerts(6, "sink,row,account", "fault 6 alerts\n");
     assert!(rt; failing_leaves(&rt, rt.alloc(), &[3], &[], cut), "cut");
-    let unprinted = Left::run(6, THREE_ALERTS, "");
+    let unprinted = Left::alerts(6, THREE_ALERTS, "");
     assert!(rt;
         failing_leaves(&rt, rt.alloc(), &[], &[0], unprinted),
         "unprinted"

@@ -2,18 +2,19 @@ use crate::tests::texts::{
     CHAIN, FOUR_ALERTS, FOUR_PAYMENTS, HEADER, PAYMENTS, PAYMENTS_ALERTS, PAYMENTS_REQUESTS,
     TEN_PAYMENTS,
 };
-use crate::tests::{Around, Left, leaves};
+use crate::tests::{Around, Left, Ran, Wanted, leaves};
 use std::alloc::Global;
 use std::sync::Wait;
 use std::thread::Threads;
 use tuple_trace::NoMemory;
 
-pub const RUN: [&str; 5] = [
+pub const RUN: [&str; 6] = [
     "run",
     "job.toml",
     "requests.toml",
     "payments.csv",
     "alerts.csv",
+    "audit.csv",
 ];
 
 /// Whether `run` leaves this where these are the job, the requests and the payments.
@@ -36,11 +37,21 @@ where
     leaves(rt, alloc, Around::of(&files), &RUN, left)
 }
 
+const NO_PAYMENTS: &str = "source,account,merchant,amount,tags\n";
+
+const AUDIT_OF_NONE: &str = "entry,node,worker,lane,number,extra
+stopped,,,,,
+ended,big,0,0,,
+ended,alerts,0,1,,
+";
+
 #[test]
 fn header_alone(rt: HostRuntime) {
-    let payments = "source,account,merchant,amount,tags\n";
-    let left = Left::run(0, HEADER, "rows 0 alerts 0 requests 0 refused 0\n");
-    assert!(rt; run_leaves(&rt, rt.alloc(), CHAIN, "", payments, left));
+    let left = Left {
+        audit: Wanted::Text(AUDIT_OF_NONE),
+        ..Left::run(0, HEADER, "rows 0 alerts 0 requests 0 refused 0\n")
+    };
+    assert!(rt; run_leaves(&rt, rt.alloc(), CHAIN, "", NO_PAYMENTS, left));
 }
 
 /// Lets payments from 50.00 on pass.
@@ -215,12 +226,13 @@ review,2,bob,casino,250.00,3,
 review,6,fay,casino,75.00,3,
 ";
 
-const ORDERED: [&str; 6] = [
+const ORDERED: [&str; 7] = [
     "run",
     "job.toml",
     "requests.toml",
     "payments.csv",
     "alerts.csv",
+    "audit.csv",
     "--ordered",
 ];
 
@@ -275,6 +287,75 @@ fn sixth_call_fails(rt: HostRuntime) {
         failing: &[5],
         refusing: &[],
     };
-    let left = Left::run(6, "sink,row,account", "fault 6 alerts\n");
+    let left = Left::alerts(6, "sink,row,account", "fault 6 alerts\n");
     assert!(rt; leaves(&rt, rt.alloc(), around, &RUN, left));
+}
+
+/// A call of the shelf that fails, the status and the line of the fault, and how many bytes of the
+/// alerts and of the audit are stored then, if they were made. Without a payment these have 38 and 84
+/// bytes, and an append takes 16. The last call isn't made.
+const FAILING: [(u64, u8, &str, Option<usize>, Option<usize>); 15] = [
+    (0, 5, "fault 5 job\n", None, None),
+    (1, 5, "fault 5 requests\n", None, None),
+    (2, 5, "fault 5 payments\n", None, None),
+    (3, 6, "fault 6 alerts\n", None, None),
+    (4, 6, "fault 6 alerts\n", Some(0), None),
+    (5, 6, "fault 6 alerts\n", Some(16), None),
+    (6, 6, "fault 6 alerts\n", Some(32), None),
+    (7, 6, "fault 6 audit\n", Some(38), None),
+    (8, 6, "fault 6 audit\n", Some(38), Some(0)),
+    (9, 6, "fault 6 audit\n", Some(38), Some(16)),
+    (10, 6, "fault 6 audit\n", Some(38), Some(32)),
+    (11, 6, "fault 6 audit\n", Some(38), Some(48)),
+    (12, 6, "fault 6 audit\n", Some(38), Some(64)),
+    (13, 6, "fault 6 audit\n", Some(38), Some(80)),
+    (
+        14,
+        0,
+        "rows 0 alerts 0 requests 0 refused 0\n",
+        Some(38),
+        Some(84),
+    ),
+];
+
+fn part(text: &str, count: Option<usize>) -> Wanted<'_> {
+    match count {
+        Some(count) => Wanted::Part(text, count),
+        None => Wanted::Nothing,
+    }
+}
+
+/// Whether a run without a payment leaves this if this call of the shelf fails.
+fn failing_leaves<R>(rt: &R, alloc: Global, failing: u64, left: Left<'_>) -> bool
+where
+    R: Threads + Wait + Copy + Send + Sync + 'static,
+{
+    let around = Around {
+        files: &[
+            ("job.toml", CHAIN),
+            ("requests.toml", ""),
+            ("payments.csv", NO_PAYMENTS),
+        ],
+        failing: &[failing],
+        refusing: &[],
+    };
+    leaves(rt, alloc, around, &RUN, left)
+}
+
+#[test]
+fn each_call_of_the_shelf_fails(rt: HostRuntime) {
+    for (failing, status, out, alerts, audit) in FAILING {
+        let left = Left {
+            status,
+            alerts: part(HEADER, alerts),
+            audit: part(AUDIT_OF_NONE, audit),
+            out,
+            ran: if status == 5 {
+                Ran::Nothing
+            } else {
+                Ran::Something
+            },
+        };
+        assert!(rt; failing_leaves(&rt, rt.alloc(), failing, left), "{failing}");
+    }
 }

@@ -1,14 +1,20 @@
 //! What a record tells, a line each.
 
 use flow_model::RunRecord;
-use keyed_state::Keyed;
-use sink_journal::{Entry, Feed};
+use jobs::worker_count;
+use sink_journal::{Entry, Feed, audit_text};
 use std::alloc::Global;
 use tuple_trace::{Bytes, NoMemory};
 
-/// Whether a record tells these lines.
-pub fn tells(alloc: Global, ran: &RunRecord, lines: &str) -> Result<bool, NoMemory> {
-    Ok(told(alloc, ran)?.as_slice() == lines.as_bytes())
+/// Whether this is the audit of a record without refused requests.
+pub fn has_audit(alloc: Global, ran: &RunRecord, text: &str) -> Result<bool, NoMemory> {
+    let count = worker_count(&ran.setup.job);
+    if ran.journals.len() as u64 != count || ran.states.len() as u64 != count {
+        return Ok(false);
+    }
+    let job = &ran.setup.job;
+    let audit = audit_text(alloc, job, &[], &ran.feeds, &ran.journals, &ran.states)?;
+    Ok(audit.as_slice() == text.as_bytes())
 }
 
 /// Whether these are the lines of the feed of a record.
@@ -42,19 +48,6 @@ fn push_turns(
     Ok(())
 }
 
-// The feed, then worker by worker its journal and its counts.
-fn told(alloc: Global, ran: &RunRecord) -> Result<Bytes, NoMemory> {
-    let mut lines = Bytes::new(alloc);
-    push_feeds(alloc, ran.feeds.as_slice(), &mut lines)?;
-    for (worker, journal) in ran.journals.as_slice().iter().enumerate() {
-        push_journal(alloc, worker, journal.as_slice(), &mut lines)?;
-    }
-    for (worker, state) in ran.states.as_slice().iter().enumerate() {
-        push_counts(alloc, worker, state, &mut lines)?;
-    }
-    Ok(lines)
-}
-
 fn push_feeds(alloc: Global, feeds: &[Feed], lines: &mut Bytes) -> Result<(), NoMemory> {
     for feed in feeds {
         let line = match feed {
@@ -63,38 +56,6 @@ fn push_feeds(alloc: Global, feeds: &[Feed], lines: &mut Bytes) -> Result<(), No
             Feed::Stopped => format!(in alloc; "stopped\n")?,
         };
         lines.extend_from_slice(line.as_bytes())?;
-    }
-    Ok(())
-}
-
-fn push_journal(
-    alloc: Global,
-    worker: usize,
-    journal: &[Entry],
-    lines: &mut Bytes,
-) -> Result<(), NoMemory> {
-    for entry in journal {
-        let line = match entry {
-            Entry::Met { tuple, .. } => format!(in alloc; "{worker} met {}\n", tuple.row)?,
-            Entry::Marked { request, .. } => format!(in alloc; "{worker} marked {request}\n")?,
-            Entry::Turned { request } => format!(in alloc; "{worker} turned {request}\n")?,
-            Entry::Ended { .. } => format!(in alloc; "{worker} ended\n")?,
-        };
-        lines.extend_from_slice(line.as_bytes())?;
-    }
-    Ok(())
-}
-
-fn push_counts(
-    alloc: Global,
-    worker: usize,
-    counts: &Keyed,
-    lines: &mut Bytes,
-) -> Result<(), NoMemory> {
-    for (key, count) in counts.iter() {
-        lines.extend_from_slice(format!(in alloc; "{worker} counts {count} ")?.as_bytes())?;
-        lines.extend_from_slice(key)?;
-        lines.extend_from_slice(b"\n")?;
     }
     Ok(())
 }

@@ -48,6 +48,7 @@ fn two_requests_after_one_row(rt: HostRuntime) {
     let left = Left {
         status: 0,
         alerts: Wanted::Something,
+        audit: Wanted::Something,
         out: "rows 5 alerts 5 requests 2 refused 0\n",
         ran: Ran::Feed(TWO_WAYS_FEED),
     };
@@ -67,6 +68,7 @@ fn copies_that_do_not_meet(rt: HostRuntime) {
     let left = Left {
         status: 0,
         alerts: Wanted::Something,
+        audit: Wanted::Something,
         out: "rows 2 alerts 4 requests 1 refused 0\n",
         ran: Ran::Turns("1 turned 1\n"),
     };
