@@ -13,15 +13,16 @@ use top_call::{Outcome, fries};
 use tuple_trace::{Bytes, NoMemory, OpenGate, Word};
 
 /// The files that `run` writes, in their order.
-pub const WRITTEN: [&str; 1] = ["alerts.csv"];
+pub const WRITTEN: [&str; 2] = ["alerts.csv", "audit.csv"];
 
 /// The words of `run`.
-const RUN: [&str; 5] = [
+const RUN: [&str; 6] = [
     "run",
     "job.toml",
     "requests.toml",
     "payments.csv",
     "alerts.csv",
+    "audit.csv",
 ];
 
 /// What a call of `run` finds outside.

@@ -1,6 +1,6 @@
 //! Each call of the outside fails alone.
 
-use crate::tests::texts::TWO_ALERTS;
+use crate::tests::texts::{AUDIT, TWO_ALERTS};
 use crate::tests::{Around, Left, four, leaves};
 use std::alloc::Global;
 use std::sync::Wait;
@@ -32,23 +32,31 @@ fn left_at(failing: usize, step: usize) -> Left<'static> {
         return Left::refused(5, line);
     }
     let alerts = READS.len();
-    let end = alerts.saturating_add(calls_of(TWO_ALERTS, step));
-    let (status, out) = if failing < end {
+    let audit = alerts.saturating_add(calls_of(TWO_ALERTS, step));
+    let (status, out) = if failing < audit {
         (6, "fault 6 alerts\n")
+    } else if failing < call_count(step) {
+        (6, "fault 6 audit\n")
     } else {
         (0, LINES)
     };
     Left {
         status,
         has_run: true,
-        files: [part_of(TWO_ALERTS, alerts, failing, step)],
+        files: [
+            part_of(TWO_ALERTS, alerts, failing, step),
+            part_of(AUDIT, audit, failing, step),
+        ],
         out,
     }
 }
 
 /// The number of calls of a run without faults.
 fn call_count(step: usize) -> usize {
-    READS.len().saturating_add(calls_of(TWO_ALERTS, step))
+    READS
+        .len()
+        .saturating_add(calls_of(TWO_ALERTS, step))
+        .saturating_add(calls_of(AUDIT, step))
 }
 
 /// The first call that leaves something else if it fails. `step` is the most that an append takes.

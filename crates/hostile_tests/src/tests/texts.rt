@@ -39,6 +39,23 @@ alerts,2,b,m,100.00,
 alerts,4,d,m,120.00,
 ";
 
+/// What the audit of that run is. One lane leads to each worker, so no schedule changes it.
+pub const AUDIT: &str = "entry,node,worker,lane,number,extra
+fed,,,,1,
+fed,,,,2,
+fed,,,,3,
+fed,,,,4,
+stopped,,,,,
+met,big,0,0,1,
+met,big,0,0,2,
+met,big,0,0,3,
+met,big,0,0,4,
+ended,big,0,0,,
+met,alerts,0,1,2,
+met,alerts,0,1,4,
+ended,alerts,0,1,,
+";
+
 /// Payments from two sources: rated by a table, parted by their amount, and counted for each account.
 pub const PAYMENTS: &str = r#"columns = ["account:text", "merchant:text", "amount:cents",
            "risk:number:own", "seen:number:own"]
