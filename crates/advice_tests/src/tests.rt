@@ -47,7 +47,14 @@ pub struct Case {
 }
 
 /// The words of a run.
-pub const RUN: &[&str] = &["run", "job.toml", "requests.toml", "pay.csv", "alerts.csv"];
+pub const RUN: &[&str] = &[
+    "run",
+    "job.toml",
+    "requests.toml",
+    "pay.csv",
+    "alerts.csv",
+    "audit.csv",
+];
 
 /// A text with a piece of it replaced, where it stands first.
 pub fn with(alloc: Global, text: &str, case: Case) -> Result<String, NoMemory> {

@@ -30,7 +30,17 @@ const CASES: &[(&[&str], Option<Fault>, &str)] = &[
 ",
     ),
     (
-        &["run", "--threads", "2", "j", "--capacity=3", "r", "p", "a"],
+        &[
+            "run",
+            "--threads",
+            "2",
+            "j",
+            "--capacity=3",
+            "r",
+            "p",
+            "a",
+            "u",
+        ],
         Some(Fault::Read(FileIs::Payments)),
         "fries: payments file `p`
   The file couldn't be read.
@@ -41,6 +51,14 @@ const CASES: &[(&[&str], Option<Fault>, &str)] = &[
         &["first", "p", "a", "1", "2", "3"],
         Some(Fault::Write(FileIs::Alerts)),
         "fries: alerts file `a`
+  The file couldn't be made or written; it may hold a beginning of its text.
+  Check its folder, that you may write there, and that the disk has room.
+",
+    ),
+    (
+        RUN,
+        Some(Fault::Write(FileIs::Audit)),
+        "fries: audit file `audit.csv`
   The file couldn't be made or written; it may hold a beginning of its text.
   Check its folder, that you may write there, and that the disk has room.
 ",
