@@ -12,9 +12,6 @@ use std::thread::Threads;
 use top_call::{Outcome, fries};
 use tuple_trace::{Bytes, NoMemory, OpenGate, Word};
 
-/// The files that `run` writes, in their order.
-pub const WRITTEN: [&str; 2] = ["alerts.csv", "audit.csv"];
-
 /// The words of `run`.
 const RUN: [&str; 6] = [
     "run",
@@ -57,8 +54,10 @@ pub struct Left<'a> {
     pub status: u8,
     /// Whether a run was completed.
     pub has_run: bool,
-    /// What stands under the names that it writes; `None` where there is no such file.
-    pub files: [Option<&'a [u8]>; WRITTEN.len()],
+    /// The alerts, if there is such a file.
+    pub alerts: Option<&'a [u8]>,
+    /// The audit, if there is such a file.
+    pub audit: Option<&'a [u8]>,
     /// What is printed.
     pub out: &'a str,
 }
@@ -69,7 +68,8 @@ impl<'a> Left<'a> {
         Left {
             status,
             has_run: false,
-            files: [None; WRITTEN.len()],
+            alerts: None,
+            audit: None,
             out: line,
         }
     }
@@ -112,22 +112,20 @@ where
         outcome.status == left.status
             && outcome.ran.is_some() == left.has_run
             && out.written() == left.out.as_bytes()
-            && has_files(alloc, shelf, left.files)?,
+            && stands(alloc, shelf, "alerts.csv", left.alerts)?
+            && stands(alloc, shelf, "audit.csv", left.audit)?,
     )
 }
 
-fn has_files(
+/// Whether just this stands under a name.
+fn stands(
     alloc: Global,
     shelf: &MemoryShelf,
-    wanted: [Option<&[u8]>; WRITTEN.len()],
+    name: &str,
+    wanted: Option<&[u8]>,
 ) -> Result<bool, NoMemory> {
-    for (name, wanted) in WRITTEN.iter().zip(wanted) {
-        let name = word(alloc, name)?;
-        if !is_text(shelf.get(&name), wanted) {
-            return Ok(false);
-        }
-    }
-    Ok(true)
+    let name = word(alloc, name)?;
+    Ok(is_text(shelf.get(&name), wanted))
 }
 
 fn is_text(bytes: Option<&Bytes>, wanted: Option<&[u8]>) -> bool {
@@ -154,7 +152,7 @@ fn has_done(status: u8) -> bool {
     status == 0 || status == 8
 }
 
-/// The status of a call, and whether the first file that it writes is there.
+/// The status of a call, and whether the alerts are there, which are written first.
 #[derive(Clone, Copy)]
 struct End {
     status: u8,

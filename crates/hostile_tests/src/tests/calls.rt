@@ -43,10 +43,8 @@ fn left_at(failing: usize, step: usize) -> Left<'static> {
     Left {
         status,
         has_run: true,
-        files: [
-            part_of(TWO_ALERTS, alerts, failing, step),
-            part_of(AUDIT, audit, failing, step),
-        ],
+        alerts: part_of(TWO_ALERTS, alerts, failing, step),
+        audit: part_of(AUDIT, audit, failing, step),
         out,
     }
 }

@@ -1,98 +1,106 @@
 //! Files that are cut after each of their bytes.
 
-use crate::tests::texts::{CHAIN, FOUR_PAYMENTS, PAYMENTS, REQUESTS, TEN_PAYMENTS, WHOLE_REQUESTS};
+use crate::tests::texts::{
+    CHAIN, FOUR_PAYMENTS, PAYMENTS, REQUESTS, TEN_PAYMENTS, WHOLE_JOB, WHOLE_PAYMENTS,
+    WHOLE_REQUESTS, Whole,
+};
 use crate::tests::{Around, four, status_of};
 use std::alloc::Global;
 use std::sync::Wait;
 use std::thread::Threads;
 
-/// The first `end` bytes of a text; nothing if it is shorter.
-fn cut(text: &str, end: usize) -> &[u8] {
-    text.as_bytes().get(..end).unwrap_or(&[])
+#[derive(Clone, Copy)]
+enum File {
+    Job,
+    Requests,
+    Payments,
 }
 
-/// The first cut of the chain's job file that has another end than it is to have.
-fn first_wrong_job<R>(rt: &R, alloc: Global) -> Option<usize>
-where
-    R: Threads + Wait + Copy + Send + Sync + 'static,
-{
-    for end in 0..=CHAIN.len() {
-        let is_whole = end.saturating_add(1) >= CHAIN.len();
-        let around = Around {
-            job: cut(CHAIN, end),
+/// A file that is cut.
+#[derive(Clone, Copy)]
+struct Cuts {
+    file: File,
+    text: &'static str,
+    /// Where it may be cut.
+    whole: &'static [Whole],
+    /// The status if it is cut anywhere else.
+    refused: u8,
+}
+
+/// What a call finds if these bytes of the file are left.
+fn around_of(file: File, bytes: &[u8]) -> Around<'_> {
+    match file {
+        File::Job => Around {
+            job: bytes,
             ..four()
-        };
-        if status_of(rt, alloc, around) != Some(if is_whole { 0 } else { 2 }) {
-            return Some(end);
-        }
-    }
-    None
-}
-
-/// At most the line feed at the end of the job file may be missing.
-#[test]
-fn job_file_cut_anywhere(rt: HostRuntime) {
-    assert_eq!(rt; first_wrong_job(&rt, rt.alloc()), None);
-}
-
-/// The status if so much of the request file is left.
-fn status_of_requests(end: usize) -> u8 {
-    match WHOLE_REQUESTS
-        .iter()
-        .find(|(from, to, _)| (*from..=*to).contains(&end))
-    {
-        Some((_, _, status)) => *status,
-        None => 3,
-    }
-}
-
-fn first_wrong_requests<R>(rt: &R, alloc: Global) -> Option<usize>
-where
-    R: Threads + Wait + Copy + Send + Sync + 'static,
-{
-    for end in 0..=REQUESTS.len() {
-        let around = Around {
+        },
+        File::Requests => Around {
             job: PAYMENTS.as_bytes(),
-            requests: cut(REQUESTS, end),
+            requests: bytes,
             payments: TEN_PAYMENTS.as_bytes(),
             ..four()
-        };
-        if status_of(rt, alloc, around) != Some(status_of_requests(end)) {
+        },
+        File::Payments => Around {
+            payments: bytes,
+            ..four()
+        },
+    }
+}
+
+/// The status if so many bytes are left.
+fn status_at(cuts: Cuts, end: usize) -> u8 {
+    for (least, most, status) in cuts.whole {
+        if *least <= end && end <= *most {
+            return *status;
+        }
+    }
+    cuts.refused
+}
+
+/// The first cut that has another end than it is to have.
+fn first_wrong_cut<R>(rt: &R, alloc: Global, cuts: Cuts) -> Option<usize>
+where
+    R: Threads + Wait + Copy + Send + Sync + 'static,
+{
+    for end in 0..=cuts.text.len() {
+        let left = cuts.text.as_bytes().get(..end).unwrap_or(&[]);
+        let status = status_of(rt, alloc, around_of(cuts.file, left));
+        if status != Some(status_at(cuts, end)) {
             return Some(end);
         }
     }
     None
+}
+
+#[test]
+fn job_file_cut_anywhere(rt: HostRuntime) {
+    let cuts = Cuts {
+        file: File::Job,
+        text: CHAIN,
+        whole: WHOLE_JOB,
+        refused: 2,
+    };
+    assert_eq!(rt; first_wrong_cut(&rt, rt.alloc(), cuts), None);
 }
 
 #[test]
 fn request_file_cut_anywhere(rt: HostRuntime) {
-    assert_eq!(rt; first_wrong_requests(&rt, rt.alloc()), None);
+    let cuts = Cuts {
+        file: File::Requests,
+        text: REQUESTS,
+        whole: WHOLE_REQUESTS,
+        refused: 3,
+    };
+    assert_eq!(rt; first_wrong_cut(&rt, rt.alloc(), cuts), None);
 }
 
-/// Whether the last line of a text is a whole record: nothing, or five fields, all of the header.
-fn ends_with_a_record(text: &[u8]) -> bool {
-    let header = b"source,account,merchant,amount,tags";
-    let last = text.rsplit(|byte| *byte == b'\n').next().unwrap_or(&[]);
-    let commas = last.iter().filter(|byte| **byte == b',').count();
-    text.len() >= header.len() && (last.is_empty() || commas == 4)
-}
-
-fn first_wrong_payments<R>(rt: &R, alloc: Global) -> Option<usize>
-where
-    R: Threads + Wait + Copy + Send + Sync + 'static,
-{
-    for end in 0..=FOUR_PAYMENTS.len() {
-        let payments = cut(FOUR_PAYMENTS, end);
-        let wanted = if ends_with_a_record(payments) { 0 } else { 4 };
-        if status_of(rt, alloc, Around { payments, ..four() }) != Some(wanted) {
-            return Some(end);
-        }
-    }
-    None
-}
-
-/// A payment without its last field is refused; without its line feed it is read.
 #[test]
 fn payments_cut_anywhere(rt: HostRuntime) {
-    assert_eq!(rt; first_wrong_payments(&rt, rt.alloc()), None);
+    let cuts = Cuts {
+        file: File::Payments,
+        text: FOUR_PAYMENTS,
+        whole: WHOLE_PAYMENTS,
+        refused: 4,
+    };
+    assert_eq!(rt; first_wrong_cut(&rt, rt.alloc(), cuts), None);
 }

@@ -6,41 +6,22 @@ use std::sync::Wait;
 use std::thread::Threads;
 use tuple_trace::NoMemory;
 
-const FILTER: &str = "kind = \"filter\"\nwhen = []\n";
-
-const SPLIT: &str = "kind = \"split\"\non = \"who\"\nby = \";\"\nmost = 16\n";
-
-/// A job with so many nodes of one function in a row between a source and a sink.
-fn in_a_row(alloc: Global, count: u32, func: &str) -> Result<String, NoMemory> {
-    let mut text = format!(in alloc;
-        "columns = [\"who:text\"]\n[[node]]\nname = \"n0\"\nkind = \"source\"\n"
-    )?;
-    let mut edges = String::new(alloc);
-    for number in 0..count {
-        let next = number.saturating_add(1);
-        let node = format!(in alloc; "[[node]]\nname = \"n{next}\"\n{func}")?;
-        text.push_str(node.as_str())?;
-        let edge = format!(in alloc; "[[edge]]\nfrom = \"n{number}\"\nto = \"n{next}\"\n")?;
-        edges.push_str(edge.as_str())?;
+/// A text, and then a piece so many times.
+fn repeated(alloc: Global, head: &str, piece: &str, count: u32) -> Result<String, NoMemory> {
+    let mut text = head.to_string(alloc)?;
+    for _ in 0..count {
+        text.push_str(piece)?;
     }
-    text.push_str("[[node]]\nname = \"out\"\nkind = \"sink\"\ncolumns = []\n")?;
-    text.push_str(edges.as_str())?;
-    let last = format!(in alloc; "[[edge]]\nfrom = \"n{count}\"\nto = \"out\"\n")?;
-    text.push_str(last.as_str())?;
     Ok(text)
 }
 
-fn row_leaves<R>(
-    rt: &R,
-    alloc: Global,
-    count: u32,
-    func: &str,
-    left: Left<'_>,
-) -> Result<bool, NoMemory>
+/// Whether a job with so many nodes leaves this.
+fn nodes_leave<R>(rt: &R, alloc: Global, count: u32, left: Left<'_>) -> Result<bool, NoMemory>
 where
     R: Threads + Wait + Copy + Send + Sync + 'static,
 {
-    let job = in_a_row(alloc, count, func)?;
+    let node = "[[node]]\nname = \"card\"\nkind = \"source\"\n";
+    let job = repeated(alloc, "columns = [\"who:text\"]\n", node, count)?;
     let around = Around {
         job: job.as_str().as_bytes(),
         ..four()
@@ -51,13 +32,35 @@ where
 #[test]
 fn too_many_nodes(rt: HostRuntime) {
     let left = Left::refused(2, "fault 2 J3 nodes 65\n");
-    assert!(rt; row_leaves(&rt, rt.alloc(), 63, FILTER, left) == Ok(true));
+    assert!(rt; nodes_leave(&rt, rt.alloc(), 65, left) == Ok(true));
 }
+
+/// Three splits in a row: 1 + 16 + 256 + 4,096 tuples of a row come to the splits and the sink.
+const HEAVY: &str = r#"
+columns = ["who:text"]
+node = [
+  { name = "card", kind = "source" },
+  { name = "a", kind = "split", on = "who", by = ";", most = 16 },
+  { name = "b", kind = "split", on = "who", by = ";", most = 16 },
+  { name = "c", kind = "split", on = "who", by = ";", most = 16 },
+  { name = "out", kind = "sink", columns = [] },
+]
+edge = [
+  { from = "card", to = "a" },
+  { from = "a", to = "b" },
+  { from = "b", to = "c" },
+  { from = "c", to = "out" },
+]
+"#;
 
 #[test]
 fn too_heavy_a_job(rt: HostRuntime) {
+    let around = Around {
+        job: HEAVY.as_bytes(),
+        ..four()
+    };
     let left = Left::refused(2, "fault 2 J10 weight 4369\n");
-    assert!(rt; row_leaves(&rt, rt.alloc(), 3, SPLIT, left) == Ok(true));
+    assert!(rt; leaves(&rt, rt.alloc(), around, left));
 }
 
 /// An account of 49 bytes.
@@ -76,11 +79,11 @@ fn too_long_an_account(rt: HostRuntime) {
 }
 
 /// Whether so many requests leave this.
-fn requests_leave<R>(rt: &R, alloc: Global, count: usize, left: Left<'_>) -> Result<bool, NoMemory>
+fn requests_leave<R>(rt: &R, alloc: Global, count: u32, left: Left<'_>) -> Result<bool, NoMemory>
 where
     R: Threads + Wait + Copy + Send + Sync + 'static,
 {
-    let requests = "[[request]]\nafter = 1\n".repeat(alloc, count)?;
+    let requests = repeated(alloc, "", "[[request]]\nafter = 1\n", count)?;
     let around = Around {
         requests: requests.as_str().as_bytes(),
         ..four()
