@@ -3,6 +3,7 @@ mod applied;
 mod audit;
 mod cases;
 mod fixtures;
+mod made;
 mod outside;
 mod rows;
 mod sure;

@@ -7,7 +7,7 @@ use std::alloc::Global;
 use tuple_trace::Bytes;
 
 // A job of a source `card`, another source, and what stands behind them.
-fn job_of(alloc: Global, columns: &str, behind: &str) -> Option<Job> {
+pub fn job_of(alloc: Global, columns: &str, behind: &str) -> Option<Job> {
     let text = format!(in alloc;
         "columns = [{columns}]\n[[node]]\nname = \"card\"\nkind = \"source\"\n{behind}"
     );
@@ -15,7 +15,7 @@ fn job_of(alloc: Global, columns: &str, behind: &str) -> Option<Job> {
 }
 
 /// A sink behind the source.
-const ONE_SOURCE: &str = "[[node]]
+pub const ONE_SOURCE: &str = "[[node]]
 name = \"alerts\"
 kind = \"sink\"
 columns = []
@@ -25,7 +25,7 @@ to = \"alerts\"
 ";
 
 /// A second source, and a map before the sink.
-const TWO_SOURCES: &str = "[[node]]
+pub const TWO_SOURCES: &str = "[[node]]
 name = \"wire\"
 kind = \"source\"
 [[node]]
@@ -47,7 +47,7 @@ from = \"big\"
 to = \"alerts\"
 ";
 
-const PLAIN: &str = "\"account:text\", \"merchant:text\", \"amount:cents\", \"tags:text\"";
+pub const PLAIN: &str = "\"account:text\", \"merchant:text\", \"amount:cents\", \"tags:text\"";
 
 fn rows_of(alloc: Global, columns: &str, behind: &str, payments: &[u8]) -> Option<Bytes> {
     let job = job_of(alloc, columns, behind)?;
