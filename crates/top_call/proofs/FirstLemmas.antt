@@ -15,7 +15,6 @@ use Rattle.tuple_trace.specs.declared.tuple.Item.{Item}
 use Rattle.tuple_trace.specs.declared.tuple.Item.TheVariants as item
 use Rattle.tuple_trace.specs.declared.row.Row.{Row}
 use Rattle.tuple_trace.specs.declared.tuple.Tuple.{Tuple}
-use Rattle.versions.specs.Book.{accepted}
 use Rattle.versions.specs.Judged.{judged, judged_from}
 use Rattle.versions.specs.Judging.{first_with}
 use Rattle.flow_model.specs.Lanes.{lane_of}
@@ -40,7 +39,7 @@ use Rattle.flow_replay.specs.Order.{IsInOrder}
 use Rattle.payments.specs.Files.{Files}
 use Rattle.versions.specs.declared.in_order.Judged.{Judged}
 use Rattle.versions.specs.declared.request.Request.{Request}
-use Rattle.top_call.specs.Asked.{FirstAsked}
+use Rattle.command_line.specs.Asked.{FirstAsked}
 use Rattle.top_call.specs.First.{IsFirstRun, TurnsAfterRow, asked_job}
 use Rattle.top_call.specs.FirstJob.{at_least, first_job, first_request}
 use Rattle.top_call.specs.Plan.{AreSame}

@@ -11,9 +11,15 @@ use Rattle.payments.specs.Reading.{rows_of}
 use Rattle.tuple_trace.specs.Counts.{Rose}
 use Rattle.tuple_trace.specs.declared.row.Row.{Row}
 use Rattle.versions.specs.declared.request.Request.{Request}
-use Rattle.top_call.specs.Asked.{FirstAsked, PlanAsked, RunAsked}
+use Rattle.command_line.specs.Asked.{Asked, Check, First, FirstAsked, Help, Make, MakeAsked, Plan, PlanAsked, Run, RunAsked, Version}
+use Rattle.command_line.specs.Help.{help_of, version_line}
+use Rattle.payments.specs.Made.{made_rows}
+use Rattle.payments.specs.declared.read.PFault.{PFault}
+use Rattle.top_call.specs.Answers.{Answers, Follows}
+use Rattle.top_call.specs.Explain.{AnswersText, FollowsText}
+use Rattle.top_call.specs.Make.{AnswersMake, FollowsMake, IsNotMade, MakesNoRows}
 use Rattle.top_call.specs.Check.{AnswersCheck, FollowsCheck}
-use Rattle.top_call.specs.Ends.{EndsAfterRun, EndsStoring, StopsStoring}
+use Rattle.top_call.specs.Ends.{EndsAfterRun, EndsStoring, Stops, StopsStoring, stopped}
 use Rattle.top_call.specs.First.{AnswersFirst, FollowsFirst, asked_job}
 use Rattle.report.specs.Lines.{sizes_line}
 use Rattle.top_call.specs.declared.answer.Answer.{Answer}
@@ -27,7 +33,7 @@ use Rattle.report.specs.declared.fault.Fault.{Fault}
 use Rattle.report.specs.declared.fault.Fault.TheVariants as fault
 use Rattle.report.specs.declared.fault.FileIs.{FileIs}
 use Rattle.report.specs.declared.fault.FileIs.TheVariants as file
-use Rattle.top_call.proofs.PrintLemmas.{prints_or}
+use Rattle.top_call.proofs.PrintLemmas.{prints_nothing, prints_or}
 
 -- ---- bytes that are told
 
@@ -319,3 +325,120 @@ follows_run excludes have asked old new answer a =
             done = λ job requests rows tells more most. ran_or_excused (files_of asked.alerts (Some asked.audit) r.done) (run_lines r.done) old a.between new answer.fault r.ends a.prints;
           }
     ]
+
+-- ---- rows that are made
+
+-- rows that aren't made for a fault
+made_fault : (asked : MakeAsked) (job : Written) (old new : Outside) (why : Fault) (code : PFault) → MakesNoRows asked job why → made_rows job asked.seed asked.rows ≡ Err code
+    → ◌≡◌ {A = Option Fault} (Some why) (Some (fault.Payments code)) ⊎ IsExcused old new (Some why)
+made_fault asked job old new (fault.Payments other) code (some, is) refused = inl (ap (λ (c : PFault). Some (fault.Payments c)) (cc (sym is ∙ refused)))
+made_fault asked job old new fault.NoMemory code makes refused = inr (inr refl)
+made_fault asked job old new _ code makes refused = absurd makes
+
+not_made : (asked : MakeAsked) (job : Written) (old new : Outside) (why : Fault) (rows : List Row) → MakesNoRows asked job why → made_rows job asked.seed asked.rows ≡ Ok rows → IsExcused old new (Some why)
+not_made asked job old new (fault.Payments other) rows (some, is) made = absurd (cc (sym is ∙ made))
+not_made asked job old new fault.NoMemory rows makes made = inr refl
+not_made asked job old new _ rows makes made = absurd makes
+
+-- a call that read no job, or made no rows for it
+follows_not_made : Excludes → HaveOneFault → (asked : MakeAsked) (old between new : Outside) (why : Fault) → new.shelf ≡ between.shelf →
+    IsNotMade asked old.files old.shelf between.shelf why → FollowsMake asked old new (Some why)
+follows_not_made excludes have asked old between new why same none =
+    elim none [
+      | inl unread ↦
+          let excused : (job : Written) → TellsJob old.files asked.job job → IsExcused old new (Some why) =
+          λ job tells. unread_excused file.Job (λ bytes. IsJobIn bytes job) RefusesJob asked.job old between new why (no_job excludes job) tells same unread in
+          record {
+            job = follows_unread file.Job RefusesJob asked.job old between new why (sole_job have) same unread;
+            rows = λ job code tells refused. inr (excused job tells);
+            done = λ job rows tells made. inr (excused job tells);
+          }
+      | inr (read, of, makes, counted) ↦
+          let here : (job : Written) → TellsJob old.files asked.job job → MakesNoRows asked job why =
+          λ job tells. subst (λ (j : Written). MakesNoRows asked j why) (same_job old.files asked.job read job of tells) makes in
+          record {
+            job = follows_read file.Job (λ bytes. IsJobIn bytes read) RefusesJob asked.job old new (Some why) (no_job excludes read) of;
+            rows = λ job code tells refused. made_fault asked job old new why code (here job tells) refused;
+            done = λ job rows tells made. inr (not_made asked job old new why rows (here job tells) made);
+          }
+    ]
+
+pub follows_make : Excludes → HaveOneFault → (asked : MakeAsked) (old new : Outside) (answer : Answer) → AnswersMake asked old new answer → FollowsMake asked old new answer.fault
+follows_make excludes have asked old new answer a =
+    elim a.ends [
+      | inl s ↦ subst (λ (x : Answer). FollowsMake asked old new x.fault) (sym s.answer_is) (follows_not_made excludes have asked old a.between new s.why a.prints.shelf s.cause)
+      | inr r ↦
+          let of = r.is_so in
+          let made : (job : Written) → TellsJob old.files asked.job job → made_rows job asked.seed asked.rows ≡ Ok of.rows =
+          λ job tells. subst (λ (j : Written). made_rows j asked.seed asked.rows ≡ Ok of.rows) (same_job old.files asked.job of.job job of.of_job tells) of.of_rows in
+          record {
+            job = follows_read file.Job (λ bytes. IsJobIn bytes of.job) RefusesJob asked.job old new answer.fault (no_job excludes of.job) of.of_job;
+            rows = λ job code tells refused. absurd (cc (sym (made job tells) ∙ refused));
+            done = λ job rows tells more. done_or_excused (run_lines r.done) old a.between new answer.fault r.lines.prints a.prints;
+          }
+    ]
+
+-- ---- texts, and memory that runs out while the words are read
+
+pub follows_text : (text : List ℕ) (old new : Outside) (answer : Answer) → AnswersText text old new answer → FollowsText old new answer.fault
+follows_text text old new answer a = done_or_excused text old a.between new answer.fault a.lines.prints a.prints
+
+-- nothing was read, stored or printed
+stops_for_memory : (Cause : Faults → Faults → Fault → Type 0) (old : Outside) (answer : Answer) → answer ≡ stopped fault.NoMemory → Cause old.shelf old.shelf fault.NoMemory → Stops Cause old old answer
+stops_for_memory Cause old answer is cause =
+    record { why = fault.NoMemory; answer_is = is; cause = cause; files = refl; target = refl; prints = record { written = refl; out = refl } }
+
+text_for_memory : (text : List ℕ) (old new : Outside) (answer : Answer) → answer ≡ stopped fault.NoMemory → PrintsFault answer.fault old new → AnswersText text old new answer
+text_for_memory text old new answer is prints = record {
+  between = old;
+  lines = record { stores = record { files = refl; shelf = refl; target = refl }; prints = prints_nothing text old.written old.out answer.fault (ap (λ (a : Answer). a.fault) is) };
+  refused = ap (λ (a : Answer). a.refused) is;
+  ran = ap (λ (a : Answer). a.ran) is;
+  prints = prints;
+}
+
+-- any call may end so
+pub answers_memory : (asked : Asked) (old new : Outside) (answer : Answer) → answer ≡ stopped fault.NoMemory → PrintsFault answer.fault old new → Answers asked old new answer
+answers_memory (First asked) old new answer is prints = record { between = old; ends = inl (stops_for_memory _ old answer is refl); prints = prints }
+answers_memory (Check name) old new answer is prints = record { between = old; ends = inl (stops_for_memory _ old answer is refl); prints = prints }
+answers_memory (Plan asked) old new answer is prints = record { between = old; ends = inl (stops_for_memory _ old answer is (inl refl)); prints = prints }
+answers_memory (Run asked) old new answer is prints = record { between = old; ends = inl (stops_for_memory _ old answer is (inl (inl refl))); prints = prints }
+answers_memory (Make asked) old new answer is prints = record { between = old; ends = inl (stops_for_memory _ old answer is (inl refl)); prints = prints }
+answers_memory (Help about) old new answer is prints = text_for_memory (help_of about) old new answer is prints
+answers_memory Version old new answer is prints = text_for_memory version_line old new answer is prints
+
+no_memory : (old new : Outside) → IsExcused old new (Some fault.NoMemory)
+no_memory old new = inr refl
+
+pub follows_memory : (asked : Asked) (old new : Outside) → Follows asked old new (Some fault.NoMemory)
+follows_memory (First asked) old new = record {
+  payments = follows_excused file.Payments (RefusesRows (asked_job asked)) asked.payments old new (Some fault.NoMemory) (no_memory old new);
+  done = λ rows tells. inr (no_memory old new);
+}
+follows_memory (Check name) old new = record {
+  job = follows_excused file.Job RefusesJob name old new (Some fault.NoMemory) (no_memory old new);
+  done = λ job tells. inr (no_memory old new);
+}
+follows_memory (Plan asked) old new = record {
+  job = follows_excused file.Job RefusesJob asked.job old new (Some fault.NoMemory) (no_memory old new);
+  requests = λ job tells. follows_excused file.Requests (RefusesRequests job) asked.requests old new (Some fault.NoMemory) (no_memory old new);
+  done = λ job requests tells more. inr (no_memory old new);
+}
+follows_memory (Run asked) old new = record {
+  job = follows_excused file.Job RefusesJob asked.plan.job old new (Some fault.NoMemory) (no_memory old new);
+  requests = λ job tells. follows_excused file.Requests (RefusesRequests job) asked.plan.requests old new (Some fault.NoMemory) (no_memory old new);
+  payments = λ job requests tells more. follows_excused file.Payments (RefusesRows job) asked.payments old new (Some fault.NoMemory) (no_memory old new);
+  done = λ job requests rows tells more most. inr (no_memory old new);
+}
+follows_memory (Make asked) old new = record {
+  job = follows_excused file.Job RefusesJob asked.job old new (Some fault.NoMemory) (no_memory old new);
+  rows = λ job code tells refused. inr (no_memory old new);
+  done = λ job rows tells made. inr (no_memory old new);
+}
+follows_memory (Help about) old new = inr (no_memory old new)
+follows_memory Version old new = inr (no_memory old new)
+
+-- what holds of anything that was asked holds of what was
+pub whatever : {A : Type 0} (o : Option A) (P : A → Type 0) → ((a : A) → P a) → IfSome o P
+whatever None P all = tt
+whatever (Some a) P all = all a

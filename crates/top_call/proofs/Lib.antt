@@ -1,4 +1,5 @@
 pub mod PrintLemmas
 pub mod FollowLemmas
+pub mod MakeLemmas
 pub mod RunLemmas
 pub mod FirstLemmas

@@ -1,7 +1,6 @@
 -- What a run of the judged requests is.
 use Rattle.std.proofs.Common.{◌≡◌, ◌∙◌, ℕ, Bool, List, length, ap, subst, sym}
 use Rattle.std.specs.Prelude.{IsTrue}
-use Rattle.jobs.specs.Job.{written}
 use Rattle.jobs.specs.Nodes.{AreFromSources, worker_count}
 use Rattle.jobs.specs.Written.{Written}
 use Rattle.sink_journal.specs.declared.journal.Feed.{Feed}

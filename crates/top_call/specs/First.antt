@@ -7,7 +7,7 @@ use Rattle.tuple_trace.specs.declared.row.Row.{Row}
 use Rattle.flow_model.specs.Record.{told}
 use Rattle.flow_model.specs.Whole.{after_turn, before_turn, meets_row}
 use Rattle.flow_replay.specs.Order.{IsInOrder}
-use Rattle.top_call.specs.Asked.{FirstAsked}
+use Rattle.command_line.specs.Asked.{FirstAsked}
 use Rattle.top_call.specs.Ends.{Stops}
 use Rattle.top_call.specs.FirstJob.{first_job, first_request}
 use Rattle.top_call.specs.Plan.{AreSame}

@@ -1,5 +1,4 @@
 pub mod FirstJob
-pub mod Asked
 pub mod Outside
 pub mod Reading
 pub mod Ends
@@ -8,4 +7,6 @@ pub mod First
 pub mod Check
 pub mod Plan
 pub mod Run
+pub mod Make
+pub mod Explain
 pub mod Answers

@@ -10,7 +10,7 @@ use Rattle.flow_model.specs.Least.{ArePlansLeast}
 use Rattle.flow_model.specs.Planned.{IsExact}
 use Rattle.flow_model.specs.Setup.{outline}
 use Rattle.flow_model.specs.declared.setup.Setup.{Setup}
-use Rattle.top_call.specs.Asked.{PlanAsked}
+use Rattle.command_line.specs.Asked.{PlanAsked}
 use Rattle.top_call.specs.Ends.{PrintsLines, Stops}
 use Rattle.report.specs.Lines.{plan_lines, refused_lines}
 use Rattle.top_call.specs.Outside.{IsExcused, Outside, PrintsFault}

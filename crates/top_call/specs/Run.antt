@@ -5,7 +5,7 @@ use Rattle.payments.specs.Causes.{Faults}
 use Rattle.payments.specs.Files.{Files}
 use Rattle.tuple_trace.specs.declared.row.Row.{Row}
 use Rattle.versions.specs.declared.request.Request.{Request}
-use Rattle.top_call.specs.Asked.{RunAsked}
+use Rattle.command_line.specs.Asked.{RunAsked}
 use Rattle.top_call.specs.Ends.{Stops}
 use Rattle.top_call.specs.Outside.{IsExcused, Outside, PrintsFault}
 use Rattle.top_call.specs.Plan.{AreSame, IsNoSetup}

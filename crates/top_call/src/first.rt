@@ -1,15 +1,15 @@
 ghost use Rattle.std.specs.Prelude.{◌≡◌, IfOk, IfErr, OnOk, length};
 ghost use Rattle.jobs.specs.Nodes.{worker_count};
-ghost use Rattle.top_call.specs.Asked.{first_asked};
+ghost use Rattle.command_line.specs.Asked.{first_asked};
 ghost use Rattle.top_call.specs.First.{asked_job, EndsFirst, IsFirstRun};
 ghost use Rattle.top_call.specs.Outside.{outside};
 ghost use Rattle.top_call.specs.Reading.{AreNoRows};
 
 use crate::answer::Answer;
-use crate::command::First;
 use crate::job::{first_job, first_requests};
 use crate::reading::rows_in;
 use crate::running::{Done, Outputs, leave_run, run_in_order};
+use command_line::First;
 use payments::{Shelf, Sink};
 use report::Fault;
 use std::alloc::Global;
@@ -17,17 +17,17 @@ use std::alloc::Global;
 /// Reads the payments and runs them, stores the alerts and prints the summary. The first fault ends it.
 pub fn first_command<S: Shelf, O: Sink>(
     alloc: Global,
-    first: First<'_>,
+    first: &First,
     shelf: &mut S,
     out: &mut O,
 ) -> Answer
-    ensures { EndsFirst (first_asked first.entry)
+    ensures { EndsFirst (first_asked first.now)
         (outside (S.files shelf.old) (S.faults shelf.old) (S.target shelf.old) (O.written out.old) (O.faults out.old))
         (outside (S.files shelf.new) (S.faults shelf.new) (S.target shelf.new) (O.written out.new) (O.faults out.new))
         result }
 {
     let names = Outputs {
-        alerts: first.alerts,
+        alerts: &first.alerts,
         audit: None,
     };
     match run_first(alloc, first, shelf) {
@@ -37,17 +37,17 @@ pub fn first_command<S: Shelf, O: Sink>(
 }
 
 // Reads the payments and runs them, with the one request.
-fn run_first<S: Shelf>(alloc: Global, first: First<'_>, shelf: &mut S) -> Result<Done, Fault>
-    ensures run { IfOk result (IsFirstRun (first_asked first.entry) (S.files shelf.old)) }
+fn run_first<S: Shelf>(alloc: Global, first: &First, shelf: &mut S) -> Result<Done, Fault>
+    ensures run { IfOk result (IsFirstRun (first_asked first.now) (S.files shelf.old)) }
     ensures journals { IfOk result (λ done. length done.ran.journals ≡ worker_count done.ran.setup.job.nodes) }
     ensures states { IfOk result (λ done. length done.ran.states ≡ worker_count done.ran.setup.job.nodes) }
     ensures counts { OnOk result (S.faults shelf.new ≡ S.faults shelf.old) }
     ensures files { S.files shelf.new ≡ S.files shelf.old }
     ensures target { S.target shelf.new ≡ S.target shelf.old }
-    ensures cause { IfErr result (AreNoRows (S.files shelf.old) first.entry.payments.now (asked_job (first_asked first.entry)) (S.faults shelf.old) (S.faults shelf.new)) }
+    ensures cause { IfErr result (AreNoRows (S.files shelf.old) first.now.payments (asked_job (first_asked first.now)) (S.faults shelf.old) (S.faults shelf.new)) }
 {
     let job = first_job(alloc, first.least)?;
     let requests = first_requests(alloc, first)?;
-    let rows = rows_in(alloc, &job, first.payments, shelf)?;
+    let rows = rows_in(alloc, &job, &first.payments, shelf)?;
     Ok(run_in_order(alloc, job, &requests, &rows)?)
 }

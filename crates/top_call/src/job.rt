@@ -2,7 +2,7 @@ ghost use Rattle.std.specs.Prelude.{◌≡◌, ◌∷◌, [], IfOk};
 ghost use Rattle.jobs.specs.Job.{written};
 ghost use Rattle.top_call.specs.FirstJob.{at_least as at_least_of, column_of, first_columns, first_job as first_job_of, first_request, node_of};
 
-use crate::command::First;
+use command_line::First;
 use flow_dag::Edge;
 use jobs::{
     Column, ColumnDefs, ColumnKind, Columns, Cond, Conds, Func, Job, NodeDef, NodeDefs, Tables,
@@ -46,8 +46,8 @@ pub fn first_job(alloc: Global, least: i64) -> Result<Job, NoMemory>
 }
 
 /// The one request of the command `first`: `big` has another threshold from a row on.
-pub fn first_requests(alloc: Global, first: First<'_>) -> Result<Requests, NoMemory>
-    ensures { IfOk result (λ requests. requests ≡ first_request first.entry.after first.entry.least_after ∷ []) }
+pub fn first_requests(alloc: Global, first: &First) -> Result<Requests, NoMemory>
+    ensures { IfOk result (λ requests. requests ≡ first_request first.now.after first.now.least_after ∷ []) }
 {
     let change = Change {
         node: BIG,

@@ -11,9 +11,9 @@
 
 mod answer;
 mod check;
-mod command;
 mod first;
 mod job;
+mod make;
 mod plan;
 mod printing;
 mod reading;

@@ -5,14 +5,14 @@ ghost use Rattle.job_file.specs.RequestSizes.{AreFew};
 ghost use Rattle.versions.specs.Judged.{AreAccepted};
 ghost use Rattle.flow_model.specs.Planned.{IsExact};
 ghost use Rattle.flow_model.specs.Setup.{outline};
-ghost use Rattle.top_call.specs.Asked.{plan_asked};
+ghost use Rattle.command_line.specs.Asked.{plan_asked};
 ghost use Rattle.top_call.specs.Outside.{outside, Prints};
 ghost use Rattle.top_call.specs.Plan.{AreSame, EndsPlan, IsNoSetup, IsSetupFor, IsSetupOf, setup_lines as setup_lines_of};
 
 use crate::answer::Answer;
-use crate::command::PlanFiles;
 use crate::printing::print;
 use crate::reading::{job_in, requests_in};
+use command_line::PlanFiles;
 use flow_model::{Setup, plans_are_least};
 use jobs::Job;
 use payments::{Shelf, Sink};
@@ -24,11 +24,11 @@ use versions::{Judged, Refusals, Requests, accepted_requests_stay_accepted, judg
 /// Reads a job and its requests, and prints the plan of each accepted request and then each refused one. The first fault ends it.
 pub fn plan_command<S: Shelf, O: Sink>(
     alloc: Global,
-    files: PlanFiles<'_>,
+    files: &PlanFiles,
     shelf: &mut S,
     out: &mut O,
 ) -> Answer
-    ensures { EndsPlan (plan_asked files.entry)
+    ensures { EndsPlan (plan_asked files.now)
         (outside (S.files shelf.old) (S.faults shelf.old) (S.target shelf.old) (O.written out.old) (O.faults out.old))
         (outside (S.files shelf.new) (S.faults shelf.new) (S.target shelf.new) (O.written out.new) (O.faults out.new))
         result }
@@ -47,15 +47,15 @@ pub fn plan_command<S: Shelf, O: Sink>(
 }
 
 // Reads a job and its requests, and judges these.
-fn setup_in<S: Shelf>(alloc: Global, files: PlanFiles<'_>, shelf: &mut S) -> Result<Setup, Fault>
-    ensures setup { IfOk result (IsSetupOf (plan_asked files.entry) (S.files shelf.old)) }
+fn setup_in<S: Shelf>(alloc: Global, files: &PlanFiles, shelf: &mut S) -> Result<Setup, Fault>
+    ensures setup { IfOk result (IsSetupOf (plan_asked files.now) (S.files shelf.old)) }
     ensures counts { OnOk result (S.faults shelf.new ≡ S.faults shelf.old) }
     ensures files { S.files shelf.new ≡ S.files shelf.old }
     ensures target { S.target shelf.new ≡ S.target shelf.old }
-    ensures cause { IfErr result (IsNoSetup (plan_asked files.entry) (S.files shelf.old) (S.faults shelf.old) (S.faults shelf.new)) }
+    ensures cause { IfErr result (IsNoSetup (plan_asked files.now) (S.files shelf.old) (S.faults shelf.old) (S.faults shelf.new)) }
 {
-    let job = job_in(alloc, files.job, shelf)?;
-    let requests = requests_in(alloc, &job, files.requests, shelf)?;
+    let job = job_in(alloc, &files.job, shelf)?;
+    let requests = requests_in(alloc, &job, &files.requests, shelf)?;
     Ok(setup_of(alloc, job, &requests, files.ordered)?)
 }
 

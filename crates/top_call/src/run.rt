@@ -1,13 +1,13 @@
 ghost use Rattle.std.specs.Prelude.{◌≡◌, IfOk, IfErr, OnOk, length};
 ghost use Rattle.jobs.specs.Nodes.{worker_count};
-ghost use Rattle.top_call.specs.Asked.{IsSize, run_asked};
+ghost use Rattle.command_line.specs.Asked.{IsSize, run_asked};
 ghost use Rattle.top_call.specs.Outside.{outside};
 ghost use Rattle.top_call.specs.Run.{EndsRun, IsNoRun, IsRunOfFiles};
 
 use crate::answer::Answer;
-use crate::command::RunFiles;
 use crate::reading::{job_in, requests_in, rows_in};
 use crate::running::{Done, Outputs, leave_run, run_on_threads};
+use command_line::RunFiles;
 use payments::{Shelf, Sink};
 use report::Fault;
 use std::alloc::Global;
@@ -21,7 +21,7 @@ use tuple_trace::Gate;
 pub fn run_command<R, S, O, G>(
     rt: &R,
     alloc: Global,
-    files: RunFiles<'_>,
+    files: &RunFiles,
     shelf: &mut S,
     out: &mut O,
     gate: &G,
@@ -31,15 +31,15 @@ where
     S: Shelf,
     O: Sink,
     G: Gate + Sync,
-    requires { IsSize files.size }
-    ensures { EndsRun (run_asked files.entry)
+    requires { IsSize files.now.size }
+    ensures { EndsRun (run_asked files.now)
         (outside (S.files shelf.old) (S.faults shelf.old) (S.target shelf.old) (O.written out.old) (O.faults out.old))
         (outside (S.files shelf.new) (S.faults shelf.new) (S.target shelf.new) (O.written out.new) (O.faults out.new))
         result }
 {
     let names = Outputs {
-        alerts: files.alerts,
-        audit: Some(files.audit),
+        alerts: &files.alerts,
+        audit: Some(&files.audit),
     };
     match run_files(rt, alloc, files, shelf, gate) {
         Ok(done) => leave_run(alloc, done, names, shelf, out),
@@ -51,7 +51,7 @@ where
 fn run_files<R, S, G>(
     rt: &R,
     alloc: Global,
-    files: RunFiles<'_>,
+    files: &RunFiles,
     shelf: &mut S,
     gate: &G,
 ) -> Result<Done, Fault>
@@ -59,18 +59,18 @@ where
     R: Threads + Wait + Copy + Send + Sync + 'static,
     S: Shelf,
     G: Gate + Sync,
-    requires { IsSize files.size }
-    ensures run { IfOk result (IsRunOfFiles (run_asked files.entry) (S.files shelf.old)) }
+    requires { IsSize files.now.size }
+    ensures run { IfOk result (IsRunOfFiles (run_asked files.now) (S.files shelf.old)) }
     ensures journals { IfOk result (λ done. length done.ran.journals ≡ worker_count done.ran.setup.job.nodes) }
     ensures states { IfOk result (λ done. length done.ran.states ≡ worker_count done.ran.setup.job.nodes) }
     ensures counts { OnOk result (S.faults shelf.new ≡ S.faults shelf.old) }
     ensures files { S.files shelf.new ≡ S.files shelf.old }
     ensures target { S.target shelf.new ≡ S.target shelf.old }
-    ensures cause { IfErr result (IsNoRun (run_asked files.entry) (S.files shelf.old) (S.faults shelf.old) (S.faults shelf.new)) }
+    ensures cause { IfErr result (IsNoRun (run_asked files.now) (S.files shelf.old) (S.faults shelf.old) (S.faults shelf.new)) }
 {
-    let job = job_in(alloc, files.plan.job, shelf)?;
-    let requests = requests_in(alloc, &job, files.plan.requests, shelf)?;
-    let rows = rows_in(alloc, &job, files.payments, shelf)?;
+    let job = job_in(alloc, &files.plan.job, shelf)?;
+    let requests = requests_in(alloc, &job, &files.plan.requests, shelf)?;
+    let rows = rows_in(alloc, &job, &files.payments, shelf)?;
     Ok(run_on_threads(
         rt,
         alloc,

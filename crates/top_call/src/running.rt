@@ -6,7 +6,7 @@ ghost use Rattle.jobs.specs.Nodes.{AreFromSources, worker_count};
 ghost use Rattle.job_file.specs.RequestSizes.{AreFew};
 ghost use Rattle.flow_model.specs.Record.{told};
 ghost use Rattle.flow_replay.specs.Order.{IsInOrder};
-ghost use Rattle.top_call.specs.Asked.{IsSize};
+ghost use Rattle.command_line.specs.Asked.{IsSize};
 ghost use Rattle.top_call.specs.Ends.{EndsAfterRun};
 ghost use Rattle.top_call.specs.Outside.{outside};
 ghost use Rattle.top_call.specs.Plan.{AreSame};
@@ -14,9 +14,9 @@ ghost use Rattle.top_call.specs.Running.{audit_of, files_of, run_lines as run_li
 ghost use Rattle.serial_order.specs.Serials.{serials};
 
 use crate::answer::Answer;
-use crate::command::EngineSize;
 use crate::plan::setup_of;
 use crate::writing::{FileText, Texts, write_texts};
+use command_line::EngineSize;
 use flow_engine::run_flow;
 use flow_model::{RunRecord, ordered_runs_are_serial, runs_are_consistent};
 use flow_replay::plain_run;
@@ -237,7 +237,8 @@ fn audit_in(alloc: Global, done: &Done) -> Result<Bytes, NoMemory>
     )
 }
 
-fn run_lines(alloc: Global, done: &Done) -> Result<Bytes, NoMemory>
+/// What is printed of a run: the refused requests, in ordered mode the numbers of rows, and the summary.
+pub fn run_lines(alloc: Global, done: &Done) -> Result<Bytes, NoMemory>
     requires { length done.now.ran.journals ≡ worker_count done.now.ran.setup.job.nodes }
     ensures { IfOk result (λ lines. lines ≡ run_lines_of done.now) }
 {

@@ -1,23 +1,28 @@
 ghost use Rattle.std.specs.Prelude.{◌≡◌, IfNone, IfSome};
 ghost use Rattle.std.specs.Result.{result_err};
 ghost use Rattle.top_call.specs.Answers.{answer_of, Answers, AnswersUsage, Follows};
-ghost use Rattle.top_call.specs.Asked.{IsSize, asked_by, asked_of, first_asked, plan_asked, run_asked};
+ghost use Rattle.command_line.specs.Asked.{IsSize, IsSized, IsThreads, asked_by, asked_of, first_asked, make_asked, plan_asked, run_asked};
 ghost use Rattle.top_call.specs.Check.{AnswersCheck, FollowsCheck};
 ghost use Rattle.top_call.specs.Ends.{stopped};
 ghost use Rattle.report.specs.FaultWords.{fault_line as fault_line_of};
 ghost use Rattle.report.specs.Faults.{status_for};
+ghost use Rattle.top_call.specs.Explain.{AnswersText, FollowsText};
 ghost use Rattle.top_call.specs.First.{AnswersFirst, FollowsFirst};
+ghost use Rattle.top_call.specs.Make.{AnswersMake, FollowsMake};
 ghost use Rattle.top_call.specs.Outside.{outside, Prints, PrintsReport};
 ghost use Rattle.top_call.specs.Plan.{AnswersPlan, FollowsPlan};
 ghost use Rattle.top_call.specs.Run.{AnswersRun, FollowsRun};
 
 use crate::answer::Answer;
 use crate::check::check_command;
-use crate::command::{Command, First, PlanFiles, RunFiles, command_of};
 use crate::first::first_command;
+use crate::make::make_command;
 use crate::plan::plan_command;
 use crate::printing::print;
 use crate::run::run_command;
+use command_line::{
+    Command, First, Make, PlanFiles, RunFiles, WordsFault, command_of, help_text, version_text,
+};
 use flow_model::RunRecord;
 use job_file::{faulty_is_no_job, files_have_one_fault};
 use payments::{Shelf, Sink};
@@ -45,7 +50,7 @@ pub struct Outcome {
 ///
 /// The words are those after the program's name. Files are reached by the shelf alone, and what is printed goes to `out`. A fault ends
 /// the call: nothing is done after it but to print its line, and once `out` has refused not even that. The statuses are those of
-/// [`Fault::status`]. `run` starts as many threads as its words ask for, and its workers call the gate.
+/// [`Fault::status`]. `run` and `make` start as many threads as their words ask for, and their workers call the gate.
 pub fn fries<R, S, O, G>(
     rt: &R,
     alloc: Global,
@@ -73,12 +78,10 @@ where
         result.fault) }
     ensures status { result.status ≡ status_for result.fault result.refused }
 {
-    let answer = match command_of(words) {
-        Some(Command::First(first)) => answer_first(alloc, first, shelf, out),
-        Some(Command::Check(job)) => answer_check(alloc, job, shelf, out),
-        Some(Command::Plan(files)) => answer_plan(alloc, files, shelf, out),
-        Some(Command::Run(files)) => answer_run(rt, alloc, files, shelf, out, gate),
-        None => answer_usage(alloc, out),
+    let answer = match command_of(alloc, words) {
+        Ok(command) => answer_command(rt, alloc, &command, shelf, out, gate),
+        Err(WordsFault::Usage) => answer_fault(alloc, Fault::Usage, out),
+        Err(WordsFault::NoMemory) => answer_fault(alloc, Fault::NoMemory, out),
     };
     let status = status_of(&answer);
     let Answer {
@@ -94,6 +97,40 @@ where
     }
 }
 
+fn answer_command<R, S, O, G>(
+    rt: &R,
+    alloc: Global,
+    command: &Command,
+    shelf: &mut S,
+    out: &mut O,
+    gate: &G,
+) -> Answer
+where
+    R: Threads + Wait + Copy + Send + Sync + 'static,
+    S: Shelf,
+    O: Sink,
+    G: Gate + Sync,
+    requires { IsSized command.now }
+    ensures answers { Answers (asked_by command.now)
+        (outside (S.files shelf.old) (S.faults shelf.old) (S.target shelf.old) (O.written out.old) (O.faults out.old))
+        (outside (S.files shelf.new) (S.faults shelf.new) (S.target shelf.new) (O.written out.new) (O.faults out.new))
+        result }
+    ensures file { Follows (asked_by command.now)
+        (outside (S.files shelf.old) (S.faults shelf.old) (S.target shelf.old) (O.written out.old) (O.faults out.old))
+        (outside (S.files shelf.new) (S.faults shelf.new) (S.target shelf.new) (O.written out.new) (O.faults out.new))
+        result.fault }
+{
+    match command {
+        Command::First(first) => answer_first(alloc, first, shelf, out),
+        Command::Check(job) => answer_check(alloc, job, shelf, out),
+        Command::Plan(files) => answer_plan(alloc, files, shelf, out),
+        Command::Run(files) => answer_run(rt, alloc, files, shelf, out, gate),
+        Command::Make(make) => answer_make(rt, alloc, make, shelf, out, gate),
+        Command::Help(topic) => answer_text(alloc, help_text(*topic), shelf, out),
+        Command::Version => answer_text(alloc, version_text(), shelf, out),
+    }
+}
+
 fn status_of(answer: &Answer) -> u8
     ensures { result ≡ status_for answer.now.fault answer.now.refused }
 {
@@ -106,15 +143,15 @@ fn status_of(answer: &Answer) -> u8
 
 fn answer_first<S: Shelf, O: Sink>(
     alloc: Global,
-    first: First<'_>,
+    first: &First,
     shelf: &mut S,
     out: &mut O,
 ) -> Answer
-    ensures answers { AnswersFirst (first_asked first.entry)
+    ensures answers { AnswersFirst (first_asked first.now)
         (outside (S.files shelf.old) (S.faults shelf.old) (S.target shelf.old) (O.written out.old) (O.faults out.old))
         (outside (S.files shelf.new) (S.faults shelf.new) (S.target shelf.new) (O.written out.new) (O.faults out.new))
         result }
-    ensures file { FollowsFirst (first_asked first.entry)
+    ensures file { FollowsFirst (first_asked first.now)
         (outside (S.files shelf.old) (S.faults shelf.old) (S.target shelf.old) (O.written out.old) (O.faults out.old))
         (outside (S.files shelf.new) (S.faults shelf.new) (S.target shelf.new) (O.written out.new) (O.faults out.new))
         result.fault }
@@ -143,15 +180,15 @@ fn answer_check<S: Shelf, O: Sink>(alloc: Global, job: &Word, shelf: &mut S, out
 
 fn answer_plan<S: Shelf, O: Sink>(
     alloc: Global,
-    files: PlanFiles<'_>,
+    files: &PlanFiles,
     shelf: &mut S,
     out: &mut O,
 ) -> Answer
-    ensures answers { AnswersPlan (plan_asked files.entry)
+    ensures answers { AnswersPlan (plan_asked files.now)
         (outside (S.files shelf.old) (S.faults shelf.old) (S.target shelf.old) (O.written out.old) (O.faults out.old))
         (outside (S.files shelf.new) (S.faults shelf.new) (S.target shelf.new) (O.written out.new) (O.faults out.new))
         result }
-    ensures file { FollowsPlan (plan_asked files.entry)
+    ensures file { FollowsPlan (plan_asked files.now)
         (outside (S.files shelf.old) (S.faults shelf.old) (S.target shelf.old) (O.written out.old) (O.faults out.old))
         (outside (S.files shelf.new) (S.faults shelf.new) (S.target shelf.new) (O.written out.new) (O.faults out.new))
         result.fault }
@@ -166,7 +203,7 @@ fn answer_plan<S: Shelf, O: Sink>(
 fn answer_run<R, S, O, G>(
     rt: &R,
     alloc: Global,
-    files: RunFiles<'_>,
+    files: &RunFiles,
     shelf: &mut S,
     out: &mut O,
     gate: &G,
@@ -176,12 +213,12 @@ where
     S: Shelf,
     O: Sink,
     G: Gate + Sync,
-    requires sized { IsSize files.size }
-    ensures answers { AnswersRun (run_asked files.entry)
+    requires sized { IsSize files.now.size }
+    ensures answers { AnswersRun (run_asked files.now)
         (outside (S.files shelf.old) (S.faults shelf.old) (S.target shelf.old) (O.written out.old) (O.faults out.old))
         (outside (S.files shelf.new) (S.faults shelf.new) (S.target shelf.new) (O.written out.new) (O.faults out.new))
         result }
-    ensures file { FollowsRun (run_asked files.entry)
+    ensures file { FollowsRun (run_asked files.now)
         (outside (S.files shelf.old) (S.faults shelf.old) (S.target shelf.old) (O.written out.old) (O.faults out.old))
         (outside (S.files shelf.new) (S.faults shelf.new) (S.target shelf.new) (O.written out.new) (O.faults out.new))
         result.fault }
@@ -193,12 +230,62 @@ where
     answer
 }
 
-fn answer_usage<O: Sink>(alloc: Global, out: &mut O) -> Answer
-    ensures answer { result ≡ stopped Fault.Usage }
-    ensures prints { PrintsReport (Some Fault.Usage) (O.written out.old) (O.written out.new) (O.faults out.old) (O.faults out.new) }
+fn answer_make<R, S, O, G>(
+    rt: &R,
+    alloc: Global,
+    make: &Make,
+    shelf: &mut S,
+    out: &mut O,
+    gate: &G,
+) -> Answer
+where
+    R: Threads + Wait + Copy + Send + Sync + 'static,
+    S: Shelf,
+    O: Sink,
+    G: Gate + Sync,
+    requires sized { IsThreads make.now.threads }
+    ensures answers { AnswersMake (make_asked make.now)
+        (outside (S.files shelf.old) (S.faults shelf.old) (S.target shelf.old) (O.written out.old) (O.faults out.old))
+        (outside (S.files shelf.new) (S.faults shelf.new) (S.target shelf.new) (O.written out.new) (O.faults out.new))
+        result }
+    ensures file { FollowsMake (make_asked make.now)
+        (outside (S.files shelf.old) (S.faults shelf.old) (S.target shelf.old) (O.written out.old) (O.faults out.old))
+        (outside (S.files shelf.new) (S.faults shelf.new) (S.target shelf.new) (O.written out.new) (O.faults out.new))
+        result.fault }
 {
-    report(alloc, Some(Fault::Usage), out);
-    Answer::stopped(alloc, Fault::Usage)
+    faulty_is_no_job();
+    files_have_one_fault();
+    let answer = make_command(rt, alloc, make, shelf, out, gate);
+    report(alloc, answer.fault, out);
+    answer
+}
+
+fn answer_text<S: Shelf, O: Sink>(alloc: Global, text: &str, shelf: &mut S, out: &mut O) -> Answer
+    ensures answers { AnswersText text.now
+        (outside (S.files shelf.old) (S.faults shelf.old) (S.target shelf.old) (O.written out.old) (O.faults out.old))
+        (outside (S.files shelf.new) (S.faults shelf.new) (S.target shelf.new) (O.written out.new) (O.faults out.new))
+        result }
+    ensures file { FollowsText
+        (outside (S.files shelf.old) (S.faults shelf.old) (S.target shelf.old) (O.written out.old) (O.faults out.old))
+        (outside (S.files shelf.new) (S.faults shelf.new) (S.target shelf.new) (O.written out.new) (O.faults out.new))
+        result.fault }
+{
+    let fault = print(out, text.as_bytes()).err();
+    report(alloc, fault, out);
+    Answer {
+        fault,
+        refused: Refusals::new(alloc),
+        ran: None,
+    }
+}
+
+// That of a call that stops before it has read a file.
+fn answer_fault<O: Sink>(alloc: Global, fault: Fault, out: &mut O) -> Answer
+    ensures answer { result ≡ stopped fault }
+    ensures prints { PrintsReport (Some fault) (O.written out.old) (O.written out.new) (O.faults out.old) (O.faults out.new) }
+{
+    report(alloc, Some(fault), out);
+    Answer::stopped(alloc, fault)
 }
 
 // Prints the line of a fault, unless it is the output that failed. What printing it comes to changes no answer.

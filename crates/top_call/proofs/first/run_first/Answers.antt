@@ -3,7 +3,7 @@ use Rattle.jobs.specs.Job.{written}
 use Rattle.jobs.specs.Written.{Written}
 use Rattle.jobs.specs.Nodes.{AreFromSources}
 use Rattle.tuple_trace.specs.Rows.{AreRows}
-use Rattle.top_call.specs.Asked.{first_asked}
+use Rattle.command_line.specs.Asked.{first_asked}
 use Rattle.top_call.specs.First.{asked_job}
 use Rattle.top_call.specs.FirstJob.{first_request}
 use Rattle.top_call.specs.Reading.{AreRowsOf}
@@ -14,7 +14,7 @@ use Rattle.top_call.proofs.first.run_first.Goals as goal
 
 pub returns-clause-run : goal.returns-clause-run
 returns-clause-run g c =
-    let asked = first_asked c.args.first in
+    let asked = first_asked c.args.first.now in
     let files = g.S.Shelf.files c.args.shelf.now in
     let rows = c.in_ok-rows.rows in
     let done = c.in_ok-run_in_order.field-0 in

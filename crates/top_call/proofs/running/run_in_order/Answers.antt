@@ -1,7 +1,6 @@
-use Rattle.std.proofs.Common.{◌∙◌, ap, false}
+use Rattle.std.proofs.Common.{false}
 use Rattle.std.proofs.lemmas.Result.{IfOk-weaker}
 use Rattle.jobs.specs.Job.{written}
-use Rattle.flow_model.specs.Record.{told}
 use Rattle.top_call.proofs.RunLemmas.{is_run_of, journals_of, states_of}
 use Rattle.top_call.proofs.running.run_in_order.Goals as goal
 

@@ -1,5 +1,5 @@
 use Rattle.std.proofs.Common.{refl}
-use Rattle.top_call.specs.Asked.{first_asked}
+use Rattle.command_line.specs.Asked.{first_asked}
 use Rattle.top_call.specs.Outside.{outside}
 use Rattle.top_call.proofs.FollowLemmas.{follows_first}
 use Rattle.top_call.proofs.top.answer_first.Goals as goal
@@ -12,4 +12,4 @@ returns-clause-answers g c = record {
 }
 
 pub returns-clause-file : goal.returns-clause-file
-returns-clause-file g c = follows_first (first_asked c.args.first) _ _ _ (returns-clause-answers g c)
+returns-clause-file g c = follows_first (first_asked c.args.first.now) _ _ _ (returns-clause-answers g c)

@@ -1,5 +1,5 @@
 use Rattle.std.proofs.Common.{refl}
-use Rattle.top_call.specs.Asked.{run_asked}
+use Rattle.command_line.specs.Asked.{run_asked}
 use Rattle.top_call.specs.Outside.{outside}
 use Rattle.top_call.proofs.FollowLemmas.{follows_run}
 use Rattle.top_call.proofs.top.answer_run.Goals as goal
@@ -12,4 +12,4 @@ returns-clause-answers g c = record {
 }
 
 pub returns-clause-file : goal.returns-clause-file
-returns-clause-file g c = follows_run c.faulty_is_no_job.ensures c.files_have_one_fault.ensures (run_asked c.args.files) _ _ _ (returns-clause-answers g c)
+returns-clause-file g c = follows_run c.faulty_is_no_job.ensures c.files_have_one_fault.ensures (run_asked c.args.files.now) _ _ _ (returns-clause-answers g c)

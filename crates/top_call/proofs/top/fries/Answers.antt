@@ -1,14 +1,22 @@
-use Rattle.std.proofs.Common.{sym}
+use Rattle.std.proofs.Common.{ap, refl}
+use Rattle.command_line.specs.Asked.{asked_of}
+use Rattle.top_call.proofs.FollowLemmas.{answers_memory, whatever}
+use Rattle.top_call.specs.declared.answer.Answer.{Answer}
 use Rattle.top_call.proofs.top.fries.Goals as goal
-use Rattle.top_call.proofs.top.fries.Goals.{in-Some-First, in-Some-Check, in-Some-Plan, in-Some-Run, in-None}
+use Rattle.top_call.proofs.top.fries.Goals.{in-Ok+in-First-1, in-Ok+in-Check-1, in-Ok+in-Plan-1, in-Ok+in-Run-1, in-Ok+in-Make-1, in-Ok+in-Help-1, in-Err-Usage, in-Err-NoMemory}
 
 pub returns-clause-answers : goal.returns-clause-answers
 returns-clause-answers g c =
-    let asked = sym c.command_of.ensures.asked in
     elim c.match-command_of.branch [
-      | in-Some-First w ↦ rw (asked, w.in-Some-First.is, w.in-Some-First.field-0-is, w.shelf-is, w.out-is, w.answer-is) w.answer_first-answer.ensures.answers
-      | in-Some-Check w ↦ rw (asked, w.in-Some-Check.is, w.in-Some-Check.field-0-is, w.shelf-is, w.out-is, w.answer-is) w.answer_check-answer.ensures.answers
-      | in-Some-Plan w ↦ rw (asked, w.in-Some-Plan.is, w.in-Some-Plan.field-0-is, w.shelf-is, w.out-is, w.answer-is) w.answer_plan-answer.ensures.answers
-      | in-Some-Run w ↦ rw (asked, w.in-Some-Run.is, w.in-Some-Run.field-0-is, w.shelf-is, w.out-is, w.answer-is) w.answer_run-answer.ensures.answers
-      | in-None w ↦ rw (asked, w.in-None.is) tt
+      | in-Ok+in-First-1 w ↦ rw (w.in-Ok.ensures.asked, w.shelf-is, w.out-is, w.answer-is) w.answer_command-answer.ensures.answers
+      | in-Ok+in-Check-1 w ↦ rw (w.in-Ok.ensures.asked, w.shelf-is, w.out-is, w.answer-is) w.answer_command-answer.ensures.answers
+      | in-Ok+in-Plan-1 w ↦ rw (w.in-Ok.ensures.asked, w.shelf-is, w.out-is, w.answer-is) w.answer_command-answer.ensures.answers
+      | in-Ok+in-Run-1 w ↦ rw (w.in-Ok.ensures.asked, w.shelf-is, w.out-is, w.answer-is) w.answer_command-answer.ensures.answers
+      | in-Ok+in-Make-1 w ↦ rw (w.in-Ok.ensures.asked, w.shelf-is, w.out-is, w.answer-is) w.answer_command-answer.ensures.answers
+      | in-Ok+in-Help-1 w ↦ rw (w.in-Ok.ensures.asked, w.shelf-is, w.out-is, w.answer-is) w.answer_command-answer.ensures.answers
+      | in-Err-Usage w ↦ rw (w.in-Err-Usage.ensures.usage (λ e. absurd (cc e))) tt
+      | in-Err-NoMemory w ↦
+          let is = w.answer_fault-answer-in-Err-NoMemory.ensures.answer in
+          rw (w.shelf-is, w.out-is, w.answer-is) (whatever (asked_of c.args.words.now) _ (λ asked. answers_memory asked _ _ _ is
+          (record { files = refl; shelf = refl; target = refl; line = rw (ap (λ (a : Answer). a.fault) is) w.answer_fault-answer-in-Err-NoMemory.ensures.prints })))
     ]

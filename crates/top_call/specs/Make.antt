@@ -1,0 +1,67 @@
+-- What a call of `make` answers, why, and what it leaves.
+use Rattle.std.specs.Prelude.{◌≡◌, ◌≢◌, ◌⊎◌, ⊤, List, [], Option, None, Some, Ok, Err, false}
+use Rattle.command_line.specs.Asked.{MakeAsked}
+use Rattle.jobs.specs.Written.{Written}
+use Rattle.payments.specs.Causes.{Faults}
+use Rattle.payments.specs.Files.{Files}
+use Rattle.payments.specs.Made.{made_rows}
+use Rattle.payments.specs.declared.read.PFault.{PFault}
+use Rattle.payments.specs.declared.read.PFault.TheVariants as rows
+use Rattle.tuple_trace.specs.declared.row.Row.{Row}
+use Rattle.report.specs.declared.fault.Fault.{Fault}
+use Rattle.report.specs.declared.fault.Fault.TheVariants as fault
+use Rattle.top_call.specs.Ends.{PrintsLines, Stops}
+use Rattle.top_call.specs.Outside.{IsExcused, Outside, PrintsFault}
+use Rattle.top_call.specs.Plan.{AreSame}
+use Rattle.top_call.specs.Reading.{FollowsJob, IsJobOf, IsNoJob, TellsJob}
+use Rattle.top_call.specs.Running.{IsRunOf, run_lines}
+use Rattle.top_call.specs.declared.answer.Answer.{Answer}
+use Rattle.top_call.specs.declared.running.Done.{Done}
+
+-- the rows that were run are those that are made for the job of the file, and no request was made
+pub record IsMadeRun (asked : MakeAsked) (files : Option Files) (done : Done) : Type 0 where
+  pub job : Written
+  pub rows : List Row
+  pub of_job : IsJobOf files asked.job job
+  pub of_rows : made_rows job asked.seed asked.rows ≡ Ok rows
+  pub run : IsRunOf AreSame false job [] rows done
+  pub accepted : done.refused ≡ []
+
+-- no rows are made for the job, for this fault; memory may run out
+abbrev pub MakesNoRows : MakeAsked → Written → Fault → Type 0
+MakesNoRows asked job (fault.Payments code) = (code ≢ rows.NoMemory) × (made_rows job asked.seed asked.rows ≡ Err code)
+MakesNoRows asked job fault.NoMemory = ⊤
+MakesNoRows asked job _ = ⊥
+
+-- why there is no run: no job was read, or else no rows were made for it
+abbrev pub IsNotMade : MakeAsked → Option Files → Faults → Faults → Fault → Type 0
+IsNotMade asked files old new why =
+    IsNoJob files asked.job old new why ⊎ ((job : Written) × IsJobOf files asked.job job × MakesNoRows asked job why × (new ≡ old))
+
+-- ---- the answer
+
+-- it ran the rows, and came to printing the lines of that; it changed no file
+pub record RunsMade (asked : MakeAsked) (old new : Outside) (answer : Answer) : Type 0 where
+  pub done : Done
+  pub is_so : IsMadeRun asked old.files done
+  pub lines : PrintsLines (run_lines done) old new answer.fault
+  pub refused : answer.refused ≡ done.refused
+  pub ran : answer.ran ≡ Some done.ran
+
+-- how a call of `make` ends, before the line of its fault is printed
+abbrev pub EndsMake : MakeAsked → Outside → Outside → Answer → Type 0
+EndsMake asked old new answer = Stops (IsNotMade asked old.files) old new answer ⊎ RunsMade asked old new answer
+
+-- what a call of `make` answers, leaves and prints
+pub record AnswersMake (asked : MakeAsked) (old new : Outside) (answer : Answer) : Type 0 where
+  pub between : Outside
+  pub ends : EndsMake asked old between answer
+  pub prints : PrintsFault answer.fault between new
+
+-- the answer, seen from the job file: the rows are looked at if it holds a job
+pub record FollowsMake (asked : MakeAsked) (old new : Outside) (answer : Option Fault) : Type 0 where
+  pub job : FollowsJob asked.job old new answer
+  pub rows : (job : Written) (code : PFault) → TellsJob old.files asked.job job → made_rows job asked.seed asked.rows ≡ Err code →
+      (answer ≡ Some (fault.Payments code)) ⊎ IsExcused old new answer
+  pub done : (job : Written) (rows : List Row) → TellsJob old.files asked.job job → made_rows job asked.seed asked.rows ≡ Ok rows →
+      (answer ≡ None) ⊎ IsExcused old new answer

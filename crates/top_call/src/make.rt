@@ -1,0 +1,108 @@
+ghost use Rattle.std.specs.Prelude.{◌≡◌, Ok, IfOk, IfErr, OnOk, length};
+ghost use Rattle.std.specs.Result.{result_err};
+ghost use Rattle.command_line.specs.Asked.{IsThreads, make_asked};
+ghost use Rattle.jobs.specs.Job.{written};
+ghost use Rattle.jobs.specs.Nodes.{AreFromSources, worker_count};
+ghost use Rattle.payments.specs.Made.{made_rows};
+ghost use Rattle.top_call.specs.Make.{EndsMake, IsMadeRun, IsNotMade, MakesNoRows};
+ghost use Rattle.top_call.specs.Outside.{outside, Prints};
+ghost use Rattle.top_call.specs.Running.{run_lines as run_lines_of};
+
+use crate::answer::Answer;
+use crate::printing::print;
+use crate::reading::job_in;
+use crate::running::{Done, run_lines, run_on_threads};
+use command_line::{EngineSize, Make};
+use jobs::Job;
+use payments::{Shelf, Sink, make_rows};
+use report::Fault;
+use std::alloc::Global;
+use std::sync::Wait;
+use std::thread::Threads;
+use tuple_trace::{Gate, Rows};
+use versions::Requests;
+
+/// How many items a lane holds where no option says so.
+const CAPACITY: u32 = 16;
+
+/// Reads a job, makes rows for it, runs them without requests, and prints the summary. It changes no file. The first fault ends it.
+pub fn make_command<R, S, O, G>(
+    rt: &R,
+    alloc: Global,
+    make: &Make,
+    shelf: &mut S,
+    out: &mut O,
+    gate: &G,
+) -> Answer
+where
+    R: Threads + Wait + Copy + Send + Sync + 'static,
+    S: Shelf,
+    O: Sink,
+    G: Gate + Sync,
+    requires { IsThreads make.now.threads }
+    ensures { EndsMake (make_asked make.now)
+        (outside (S.files shelf.old) (S.faults shelf.old) (S.target shelf.old) (O.written out.old) (O.faults out.old))
+        (outside (S.files shelf.new) (S.faults shelf.new) (S.target shelf.new) (O.written out.new) (O.faults out.new))
+        result }
+{
+    match run_made(rt, alloc, make, shelf, gate) {
+        Ok(done) => {
+            let fault = print_run(alloc, &done, out).err();
+            let Done { ran, refused, .. } = done;
+            Answer {
+                fault,
+                refused,
+                ran: Some(ran),
+            }
+        }
+        Err(fault) => Answer::stopped(alloc, fault),
+    }
+}
+
+// Reads the job and runs the rows that are made for it.
+fn run_made<R, S, G>(
+    rt: &R,
+    alloc: Global,
+    make: &Make,
+    shelf: &mut S,
+    gate: &G,
+) -> Result<Done, Fault>
+where
+    R: Threads + Wait + Copy + Send + Sync + 'static,
+    S: Shelf,
+    G: Gate + Sync,
+    requires { IsThreads make.now.threads }
+    ensures run { IfOk result (IsMadeRun (make_asked make.now) (S.files shelf.old)) }
+    ensures journals { IfOk result (λ done. length done.ran.journals ≡ worker_count done.ran.setup.job.nodes) }
+    ensures counts { OnOk result (S.faults shelf.new ≡ S.faults shelf.old) }
+    ensures files { S.files shelf.new ≡ S.files shelf.old }
+    ensures target { S.target shelf.new ≡ S.target shelf.old }
+    ensures cause { IfErr result (IsNotMade (make_asked make.now) (S.files shelf.old) (S.faults shelf.old) (S.faults shelf.new)) }
+{
+    let job = job_in(alloc, &make.job, shelf)?;
+    let rows = rows_made(alloc, &job, make)?;
+    let requests = Requests::new(alloc);
+    let size = EngineSize {
+        threads: make.threads,
+        capacity: CAPACITY,
+    };
+    Ok(run_on_threads(rt, alloc, gate, size, job, &requests, &rows, false)?)
+}
+
+#[tactic(auto, using(crate::proofs::MakeLemmas::makes_no_rows))]
+fn rows_made(alloc: Global, job: &Job, make: &Make) -> Result<Rows, Fault>
+    ensures rows { IfOk result (λ rows. made_rows (written job.now) make.now.seed make.now.rows ≡ Ok rows) }
+    ensures sources { IfOk result (λ rows. AreFromSources (written job.now) rows) }
+    ensures cause { IfErr result (MakesNoRows (make_asked make.now) (written job.now)) }
+{
+    Ok(make_rows(alloc, job, make.seed, make.rows)?)
+}
+
+#[tactic(auto, using(crate::proofs::PrintLemmas::prints_nothing))]
+fn print_run<O: Sink>(alloc: Global, done: &Done, out: &mut O) -> Result<(), Fault>
+    requires { length done.now.ran.journals ≡ worker_count done.now.ran.setup.job.nodes }
+    ensures { Prints (run_lines_of done.now) (O.written out.old) (O.written out.new) (O.faults out.old) (O.faults out.new) (result_err result) }
+{
+    let lines = run_lines(alloc, done)?;
+    print(out, lines.as_slice())
+}
