@@ -4,6 +4,7 @@ mod alone;
 mod check;
 mod first;
 mod lines;
+mod make;
 mod plan;
 mod run;
 mod texts;

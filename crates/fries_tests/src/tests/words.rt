@@ -1,355 +1,227 @@
-use crate::tests::texts::{CHAIN, FOUR_PAYMENTS, TWO_ALERTS};
+use crate::tests::texts::{
+    CHAIN, FOUR_PAYMENTS, PAYMENTS, PAYMENTS_ALERTS, PAYMENTS_REQUESTS, TEN_PAYMENTS, TWO_ALERTS,
+};
 use crate::tests::{Around, Left, leaves};
 use std::alloc::Global;
 use std::sync::Wait;
 use std::thread::Threads;
+use tuple_trace::NoMemory;
 
-const FAULTY_WORDS: [&[&str]; 29] = [
-    &[],
-    &["check"],
-    &["check", "job.toml", "more"],
-    &["check", "-job"],
-    &["check", ""],
-    &["plan", "job.toml"],
-    &["plan", "job.toml", "-requests"],
-    &["plan", "job.toml", "requests.toml", "--order"],
-    &["plan", "job.toml", "--ordered", "requests.toml"],
-    &["check", "job.toml", "--ordered"],
-    &["run", "job.toml"],
-    &["run", "job.toml", "requests.toml", "pay.csv"],
-    &["run", "job.toml", "requests.toml", "pay.csv", "alerts.csv"],
-    &[
-        "run",
-        "job.toml",
-        "requests.toml",
-        "pay.csv",
-        "alerts.csv",
-        "",
-    ],
-    &["run", "j", "r", "p", "alerts.csv", "-audit.csv"],
-    &["run", "j", "r", "p", "alerts.csv", "alerts.csv"],
-    &["run", "j", "r", "p", "", "audit.csv"],
-    &["first"],
-    &["firsts", "pay.csv", "alerts.csv", "10000", "2", "5000"],
-    &["First", "pay.csv", "alerts.csv", "10000", "2", "5000"],
-    &["first", "", "alerts.csv", "10000", "2", "5000"],
-    &["first", "pay.csv", "-alerts", "10000", "2", "5000"],
-    &["first", "pay.csv", "alerts.csv", "-1", "2", "5000"],
-    &["first", "pay.csv", "alerts.csv", "100.00", "2", "5000"],
-    &[
-        "first",
-        "pay.csv",
-        "alerts.csv",
-        "9223372036854775808",
-        "2",
-        "5000",
-    ],
-    &["first", "pay.csv", "alerts.csv", "10000", "1048577", "5000"],
-    &["first", "pay.csv", "alerts.csv", "10000", "2", ""],
-    &["first", "pay.csv", "alerts.csv", "10000", "2"],
-    &[
-        "first",
-        "pay.csv",
-        "alerts.csv",
-        "10000",
-        "2",
-        "5000",
-        "more",
-    ],
-];
+/// The chain, no request, and the four payments.
+const FILES: [(&str, &str); 3] = [("j", CHAIN), ("r", ""), ("p", FOUR_PAYMENTS)];
 
-/// Whether a call with these words leaves this: the chain and the four payments are there.
-fn words_leave<R>(rt: &R, alloc: Global, words: &[&str], left: Left<'_>) -> bool
+/// Whether a call with the words of this line leaves this over these files.
+pub fn line_leaves<R>(
+    rt: &R,
+    alloc: Global,
+    files: &[(&str, &str)],
+    line: &str,
+    left: Left<'_>,
+) -> bool
 where
     R: Threads + Wait + Copy + Send + Sync + 'static,
 {
-    let files = [("j", CHAIN), ("r", ""), ("p", FOUR_PAYMENTS)];
-    leaves(rt, alloc, Around::of(&files), words, left)
+    match words_in(alloc, line) {
+        Ok(words) => leaves(rt, alloc, Around::of(files), &words, left),
+        Err(_) => false,
+    }
+}
+
+fn words_in<'w>(alloc: Global, line: &'w str) -> Result<Vec<&'w str>, NoMemory> {
+    let mut words = Vec::new(alloc);
+    for word in line.split_whitespace() {
+        words.push(word)?;
+    }
+    Ok(words)
 }
 
 const USAGE: &str = "fault 1 usage\n";
 
+/// Words that are no full form.
+const FAULTY_WORDS: [&str; 46] = [
+    "",
+    "help",
+    "help run",
+    "--help run",
+    "-h -h",
+    "--version --version",
+    "-v",
+    "--",
+    "run --help j",
+    "run j --help",
+    "check --version",
+    "check",
+    "check j more",
+    "check -j",
+    "check -- j",
+    "check j --",
+    "check j --ordered",
+    "plan j",
+    "plan j -r",
+    "plan j r --order",
+    "plan j r --ordered=true",
+    "plan j r --threads 2",
+    "plan j r --ordered --ordered",
+    "run j",
+    "run j r p",
+    "run j r p alerts.csv",
+    "run j r p alerts.csv -audit.csv",
+    "run j r p alerts.csv alerts.csv",
+    "run j r p alerts.csv audit.csv more",
+    "run j r p alerts.csv -- audit.csv",
+    "make j 7",
+    "make j 7 1 1",
+    "make j 7 4294967296",
+    "make j 18446744073709551616 1",
+    "make j -7 1",
+    "make j 7 1 --capacity 2",
+    "make j 7 1 --ordered",
+    "first",
+    "firsts p alerts.csv 10000 2 5000",
+    "First p alerts.csv 10000 2 5000",
+    "first p -alerts 10000 2 5000",
+    "first p alerts.csv 100.00 2 5000",
+    "first p alerts.csv 9223372036854775808 2 5000",
+    "first p alerts.csv 10000 1048577 5000",
+    "first p alerts.csv 10000 2",
+    "first p alerts.csv 10000 2 5000 more",
+];
+
 #[test]
 fn faulty_words(rt: HostRuntime) {
-    for words in FAULTY_WORDS {
-        assert!(rt; words_leave(&rt, rt.alloc(), words, Left::lines(1, USAGE)));
+    for line in FAULTY_WORDS {
+        assert!(rt; line_leaves(&rt, rt.alloc(), &FILES, line, Left::lines(1, USAGE)));
     }
 }
 
-/// Numbers outside their limits, options without a number, and options at wrong places.
-const FAULTY_OPTIONS: [&[&str]; 17] = [
-    &[
-        "run",
-        "j",
-        "r",
-        "p",
-        "alerts.csv",
-        "audit.csv",
-        "--threads",
-        "0",
-    ],
-    &[
-        "run",
-        "j",
-        "r",
-        "p",
-        "alerts.csv",
-        "audit.csv",
-        "--threads",
-        "17",
-    ],
-    &[
-        "run",
-        "j",
-        "r",
-        "p",
-        "alerts.csv",
-        "audit.csv",
-        "--threads",
-        "4294967297",
-    ],
-    &[
-        "run",
-        "j",
-        "r",
-        "p",
-        "alerts.csv",
-        "audit.csv",
-        "--threads",
-        "-1",
-    ],
-    &[
-        "run",
-        "j",
-        "r",
-        "p",
-        "alerts.csv",
-        "audit.csv",
-        "--threads",
-        "",
-    ],
-    &["run", "j", "r", "p", "alerts.csv", "audit.csv", "--threads"],
-    &[
-        "run",
-        "j",
-        "r",
-        "p",
-        "alerts.csv",
-        "audit.csv",
-        "--capacity",
-        "0",
-    ],
-    &[
-        "run",
-        "j",
-        "r",
-        "p",
-        "alerts.csv",
-        "audit.csv",
-        "--capacity",
-        "65",
-    ],
-    &[
-        "run",
-        "j",
-        "r",
-        "p",
-        "alerts.csv",
-        "audit.csv",
-        "--capacity",
-    ],
-    &[
-        "run",
-        "j",
-        "r",
-        "p",
-        "alerts.csv",
-        "audit.csv",
-        "--threads",
-        "--capacity",
-        "1",
-    ],
-    &[
-        "run",
-        "j",
-        "r",
-        "p",
-        "alerts.csv",
-        "audit.csv",
-        "--capacity",
-        "1",
-        "--threads",
-        "2",
-    ],
-    &[
-        "run",
-        "j",
-        "r",
-        "p",
-        "alerts.csv",
-        "audit.csv",
-        "--threads",
-        "2",
-        "--threads",
-        "2",
-    ],
-    &[
-        "run",
-        "j",
-        "r",
-        "p",
-        "alerts.csv",
-        "audit.csv",
-        "--capacity",
-        "2",
-        "--capacity",
-        "2",
-    ],
-    &[
-        "run",
-        "j",
-        "r",
-        "p",
-        "alerts.csv",
-        "audit.csv",
-        "--ordered",
-        "--threads",
-        "2",
-    ],
-    &[
-        "run",
-        "j",
-        "r",
-        "p",
-        "alerts.csv",
-        "audit.csv",
-        "--ordered",
-        "--ordered",
-    ],
-    &[
-        "run",
-        "--threads",
-        "2",
-        "j",
-        "r",
-        "p",
-        "alerts.csv",
-        "audit.csv",
-    ],
-    &["plan", "j", "r", "--threads", "2"],
+/// Words of which one is empty.
+const EMPTY_WORDS: [&[&str]; 6] = [
+    &["", "j"],
+    &["check", ""],
+    &["run", "j", "r", "p", "", "audit.csv"],
+    &["run", "j", "r", "p", "alerts.csv", ""],
+    &["first", "p", "alerts.csv", "10000", "2", ""],
+    &["make", "j", "7", "1", "--threads", ""],
+];
+
+#[test]
+fn empty_words(rt: HostRuntime) {
+    for words in EMPTY_WORDS {
+        let around = Around::of(&FILES);
+        assert!(rt; leaves(&rt, rt.alloc(), around, words, Left::lines(1, USAGE)));
+    }
+}
+
+/// Numbers outside their limits, options without a number, and options that stand twice or before the command.
+const FAULTY_OPTIONS: [&str; 20] = [
+    "run j r p alerts.csv audit.csv --threads 0",
+    "run j r p alerts.csv audit.csv --threads=0",
+    "run j r p alerts.csv audit.csv --threads 17",
+    "run j r p alerts.csv audit.csv --threads 4294967297",
+    "run j r p alerts.csv audit.csv --threads -1",
+    "run j r p alerts.csv audit.csv --threads +1",
+    "run j r p alerts.csv audit.csv --threads",
+    "run j r p alerts.csv audit.csv --threads=",
+    "run j r p alerts.csv audit.csv --threads==2",
+    "run j r p alerts.csv audit.csv --thread 2",
+    "run j r p alerts.csv audit.csv -threads 2",
+    "run j r p alerts.csv audit.csv --capacity 0",
+    "run j r p alerts.csv audit.csv --capacity 65",
+    "run j r p alerts.csv audit.csv --threads --capacity 1",
+    "run j r p alerts.csv audit.csv --threads 2 --threads=2",
+    "run j r p alerts.csv audit.csv --capacity=2 --capacity 2",
+    "run j r p alerts.csv audit.csv --ordered --ordered",
+    "--threads 2 run j r p alerts.csv audit.csv",
+    "--ordered plan j r",
+    "make j 7 1 --threads 17",
 ];
 
 #[test]
 fn faulty_options(rt: HostRuntime) {
-    for words in FAULTY_OPTIONS {
-        assert!(rt; words_leave(&rt, rt.alloc(), words, Left::lines(1, USAGE)));
+    for line in FAULTY_OPTIONS {
+        assert!(rt; line_leaves(&rt, rt.alloc(), &FILES, line, Left::lines(1, USAGE)));
     }
 }
 
-/// Options of `run`, and what it then prints.
-const OPTIONS: [(&[&str], &str); 7] = [
+const SUMMARY: &str = "rows 4 alerts 2 requests 0 refused 0\n";
+
+const ORDERED: &str = "serial 4\nrows 4 alerts 2 requests 0 refused 0\n";
+
+/// Options of `run` at any place, and what it then prints.
+const OPTIONS: [(&str, &str); 11] = [
+    ("run j r p alerts.csv audit.csv --threads 1", SUMMARY),
+    ("run j r p alerts.csv audit.csv --threads 16", SUMMARY),
+    ("run j r p alerts.csv audit.csv --threads 002", SUMMARY),
+    ("run j r p alerts.csv audit.csv --capacity=1", SUMMARY),
+    ("run j r p alerts.csv audit.csv --capacity 64", SUMMARY),
+    ("run --threads 2 j r p alerts.csv audit.csv", SUMMARY),
     (
-        &[
-            "run",
-            "j",
-            "r",
-            "p",
-            "alerts.csv",
-            "audit.csv",
-            "--threads",
-            "1",
-        ],
-        "rows 4 alerts 2 requests 0 refused 0\n",
+        "run j r --capacity=1 p alerts.csv --threads=2 audit.csv",
+        SUMMARY,
     ),
     (
-        &[
-            "run",
-            "j",
-            "r",
-            "p",
-            "alerts.csv",
-            "audit.csv",
-            "--threads",
-            "16",
-        ],
-        "rows 4 alerts 2 requests 0 refused 0\n",
+        "run j r p alerts.csv audit.csv --capacity 1 --threads 2",
+        SUMMARY,
+    ),
+    ("run --ordered j r p alerts.csv audit.csv", ORDERED),
+    (
+        "run j r p alerts.csv audit.csv --ordered --threads=2",
+        ORDERED,
     ),
     (
-        &[
-            "run",
-            "j",
-            "r",
-            "p",
-            "alerts.csv",
-            "audit.csv",
-            "--threads",
-            "002",
-        ],
-        "rows 4 alerts 2 requests 0 refused 0\n",
-    ),
-    (
-        &[
-            "run",
-            "j",
-            "r",
-            "p",
-            "alerts.csv",
-            "audit.csv",
-            "--capacity",
-            "1",
-        ],
-        "rows 4 alerts 2 requests 0 refused 0\n",
-    ),
-    (
-        &[
-            "run",
-            "j",
-            "r",
-            "p",
-            "alerts.csv",
-            "audit.csv",
-            "--capacity",
-            "64",
-        ],
-        "rows 4 alerts 2 requests 0 refused 0\n",
-    ),
-    (
-        &[
-            "run",
-            "j",
-            "r",
-            "p",
-            "alerts.csv",
-            "audit.csv",
-            "--threads",
-            "2",
-            "--capacity",
-            "1",
-        ],
-        "rows 4 alerts 2 requests 0 refused 0\n",
-    ),
-    (
-        &[
-            "run",
-            "j",
-            "r",
-            "p",
-            "alerts.csv",
-            "audit.csv",
-            "--threads",
-            "2",
-            "--capacity",
-            "1",
-            "--ordered",
-        ],
-        "serial 4\nrows 4 alerts 2 requests 0 refused 0\n",
+        "run j --threads 2 r p --ordered alerts.csv --capacity 1 audit.csv",
+        ORDERED,
     ),
 ];
 
 #[test]
 fn options_of_run(rt: HostRuntime) {
-    for (words, lines) in OPTIONS {
+    for (line, lines) in OPTIONS {
         let left = Left::run(0, TWO_ALERTS, lines);
-        assert!(rt; words_leave(&rt, rt.alloc(), words, left));
+        assert!(rt; line_leaves(&rt, rt.alloc(), &FILES, line, left));
+    }
+}
+
+#[test]
+fn threads_after_the_names(rt: HostRuntime) {
+    let files = [
+        ("j", PAYMENTS),
+        ("r", PAYMENTS_REQUESTS),
+        ("p", TEN_PAYMENTS),
+    ];
+    let line = "run j r p alerts.csv audit.csv --threads=2";
+    let lines = "refused 3 Q4 change 1 current 1\nrows 10 alerts 4 requests 3 refused 1\n";
+    assert!(rt;
+        line_leaves(
+            &rt,
+            rt.alloc(),
+            &files,
+            line,
+            Left::run(8, PAYMENTS_ALERTS, lines)
+        )
+    );
+}
+
+/// Words that ask for a text, and how it begins or is.
+const TEXTS: [(&str, &str); 3] = [
+    ("--version", "fries 0.1.0\n"),
+    ("-V", "fries 0.1.0\n"),
+    (
+        "check --help",
+        "usage: fries check JOB
+
+Reads a job and prints how many nodes, edges and workers it has, and its weight.
+
+  JOB       file to read: a job as TOML
+
+example: fries check job.toml
+",
+    ),
+];
+
+#[test]
+fn help_and_version(rt: HostRuntime) {
+    for (line, text) in TEXTS {
+        assert!(rt; line_leaves(&rt, rt.alloc(), &FILES, line, Left::lines(0, text)));
     }
 }

@@ -1,0 +1,105 @@
+use crate::tests::texts::{CHAIN, PAYMENTS};
+use crate::tests::words::line_leaves;
+use crate::tests::{Left, Ran};
+
+/// A job of three maps without steps in a row. Its weight is 4.
+const THREE_MAPS: &str = r#"columns = ["account:text", "amount:cents"]
+
+[[node]]
+name = "card"
+kind = "source"
+[[node]]
+name = "a"
+kind = "map"
+steps = []
+[[node]]
+name = "b"
+kind = "map"
+steps = []
+[[node]]
+name = "c"
+kind = "map"
+steps = []
+[[node]]
+name = "ledger"
+kind = "sink"
+columns = ["account", "amount"]
+
+[[edge]]
+from = "card"
+to = "a"
+[[edge]]
+from = "a"
+to = "b"
+[[edge]]
+from = "b"
+to = "c"
+[[edge]]
+from = "c"
+to = "ledger"
+"#;
+
+const FILES: [(&str, &str); 3] = [
+    ("maps", THREE_MAPS),
+    ("chain", CHAIN),
+    ("payments", PAYMENTS),
+];
+
+/// A run that printed these lines, and wrote no file.
+fn made(lines: &str) -> Left<'_> {
+    Left {
+        ran: Ran::Something,
+        ..Left::lines(0, lines)
+    }
+}
+
+#[test]
+fn largest_make(rt: HostRuntime) {
+    let lines = "rows 262144 alerts 262144 requests 0 refused 0\n";
+    assert!(rt; line_leaves(&rt, rt.alloc(), &FILES, "make maps 7 262144", made(lines)));
+    let left = Left::lines(4, "fault 4 P7 row 262145\n");
+    assert!(rt; line_leaves(&rt, rt.alloc(), &FILES, "make maps 7 262145", left));
+    assert!(rt; line_leaves(&rt, rt.alloc(), &FILES, "make maps 7 4294967295", left));
+}
+
+/// Runs of rows that are made, by one thread or by more, and what they print. The numbers of alerts were counted by another program.
+const MADE: [(&str, &str); 7] = [
+    ("make chain 7 0", "rows 0 alerts 0 requests 0 refused 0\n"),
+    (
+        "make chain 7 1000",
+        "rows 1000 alerts 518 requests 0 refused 0\n",
+    ),
+    (
+        "make --threads 4 chain 7 1000",
+        "rows 1000 alerts 518 requests 0 refused 0\n",
+    ),
+    (
+        "make chain 18446744073709551615 1000 --threads=16",
+        "rows 1000 alerts 507 requests 0 refused 0\n",
+    ),
+    (
+        "make payments 1 2000",
+        "rows 2000 alerts 114 requests 0 refused 0\n",
+    ),
+    (
+        "make payments 1 2000",
+        "rows 2000 alerts 114 requests 0 refused 0\n",
+    ),
+    (
+        "make payments 7 5000",
+        "rows 5000 alerts 837 requests 0 refused 0\n",
+    ),
+];
+
+#[test]
+fn makes_print_the_same(rt: HostRuntime) {
+    for (line, lines) in MADE {
+        assert!(rt; line_leaves(&rt, rt.alloc(), &FILES, line, made(lines)));
+    }
+}
+
+#[test]
+fn make_without_a_job(rt: HostRuntime) {
+    let left = Left::lines(5, "fault 5 job\n");
+    assert!(rt; line_leaves(&rt, rt.alloc(), &FILES, "make missing 7 1", left));
+}
