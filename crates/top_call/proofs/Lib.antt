@@ -3,3 +3,4 @@ pub mod FollowLemmas
 pub mod MakeLemmas
 pub mod RunLemmas
 pub mod FirstLemmas
+pub mod SureLemmas

@@ -10,3 +10,4 @@ pub mod Run
 pub mod Make
 pub mod Explain
 pub mod Answers
+pub mod Sure

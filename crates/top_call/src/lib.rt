@@ -13,6 +13,7 @@ mod answer;
 mod check;
 mod first;
 mod job;
+mod laws;
 mod make;
 mod plan;
 mod printing;
@@ -22,4 +23,5 @@ mod running;
 mod top;
 mod writing;
 
+pub use laws::sure_calls_end_well;
 pub use top::{Outcome, fries};
