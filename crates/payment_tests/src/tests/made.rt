@@ -29,7 +29,7 @@ fn rows_are_made_by_draws(rt: HostRuntime) {
     assert!(rt; are(one, FIRST_OF_ONE_SOURCE));
 }
 
-// The fault of so many rows for a job of weight 2, if they have one.
+// The fault of so many rows for a job of weight 4, if they have one: two sources lead to two nodes.
 fn fault_of(alloc: Global, rows: u64) -> Option<PFault> {
     let job = job_of(alloc, PLAIN, TWO_SOURCES)?;
     make_rows(alloc, &job, 0, rows).err()
@@ -37,8 +37,8 @@ fn fault_of(alloc: Global, rows: u64) -> Option<PFault> {
 
 #[test]
 fn too_many_rows_to_make(rt: HostRuntime) {
-    let first_beyond = Some(PFault::TooMuch(524_289));
+    let first_beyond = Some(PFault::TooMuch(262_145));
     assert!(rt; fault_of(rt.alloc(), 0) == None);
-    assert!(rt; fault_of(rt.alloc(), 524_289) == first_beyond);
+    assert!(rt; fault_of(rt.alloc(), 262_145) == first_beyond);
     assert!(rt; fault_of(rt.alloc(), u64::MAX) == first_beyond);
 }
