@@ -8,6 +8,7 @@ use report::{Fault, FileIs};
 use std::alloc::{AllocError, Global};
 use std::fs::File;
 use std::io::ErrorKind;
+use std::mem::ManuallyDrop;
 use std::process::ExitCode;
 use std::rt::Files;
 use std::{env, io};
@@ -27,7 +28,10 @@ fn main(rt: HostRuntime) -> ExitCode {
     let mut out = StdOut::new(rt);
     let outcome = fries(&rt, alloc, &words, &mut shelf, &mut out, &OpenGate);
     tell(&rt, alloc, &words, &outcome);
-    ExitCode::from(outcome.status)
+    let status = outcome.status;
+    // The program ends here, so the record isn't freed entry by entry.
+    let _kept = ManuallyDrop::new(outcome);
+    ExitCode::from(status)
 }
 
 // Tells on the standard error what ended the call, or why requests were refused. What comes of that changes nothing.
