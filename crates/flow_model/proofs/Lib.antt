@@ -40,6 +40,7 @@ pub mod TurnLemmas
 pub mod WholeLemmas
 pub mod OnceLemmas
 pub mod SetupLemmas
+pub mod StartLemmas
 pub mod FreshLemmas
 pub mod SumLemmas
 pub mod FitLemmas

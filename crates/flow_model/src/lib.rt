@@ -18,6 +18,7 @@ mod plans;
 mod record;
 mod runs;
 mod setup;
+mod start;
 mod tables;
 mod topology;
 mod workers;
@@ -43,4 +44,5 @@ pub use runs::{
 };
 pub use setup::{Plans, Setup};
 pub use sink_journal::States;
+pub use start::Start;
 pub use topology::{Lane, LaneNumbers, OutEdge, OutEdges, Topology, WorkerAt};
