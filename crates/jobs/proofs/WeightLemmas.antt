@@ -1,10 +1,9 @@
 -- Weights of nodes, round by round.
-use Rattle.std.proofs.Common.{◌≡◌, ◌<◌, ◌+◌, ℕ, List, [], ◌∷◌, All, length, inl, inr, refl, ap, subst, ◌∙◌, arith, suc, slice_index_or}
+use Rattle.std.proofs.Common.{◌≡◌, ◌<◌, ◌+◌, ℕ, List, [], ◌∷◌, All, length, inl, inr, refl, ap, ◌∙◌, arith, suc}
 use Rattle.std.specs.List.{fold}
 use Rattle.std.proofs.lemmas.Bool.{cases_eq, ne_eqb}
 use Rattle.std.proofs.lemmas.List.Elements.{All-head, All-tail}
 use Rattle.flow_dag.specs.declared.edge.Edge.{Edge}
-use Rattle.flow_dag.specs.Edges.{IsInside}
 use Rattle.jobs.specs.declared.func.NodeDef.{NodeDef}
 use Rattle.jobs.specs.Weights.{weighed, weight_after, weight_from, with_edge}
 
@@ -37,20 +36,10 @@ pub weighed-same :
     → weighed nodes edges w v ≡ weighed nodes edges w' v
 weighed-same nodes edges w w' v same = rw (fold-same nodes w w' v 0 edges same) refl
 
-pub weight_after-zero : (nodes : List NodeDef) (edges : List Edge) (v : ℕ) → weight_after nodes edges 0 v ≡ 0
-unfolding weight_after
-weight_after-zero nodes edges v = refl
-
 pub weight_after-suc :
     (nodes : List NodeDef) (edges : List Edge) (k v : ℕ) → weight_after nodes edges (suc k) v ≡ weighed nodes edges (weight_after nodes edges k) v
 unfolding weight_after
 weight_after-suc nodes edges k v = refl
-
-pub weight_after-more :
-    (nodes : List NodeDef) (edges : List Edge) (k v : ℕ) → weight_after nodes edges (k + 1) v ≡ weighed nodes edges (weight_after nodes edges k) v
-weight_after-more nodes edges k v =
-    let next : suc k ≡ k + 1 = omega arith in
-    subst (λ (m : ℕ). weight_after nodes edges m v ≡ weighed nodes edges (weight_after nodes edges k) v) next (weight_after-suc nodes edges k v)
 
 -- a sum of weights that agree on its nodes
 pub weight_from-same :
@@ -62,12 +51,3 @@ weight_from-same w w' v (n ∷ nodes) same =
     let here : w v ≡ w' v = same v (omega arith) in
     let rest : weight_from w (v + 1) nodes ≡ weight_from w' (v + 1) nodes = weight_from-same w w' (v + 1) nodes (λ u lt. same u (omega (arith, lt))) in
     rw (here, rest) refl
-
--- a node weighs the same where all nodes do
-pub weighed-inside :
-    (nodes : List NodeDef) (edges : List Edge) (w w' : ℕ → ℕ) (v : ℕ)
-    → All (IsInside (length nodes)) edges
-    → ((u : ℕ) → u < length nodes → w u ≡ w' u)
-    → weighed nodes edges w v ≡ weighed nodes edges w' v
-weighed-inside nodes edges w w' v inside same =
-    weighed-same nodes edges w w' v (λ k d lt _. same (slice_index_or edges k d).from (inside k d lt).0)

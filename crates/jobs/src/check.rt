@@ -1,5 +1,5 @@
 // The one way to a job: its parts are checked.
-ghost use Rattle.std.specs.Prelude.{◌≡◌, ◌≤◌, IfOk, IfErr, OnOk};
+ghost use Rattle.std.specs.Prelude.{◌≡◌, ◌≤◌, IfOk, IfErr, OnOk, length};
 ghost use Rattle.jobs.specs.Job.{written};
 ghost use Rattle.jobs.specs.Law.{HasColumns, HasNoCycle, HasShape, HasTables, IsRefused};
 ghost use Rattle.jobs.specs.Weights.{weight};
@@ -45,7 +45,7 @@ impl Job {
         check_meaning(
             columns.as_slice(),
             nodes.as_slice(),
-            edges,
+            &dag,
             tables.as_slice(),
         )?;
         Ok(Job {
@@ -89,15 +89,20 @@ fn check_shape(
 fn check_meaning(
     columns: &[Column],
     nodes: &[NodeDef],
-    edges: &[Edge],
+    dag: &Dag,
     tables: &[Table],
 ) -> Result<(), LawFault>
-    requires shape { HasShape (written_as columns.now nodes.now edges.now tables.now) }
-    requires acyclic { HasNoCycle (written_as columns.now nodes.now edges.now tables.now) }
-    ensures columns { OnOk result (HasColumns (written_as columns.now nodes.now edges.now tables.now)) }
-    ensures tables { OnOk result (HasTables (written_as columns.now nodes.now edges.now tables.now)) }
-    ensures weight { OnOk result (weight (written_as columns.now nodes.now edges.now tables.now) ≤ 1024) }
-    ensures fault { IfErr result (λ fault. IsRefused fault (written_as columns.now nodes.now edges.now tables.now)) }
+    requires graph { dag.now.nodes ≡ length nodes.now }
+    requires shape { HasShape (written_as columns.now nodes.now dag.now.edges tables.now) }
+    requires acyclic { HasNoCycle (written_as columns.now nodes.now dag.now.edges tables.now) }
+    ensures columns { OnOk result
+        (HasColumns (written_as columns.now nodes.now dag.now.edges tables.now)) }
+    ensures tables { OnOk result
+        (HasTables (written_as columns.now nodes.now dag.now.edges tables.now)) }
+    ensures weight { OnOk result
+        (weight (written_as columns.now nodes.now dag.now.edges tables.now) ≤ 1024) }
+    ensures fault { IfErr result (λ fault.
+        IsRefused fault (written_as columns.now nodes.now dag.now.edges tables.now)) }
 {
     if let Some(v) = fitting::wrong_columns(columns, nodes, tables) {
         return Err(LawFault::Column(v));
@@ -105,7 +110,7 @@ fn check_meaning(
     if let Some(v) = fitting::wrong_table(nodes, tables) {
         return Err(LawFault::NoTable(v));
     }
-    let weight = weights::weight_of(nodes, edges);
+    let weight = weights::weight_of(nodes, dag);
     if weight > 1024 {
         return Err(LawFault::Weight(weight));
     }

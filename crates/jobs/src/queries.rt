@@ -20,7 +20,7 @@ pub fn weight(job: &Job) -> u64
     ensures value { result ≡ weight (written job.now) }
     ensures limit { result ≤ 1024 }
 {
-    weights::weight_of(job.nodes.as_slice(), job.dag.all_edges())
+    weights::weight_of(job.nodes.as_slice(), &job.dag)
 }
 
 /// How many workers of the job keep a journal: those of its nodes that aren't sources. Takes no memory.

@@ -1,45 +1,35 @@
 // How many tuples one row may bring to a node.
-ghost use Rattle.std.specs.Prelude.{◌≡◌, ◌<◌, ◌≤◌, ℕ, All, length, option_copied, slice_index};
-ghost use Rattle.flow_dag.specs.Edges.{IsInside};
+ghost use Rattle.std.specs.Prelude.{◌≡◌, ◌<◌, ◌≤◌, ℕ, length, option_copied, slice_index};
 ghost use Rattle.jobs.specs.Nodes.{is_source_node};
-ghost use Rattle.jobs.specs.Weights.{added_by, brought_to, fan_out_at, weighed, weight_after, weight_of, weight_from, with_edge, with_more};
+ghost use Rattle.jobs.specs.Weights.{added_by, brought_to, fan_out_at, node_weight, weighed};
+ghost use Rattle.jobs.specs.Weights.{weight_of, weight_from, with_edge, with_more};
 
 use crate::node::is_source;
 use crate::{Func, NodeDef};
-use flow_dag::Edge;
+use flow_dag::{Dag, Edge};
 
-/// The weight of a job with these nodes and edges. Takes no memory.
-pub fn weight_of(nodes: &[NodeDef], edges: &[Edge]) -> u64
-    requires nodes { length nodes.now ≤ 64 }
-    requires inside { All (IsInside (length nodes.now)) edges.now }
-    ensures { result ≡ weight_of nodes.now edges.now }
+/// The weight of a job with these nodes and with the edges of this graph. Takes no memory.
+pub fn weight_of(nodes: &[NodeDef], dag: &Dag) -> u64
+    requires { dag.now.nodes ≡ length nodes.now }
+    ensures { result ≡ weight_of nodes.now dag.now.edges }
 {
-    sum(nodes, &node_weights(nodes, edges))
+    sum(nodes, &node_weights(nodes, dag))
 }
 
-// The weights of the nodes after as many rounds as there are nodes.
-fn node_weights(nodes: &[NodeDef], edges: &[Edge]) -> [u32; 64]
-    requires nodes { length nodes.now ≤ 64 }
-    requires inside { All (IsInside (length nodes.now)) edges.now }
-    ensures { (v : ℕ) → v < length nodes.now → slice_index result v ≡ weight_after nodes.now edges.now (length nodes.now) v }
+// The weights of the nodes. In the graph's order each node follows its senders, so it is weighed
+// once.
+fn node_weights(nodes: &[NodeDef], dag: &Dag) -> [u32; 64]
+    requires { dag.now.nodes ≡ length nodes.now }
+    ensures { (v : ℕ) → v < length nodes.now
+        → slice_index result v ≡ node_weight nodes.now dag.now.edges v }
 {
+    let edges = dag.all_edges();
     let mut weights = [0u32; 64];
-    for _ in 0..nodes.len() {
-        weights = next_round(nodes, edges, &weights);
+    for i in 0..dag.nodes() {
+        let v = dag.order(i);
+        weights[v as usize] = weighed(nodes, edges, &weights, v);
     }
     weights
-}
-
-// The weights of the nodes, by those of the round before.
-fn next_round(nodes: &[NodeDef], edges: &[Edge], weights: &[u32; 64]) -> [u32; 64]
-    requires nodes { length nodes.now ≤ 64 }
-    ensures { (v : ℕ) → v < length nodes.now → slice_index result v ≡ weighed nodes.now edges.now (slice_index weights.now) v }
-{
-    let mut next = [0u32; 64];
-    for v in 0..nodes.len() {
-        next[v] = weighed(nodes, edges, weights, v as u32);
-    }
-    next
 }
 
 // The weight of a node, by those of its senders.

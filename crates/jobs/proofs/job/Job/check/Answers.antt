@@ -15,4 +15,4 @@ unreachable-requires-in-Err-Repeated c =
     HasShape-distinct job _ _ _ c.in-Err-Repeated.field-0-is c.in_ok-check_shape.ensures.shape c.in-Err-Repeated.ensures.fault
 
 pub check_meaning-requires-clause-acyclic : goal.check_meaning-requires-clause-acyclic
-check_meaning-requires-clause-acyclic c = rw (← c.in-Ok.ensures.graph.1) c.in-Ok.dag.lawful.acyclic
+check_meaning-requires-clause-acyclic c = c.in-Ok.dag.lawful.acyclic
