@@ -1,6 +1,7 @@
 // The next request that covers a worker.
 ghost use Rattle.std.specs.Prelude.{◌≡◌, ℕ, ◌<◌, ◌↔◌, IsTrue, Some, length, slice_get};
 ghost use Rattle.flow_dag.specs.Masks.{Has, has};
+ghost use Rattle.flow_model.specs.Begin.{last_after};
 ghost use Rattle.flow_model.specs.Dues.{IsDueAfter, edges_in, is_on};
 ghost use Rattle.flow_model.specs.Setup.{outline};
 ghost use Rattle.flow_model.specs.Workers.{post_at, posts};
@@ -27,6 +28,22 @@ impl Setup {
             }
         }
         None
+    }
+
+    /// Returns the latest of the first `turned` requests that covers a worker, 0 if none does.
+    /// Looks at each of them. Takes no memory.
+    pub fn last_covering(&self, worker: u32, turned: u64) -> u64
+        requires { worker < length (posts (outline self.now).job) }
+        ensures { result ≡ last_after (outline self.now)
+            (post_at (outline self.now).job worker).node turned }
+    {
+        let mut last = 0;
+        for before in 0..turned {
+            if self.covers(worker, before + 1) {
+                last = before + 1;
+            }
+        }
+        last
     }
 
     // The due of a plan's request at a worker.
