@@ -22,7 +22,7 @@ pub fn alerts_text(alloc: Global, job: &Job, journals: &Journals) -> Result<Byte
     ensures { IfOk result (λ text. text ≡ alerts (written job.now) journals.now) }
 {
     let columns = job.columns.as_slice();
-    let mut sheet = Sheet::new(alloc);
+    let mut sheet = Sheet::with_room(alloc, 0);
     let mut cells = Cells::new(alloc);
     write_header(&mut sheet, &mut cells, columns)?;
     let mut rest = journals.as_slice();
@@ -43,7 +43,7 @@ fn write_header(sheet: &mut Sheet, cells: &mut Cells, columns: &[Column]) -> Res
     for column in columns {
         cells.push(column.name.as_slice())?;
     }
-    sheet.write(cells)
+    sheet.write_cells(cells)
 }
 
 fn write_node(
@@ -104,7 +104,7 @@ fn write_sink(
     for entry in journal.as_slice() {
         if let Entry::Met { tuple, .. } = entry {
             fill(cells, name, layout, tuple)?;
-            sheet.write(cells)?;
+            sheet.write_cells(cells)?;
         }
     }
     Ok(())
@@ -120,7 +120,7 @@ fn fill(
 {
     cells.clear();
     cells.push(name)?;
-    cells.push_printed(tuple.row)?;
+    cells.push_row(tuple.row)?;
     for (number, kind) in layout.iter().enumerate() {
         cells.push_field(*kind, tuple.fields.as_slice(), number)?;
     }

@@ -7,15 +7,19 @@ ghost use Rattle.sink_journal.specs.Audit.{entry_fields, feed_fields, refused_fi
 ghost use Rattle.sink_journal.specs.Audit.{worker_records, workers_records};
 ghost use Rattle.sink_journal.specs.Records.{record_text, records_text};
 
-use crate::cells::Cells;
+use crate::cells::spell_dotted;
 use crate::sheet::Sheet;
 use crate::{Entry, Feed, Feeds, Journal, Journals, States};
+use itoa::Buffer;
 use jobs::Job;
 use keyed_state::Keyed;
 use std::alloc::Global;
 use std::fmt;
 use std::marker::Model;
 use tuple_trace::{Bytes, NoMemory};
+
+// About how many bytes a record takes.
+const RECORD_BYTES: usize = 24;
 
 /// A request that was refused.
 #[derive(Clone, Copy, Debug, PartialEq, Eq)]
@@ -58,7 +62,7 @@ pub fn audit_text(
     ensures { IfOk result (λ text. text ≡
         audit_of (written job.now) refused.now feeds.now journals.now states.now) }
 {
-    let mut audit = Audit::new(alloc);
+    let mut audit = Audit::new(alloc, record_count(feeds, journals));
     audit.write_header()?;
     audit.write_refused(refused)?;
     audit.write_feeds(feeds.as_slice())?;
@@ -79,7 +83,8 @@ pub fn audit_text(
 #[derive(Drop)]
 struct Audit {
     sheet: Sheet,
-    cells: Cells,
+    // Memory in which a cell is spelled. The next cell uses it again.
+    spelled: Vec<u8>,
 }
 
 impl Model for Audit {
@@ -91,27 +96,21 @@ impl Model for Audit {
 }
 
 impl Audit {
-    // No records. Takes no memory.
-    fn new(alloc: Global) -> Self
+    // No records. Room is made for about so many, if there is memory.
+    fn new(alloc: Global, records: usize) -> Self
         ensures { result ≡ [] }
     {
         Audit {
-            sheet: Sheet::new(alloc),
-            cells: Cells::new(alloc),
+            sheet: Sheet::with_room(alloc, records.saturating_mul(RECORD_BYTES)),
+            spelled: Vec::new(alloc),
         }
     }
 
     fn write_header(&mut self) -> Result<(), NoMemory>
         ensures { OnOk result (self.new ≡ self.old ++ record_text audit_header) }
     {
-        self.cells.clear();
-        self.cells.push(b"entry")?;
-        self.cells.push(b"node")?;
-        self.cells.push(b"worker")?;
-        self.cells.push(b"lane")?;
-        self.cells.push(b"number")?;
-        self.cells.push(b"extra")?;
-        self.sheet.write(&self.cells)
+        self.sheet
+            .write_six(b"entry", b"node", b"worker", b"lane", b"number", b"extra")
     }
 
     fn write_refused(&mut self, refused: &[Noted]) -> Result<(), NoMemory>
@@ -119,20 +118,43 @@ impl Audit {
             self.old ++ records_text (map refused_fields refused.now)) }
     {
         for noted in refused {
-            fill_refused(&mut self.cells, *noted)?;
-            self.sheet.write(&self.cells)?;
+            self.write_noted(*noted)?;
         }
         Ok(())
+    }
+
+    fn write_noted(&mut self, noted: Noted) -> Result<(), NoMemory>
+        ensures { OnOk result (self.new ≡ self.old ++ record_text (refused_fields noted)) }
+    {
+        let (mut place, mut code) = (Buffer::new(), Buffer::new());
+        let place = place.format(noted.place).as_bytes();
+        self.spelled.clear();
+        self.spelled.push(b'Q')?;
+        self.spelled
+            .extend_from_slice(code.format(noted.code).as_bytes())?;
+        let code = self.spelled.as_slice();
+        self.sheet.write_six(b"refused", b"", b"", b"", place, code)
     }
 
     fn write_feeds(&mut self, feeds: &[Feed]) -> Result<(), NoMemory>
         ensures { OnOk result (self.new ≡ self.old ++ records_text (map feed_fields feeds.now)) }
     {
         for feed in feeds {
-            fill_feed(&mut self.cells, *feed)?;
-            self.sheet.write(&self.cells)?;
+            self.write_feed(*feed)?;
         }
         Ok(())
+    }
+
+    fn write_feed(&mut self, feed: Feed) -> Result<(), NoMemory>
+        ensures { OnOk result (self.new ≡ self.old ++ record_text (feed_fields feed)) }
+    {
+        let mut digits = Buffer::new();
+        let (entry, number) = match feed {
+            Feed::Fed(row) => (b"fed".as_slice(), digits.format(row).as_bytes()),
+            Feed::Issued(request) => (b"issued".as_slice(), digits.format(request).as_bytes()),
+            Feed::Stopped => (b"stopped".as_slice(), b"".as_slice()),
+        };
+        self.sheet.write_six(entry, b"", b"", b"", number, b"")
     }
 
     // The workers of a node, given what each of them leaves.
@@ -162,129 +184,126 @@ impl Audit {
         ensures { OnOk result (self.new ≡
             self.old ++ records_text (worker_records node.now place journal.now state.now)) }
     {
-        self.write_journal(node, place, journal.as_slice())?;
-        self.write_state(node, place, state)
+        let mut digits = Buffer::new();
+        let worker = digits.format(place).as_bytes();
+        self.write_journal(node, place, worker, journal.as_slice())?;
+        self.write_state(node, place, worker, state)
     }
 
+    // `worker` is the place in digits.
     fn write_journal(
         &mut self,
         node: &[u8],
         place: usize,
+        worker: &[u8],
         journal: &[Entry],
     ) -> Result<(), NoMemory>
+        requires { worker.now ≡ decimal place }
         ensures { OnOk result (self.new ≡
             self.old ++ records_text (map (entry_fields node.now place) journal.now)) }
     {
         for entry in journal {
-            fill_entry(&mut self.cells, node, place, entry)?;
-            self.sheet.write(&self.cells)?;
+            self.write_entry(node, place, worker, entry)?;
         }
         Ok(())
     }
 
-    fn write_state(&mut self, node: &[u8], place: usize, state: &Keyed) -> Result<(), NoMemory>
+    fn write_entry(
+        &mut self,
+        node: &[u8],
+        place: usize,
+        worker: &[u8],
+        entry: &Entry,
+    ) -> Result<(), NoMemory>
+        requires { worker.now ≡ decimal place }
+        ensures { OnOk result (self.new ≡
+            self.old ++ record_text (entry_fields node.now place entry.now)) }
+    {
+        match entry {
+            Entry::Met { lane, tuple } => {
+                let birth = tuple.birth.as_slice();
+                spell_dotted(&mut self.spelled, birth)?;
+                let birth = self.spelled.as_slice();
+                write_taken(
+                    &mut self.sheet,
+                    b"met",
+                    node,
+                    worker,
+                    *lane,
+                    tuple.row,
+                    birth,
+                )
+            }
+            Entry::Marked { lane, request } => {
+                write_taken(
+                    &mut self.sheet,
+                    b"marked",
+                    node,
+                    worker,
+                    *lane,
+                    *request,
+                    b"",
+                )
+            }
+            Entry::Turned { request } => {
+                let mut requests = Buffer::new();
+                let request = requests.format(*request).as_bytes();
+                self.sheet
+                    .write_six(b"turned", node, worker, b"", request, b"")
+            }
+            Entry::Ended { lane } => {
+                let mut lanes = Buffer::new();
+                let lane = lanes.format(*lane).as_bytes();
+                self.sheet.write_six(b"ended", node, worker, lane, b"", b"")
+            }
+        }
+    }
+
+    fn write_state(
+        &mut self,
+        node: &[u8],
+        place: usize,
+        worker: &[u8],
+        state: &Keyed,
+    ) -> Result<(), NoMemory>
+        requires { worker.now ≡ decimal place }
         ensures { OnOk result (self.new ≡ self.old
             ++ records_text (map (state_fields node.now place) (finite.entries state.now))) }
     {
         for (key, count) in state.iter() {
-            fill_state(&mut self.cells, node, place, key, *count)?;
-            self.sheet.write(&self.cells)?;
+            let mut digits = Buffer::new();
+            let count = digits.format(*count).as_bytes();
+            self.sheet
+                .write_six(b"state", node, worker, b"", count, key)?;
         }
         Ok(())
     }
 }
 
-fn fill_refused(cells: &mut Cells, noted: Noted) -> Result<(), NoMemory>
-    ensures { OnOk result (cells.new ≡ refused_fields noted) }
-{
-    begin(cells, b"refused")?;
-    cells.push_printed(noted.place)?;
-    cells.push_printed(RefusalCode(noted.code))
-}
-
-fn fill_feed(cells: &mut Cells, feed: Feed) -> Result<(), NoMemory>
-    ensures { OnOk result (cells.new ≡ feed_fields feed) }
-{
-    match feed {
-        Feed::Fed(row) => {
-            begin(cells, b"fed")?;
-            cells.push_printed(row)?;
-        }
-        Feed::Issued(request) => {
-            begin(cells, b"issued")?;
-            cells.push_printed(request)?;
-        }
-        Feed::Stopped => {
-            begin(cells, b"stopped")?;
-            cells.push(b"")?;
-        }
-    }
-    cells.push(b"")
-}
-
-fn fill_entry(cells: &mut Cells, node: &[u8], place: usize, entry: &Entry) -> Result<(), NoMemory>
-    ensures { OnOk result (cells.new ≡ entry_fields node.now place entry.now) }
-{
-    match entry {
-        Entry::Met { lane, tuple } => {
-            begin_at(cells, b"met", node, place)?;
-            cells.push_printed(*lane)?;
-            cells.push_printed(tuple.row)?;
-            cells.push_dotted(tuple.birth.as_slice())
-        }
-        Entry::Marked { lane, request } => {
-            begin_at(cells, b"marked", node, place)?;
-            cells.push_printed(*lane)?;
-            cells.push_printed(*request)?;
-            cells.push(b"")
-        }
-        Entry::Turned { request } => {
-            begin_at(cells, b"turned", node, place)?;
-            cells.push(b"")?;
-            cells.push_printed(*request)?;
-            cells.push(b"")
-        }
-        Entry::Ended { lane } => {
-            begin_at(cells, b"ended", node, place)?;
-            cells.push_printed(*lane)?;
-            cells.push(b"")?;
-            cells.push(b"")
-        }
-    }
-}
-
-fn fill_state(
-    cells: &mut Cells,
+// The record of what a worker took from a lane: a tuple of this row, or the marker of this request.
+fn write_taken(
+    sheet: &mut Sheet,
+    entry: &[u8],
     node: &[u8],
-    place: usize,
-    key: &[u8],
-    count: i64,
+    worker: &[u8],
+    lane: u32,
+    number: u64,
+    extra: &[u8],
 ) -> Result<(), NoMemory>
-    ensures { OnOk result (cells.new ≡ state_fields node.now place (key.now, count)) }
+    ensures { OnOk result (sheet.new ≡ sheet.old ++ record_text
+        (entry.now ∷ node.now ∷ worker.now ∷ decimal lane ∷ decimal number ∷ extra.now ∷ [])) }
 {
-    begin_at(cells, b"state", node, place)?;
-    cells.push(b"")?;
-    cells.push_printed(count)?;
-    cells.push(key)
+    let (mut lanes, mut numbers) = (Buffer::new(), Buffer::new());
+    let lane = lanes.format(lane).as_bytes();
+    let number = numbers.format(number).as_bytes();
+    sheet.write_six(entry, node, worker, lane, number, extra)
 }
 
-// The first four cells of a record that is of no worker.
-fn begin(cells: &mut Cells, entry: &[u8]) -> Result<(), NoMemory>
-    ensures { OnOk result (cells.new ≡ entry.now ∷ [] ∷ [] ∷ [] ∷ []) }
-{
-    cells.clear();
-    cells.push(entry)?;
-    cells.push(b"")?;
-    cells.push(b"")?;
-    cells.push(b"")
-}
-
-// The first three cells of a record of the worker at this place of a node.
-fn begin_at(cells: &mut Cells, entry: &[u8], node: &[u8], place: usize) -> Result<(), NoMemory>
-    ensures { OnOk result (cells.new ≡ entry.now ∷ node.now ∷ decimal place ∷ []) }
-{
-    cells.clear();
-    cells.push(entry)?;
-    cells.push(node)?;
-    cells.push_printed(place)
+// How many records the audit of this feed and these journals has, counts and refusals left out.
+fn record_count(feeds: &Feeds, journals: &Journals) -> usize {
+    let mut count = feeds.len();
+    for journal in journals.as_slice() {
+        count = count.saturating_add(journal.len());
+    }
+    count
 }

@@ -1,22 +1,25 @@
-ghost use Rattle.std.specs.Prelude.{◌≡◌, ◌++◌, ◌∷◌, [], OnOk, IfSome, Some, slice_get, string_bytes};
+ghost use Rattle.std.specs.Prelude.{◌≡◌, ◌<◌, ◌++◌, ◌∷◌, [], OnOk, decimal, slice_get};
+ghost use Rattle.std.specs.Fmt.{signed_decimal};
 ghost use Rattle.csv.specs.Records.{fields_of};
 ghost use Rattle.sink_journal.specs.Audit.{dotted};
-ghost use Rattle.sink_journal.specs.Printed.{cell};
+ghost use Rattle.sink_journal.specs.Printed.{cell, cents_of};
 
 use csv::ByteRecord;
+use itoa::Buffer;
 use jobs::ColumnKind;
 use std::alloc::Global;
-use std::fmt;
-use std::fmt::{Display, Write};
 use std::marker::Model;
 use tuple_trace::{NoMemory, Value, number_in, text_in};
+
+/// What stands between the whole part of an amount and its cents.
+const POINT: u8 = b'.';
 
 /// The cells of one record, in memory that the next record uses again. Contracts see the list of their texts. What a refused push leaves
 /// is open: [`Cells::clear`] makes a new start.
 #[derive(Drop)]
 pub(crate) struct Cells {
     raw: ByteRecord,
-    digits: String,
+    digits: Vec<u8>,
 }
 
 impl Model for Cells {
@@ -37,7 +40,7 @@ impl Cells {
     {
         Cells {
             raw: ByteRecord::new(alloc),
-            digits: String::new(alloc),
+            digits: Vec::new(alloc),
         }
     }
 
@@ -64,25 +67,28 @@ impl Cells {
         Ok(())
     }
 
-    /// Appends a cell with what `{}` prints of a value.
-    pub(crate) fn push_printed<D: Display + Copy>(&mut self, value: D) -> Result<(), NoMemory>
-        ensures { OnOk result (IfSome (D.output value) (λ text. self.new ≡ self.old ++ text ∷ [])) }
+    /// Appends a cell with the digits of a row's number.
+    pub(crate) fn push_row(&mut self, row: u64) -> Result<(), NoMemory>
+        ensures { OnOk result (self.new ≡ self.old ++ decimal row ∷ []) }
     {
-        self.digits.clear();
-        write!(self.digits, "{value}")?;
-        if self.raw.push_field(self.digits.as_bytes()).is_err() {
-            self.raw.clear();
-            return Err(NoMemory);
-        }
-        Ok(())
+        let mut digits = Buffer::new();
+        self.push(digits.format(row).as_bytes())
     }
 
-    /// Appends a cell with these numbers, and dots between them.
-    pub(crate) fn push_dotted(&mut self, numbers: &[u32]) -> Result<(), NoMemory>
-        ensures { OnOk result (self.new ≡ self.old ++ dotted numbers.now ∷ []) }
+    // Appends a cell with a number.
+    fn push_number(&mut self, number: i64) -> Result<(), NoMemory>
+        ensures { OnOk result (self.new ≡ self.old ++ signed_decimal number ∷ []) }
     {
-        write_dotted(&mut self.digits, numbers)?;
-        if self.raw.push_field(self.digits.as_bytes()).is_err() {
+        let mut digits = Buffer::new();
+        self.push(digits.format(number).as_bytes())
+    }
+
+    // Appends a cell with an amount of cents.
+    fn push_cents(&mut self, amount: i64) -> Result<(), NoMemory>
+        ensures { OnOk result (self.new ≡ self.old ++ cents_of amount ∷ []) }
+    {
+        spell_cents(&mut self.digits, amount)?;
+        if self.raw.push_field(self.digits.as_slice()).is_err() {
             self.raw.clear();
             return Err(NoMemory);
         }
@@ -101,43 +107,50 @@ impl Cells {
         let field = fields.get(place);
         match kind {
             Some(ColumnKind::Text) => self.push(text_in(field)),
-            Some(ColumnKind::Number) => self.push_printed(number_in(field)),
-            Some(ColumnKind::Cents) => self.push_printed(Cents(number_in(field))),
+            Some(ColumnKind::Number) => self.push_number(number_in(field)),
+            Some(ColumnKind::Cents) => self.push_cents(number_in(field)),
             None => self.push(b""),
         }
     }
 }
 
-// Makes a text of these numbers, with dots between them.
-fn write_dotted(text: &mut String, numbers: &[u32]) -> Result<(), NoMemory>
-    ensures { OnOk result (string_bytes text.new ≡ dotted numbers.now) }
+/// Makes a text of these numbers, with dots between them.
+pub(crate) fn spell_dotted(text: &mut Vec<u8>, numbers: &[u32]) -> Result<(), NoMemory>
+    ensures { OnOk result (text.new.items ≡ dotted numbers.now) }
 {
     text.clear();
     let Some((first, later)) = numbers.split_first() else {
         return Ok(());
     };
-    write!(text, "{first}")?;
+    let mut digits = Buffer::new();
+    text.extend_from_slice(digits.format(*first).as_bytes())?;
     for number in later {
-        write!(text, ".{number}")?;
+        text.push(b'.')?;
+        text.extend_from_slice(digits.format(*number).as_bytes())?;
     }
     Ok(())
 }
 
-/// A number of cents. It prints as an optional `-`, the whole part, a point and two digits.
-#[derive(Clone, Copy)]
-struct Cents(i64);
-
-impl Display for Cents {
-    ghost use Rattle.sink_journal.specs.Printed.{cents_of};
-
-    ghost output = { λ amount. Some (cents_of amount.0) };
-
-    fn fmt<W: fmt::Write>(&self, f: &mut fmt::Formatter<W>) -> fmt::Result {
-        let sign = if self.0 < 0 { "-" } else { "" };
-        let size = self.0.unsigned_abs();
-        let whole = size / 100;
-        let tens = size / 10 % 10;
-        let units = size % 10;
-        write!(f, "{sign}{whole}.{tens}{units}")
+// Makes a text of an amount of cents: an optional `-`, the whole part, a point and two digits.
+fn spell_cents(text: &mut Vec<u8>, amount: i64) -> Result<(), NoMemory>
+    ensures { OnOk result (text.new.items ≡ cents_of amount) }
+{
+    let size = amount.unsigned_abs();
+    let mut digits = Buffer::new();
+    text.clear();
+    if amount < 0 {
+        text.push(b'-')?;
     }
+    text.extend_from_slice(digits.format(size / 100).as_bytes())?;
+    text.push(POINT)?;
+    text.push(digit(size / 10 % 10))?;
+    text.push(digit(size % 10))?;
+    Ok(())
+}
+
+fn digit(number: u64) -> u8
+    requires { number < 10 }
+    ensures { result ∷ [] ≡ decimal number }
+{
+    b'0' + number as u8
 }

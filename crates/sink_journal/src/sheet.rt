@@ -1,4 +1,4 @@
-ghost use Rattle.std.specs.Prelude.{◌≡◌, ◌++◌, [], OnOk, OnErr, IfOk};
+ghost use Rattle.std.specs.Prelude.{◌≡◌, ◌++◌, ◌∷◌, [], OnOk, OnErr, IfOk};
 ghost use Rattle.csv.specs.Writing.{default_writer, row_text};
 
 use crate::cells::Cells;
@@ -26,23 +26,50 @@ impl Model for Sheet {
 }
 
 impl Sheet {
-    /// A text of no records. Takes no memory.
-    pub(crate) fn new(alloc: Global) -> Self
+    /// A text of no records, with memory for so many bytes if there is that much.
+    pub(crate) fn with_room(alloc: Global, bytes: usize) -> Self
         ensures { result ≡ [] }
     {
+        let text = match Vec::with_capacity(alloc, bytes) {
+            Ok(text) => text,
+            Err(_) => Vec::new(alloc),
+        };
         Sheet {
             alloc,
-            writer: WriterBuilder::new().from_writer(Vec::new(alloc)),
+            writer: WriterBuilder::new().from_writer(text),
         }
     }
 
-    /// Appends a record of these cells. After [`NoMemory`] the sheet has no records.
-    pub(crate) fn write(&mut self, cells: &Cells) -> Result<(), NoMemory>
+    /// Appends a record of these six cells. After [`NoMemory`] the sheet has no records.
+    pub(crate) fn write_six<'c>(
+        &mut self,
+        first: &'c [u8],
+        second: &'c [u8],
+        third: &'c [u8],
+        fourth: &'c [u8],
+        fifth: &'c [u8],
+        sixth: &'c [u8],
+    ) -> Result<(), NoMemory>
+        ensures ok { OnOk result (self.new ≡ self.old ++ row_text default_writer
+            (first.now ∷ second.now ∷ third.now ∷ fourth.now ∷ fifth.now ∷ sixth.now ∷ [])) }
+        ensures err { OnErr result (self.new ≡ []) }
+    {
+        let cells = [first, second, third, fourth, fifth, sixth];
+        if self.writer.write_fields(&cells).is_err() {
+            *self = Sheet::with_room(self.alloc, 0);
+            return Err(NoMemory);
+        }
+        Ok(())
+    }
+
+    /// Appends a record of the cells that were gathered. After [`NoMemory`] the sheet has no
+    /// records.
+    pub(crate) fn write_cells(&mut self, cells: &Cells) -> Result<(), NoMemory>
         ensures ok { OnOk result (self.new ≡ self.old ++ row_text default_writer cells.now) }
         ensures err { OnErr result (self.new ≡ []) }
     {
         if self.writer.write_byte_record(cells.as_record()).is_err() {
-            *self = Sheet::new(self.alloc);
+            *self = Sheet::with_room(self.alloc, 0);
             return Err(NoMemory);
         }
         Ok(())

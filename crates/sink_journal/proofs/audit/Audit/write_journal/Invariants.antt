@@ -5,5 +5,5 @@ use Rattle.sink_journal.proofs.audit.Audit.write_journal.Given as goal
 
 abbrev pub invariant-loop-entry : goal.invariant-loop-entry
 invariant-loop-entry l =
-    l.self-inside.sheet ++ records_text (map (entry_fields l.node l.place) (drop l.entry-index l.journal))
+    l.self ++ records_text (map (entry_fields l.node l.place) (drop l.entry-index l.journal))
     ≡ l.fn.self ++ records_text (map (entry_fields l.node l.place) l.journal)
