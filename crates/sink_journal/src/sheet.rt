@@ -1,5 +1,6 @@
-ghost use Rattle.std.specs.Prelude.{◌≡◌, ◌++◌, ◌∷◌, [], OnOk, OnErr, IfOk};
+ghost use Rattle.std.specs.Prelude.{◌≡◌, ◌++◌, ◌∷◌, [], false, OnOk, OnErr, IfOk};
 ghost use Rattle.csv.specs.Writing.{default_writer, row_text};
+ghost use Rattle.csv.specs.Writing.{writer_under, writer_pending, writer_setup, fields_written, has_written};
 
 use crate::cells::Cells;
 use csv::{Writer, WriterBuilder};
@@ -56,7 +57,7 @@ impl Sheet {
     {
         let cells = [first, second, third, fourth, fifth, sixth];
         if self.writer.write_fields(&cells).is_err() {
-            *self = Sheet::with_room(self.alloc, 0);
+            begin_anew(&mut self.writer, self.alloc);
             return Err(NoMemory);
         }
         Ok(())
@@ -69,7 +70,7 @@ impl Sheet {
         ensures err { OnErr result (self.new ≡ []) }
     {
         if self.writer.write_byte_record(cells.as_record()).is_err() {
-            *self = Sheet::with_room(self.alloc, 0);
+            begin_anew(&mut self.writer, self.alloc);
             return Err(NoMemory);
         }
         Ok(())
@@ -84,4 +85,17 @@ impl Sheet {
             Err(_) => Err(NoMemory),
         }
     }
+}
+
+// Puts a writer of no records in the place of this one. The new one and its buffer lie in this
+// function, so that none of those that write a record clears memory for them.
+#[cold]
+#[inline(never)]
+fn begin_anew(writer: &mut Writer<Vec<u8>>, alloc: Global)
+    ensures text { (writer_under writer.new).items ++ writer_pending writer.new ≡ [] }
+    ensures setup { writer_setup writer.new ≡ default_writer }
+    ensures fields { fields_written writer.new ≡ 0 }
+    ensures wrote { has_written writer.new ≡ false }
+{
+    *writer = WriterBuilder::new().from_writer(Vec::new(alloc));
 }
