@@ -1,4 +1,4 @@
-ghost use Rattle.std.specs.Prelude.{◌≡◌, ◌≢◌, ◌∷◌, Ok, Err, IfOk, IfErr, OnErr, drop, nat_eq, codes};
+ghost use Rattle.std.specs.Prelude.{◌≡◌, ◌≢◌, ◌∷◌, [], Ok, Err, IfOk, IfErr, OnErr, drop, nat_eq, codes};
 ghost use Rattle.std.specs.Cmp.Lexicographic.{pointwise};
 ghost use Rattle.csv.specs.Records.{fields_of as cells_of};
 ghost use Rattle.payments.specs.Reading.{begins_with, cells_behind, field_of as field_of_column, fields_from, first_cell, first_value as first_value_of, given_names, value_of as value_of_cell};
@@ -8,7 +8,7 @@ use crate::spelling::{amount, number};
 use csv::ByteRecord;
 use jobs::{Column, ColumnKind, TEXT_MAX};
 use std::alloc::Global;
-use tuple_trace::{Fields, Txt, Value};
+use tuple_trace::{Fields, NoMemory, Txt, Value};
 
 /// What the header has in front of the names of the columns.
 const SOURCE: &[u8] = b"source";
@@ -52,13 +52,20 @@ pub(crate) fn fields_of(
     ensures ok { IfOk result (λ fields. fields_from row 0 columns.now (drop 1 (cells_of cells.now)) ≡ Ok fields) }
     ensures fault { IfErr result (λ fault. fault ≢ PFault.NoMemory → fields_from row 0 columns.now (drop 1 (cells_of cells.now)) ≡ Err fault) }
 {
-    let mut fields = Fields::new(alloc);
+    let mut fields = no_fields(alloc, columns)?;
     let mut next = 1;
     for (place, column) in columns.iter().enumerate() {
         let field = field_of(alloc, row, place, column, cells, &mut next)?;
         fields.push(field)?;
     }
     Ok(fields)
+}
+
+/// No fields, with memory for as many as there are columns.
+pub(crate) fn no_fields(alloc: Global, columns: &[Column]) -> Result<Fields, NoMemory>
+    ensures { IfOk result (λ fields. fields ≡ []) }
+{
+    Ok(Fields::from_vec(Vec::with_capacity(alloc, columns.len())?))
 }
 
 fn field_of(

@@ -8,7 +8,7 @@ ghost use Rattle.payments.specs.Made.{draw_of, field_made, fields_made, last_dig
 ghost use Rattle.payments.specs.Reading.{work_max};
 
 use crate::PFault;
-use crate::cells::first_value;
+use crate::cells::{first_value, no_fields};
 use crate::row::WORK_MAX;
 use jobs::{Column, ColumnKind, Job, is_source, weight};
 use std::alloc::Global;
@@ -108,7 +108,7 @@ fn fields_of(alloc: Global, columns: &[Column], draws: &mut Draws) -> Result<Fie
     ensures ok { IfOk result (λ fields. fields ≡ fields_made columns.now draws.old.number) }
     ensures draws { OnOk result (draws.new.number ≡ number_after_fields columns.now draws.old.number) }
 {
-    let mut fields = Fields::new(alloc);
+    let mut fields = no_fields(alloc, columns)?;
     for column in columns {
         let field = field_of(alloc, column, draws)?;
         fields.push(field)?;

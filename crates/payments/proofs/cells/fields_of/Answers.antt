@@ -6,7 +6,7 @@ use Rattle.payments.proofs.cells.fields_of.Goals as goal
 
 pub returns-in_err-field-clause-fault : goal.returns-in_err-field-clause-fault
 returns-in_err-field-clause-fault c =
-    let p = err_from_is_err_and c.from_residual.result c.from_residual.ensures.1 in
+    let p = err_from_is_err_and c.from_residual-in_err-field.result c.from_residual-in_err-field.ensures.1 in
     rw (p.1, p.2) (λ other.
     sym c.loop-place.invariant
     ∙ fields_from-fault c.args.row c.loop-place.place c.args.columns.now c.index-columns-place.result _ c.loop-place.fields _ c.loop-place-test.true c.index-columns-place.is (c.in_err-field.ensures.fault other))
