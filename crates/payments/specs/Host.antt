@@ -1,6 +1,7 @@
 -- What the files and the output of the system have counted.
-use Rattle.std.specs.Prelude.{ℕ, List, Option, option_map}
+use Rattle.std.specs.Prelude.{ℕ, List, Option, None, option_map}
 use Rattle.payments.specs.Causes.{Faults}
+use Rattle.payments.specs.World.{ShelfState, SinkState}
 use Rattle.payments.specs.declared.host.HostShelf.{HostShelf}
 use Rattle.payments.specs.declared.host.StdOut.{StdOut}
 
@@ -12,6 +13,14 @@ host_faults_of shelf = record { reads = shelf.read_faults; writes = shelf.write_
 abbrev pub host_target_of : {R File Folder : Type 0} → HostShelf R File Folder → Option (List ℕ)
 host_target_of shelf = option_map (λ target. target.name) shelf.target
 
+-- the files of the system as a shelf, which tells none of their bytes
+abbrev pub host_state_of : {R File Folder : Type 0} → HostShelf R File Folder → ShelfState
+host_state_of shelf = record { files = None; faults = host_faults_of shelf; target = host_target_of shelf }
+
 -- how many writes to the output have failed
 abbrev pub out_faults_of : {R : Type 0} → StdOut R → ℕ
 out_faults_of out = out.faults
+
+-- the output of the system as a stream, which doesn't tell what was written
+abbrev pub out_state_of : {R : Type 0} → StdOut R → SinkState
+out_state_of out = record { written = None; faults = out_faults_of out }

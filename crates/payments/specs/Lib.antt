@@ -7,3 +7,4 @@ pub mod Reading
 pub mod Records
 pub mod Spelling
 pub mod Sure
+pub mod World

@@ -4,6 +4,7 @@ use Rattle.std.specs.List.{list_any}
 use Rattle.std.specs.FinMap as map
 use Rattle.payments.specs.Causes.{Faults}
 use Rattle.payments.specs.Files.{Files}
+use Rattle.payments.specs.World.{ShelfState, SinkState}
 use Rattle.payments.specs.declared.memory.File.{File}
 use Rattle.payments.specs.declared.memory.MemoryShelf.{MemoryShelf}
 use Rattle.payments.specs.declared.memory.MemorySink.{MemorySink}
@@ -43,6 +44,10 @@ target_of shelf = open_name shelf.is_open shelf.last
 abbrev pub faults_of : MemoryShelf → Faults
 faults_of shelf = record { reads = shelf.read_faults; writes = shelf.write_faults; failed = shelf.failed }
 
+-- a shelf in memory as a shelf, which tells its files
+abbrev pub shelf_state_of : MemoryShelf → ShelfState
+shelf_state_of shelf = record { files = Some (files_of shelf); faults = faults_of shelf; target = target_of shelf }
+
 -- which calls are to fail, and how many there were
 pub record Plan : Type 0 where
   pub failing : List ℕ
@@ -76,6 +81,10 @@ written_of sink = sink.written
 
 abbrev pub sink_faults_of : MemorySink → ℕ
 sink_faults_of sink = sink.faults
+
+-- a sink in memory as a stream, which tells what was written
+abbrev pub sink_state_of : MemorySink → SinkState
+sink_state_of sink = record { written = Some (written_of sink); faults = sink_faults_of sink }
 
 -- the bytes of a file that is there, up to a limit
 abbrev pub up_to : ℕ → Option (List ℕ) → Result (List ℕ) ShelfFault

@@ -1,8 +1,9 @@
 -- A shelf and a sink that never fail.
-use Rattle.std.specs.Prelude.{ℕ, List, Option, None}
+use Rattle.std.specs.Prelude.{ℕ, List, Option, None, Some}
 use Rattle.payments.specs.Causes.{Faults}
 use Rattle.payments.specs.Files.{Files}
 use Rattle.payments.specs.Memory.{files_of, target_of, written_of}
+use Rattle.payments.specs.World.{ShelfState, SinkState}
 use Rattle.payments.specs.declared.sure.SureShelf.{SureShelf}
 use Rattle.payments.specs.declared.sure.SureSink.{SureSink}
 
@@ -18,6 +19,14 @@ sure_target shelf = target_of shelf.shelf
 abbrev pub no_faults : Faults
 no_faults = record { reads = 0; writes = 0; failed = None }
 
+-- a sure shelf as a shelf, which tells its files and counts no fault
+abbrev pub sure_state_of : SureShelf → ShelfState
+sure_state_of shelf = record { files = Some (sure_files shelf); faults = no_faults; target = sure_target shelf }
+
 -- what was written to a sure sink
 abbrev pub sure_written : SureSink → List ℕ
 sure_written sink = written_of sink.sink
+
+-- a sure sink as a stream, which tells what was written and counts no fault
+abbrev pub sure_sink_state_of : SureSink → SinkState
+sure_sink_state_of sink = record { written = Some (sure_written sink); faults = 0 }

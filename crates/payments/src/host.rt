@@ -44,13 +44,9 @@ impl<R: Files + Drop> HostShelf<R> {
 }
 
 impl<R: Files + Drop> Shelf for HostShelf<R> {
-    ghost use Rattle.payments.specs.Host.{host_faults_of, host_target_of};
+    ghost use Rattle.payments.specs.Host.{host_state_of};
 
-    ghost files = { λ _. None };
-
-    ghost faults = { λ s. host_faults_of s };
-
-    ghost target = { λ s. host_target_of s };
+    ghost state = { λ s. host_state_of s };
 
     fn read_all(&mut self, alloc: Global, name: &Word, limit: u64) -> Result<Bytes, ShelfFault> {
         let kept = name.clone().map_err(|_| ShelfFault::NoMemory)?;
@@ -130,11 +126,9 @@ impl<R: Print + Drop> StdOut<R> {
 }
 
 impl<R: Print + Drop> Sink for StdOut<R> {
-    ghost use Rattle.payments.specs.Host.{out_faults_of};
+    ghost use Rattle.payments.specs.Host.{out_state_of};
 
-    ghost written = { λ _. None };
-
-    ghost faults = { λ s. out_faults_of s };
+    ghost state = { λ s. out_state_of s };
 
     fn write(&mut self, piece: &[u8]) -> Result<u64, SinkFault> {
         let taken = io::writer(&self.rt).write(piece).unwrap_or(0);

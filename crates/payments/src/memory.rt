@@ -129,13 +129,9 @@ impl MemoryShelf {
 impl Shelf for MemoryShelf {
     ghost use Rattle.payments.specs.Files.{Files, told_bytes, with_bytes, with_more};
     ghost use Rattle.payments.specs.Causes.{Faults, ReadCause, WriteCause};
-    ghost use Rattle.payments.specs.Memory.{append_of, create_of, faults_of, files_of, plan_of, read_of, step_of, target_of};
+    ghost use Rattle.payments.specs.Memory.{append_of, create_of, faults_of, files_of, plan_of, read_of, shelf_state_of, step_of, target_of};
 
-    ghost files = { λ s. Some (files_of s) };
-
-    ghost faults = { faults_of };
-
-    ghost target = { target_of };
+    ghost state = { shelf_state_of };
 
     fn read_all(&mut self, alloc: Global, name: &Word, limit: u64) -> Result<Bytes, ShelfFault>
         ensures answer { result ≢ Err ShelfFault.NoMemory → result ≡ read_of self.old name.now limit }
@@ -290,11 +286,9 @@ impl MemorySink {
 
 impl Sink for MemorySink {
     ghost use Rattle.payments.specs.Causes.{SinkCause};
-    ghost use Rattle.payments.specs.Memory.{sink_faults_of, sink_plan_of, write_of, written_of};
+    ghost use Rattle.payments.specs.Memory.{sink_faults_of, sink_plan_of, sink_state_of, write_of, written_of};
 
-    ghost written = { λ s. Some (written_of s) };
-
-    ghost faults = { sink_faults_of };
+    ghost state = { sink_state_of };
 
     fn write(&mut self, piece: &[u8]) -> Result<u64, SinkFault>
         requires some { 0 < length piece.now }

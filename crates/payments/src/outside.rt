@@ -1,6 +1,7 @@
-ghost use Rattle.std.specs.Prelude.{◌≡◌, ◌≤◌, ◌<◌, ◌++◌, [], ℕ, List, Option, None, Some, length, take, option_map, IfOk, IfSome, IsSome, IsErrOf, OnErr, OnOk};
-ghost use Rattle.payments.specs.Causes.{Faults, ReadCause, WriteCause, SinkCause};
-ghost use Rattle.payments.specs.Files.{Files, told_bytes, with_bytes, with_more};
+ghost use Rattle.std.specs.Prelude.{◌≡◌, ◌≤◌, ◌<◌, ◌++◌, [], None, Some, length, take, option_map, IfOk, IfSome, IsSome, IsErrOf, OnErr, OnOk};
+ghost use Rattle.payments.specs.Causes.{ReadCause, WriteCause, SinkCause};
+ghost use Rattle.payments.specs.Files.{told_bytes, with_bytes, with_more};
+ghost use Rattle.payments.specs.World.{ShelfState, SinkState};
 
 use std::alloc::Global;
 use tuple_trace::{Bytes, Word};
@@ -19,41 +20,43 @@ pub enum ShelfFault {
 ///
 /// Whether a shelf tells what its files hold is its own choice: one in memory does, one over the host can't.
 pub trait Shelf {
-    /// The files, where they are told.
-    ghost files: { Self → Option Files };
-
-    /// How many reads and writes have failed, and the file of the latest failure. A count never falls, and stays at 2^64 - 1.
-    ghost faults: { Self → Faults };
-
-    /// The file that takes what is appended: the one that the latest `create` made.
-    ghost target: { Self → Option (List ℕ) };
+    /// The files, if they are told; how many reads and writes have failed, and the file of the
+    /// latest failure; and the file that takes what is appended, which the latest `create` made.
+    /// A count never falls, and stays at 2^64 - 1.
+    ghost state: { Self → ShelfState };
 
     /// All bytes of a file, of which there are at most `limit`. A name without a file is read as no bytes, or refused.
     fn read_all(&mut self, alloc: Global, name: &Word, limit: u64) -> Result<Bytes, ShelfFault>
-        ensures bytes { IfOk result (λ bytes. IfSome (told_bytes (files self.old) name.now) (λ told. bytes ≡ told)) }
+        ensures bytes { IfOk result (λ bytes.
+            IfSome (told_bytes (state self.old).files name.now) (λ told. bytes ≡ told)) }
         ensures short { IfOk result (λ bytes. length bytes ≤ limit) }
-        ensures long { IsErrOf result ShelfFault.Long → IfSome (told_bytes (files self.old) name.now) (λ told. limit < length told) }
-        ensures files { files self.new ≡ files self.old }
-        ensures target { target self.new ≡ target self.old }
-        ensures cause { ReadCause result name.now (faults self.old) (faults self.new) };
+        ensures long { IsErrOf result ShelfFault.Long →
+            IfSome (told_bytes (state self.old).files name.now) (λ told. limit < length told) }
+        ensures files { (state self.new).files ≡ (state self.old).files }
+        ensures target { (state self.new).target ≡ (state self.old).target }
+        ensures cause { ReadCause result name.now (state self.old).faults (state self.new).faults };
 
     /// Makes a file empty, whether or not there is one. What is appended from then on goes to it.
     fn create(&mut self, name: &Word) -> Result<(), ShelfFault>
-        ensures made { OnOk result (files self.new ≡ with_bytes (files self.old) name.now []) }
-        ensures target { OnOk result (target self.new ≡ Some name.now) }
-        ensures unmade { OnErr result (files self.new ≡ files self.old) }
-        ensures closed { OnErr result (target self.new ≡ None) }
-        ensures cause { WriteCause result (Some name.now) (faults self.old) (faults self.new) };
+        ensures made { OnOk result
+            ((state self.new).files ≡ with_bytes (state self.old).files name.now []) }
+        ensures target { OnOk result ((state self.new).target ≡ Some name.now) }
+        ensures unmade { OnErr result ((state self.new).files ≡ (state self.old).files) }
+        ensures closed { OnErr result ((state self.new).target ≡ None) }
+        ensures cause { WriteCause result (Some name.now)
+            (state self.old).faults (state self.new).faults };
 
     /// Appends the first bytes of a piece, at least one, and answers how many.
     fn append(&mut self, piece: &[u8]) -> Result<u64, ShelfFault>
-        requires made { IsSome (target self.old) }
+        requires made { IsSome (state self.old).target }
         requires some { 0 < length piece.now }
         ensures count { IfOk result (λ n. (0 < n) × (n ≤ length piece.now)) }
-        ensures more { IfOk result (λ n. IfSome (target self.old) (λ name. files self.new ≡ with_more (files self.old) name (take n piece.now))) }
-        ensures err { OnErr result (files self.new ≡ files self.old) }
-        ensures target { target self.new ≡ target self.old }
-        ensures cause { WriteCause result (target self.old) (faults self.old) (faults self.new) };
+        ensures more { IfOk result (λ n. IfSome (state self.old).target (λ name.
+            (state self.new).files ≡ with_more (state self.old).files name (take n piece.now))) }
+        ensures err { OnErr result ((state self.new).files ≡ (state self.old).files) }
+        ensures target { (state self.new).target ≡ (state self.old).target }
+        ensures cause { WriteCause result (state self.old).target
+            (state self.old).faults (state self.new).faults };
 }
 
 /// Why a write to a stream gave up.
@@ -66,17 +69,16 @@ pub enum SinkFault {
 
 /// A stream that only grows.
 pub trait Sink {
-    /// What was written, where it is told.
-    ghost written: { Self → Option (List ℕ) };
-
-    /// How many writes have failed. The count never falls, and stays at 2^64 - 1.
-    ghost faults: { Self → ℕ };
+    /// What was written, if it is told, and how many writes have failed. The count never falls,
+    /// and stays at 2^64 - 1.
+    ghost state: { Self → SinkState };
 
     /// Writes the first bytes of a piece, at least one, and answers how many.
     fn write(&mut self, piece: &[u8]) -> Result<u64, SinkFault>
         requires some { 0 < length piece.now }
         ensures count { IfOk result (λ n. (0 < n) × (n ≤ length piece.now)) }
-        ensures more { IfOk result (λ n. written self.new ≡ option_map (λ w. w ++ take n piece.now) (written self.old)) }
-        ensures err { OnErr result (written self.new ≡ written self.old) }
-        ensures cause { SinkCause result (faults self.old) (faults self.new) };
+        ensures more { IfOk result (λ n. (state self.new).written ≡
+            option_map (λ w. w ++ take n piece.now) (state self.old).written) }
+        ensures err { OnErr result ((state self.new).written ≡ (state self.old).written) }
+        ensures cause { SinkCause result (state self.old).faults (state self.new).faults };
 }

@@ -48,13 +48,9 @@ impl SureShelf {
 }
 
 impl Shelf for SureShelf {
-    ghost use Rattle.payments.specs.Sure.{no_faults, sure_files, sure_target};
+    ghost use Rattle.payments.specs.Sure.{sure_state_of};
 
-    ghost files = { λ s. Some (sure_files s) };
-
-    ghost faults = { λ _. no_faults };
-
-    ghost target = { sure_target };
+    ghost state = { sure_state_of };
 
     fn read_all(&mut self, alloc: Global, name: &Word, limit: u64) -> Result<Bytes, ShelfFault> {
         if self.shelf.get(name).is_none() {
@@ -100,11 +96,9 @@ impl SureSink {
 }
 
 impl Sink for SureSink {
-    ghost use Rattle.payments.specs.Sure.{sure_written};
+    ghost use Rattle.payments.specs.Sure.{sure_sink_state_of};
 
-    ghost written = { λ s. Some (sure_written s) };
-
-    ghost faults = { λ _. 0 };
+    ghost state = { sure_sink_state_of };
 
     fn write(&mut self, piece: &[u8]) -> Result<u64, SinkFault> {
         self.sink.write(piece)

@@ -10,13 +10,17 @@ use tuple_trace::Word;
 /// After an error the file is as before if it couldn't be made. Else it holds a prefix of the text,
 /// which isn't all of it. No other file changes.
 pub fn store<S: Shelf>(shelf: &mut S, name: &Word, text: &[u8]) -> Result<(), ShelfFault>
-    ensures whole { OnOk result (S.files shelf.new ≡ with_bytes (S.files shelf.old) name.now text.now) }
-    ensures target { OnOk result (S.target shelf.new ≡ Some name.now) }
-    ensures part { OnErr result ((S.files shelf.new ≡ S.files shelf.old) ⊎ HoldsPrefix (S.files shelf.old) (S.files shelf.new) name.now text.now) }
-    ensures unmade { OnErr result (S.target shelf.new ≡ None → S.files shelf.new ≡ S.files shelf.old) }
-    ensures stopped { OnErr result ((S.target shelf.new ≡ None)
-        ⊎ HoldsProperPrefix (S.files shelf.old) (S.files shelf.new) name.now text.now) }
-    ensures cause { WriteCause result (Some name.now) (S.faults shelf.old) (S.faults shelf.new) }
+    ensures whole { OnOk result
+        ((S.state shelf.new).files ≡ with_bytes (S.state shelf.old).files name.now text.now) }
+    ensures target { OnOk result ((S.state shelf.new).target ≡ Some name.now) }
+    ensures part { OnErr result (((S.state shelf.new).files ≡ (S.state shelf.old).files)
+        ⊎ HoldsPrefix (S.state shelf.old).files (S.state shelf.new).files name.now text.now) }
+    ensures unmade { OnErr result ((S.state shelf.new).target ≡ None →
+        (S.state shelf.new).files ≡ (S.state shelf.old).files) }
+    ensures stopped { OnErr result (((S.state shelf.new).target ≡ None)
+        ⊎ HoldsProperPrefix (S.state shelf.old).files (S.state shelf.new).files name.now text.now) }
+    ensures cause { WriteCause result (Some name.now)
+        (S.state shelf.old).faults (S.state shelf.new).faults }
 {
     shelf.create(name)?;
     let mut rest = text;
@@ -31,11 +35,12 @@ pub fn store<S: Shelf>(shelf: &mut S, name: &Word, text: &[u8]) -> Result<(), Sh
 ///
 /// After an error the stream has gained a prefix of the text, which isn't all of it.
 pub fn write_all<O: Sink>(out: &mut O, text: &[u8]) -> Result<(), SinkFault>
-    ensures whole { OnOk result (O.written out.new ≡ option_map (λ w. w ++ text.now) (O.written out.old)) }
-    ensures part { GainsPrefix (O.written out.old) (O.written out.new) text.now }
+    ensures whole { OnOk result ((O.state out.new).written ≡
+        option_map (λ w. w ++ text.now) (O.state out.old).written) }
+    ensures part { GainsPrefix (O.state out.old).written (O.state out.new).written text.now }
     ensures stopped { OnErr result
-        (GainsProperPrefix (O.written out.old) (O.written out.new) text.now) }
-    ensures cause { SinkCause result (O.faults out.old) (O.faults out.new) }
+        (GainsProperPrefix (O.state out.old).written (O.state out.new).written text.now) }
+    ensures cause { SinkCause result (O.state out.old).faults (O.state out.new).faults }
 {
     let mut left = text;
     while !left.is_empty() {

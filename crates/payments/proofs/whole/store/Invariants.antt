@@ -6,9 +6,9 @@ abbrev pub invariant-loop-rest : goal.invariant-loop-rest
 invariant-loop-rest g l = record {
   done : List ℕ;
   text : l.text ≡ done ++ l.rest;
-  files : g.S.Shelf.files l.shelf ≡ with_bytes (g.S.Shelf.files l.fn.shelf) l.name done;
-  target : g.S.Shelf.target l.shelf ≡ Some l.name;
-  faults : g.S.Shelf.faults l.shelf ≡ g.S.Shelf.faults l.fn.shelf;
+  files : (g.S.Shelf.state l.shelf).files ≡ with_bytes (g.S.Shelf.state l.fn.shelf).files l.name done;
+  target : (g.S.Shelf.state l.shelf).target ≡ Some l.name;
+  faults : (g.S.Shelf.state l.shelf).faults ≡ (g.S.Shelf.state l.fn.shelf).faults;
 }
 
 abbrev pub decreases-loop-rest : goal.decreases-loop-rest

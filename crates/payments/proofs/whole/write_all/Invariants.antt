@@ -6,8 +6,8 @@ abbrev pub invariant-loop-left : goal.invariant-loop-left
 invariant-loop-left g l = record {
   done : List ℕ;
   text : l.text ≡ done ++ l.left;
-  written : g.O.Sink.written l.out ≡ option_map (λ w. w ++ done) (g.O.Sink.written l.fn.out);
-  faults : g.O.Sink.faults l.out ≡ g.O.Sink.faults l.fn.out;
+  written : (g.O.Sink.state l.out).written ≡ option_map (λ w. w ++ done) (g.O.Sink.state l.fn.out).written;
+  faults : (g.O.Sink.state l.out).faults ≡ (g.O.Sink.state l.fn.out).faults;
 }
 
 abbrev pub decreases-loop-left : goal.decreases-loop-left
