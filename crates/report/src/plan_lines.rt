@@ -1,5 +1,5 @@
 // The lines of the plans of requests.
-ghost use Rattle.std.specs.Prelude.{◌≡◌, ◌<◌, ◌≤◌, ◌++◌, IfOk, OnOk, length, slice_get};
+ghost use Rattle.std.specs.Prelude.{◌≡◌, ◌<◌, ◌≤◌, ◌++◌, IfOk, OnErr, OnOk, length, slice_get};
 ghost use Rattle.flow_dag.specs.Masks.{has};
 ghost use Rattle.jobs.specs.Job.{written};
 ghost use Rattle.report.specs.Lines.{edge_name as edge_name_of, edge_names as edge_names_of, is_part as is_part_of, listed as listed_of, name_of, node_names as node_names_of, part_count as part_count_of, plan_line, plan_lines};
@@ -13,19 +13,29 @@ use tuple_trace::{Bytes, Items, NoMemory};
 /// Texts in a row.
 type Texts = Items<Bytes>;
 
-/// Appends the lines of the plans of a job's requests, which are counted from 1.
+/// Appends the lines of the plans of a job's requests, which are counted from 1. After [`NoMemory`]
+/// the text is as before.
 pub fn push_plans(
     alloc: Global,
     job: &Job,
     plans: &[Plan],
     text: &mut Bytes,
 ) -> Result<(), NoMemory>
-    ensures { OnOk result (text.new ≡ text.old ++ plan_lines (written job.now) plans.now) }
+    ensures ok { OnOk result (text.new ≡ text.old ++ plan_lines (written job.now) plans.now) }
+    ensures err { OnErr result (text.new ≡ text.old) }
 {
+    let lines = lines_of(alloc, job, plans)?;
+    text.extend_from_slice(lines.as_slice())
+}
+
+fn lines_of(alloc: Global, job: &Job, plans: &[Plan]) -> Result<Bytes, NoMemory>
+    ensures { IfOk result (λ lines. lines ≡ plan_lines (written job.now) plans.now) }
+{
+    let mut lines = Bytes::new(alloc);
     for (place, plan) in plans.iter().enumerate() {
-        push_plan(alloc, job, place as u64 + 1, plan, text)?;
+        push_plan(alloc, job, place as u64 + 1, plan, &mut lines)?;
     }
-    Ok(())
+    Ok(lines)
 }
 
 fn push_plan(

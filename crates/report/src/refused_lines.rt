@@ -1,5 +1,5 @@
 // The lines of requests that are refused.
-ghost use Rattle.std.specs.Prelude.{◌≡◌, ◌++◌, Some, IfOk, OnOk, map, string_bytes};
+ghost use Rattle.std.specs.Prelude.{◌≡◌, ◌++◌, Some, IfOk, OnErr, OnOk, map, string_bytes};
 ghost use Rattle.report.specs.Lines.{code_of as code_of_fault, noted as noted_as, refusal_words, refused_line as refused_line_of, refused_lines};
 
 use sink_journal::{Noted, RefusalCode};
@@ -67,15 +67,24 @@ fn note(refused: Refused) -> Noted
     }
 }
 
-/// Appends the lines of refused requests, in their order.
+/// Appends the lines of refused requests, in their order. After [`NoMemory`] the text is as before.
 pub fn push_refused(alloc: Global, refused: &[Refused], text: &mut Bytes) -> Result<(), NoMemory>
-    ensures { OnOk result (text.new ≡ text.old ++ refused_lines refused.now) }
+    ensures ok { OnOk result (text.new ≡ text.old ++ refused_lines refused.now) }
+    ensures err { OnErr result (text.new ≡ text.old) }
 {
+    let lines = lines_of(alloc, refused)?;
+    text.extend_from_slice(lines.as_slice())
+}
+
+fn lines_of(alloc: Global, refused: &[Refused]) -> Result<Bytes, NoMemory>
+    ensures { IfOk result (λ lines. lines ≡ refused_lines refused.now) }
+{
+    let mut lines = Bytes::new(alloc);
     for request in refused {
         let line = refused_line(alloc, *request)?;
-        text.extend_from_slice(line.as_bytes())?;
+        lines.extend_from_slice(line.as_bytes())?;
     }
-    Ok(())
+    Ok(lines)
 }
 
 /// The line of a refused request.

@@ -2,9 +2,9 @@ use Rattle.std.proofs.Common.{◌≡◌, ◌++◌, ◌+◌, drop}
 use Rattle.std.specs.List.{enumerate_from, flat_map}
 use Rattle.jobs.specs.Job.{written}
 use Rattle.report.specs.Lines.{plan_line, plan_lines}
-use Rattle.report.proofs.plan_lines.push_plans.Given as goal
+use Rattle.report.proofs.plan_lines.lines_of.Given as goal
 
 abbrev pub invariant-loop-place : goal.invariant-loop-place
 invariant-loop-place l =
-    l.text ++ flat_map (λ (request, plan). plan_line (written l.job) request plan) (enumerate_from (l.place + 1) (drop l.place l.plans))
-    ≡ l.fn.text ++ plan_lines (written l.job) l.plans
+    l.lines ++ flat_map (λ (request, plan). plan_line (written l.job) request plan) (enumerate_from (l.place + 1) (drop l.place l.plans))
+    ≡ plan_lines (written l.job) l.plans

@@ -1,6 +1,0 @@
-use Rattle.std.proofs.Common.{◌≡◌, ◌++◌, drop}
-use Rattle.report.specs.Lines.{refused_lines}
-use Rattle.report.proofs.refused_lines.push_refused.Given as goal
-
-abbrev pub invariant-loop-request : goal.invariant-loop-request
-invariant-loop-request l = l.text ++ refused_lines (drop l.request-index l.refused) ≡ l.fn.text ++ refused_lines l.refused
