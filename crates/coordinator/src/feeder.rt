@@ -1,6 +1,6 @@
 ghost use Rattle.std.specs.Prelude.{◌≡◌, ◌≤◌, IfOk, List, false, length, ⊤};
 ghost use Rattle.tuple_trace.specs.declared.row.Row.{Row as RowIs};
-ghost use Rattle.flow_model.specs.Begin.{Begin, at_first};
+ghost use Rattle.flow_model.specs.Begin.{at_first};
 ghost use Rattle.flow_model.specs.Setup.{outline};
 ghost use Rattle.coordinator.specs.Feeding.{IsFeeder};
 ghost use Rattle.coordinator.specs.Starts.{AreNewOuts, AreUnused};
@@ -9,7 +9,7 @@ ghost use Rattle.coordinator.specs.Views.{FeederIs, outs_of};
 use crate::state::State;
 use crate::{FeedParts, FeedTurn, Feeding};
 use control_box::Poster;
-use flow_model::Setup;
+use flow_model::{Setup, Start};
 use lane_core::Lanes;
 use std::alloc::Global;
 use std::marker::Model;
@@ -30,28 +30,30 @@ impl<L: Lanes> Model for Feeder<L> {
 }
 
 impl<L: Lanes> Feeder<L> {
-    /// A feeder from a beginning on: `row` rows were fed and `turned` requests were turned before.
+    /// A feeder from a beginning on: it feeds the rows after the first `start.row`, and issues the
+    /// requests after the first `start.turned`, which are those of the setup at most.
+    ///
     /// `outs` are the endpoints of the lanes of all sources, in the order of the lanes' numbers.
-    /// `posters` are those of all workers, in their order. A refusal gives all of them up.
+    /// `posters` are those of all workers, in their order. The one error is out of memory; it gives
+    /// all of them up.
     pub fn make_from(
         alloc: Global,
         setup: &Setup,
         outs: Vec<L::Tx>,
         posters: Vec<Poster>,
-        row: usize,
-        turned: usize,
+        start: &Start,
     ) -> Result<Feeder<L>, NoMemory>
-        requires turned { turned ≤ length (outline setup.now).requests }
+        requires turned { start.now.turned ≤ length (outline setup.now).requests }
         requires outs { AreNewOuts (outline setup.now).job (outs_of L.Tx.lane L.Tx.number
             L.Tx.origin L.Tx.capacity L.Tx.sent L.Tx.full outs.items) }
         requires boxes { AreUnused (outline setup.now) posters.items }
-        ensures law { IfOk result (λ (f : FeederIs). (begin : Begin) (rows : List RowIs)
-            → begin.row ≡ row → begin.turned ≡ turned
-            → IsFeeder false (outline setup.now) begin rows f) }
+        ensures law { IfOk result (λ (f : FeederIs). (rows : List RowIs)
+            → IsFeeder false (outline setup.now) start.now rows f) }
         ensures outs { IfOk result (λ (f : FeederIs). f.outs ≡ outs_of L.Tx.lane L.Tx.number
             L.Tx.origin L.Tx.capacity L.Tx.sent L.Tx.full outs.items) }
         ensures boxes { IfOk result (λ (f : FeederIs). f.boxes.posters ≡ posters.items) }
     {
+        let (row, turned) = (start.row as usize, start.turned as usize);
         let state = State::make(alloc, setup, outs, posters, row, turned)?;
         Ok(Feeder { state })
     }
