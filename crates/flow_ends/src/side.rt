@@ -1,4 +1,4 @@
-ghost use Rattle.std.specs.Prelude.{◌≡◌, [], ◌∷◌, ◌++◌, IfNone, IfSome, OnOk};
+ghost use Rattle.std.specs.Prelude.{◌≡◌, [], ◌∷◌, ◌++◌, IfNone, IfSome, OnErr, OnOk};
 ghost use Rattle.flow_worker.specs.Parts.{endpoints};
 ghost use Rattle.flow_ends.specs.Sides.{empty_side};
 ghost use Rattle.flow_ends.specs.Sorted.{more_in, more_out};
@@ -49,23 +49,27 @@ impl<L: Lanes> Side<L> {
         Side { ins, outs }
     }
 
-    /// Adds the receiving endpoint of the next lane in.
+    /// Adds the receiving endpoint of the next lane in. A refusal leaves the side as it was, and
+    /// gives the endpoint up.
     pub fn push_in(&mut self, end: L::Rx) -> Result<(), NoMemory>
-        ensures { OnOk result (self.new ≡ record self.old {
+        ensures ok { OnOk result (self.new ≡ record self.old {
           ins = self.old.ins
               ++ endpoints L.Rx.lane L.Rx.number L.Rx.origin L.Rx.taken (end ∷ []);
         }) }
+        ensures err { OnErr result (self.new ≡ self.old) }
     {
         self.ins.push(end)?;
         Ok(())
     }
 
-    /// Adds the sending endpoint of the next lane out.
+    /// Adds the sending endpoint of the next lane out. A refusal leaves the side as it was, and
+    /// gives the endpoint up.
     pub fn push_out(&mut self, end: L::Tx) -> Result<(), NoMemory>
-        ensures { OnOk result (self.new ≡ record self.old {
+        ensures ok { OnOk result (self.new ≡ record self.old {
           outs = self.old.outs
               ++ endpoints L.Tx.lane L.Tx.number L.Tx.origin L.Tx.sent (end ∷ []);
         }) }
+        ensures err { OnErr result (self.new ≡ self.old) }
     {
         self.outs.push(end)?;
         Ok(())
