@@ -8,6 +8,7 @@ use Rattle.flow_dag.specs.declared.edge.Edge.{Edge}
 use Rattle.flow_dag.specs.declared.graph.Graph.{Graph}
 use Rattle.jobs.specs.Law.{IsLawful}
 use Rattle.jobs.specs.Written.{Written}
+use Rattle.jobs.specs.declared.func.Func.{Func}
 use Rattle.jobs.specs.declared.func.NodeDef.{NodeDef}
 use Rattle.keyed_state.specs.Counts.{Counts}
 use Rattle.lane_core.specs.Steady.{IsSteady}
@@ -17,25 +18,28 @@ use Rattle.marker_align.specs.declared.decision.Due.{Due}
 use Rattle.marker_align.specs.declared.held.Hand.TheVariants.{Empty}
 use Rattle.sink_journal.specs.declared.journal.Entry.{Entry}
 use Rattle.tuple_trace.specs.declared.tuple.Item.{Item}
-use Rattle.flow_model.specs.Begin.{Begin, at_first, local_at}
+use Rattle.flow_model.specs.Begin.{Begin, at_first, last_after, local_at}
 use Rattle.flow_model.specs.Lanes.{is_sender, lanes, lanes_in, senders, out_numbers, lanes_that}
 use Rattle.flow_model.specs.declared.topology.Lane.{Lane}
 use Rattle.flow_model.specs.Outline.{Outline, Post}
 use Rattle.flow_model.specs.Points.{turned}
+use Rattle.flow_model.specs.Requests.{func_after}
 use Rattle.flow_model.specs.Run.{IsLawfulFrom}
 use Rattle.flow_model.specs.Station.{dues_after}
-use Rattle.flow_model.specs.Workers.{posts}
+use Rattle.flow_model.specs.Workers.{post_at, posts}
 use Rattle.flow_model.proofs.ElementLemmas.{IsIn}
 use Rattle.flow_model.proofs.LaneLemmas.{in_lanes_that, lane_is, sender_is}
+use Rattle.flow_model.proofs.PostPlaces.{get-post_at}
 use Rattle.flow_model.proofs.WorkerLemmas.{worker_with}
 use Rattle.flow_model.proofs.FewLanes.{few_lanes, some_lane}
 use Rattle.flow_model.proofs.LaneLemmas.{sender_worker}
+use Rattle.flow_model.specs.declared.in_force.InForce.{InForce}
 use Rattle.flow_model.specs.declared.in_force.InForce.TheVariants.{Own}
 use Rattle.flow_worker.specs.Pairs.{Each}
 use Rattle.flow_model.specs.Dues.{AreDues, IsDueAfter, IsDueOf, edges_in}
 use Rattle.flow_model.specs.InForce.{func_in}
 use Rattle.flow_worker.specs.Endpoints.{LaneInIs, LaneOutIs, in_hand, planned}
-use Rattle.flow_worker.specs.Parts.{AreNewEndpoints, EndpointIs, IsNewEndpoint, endpoint_in, endpoint_out}
+use Rattle.flow_worker.specs.Parts.{AreNewEndpoints, EndpointIs, IsNewEndpoint, IsStateAt, endpoint_in, endpoint_out}
 use Rattle.flow_worker.specs.Worker.{IsEndpointIn, IsEndpointOut, IsOnLane, IsPlaced, IsWorker, Sends, ShowsTaken, WorkerIs, local_now, numbers_in, numbers_out, progress_now}
 use Rattle.flow_worker.proofs.PlaceLemmas.{placed_edges}
 use Rattle.flow_worker.proofs.Pairs.{each_map, each_of, get_mapped, length_mapped}
@@ -89,36 +93,33 @@ begins_from setup begin post w placed n =
     counted None k h = tt
     counted (Some due) k h = let l : k < due.request = h in omega (arith, l)
 
--- nothing has happened at all
-pub record IsNew (setup : Outline) (w : WorkerIs) : Type 0 where
-  pub journal : w.journal ≡ []
-  pub func : w.in_force ≡ Own
-  pub counts : w.counts ≡ empty
-  pub last : w.last ≡ 0
-  pub due : IsDueAfter setup w.node (edges_in setup.job w.number) 0 w.due
-  pub turned : w.owner.turned ≡ 0
-  pub closed : w.closed ≡ false
-  pub taken : Each (λ (a : LaneInIs). (a.taken ≡ []) × (a.hand ≡ Empty)) w.ins
-  pub sent : Each (λ (out : LaneOutIs). (out.sent ≡ []) × (out.waiting ≡ [])) w.outs
+-- the function of a worker is that of the job at first
+pub own_func : (setup : Outline) (w : ℕ) → w < length (posts setup.job) → func_in setup (post_at setup.job w).node Own ≡ Some (post_at setup.job w).func
+own_func setup w there =
+    let is = (worker_with setup.job w (post_at setup.job w) (get-post_at setup.job w there)).1 in
+    ap (option_map (λ (def : NodeDef). def.func)) is.node_is ∙ ap Some (sym is.func_is)
 
-pub begins : (setup : Outline) (post : Post) (w : WorkerIs) → IsPlaced setup post w → IsNew setup w → IsWorker setup (at_first setup) w
-begins setup post w placed n =
-    let is = (worker_with setup.job w.number post placed.post_is).1 in
-    let own : func_in setup w.node Own ≡ Some post.func =
-    ap (λ m. option_map (λ (def : NodeDef). def.func) (slice_get setup.job.nodes m)) placed.node_is ∙ (ap (option_map (λ (def : NodeDef). def.func)) is.node_is ∙ ap Some (sym is.func_is)) in
-    begins_from setup (at_first setup) post w placed (record {
-      begun = empty;
-      begun_is = get_mapped (λ (p : Post). empty) (posts setup.job) w.number post placed.post_is;
-      journal = n.journal;
-      func = ap (func_in setup w.node) n.func ∙ own;
-      counts = n.counts;
-      last = n.last;
-      due = n.due;
-      turned = n.turned;
-      closed = n.closed;
-      taken = n.taken;
-      sent = n.sent;
-    })
+-- the state of a worker where a beginning is
+pub state_at : (setup : Outline) (begin : Begin) (w node turned last : ℕ) (at : InForce) (counts : Counts) → w < length (posts setup.job) → slice_get begin.states w ≡ Some counts → turned ≡ begin.turned → node ≡ (post_at setup.job w).node
+    → ((func : Func) → func_in setup node Own ≡ Some func → func_in setup node at ≡ Some (func_after setup node func turned)) → last ≡ last_after setup (post_at setup.job w).node turned
+    → IsStateAt setup begin w (record { turned = turned; in_force = at; counts = counts; last = last })
+state_at setup begin w node turned last at counts there c t n f l =
+    let post = post_at setup.job w in
+    let own = own_func setup w there in
+    let put : func_in setup post.node at ≡ Some (func_after setup post.node post.func turned) =
+    subst (λ (m : ℕ). func_in setup m Own ≡ Some post.func → func_in setup m at ≡ Some (func_after setup m post.func turned)) n (f post.func) own in
+    record {
+      begun_is = c;
+      turned_is = t;
+      func_is = subst (λ (r : ℕ). func_in setup post.node at ≡ Some (func_after setup post.node post.func r)) t put;
+      last_is = l ∙ ap (last_after setup post.node) t;
+    }
+
+-- the state at the beginning of all
+pub first_state : (setup : Outline) (w : ℕ) (counts : Counts) → w < length (posts setup.job) → counts ≡ empty → IsStateAt setup (at_first setup) w (record { turned = 0; in_force = Own; counts = counts; last = 0 })
+first_state setup w counts there none =
+    let begun = get_mapped (λ (p : Post). empty) (posts setup.job) w (post_at setup.job w) (get-post_at setup.job w there) ∙ ap Some (sym none) in
+    state_at setup (at_first setup) w (post_at setup.job w).node 0 0 Own counts there begun refl refl (λ func own. own) refl
 
 -- ---- where it stands
 

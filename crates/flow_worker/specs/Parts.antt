@@ -9,10 +9,15 @@ use Rattle.lane_core.specs.declared.form.Origin.{Origin}
 use Rattle.sink_journal.specs.declared.journal.Entry.{Entry}
 use Rattle.tuple_trace.specs.declared.tuple.Item.{Item}
 use Rattle.flow_model.specs.Agreement.{IsGraphOf}
+use Rattle.flow_model.specs.Begin.{Begin, local_at}
+use Rattle.flow_model.specs.InForce.{func_in}
 use Rattle.flow_model.specs.Lanes.{lanes, lanes_in, out_numbers}
+use Rattle.flow_model.specs.Outline.{Outline}
+use Rattle.flow_model.specs.Workers.{post_at}
 use Rattle.flow_model.specs.declared.topology.Lane.{Lane}
 use Rattle.flow_worker.specs.Pairs.{Each}
 use Rattle.flow_worker.specs.Endpoints.{LaneInIs, LaneOutIs}
+use Rattle.flow_worker.specs.declared.worker.WorkerState.{WorkerState}
 
 -- What contracts see of a lane's endpoint: the lane, its number, its origin, and the items that
 -- were sent or taken by it.
@@ -60,3 +65,13 @@ pub record AreNewEndpoints (job : Written) (worker : ℕ) (ins outs : List Endpo
   pub new_in : Each (IsNewEndpoint job graph) ins
   pub outs_are : map (λ (end : EndpointIs). end.number) outs ≡ out_numbers job worker
   pub new_out : Each (IsNewEndpoint job graph) outs
+
+-- the state of the worker with a number where a beginning is
+pub record IsStateAt (setup : Outline) (begin : Begin) (number : ℕ) (state : WorkerState) : Type 0 where
+  pub begun_is : slice_get begin.states number ≡ Some state.counts
+  pub turned_is : state.turned ≡ begin.turned
+  pub func_is :
+      func_in setup (post_at setup.job number).node state.in_force
+      ≡ Some (local_at setup begin.turned (post_at setup.job number) state.counts).func
+  pub last_is :
+      state.last ≡ (local_at setup begin.turned (post_at setup.job number) state.counts).last

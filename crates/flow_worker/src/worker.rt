@@ -8,7 +8,7 @@ ghost use Rattle.flow_model.specs.Setup.{outline};
 ghost use Rattle.flow_model.specs.Workers.{posts};
 ghost use Rattle.flow_worker.specs.Endpoints.{IsSteadyOut, all_sent, all_taken, is_waiting};
 ghost use Rattle.flow_worker.specs.Pairs.{Each};
-ghost use Rattle.flow_worker.specs.Parts.{AreNewEndpoints, endpoint_in, endpoint_out, endpoints};
+ghost use Rattle.flow_worker.specs.Parts.{AreNewEndpoints, IsStateAt, endpoint_in, endpoint_out, endpoints};
 ghost use Rattle.flow_worker.specs.Steps.{PollsOnly, PutsOnly, TakesOnly};
 ghost use Rattle.flow_worker.specs.Turning.{IsDone, IsTurn};
 ghost use Rattle.flow_worker.specs.Worker.{IsWorker, hands};
@@ -18,7 +18,7 @@ use crate::lanes_out::LanesOut;
 use crate::parts::{Parts, Worked, new_ins, new_outs, part_ins, part_outs};
 use crate::worker::acting::Acted;
 use control_box::Owner;
-use flow_model::{InForce, Setup, workers_keep_steady};
+use flow_model::{InForce, Setup, Start, workers_keep_steady};
 use keyed_state::Keyed;
 use lane_core::Lanes;
 use marker_align::{Act, Due};
@@ -107,6 +107,16 @@ impl<L: Lanes> Model for Worker<L> {
         (w.spare_ins.items ≡ []) × (w.spare_outs.items ≡ []) × (w.made ≡ []) };
 }
 
+// What a worker begins with: how many requests were turned before it, and what they left in force.
+#[derive(Drop)]
+pub(crate) struct WorkerState {
+    turned: u64,
+    in_force: InForce,
+    counts: Keyed,
+    // The latest of these requests that covers the worker, 0 for none.
+    last: u64,
+}
+
 impl<L: Lanes> Worker<L> {
     /// Makes the worker with this number, at the beginning of a run.
     ///
@@ -132,6 +142,77 @@ impl<L: Lanes> Worker<L> {
             ≡ endpoints L.Tx.lane L.Tx.number L.Tx.origin L.Tx.sent outs.items) }
         ensures owner { IfOk result (λ w. w.owner ≡ owner) }
     {
+        let state = WorkerState {
+            turned: 0,
+            in_force: InForce::Own,
+            counts: Keyed::new(alloc),
+            last: 0,
+        };
+        Worker::with_state(alloc, setup, number, ins, outs, owner, state)
+    }
+
+    /// Makes the worker with this number where `start` begins: with a copy of its counts there, and
+    /// with what the requests that were turned before have put in force.
+    ///
+    /// `ins`, `outs` and the one error are those of [`Worker::make`]. `owner` is its end of a new
+    /// box, which counts the requests that cover the worker after those.
+    pub fn make_from(
+        alloc: Global,
+        setup: &Setup,
+        number: u32,
+        ins: Vec<L::Rx>,
+        outs: Vec<L::Tx>,
+        owner: Owner,
+        start: &Start,
+    ) -> Result<Worker<L>, NoMemory>
+        requires there { number < length (posts (outline setup.now).job) }
+        requires ends { AreNewEndpoints (outline setup.now).job number
+            (endpoints L.Rx.lane L.Rx.number L.Rx.origin L.Rx.taken ins.items)
+            (endpoints L.Tx.lane L.Tx.number L.Tx.origin L.Tx.sent outs.items) }
+        requires owner { owner.turned ≡ 0 }
+        requires turned { start.now.turned ≤ length (outline setup.now).requests }
+        requires states { length start.now.states ≡ length (posts (outline setup.now).job) }
+        ensures law { IfOk result (IsWorker (outline setup.now) start.now) }
+        ensures ins { IfOk result (λ w. map endpoint_in w.ins
+            ≡ endpoints L.Rx.lane L.Rx.number L.Rx.origin L.Rx.taken ins.items) }
+        ensures outs { IfOk result (λ w. map endpoint_out w.outs
+            ≡ endpoints L.Tx.lane L.Tx.number L.Tx.origin L.Tx.sent outs.items) }
+        ensures owner { IfOk result (λ w. w.owner ≡ owner) }
+    {
+        let turned = start.turned;
+        let state = WorkerState {
+            turned,
+            in_force: setup.in_force_after(setup.node_of(number), turned),
+            counts: start.states.as_slice()[number as usize].copy()?,
+            last: setup.last_covering(number, turned),
+        };
+        Worker::with_state(alloc, setup, number, ins, outs, owner, state)
+    }
+
+    // Makes the worker with the state of a beginning.
+    fn with_state(
+        alloc: Global,
+        setup: &Setup,
+        number: u32,
+        ins: Vec<L::Rx>,
+        outs: Vec<L::Tx>,
+        owner: Owner,
+        state: WorkerState,
+    ) -> Result<Worker<L>, NoMemory>
+        requires there { number < length (posts (outline setup.now).job) }
+        requires ends { AreNewEndpoints (outline setup.now).job number
+            (endpoints L.Rx.lane L.Rx.number L.Rx.origin L.Rx.taken ins.items)
+            (endpoints L.Tx.lane L.Tx.number L.Tx.origin L.Tx.sent outs.items) }
+        requires owner { owner.turned ≡ 0 }
+        ensures law { IfOk result (λ w. (begin : Begin)
+            → IsStateAt (outline setup.now) begin number state
+            → IsWorker (outline setup.now) begin w) }
+        ensures ins { IfOk result (λ w. map endpoint_in w.ins
+            ≡ endpoints L.Rx.lane L.Rx.number L.Rx.origin L.Rx.taken ins.items) }
+        ensures outs { IfOk result (λ w. map endpoint_out w.outs
+            ≡ endpoints L.Tx.lane L.Tx.number L.Tx.origin L.Tx.sent outs.items) }
+        ensures owner { IfOk result (λ w. w.owner ≡ owner) }
+    {
         let at = setup.worker_at(number);
         let room_in = Vec::with_capacity(alloc, ins.len())?;
         let spare_ins = Vec::with_capacity(alloc, ins.len())?;
@@ -139,16 +220,22 @@ impl<L: Lanes> Worker<L> {
         let spare_outs = Vec::with_capacity(alloc, outs.len())?;
         let ins = new_ins(setup, ins, setup.lanes_in(number), room_in);
         let outs = new_outs(alloc, setup, outs, setup.lanes_out(number), room_out);
-        let due = setup.due_after(number, 0);
+        let WorkerState {
+            turned,
+            in_force,
+            counts,
+            last,
+        } = state;
+        let due = setup.due_after(number, turned);
         Ok(Worker {
             alloc,
             number,
             node: at.node,
             place: at.index,
             journal: Reserved::new(alloc),
-            in_force: InForce::Own,
-            counts: Keyed::new(alloc),
-            last: 0,
+            in_force,
+            counts,
+            last,
             due,
             ins: LanesIn::new(ins),
             outs: LanesOut::new(outs),

@@ -1,87 +1,11 @@
-use Rattle.std.proofs.Common.{◌≡◌, ◌∙◌, ◌<◌, ◌==◌, ℕ, List, length, map, refl, sym, ap, subst, arith}
-use Rattle.std.proofs.lemmas.Simd.{map-map}
-use Rattle.flow_model.specs.Dues.{IsDueAfter, edges_in}
-use Rattle.flow_model.specs.Lanes.{is_sender, lanes}
+use Rattle.std.proofs.lemmas.Result.{IfOk-weaker}
+use Rattle.flow_model.specs.Begin.{at_first}
 use Rattle.flow_model.specs.Setup.{outline}
-use Rattle.flow_model.specs.Workers.{post_at}
-use Rattle.flow_model.specs.declared.topology.Lane.{Lane}
-use Rattle.flow_model.specs.declared.topology.WorkerAt.{WorkerAt}
-use Rattle.flow_model.proofs.FewLanes.{few_lanes}
-use Rattle.flow_model.proofs.PostPlaces.{get-post_at}
-use Rattle.flow_worker.specs.Pairs.{Each}
-use Rattle.flow_worker.specs.Parts.{EndpointIs, IsNewEndpoint, endpoint_in, endpoint_out}
-use Rattle.flow_worker.proofs.Beginning.{begins, lanes_there, new_hands, new_waiting, stands}
-use Rattle.flow_worker.proofs.Pairs.{length_mapped}
+use Rattle.flow_worker.proofs.Beginning.{first_state}
 use Rattle.flow_worker.proofs.worker.Worker.make.Goals as goal
-
-pub new_ins-ins-requires-clause-numbers : goal.new_ins-ins-requires-clause-numbers
-new_ins-ins-requires-clause-numbers g c κs up =
-    let F : g.row.L-Rx.Denot → EndpointIs = λ x. record { lane = g.L.Rx.Rx.lane x; number = g.L.Rx.Rx.number x; origin = g.L.Rx.Rx.origin x; items = g.L.Rx.Rx.taken x } in
-    sym (map-map (λ (end : EndpointIs). end.number) F c.args.ins.items) ∙ (c.requires.ends.ins_are ∙ sym c.lanes_in.ensures)
-
-pub new_ins-ins-requires-clause-there : goal.new_ins-ins-requires-clause-there
-new_ins-ins-requires-clause-there g c κs up =
-    let job = (outline c.args.setup.now).job in
-    subst (Each (λ (n : ℕ). n < length (lanes job))) (sym c.lanes_in.ensures) (lanes_there (λ (lane : Lane). lane.receiver == c.args.number) job)
-
-pub new_outs-outs-requires-clause-numbers : goal.new_outs-outs-requires-clause-numbers
-new_outs-outs-requires-clause-numbers g c κs up =
-    let F : g.row.L-Tx.Denot → EndpointIs = λ x. record { lane = g.L.Tx.Tx.lane x; number = g.L.Tx.Tx.number x; origin = g.L.Tx.Tx.origin x; items = g.L.Tx.Tx.sent x } in
-    sym (map-map (λ (end : EndpointIs). end.number) F c.args.outs.items) ∙ (c.requires.ends.outs_are ∙ sym c.lanes_out.ensures)
-
-pub new_outs-outs-requires-clause-there : goal.new_outs-outs-requires-clause-there
-new_outs-outs-requires-clause-there g c κs up =
-    let job = (outline c.args.setup.now).job in
-    subst (Each (λ (n : ℕ). n < length (lanes job))) (sym c.lanes_out.ensures) (lanes_there (λ (lane : Lane). is_sender c.args.number lane.sender) job)
-
-pub new-requires-3-clause-few : goal.new-requires-3-clause-few
-new-requires-3-clause-few g c κs up =
-    let job = (outline c.args.setup.now).job in
-    let F : g.row.L-Rx.Denot → EndpointIs = λ x. record { lane = g.L.Rx.Rx.lane x; number = g.L.Rx.Rx.number x; origin = g.L.Rx.Rx.origin x; items = g.L.Rx.Rx.taken x } in
-    let ins = c.new_ins-ins.result.items in
-    let long : length ins ≡ length c.args.ins.items = sym (length_mapped endpoint_in ins) ∙ (ap (λ (xs : List EndpointIs). length xs) c.new_ins-ins.ensures.ends ∙ length_mapped F c.args.ins.items) in
-    let all = ap (λ (xs : List ℕ). length xs) c.requires.ends.ins_are in
-    let each = length_mapped (λ (end : EndpointIs). end.number) (map F c.args.ins.items) in
-    let ends = length_mapped F c.args.ins.items in
-    let few = few_lanes job c.args.number (post_at job c.args.number) c.args.setup.now.job.lawful (get-post_at job c.args.number c.requires.there) in
-    omega (arith, long, all, each, ends, few)
-
-pub new-requires-3-clause-hands : goal.new-requires-3-clause-hands
-new-requires-3-clause-hands g c κs up = c.new_ins-ins.ensures.hands
 
 pub returns-clause-law : goal.returns-clause-law
 returns-clause-law g c =
     let setup = outline c.args.setup.now in
-    let job = setup.job in
-    let post = post_at job c.args.number in
-    let at = c.worker_at-at.ensures.at in
-    let F : g.row.L-Rx.Denot → EndpointIs = λ x. record { lane = g.L.Rx.Rx.lane x; number = g.L.Rx.Rx.number x; origin = g.L.Rx.Rx.origin x; items = g.L.Rx.Rx.taken x } in
-    let G : g.row.L-Tx.Denot → EndpointIs = λ x. record { lane = g.L.Tx.Tx.lane x; number = g.L.Tx.Tx.number x; origin = g.L.Tx.Tx.origin x; items = g.L.Tx.Tx.sent x } in
-    let ins = c.new_ins-ins.result.items in
-    let outs = c.new_outs-outs.result.items in
-    let long_in : length ins ≡ length c.args.ins.items = sym (length_mapped endpoint_in ins) ∙ (ap (λ (xs : List EndpointIs). length xs) c.new_ins-ins.ensures.ends ∙ length_mapped F c.args.ins.items) in
-    let long_out : length outs ≡ length c.args.outs.items = sym (length_mapped endpoint_out outs) ∙ (ap (λ (xs : List EndpointIs). length xs) c.new_outs-outs.ensures.ends ∙ length_mapped G c.args.outs.items) in
-    rw (c.new-3.ensures, c.new-4.ensures) (begins setup post _
-    (stands setup post _ (map F c.args.ins.items) (map G c.args.outs.items) c.args.setup.now.job.lawful
-    (record {
-      post_is = get-post_at job c.args.number c.requires.there;
-      node_is = ap (λ (at : WorkerAt). at.node) at;
-      place_is = ap (λ (at : WorkerAt). at.index) at;
-      on_lanes = c.new_ins-ins.ensures.edges;
-      outs_on_lanes = c.new_outs-outs.ensures.edges;
-      next = refl;
-      room_in = let a = c.in_ok-spare_ins.ensures.capacity in let b = c.len-2.ensures in let d = c.args.ins.ok.0 in omega (arith, long_in, a, b, d);
-      room_out = let a = c.in_ok-spare_outs.ensures.capacity in let b = c.len-4.ensures in let d = c.args.outs.ok.0 in omega (arith, long_out, a, b, d);
-    })
-    c.requires.ends c.new_ins-ins.ensures.ends c.new_outs-outs.ensures.ends)
-    (record {
-      journal = c.new.ensures;
-      func = refl;
-      counts = c.new-2.ensures;
-      last = refl;
-      due = subst (λ (n : ℕ). IsDueAfter setup n (edges_in job c.args.number) 0 c.due_after-due.result) (sym (ap (λ (at : WorkerAt). at.node) at)) c.due_after-due.ensures;
-      turned = c.requires.owner;
-      closed = refl;
-      taken = new_hands job c.requires.ends.graph ins (subst (Each (IsNewEndpoint job c.requires.ends.graph)) (sym c.new_ins-ins.ensures.ends) c.requires.ends.new_in) c.new_ins-ins.ensures.hands;
-      sent = new_waiting job c.requires.ends.graph outs (subst (Each (IsNewEndpoint job c.requires.ends.graph)) (sym c.new_outs-outs.ensures.ends) c.requires.ends.new_out) c.new_outs-outs.ensures.waiting;
-    }))
+    let state = first_state setup c.args.number c.new.result c.requires.there c.new.ensures in
+    IfOk-weaker c.with_state.result _ _ (λ w law. law (at_first setup) state) c.with_state.ensures.law
