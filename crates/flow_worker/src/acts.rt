@@ -2,7 +2,7 @@
 ghost use Rattle.std.specs.Prelude.{◌≡◌, ℕ, ◌+◌, ◌<◌, ◌≤◌, Some, slice_get, [], ◌∷◌, ◌++◌, length, if◌then◌else◌};
 ghost use Rattle.flow_dag.specs.Masks.{has};
 ghost use Rattle.marker_align.specs.declared.held.Hand.TheVariants.{Empty, Holds};
-ghost use Rattle.sink_journal.specs.declared.journal.Entry.TheVariants.{Marked};
+ghost use Rattle.sink_journal.specs.declared.journal.Entry.TheVariants.{Marked, Met};
 ghost use Rattle.tuple_trace.specs.declared.tuple.Item.TheVariants.{Carry, Mark, Last};
 ghost use Rattle.tuple_trace.specs.declared.tuple.Tuple.{Tuple as TupleIs};
 ghost use Rattle.flow_worker.specs.Pairs.{Each, EachPair};
@@ -125,32 +125,24 @@ pub fn tuple_at<L: Lanes>(ins: &[LaneIn<L>], place: u32) -> &Tuple
     }
 }
 
-fn carried(hand: Hand) -> Tuple
-    requires { (t : TupleIs) × (hand ≡ Holds (Carry t)) }
-    ensures { hand ≡ Holds (Carry result) }
-{
-    match hand {
-        Hand::Holds(item) => match item {
-            Item::Carry(tuple) => tuple,
-            Item::Mark {
-                request: _,
-                cover: _,
-            } => unreachable!(),
-            Item::Last => unreachable!(),
-        },
-        Hand::Empty => unreachable!(),
-    }
-}
-
-/// Takes the tuple out of the hand at a place, and returns it with the number of its lane.
-pub fn take_tuple<L: Lanes>(ins: &mut [LaneIn<L>], place: u32) -> (u32, Tuple)
+/// Notes the tuple in the hand at a place in the journal, and empties the hand. It is moved from the
+/// hand into the entry, by way of no tuple of its own.
+pub fn note_tuple<L: Lanes>(ins: &mut [LaneIn<L>], place: u32, journal: &mut Reserved<Entry>)
     requires within { place < length ins.old }
     requires held { HasTuple ins.old place }
+    requires memory { length journal.old.items < journal.old.memory }
     ensures ins { ins.new ≡ laid_down place ins.old }
-    ensures tuple { (a : LaneInIs) → slice_get ins.old place ≡ Some a
-        → (a.number ≡ result.0) × (a.hand ≡ Holds (Carry result.1)) }
+    ensures journal { (a : LaneInIs) (t : TupleIs) → slice_get ins.old place ≡ Some a
+        → a.hand ≡ Holds (Carry t)
+        → journal.new.items ≡ journal.old.items ++ Met a.number t ∷ [] }
 {
     let lane = &mut ins[place as usize];
-    let tuple = carried(lane.empty());
-    (lane.number(), tuple)
+    let number = lane.number();
+    match lane.empty() {
+        Hand::Holds(Item::Carry(tuple)) => journal.push_reserved(Entry::Met {
+            lane: number,
+            tuple,
+        }),
+        _ => unreachable!(),
+    }
 }

@@ -1,15 +1,17 @@
 // The lanes into a worker, with masks over its hands.
-ghost use Rattle.std.specs.Prelude.{◌≡◌, ◌+◌, ◌<◌, ◌≤◌, ◌++◌, IsTrue, None, Some, false, length, map, slice_get};
+ghost use Rattle.std.specs.Prelude.{◌≡◌, ◌+◌, ◌<◌, ◌≤◌, ◌++◌, [], ◌∷◌, IsTrue, None, Some, false, length, map, slice_get};
 ghost use Rattle.std.specs.Option.{option_copied};
 ghost use Rattle.marker_align.specs.Decision.{decided, next_tuple as next_tuple_of, turn};
 ghost use Rattle.marker_align.specs.declared.held.Hand.TheVariants.{Empty, Holds};
+ghost use Rattle.sink_journal.specs.declared.journal.Entry.TheVariants.{Met};
 ghost use Rattle.tuple_trace.specs.declared.tuple.Item.TheVariants.{Carry};
+ghost use Rattle.tuple_trace.specs.declared.tuple.Tuple.{Tuple as TupleIs};
 ghost use Rattle.flow_worker.specs.Endpoints.{Filled, LaneInIs, all_taken};
 ghost use Rattle.flow_worker.specs.Masks.{FilledAt, IsMaskOf, has_empty, issued_of};
 ghost use Rattle.flow_worker.specs.Pairs.{Each, EachPair};
 ghost use Rattle.flow_worker.specs.Steps.{HasTuple, all_emptied, emptied, ended_entries, laid_down, marked_entries};
 
-use crate::acts::{note_ends, note_markers, take_tuple, tuple_at};
+use crate::acts::{note_ends, note_markers, note_tuple, tuple_at};
 use crate::lane_in::LaneIn;
 use crate::masks::{all_places, first_from, take_place, with_place, without};
 use lane_core::Lanes;
@@ -206,17 +208,19 @@ impl<L: Lanes> LanesIn<L> {
         tuple_at(&self.lanes, place)
     }
 
-    /// Takes the tuple out of the hand at a place, and returns it with the number of its lane.
-    pub fn take_tuple(&mut self, place: u32) -> (u32, Tuple)
+    /// Notes the tuple in the hand at a place in the journal, and empties the hand.
+    pub fn note_tuple(&mut self, place: u32, journal: &mut Reserved<Entry>)
         requires within { place < length self.old }
         requires held { HasTuple self.old place }
+        requires memory { length journal.old.items < journal.old.memory }
         ensures ins { self.new ≡ laid_down place self.old }
-        ensures tuple { (a : LaneInIs) → slice_get self.old place ≡ Some a
-            → (a.number ≡ result.0) × (a.hand ≡ Holds (Carry result.1)) }
+        ensures journal { (a : LaneInIs) (t : TupleIs) → slice_get self.old place ≡ Some a
+            → a.hand ≡ Holds (Carry t)
+            → journal.new.items ≡ journal.old.items ++ Met a.number t ∷ [] }
     {
         self.empty = with_place(self.empty, place, true);
         self.tuples = with_place(self.tuples, place, false);
-        take_tuple(&mut self.lanes, place)
+        note_tuple(&mut self.lanes, place, journal);
     }
 }
 

@@ -136,8 +136,7 @@ impl<L: Lanes> Worker<L> {
         {
             return Err(NoMemory);
         }
-        let (lane, tuple) = self.ins.take_tuple(place);
-        self.journal.push_reserved(Entry::Met { lane, tuple });
+        self.ins.note_tuple(place, &mut self.journal);
         let edges = setup.out_edges(self.node);
         let (outs, made) = (&mut self.outs, &mut self.made);
         enqueue_outputs(self.alloc, &setup.job, self.node, edges, outs, made);

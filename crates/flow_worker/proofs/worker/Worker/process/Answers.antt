@@ -5,9 +5,7 @@ use Rattle.jobs.specs.declared.func.Func.{Func}
 use Rattle.operators.specs.Meaning.{step}
 use Rattle.operators.specs.Ports.{most_outputs, out_ports}
 use Rattle.operators.specs.declared.output.Output.{Output}
-use Rattle.sink_journal.specs.declared.journal.Entry.{Entry}
 use Rattle.sink_journal.specs.declared.journal.Entry.TheVariants.{Met}
-use Rattle.tuple_trace.specs.Reserved.{ReservedIs}
 use Rattle.keyed_state.specs.Counts.{Counts}
 use Rattle.tuple_trace.specs.declared.tuple.Item.{Item}
 use Rattle.tuple_trace.specs.declared.tuple.Tuple.{Tuple}
@@ -119,7 +117,7 @@ enqueue_outputs-requires-clause-room g c κs up =
 pub next_place-self-inside-requires-clause-within : goal.next_place-self-inside-requires-clause-within
 next_place-self-inside-requires-clause-within g c =
     let l : c.args.place < length c.self.inside.ins = subst (λ (w : WorkerIs). c.args.place < length w.ins) (sym c.self.view_is) c.requires.within in
-    let n = ap length c.take_tuple-lane.ensures.ins ∙ length_laid c.args.place c.self.inside.ins in
+    let n = ap length c.note_tuple.ensures.ins ∙ length_laid c.args.place c.self.inside.ins in
     omega (arith, c.len.ensures.is, n, l)
 
 pub next_place-self-inside-requires-clause-few : goal.next_place-self-inside-requires-clause-few
@@ -136,10 +134,9 @@ returns-clause-ok g c post placed =
     let job = setup.job in
     let held : HasTuple c.self.inside.ins c.args.place = subst (λ (w : WorkerIs). HasTuple w.ins c.args.place) (sym c.self.view_is) c.requires.held in
     let a : LaneInIs = held.0 in
-    let t : Tuple = c.take_tuple-lane.result.1 in
-    let tk = c.take_tuple-lane.ensures.tuple a held.2 in
+    let t : Tuple = held.1 in
     let at = c.tuple_at-tuple.ensures a held.2 in
-    let same : c.tuple_at-tuple.result.now ≡ t = same_tuple a c.tuple_at-tuple.result.now t at tk.1 in
+    let same : c.tuple_at-tuple.result.now ≡ t = same_tuple a c.tuple_at-tuple.result.now t at held.3 in
     let func : Func = c.in-Some.func.now in
     let counts : Counts = c.self.inside.counts in
     let local : Local = record { func = func; counts = counts; last = c.self.inside.last; ended = 0 } in
@@ -159,12 +156,12 @@ returns-clause-ok g c post placed =
       at = a;
       func = func;
       here = held.2;
-      held = tk.1;
+      held = held.3;
       func_is = sym c.func_in.ensures ∙ ap option_copied c.in-Some.is;
-      journal = rw (ap (λ (j : ReservedIs Entry). j.items) c.push_reserved.ensures, c.reserve.ensures.items, tk.0) refl;
-      ins = c.take_tuple-lane.ensures.ins;
+      journal = rw (c.note_tuple.ensures.journal a t held.2 held.3, c.reserve.ensures.items) refl;
+      ins = c.note_tuple.ensures.ins;
       outs = all;
       counts = ok_fact c.apply.result (sym c.is_err-3.ensures.value ∙ c.if-is_err-3.false) c.apply.ensures.counts ∙ ap (λ (s : Counts × List Output). s.0) e;
-      next = subst (λ (n : ℕ). c.next_place-self-inside.result < n) (c.len.ensures.is ∙ (ap length c.take_tuple-lane.ensures.ins ∙ length_laid c.args.place c.self.inside.ins)) c.next_place-self-inside.ensures;
+      next = subst (λ (n : ℕ). c.next_place-self-inside.result < n) (c.len.ensures.is ∙ (ap length c.note_tuple.ensures.ins ∙ length_laid c.args.place c.self.inside.ins)) c.next_place-self-inside.ensures;
       rest = refl;
     })
