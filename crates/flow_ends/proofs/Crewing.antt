@@ -3,17 +3,18 @@ use Rattle.std.proofs.Common.{◌≡◌, ◌⊎◌, ◌∙◌, ◌==◌, ◌+◌
 use Rattle.std.proofs.lemmas.Bool.{eqb-true}
 use Rattle.std.proofs.lemmas.Option.{same_Some}
 use Rattle.jobs.specs.Written.{Written}
-use Rattle.flow_model.specs.Begin.{Begin}
+use Rattle.flow_model.specs.Begin.{Begin, at_first}
 use Rattle.flow_model.specs.Lanes.{lanes_in}
 use Rattle.flow_model.specs.declared.topology.Lane.{Lane}
-use Rattle.flow_model.specs.Outline.{Outline}
+use Rattle.flow_model.specs.Outline.{Outline, Post}
+use Rattle.flow_model.specs.Workers.{posts}
 use Rattle.flow_model.proofs.ElementLemmas.{IsIn}
 use Rattle.flow_model.proofs.LaneLemmas.{in_lanes_that}
 use Rattle.flow_worker.specs.Endpoints.{LaneInIs}
 use Rattle.flow_worker.specs.Parts.{EndpointIs, endpoint_in, endpoint_out}
 use Rattle.flow_worker.specs.Worker.{IsWorker, WorkerIs, numbers_in}
 use Rattle.std.proofs.Common.{append-nil, append_assoc, length-append}
-use Rattle.std.proofs.lemmas.List.{map-append}
+use Rattle.std.proofs.lemmas.List.{length-map, map-append}
 use Rattle.flow_model.proofs.PlaceLemmas.{append_get}
 use Rattle.flow_worker.proofs.Pairs.{length_mapped}
 use Rattle.flow_ends.specs.Sides.{SideIs, numbers_of, worker_side}
@@ -89,3 +90,7 @@ all_made workers all [] are none =
     let whole = ap (λ (l : List SideIs). length l) same in
     (omega (arith, long, whole), same)
 all_made workers all (x ∷ its) are none = absurd (omega (arith, none))
+
+-- the beginning of all has the counts of each worker
+pub first_has_all : (setup : Outline) (start : Begin) → start ≡ at_first setup → length start.states ≡ length (posts setup.job)
+first_has_all setup start is = ap (λ (b : Begin). length b.states) is ∙ length-map (posts setup.job) (λ (post : Post). _)

@@ -12,7 +12,7 @@ ghost use Rattle.flow_ends.specs.Sides.{AreMatched, SideIs, worker_side};
 
 use crate::{AllEndpoints, Side};
 use control_box::{Poster, make_box};
-use flow_model::Setup;
+use flow_model::{Setup, Start};
 use flow_worker::Worker;
 use lane_core::Lanes;
 use std::alloc::Global;
@@ -30,7 +30,7 @@ pub struct Crew<L: Lanes> {
 }
 
 impl<L: Lanes> Crew<L> {
-    /// Makes each worker at the beginning of a run, over lanes of this form that hold at most `cap`
+    /// Makes each worker at the beginning of all, over lanes of this form that hold at most `cap`
     /// items, 1 to 64. The one error is out of memory.
     pub fn make(alloc: Global, form: &L, setup: &Setup, cap: u32) -> Result<Crew<L>, NoMemory>
         requires some { 1 ≤ cap }
@@ -45,8 +45,36 @@ impl<L: Lanes> Crew<L> {
             (map fed_end (outs_of L.Tx.lane L.Tx.number L.Tx.origin L.Tx.capacity L.Tx.sent
             L.Tx.full crew.outs.items))) }
     {
+        let start = Start::first(alloc, setup)?;
+        Crew::make_from(alloc, form, setup, cap, &start)
+    }
+
+    /// Makes each worker at this beginning, over lanes of this form that hold at most `cap` items,
+    /// 1 to 64. The beginning has counts for each worker, and has turned no more requests than the
+    /// setup has. The one error is out of memory.
+    pub fn make_from(
+        alloc: Global,
+        form: &L,
+        setup: &Setup,
+        cap: u32,
+        start: &Start,
+    ) -> Result<Crew<L>, NoMemory>
+        requires some { 1 ≤ cap }
+        requires few { cap ≤ 64 }
+        requires turned { start.now.turned ≤ length (outline setup.now).requests }
+        requires states { length start.now.states ≡ length (posts (outline setup.now).job) }
+        ensures workers { IfOk result (λ crew. IsCrew (outline setup.now) start.now
+            crew.workers.items) }
+        ensures posters { IfOk result (λ crew. AreUnused (outline setup.now) crew.posters.items) }
+        ensures outs { IfOk result (λ crew. AreNewOuts (outline setup.now).job
+            (outs_of L.Tx.lane L.Tx.number L.Tx.origin L.Tx.capacity L.Tx.sent L.Tx.full
+            crew.outs.items)) }
+        ensures matched { IfOk result (λ crew. AreMatched (map worker_side crew.workers.items)
+            (map fed_end (outs_of L.Tx.lane L.Tx.number L.Tx.origin L.Tx.capacity L.Tx.sent
+            L.Tx.full crew.outs.items))) }
+    {
         let AllEndpoints { workers, feeder } = AllEndpoints::make(alloc, form, setup, cap)?;
-        let (workers, posters) = make_workers(alloc, setup, workers)?;
+        let (workers, posters) = make_workers(alloc, setup, workers, start)?;
         Ok(Crew {
             workers,
             posters,
@@ -61,12 +89,14 @@ fn make_workers<L: Lanes>(
     alloc: Global,
     setup: &Setup,
     sides: Vec<Side<L>>,
+    start: &Start,
 ) -> Result<Made<L>, NoMemory>
     requires many { length sides.items ≡ length (posts (outline setup.now).job) }
     requires sides { (w : ℕ) (side : SideIs) → slice_get sides.items w ≡ Some side
         → AreNewEndpoints (outline setup.now).job w side.ins side.outs }
-    ensures workers { IfOk result (λ made. IsCrew (outline setup.now)
-        (at_first (outline setup.now)) made.0.items) }
+    requires turned { start.now.turned ≤ length (outline setup.now).requests }
+    requires states { length start.now.states ≡ length (posts (outline setup.now).job) }
+    ensures workers { IfOk result (λ made. IsCrew (outline setup.now) start.now made.0.items) }
     ensures posters { IfOk result (λ made. AreUnused (outline setup.now) made.1.items) }
     ensures sides { IfOk result (λ made. map worker_side made.0.items ≡ sides.items) }
 {
@@ -76,7 +106,7 @@ fn make_workers<L: Lanes>(
         let (poster, owner) = make_box(alloc)?;
         let (ins, outs) = side.open();
         let number = workers.len() as u32;
-        let worker = Worker::make(alloc, setup, number, ins, outs, owner)?;
+        let worker = Worker::make_from(alloc, setup, number, ins, outs, owner, start)?;
         workers.push(worker)?;
         posters.push(poster)?;
     }

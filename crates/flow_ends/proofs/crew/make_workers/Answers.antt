@@ -1,7 +1,6 @@
 use Rattle.std.proofs.Common.{◌≡◌, ◌∙◌, ◌++◌, ◌∷◌, [], ℕ, List, ap, arith, length, length-append, subst, sym}
 use Rattle.std.specs.Vec.Iter.{into_iter_items}
 use Rattle.control_box.specs.Ends.{PosterIs}
-use Rattle.flow_model.specs.Begin.{at_first}
 use Rattle.flow_model.specs.Setup.{outline}
 use Rattle.flow_model.proofs.SizeLemmas.{posts-few}
 use Rattle.flow_worker.specs.Parts.{AreNewEndpoints, EndpointIs, endpoints}
@@ -16,8 +15,8 @@ overflow_cast-number g c =
     let long = next_side c.loop-side.workers.items c.args.sides.items (into_iter_items c.loop-side.side-iterator) (into_iter_items c.next.new.self) c.in-Some.side c.loop-side.invariant.sides c.in-Some.ensures.steps.0 in
     omega (arith, few, c.requires.many, long.0, c.len-number.ensures, c.loop-side.workers.ok.0)
 
-pub make-requires-clause-ends : goal.make-requires-clause-ends
-make-requires-clause-ends g c κs within =
+pub make_from-requires-clause-ends : goal.make_from-requires-clause-ends
+make_from-requires-clause-ends g c κs within =
     let job = (outline c.args.setup.now).job in
     let workers = c.loop-side.workers.items in
     let number : c.len-number.result ≡ length workers = c.len-number.ensures ∙ c.loop-side.workers.ok.0 in
@@ -45,13 +44,13 @@ loop-side-preserved g c =
     let same : worker_side worker ≡ side = side_is worker side (c.in_ok-worker.ensures.ins ∙ c.open-ins.ensures.ins) (c.in_ok-worker.ensures.outs ∙ c.open-ins.ensures.outs) in
     let at = next_side workers c.args.sides.items its rest side inv.sides next.0 in
     let new = c.requires.sides (length workers) side at.1 in
-    let number : worker.number ≡ length workers = has_number setup (at_first setup) worker side.ins (length workers) c.in_ok-worker.ensures.law (c.in_ok-worker.ensures.ins ∙ c.open-ins.ensures.ins) new.ins_are in
+    let number : worker.number ≡ length workers = has_number setup c.args.start.now worker side.ins (length workers) c.in_ok-worker.ensures.law (c.in_ok-worker.ensures.ins ∙ c.open-ins.ensures.ins) new.ins_are in
     record {
       may = tt;
       finite = tt;
       counted = let b = ap (λ (xs : List SideIs). length xs) next.0 in omega (arith, next.1, b, inv.counted);
       sides = side_made workers c.push.new.self.items worker c.args.sides.items its rest side inv.sides next.0 pushed same;
-      made = placed_more (λ w v. (v.number ≡ w) × IsWorker setup (at_first setup) v) workers c.push.new.self.items worker pushed inv.made (number, c.in_ok-worker.ensures.law);
+      made = placed_more (λ w v. (v.number ≡ w) × IsWorker setup c.args.start.now v) workers c.push.new.self.items worker pushed inv.made (number, c.in_ok-worker.ensures.law);
       boxes =
           let a = ap (λ (ws : List WorkerIs). length ws) pushed in
           let b = ap (λ (ps : List PosterIs). length ps) boxed in

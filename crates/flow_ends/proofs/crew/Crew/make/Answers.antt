@@ -1,8 +1,18 @@
-use Rattle.flow_ends.proofs.Making.{fed_ends, match_so}
+use Rattle.std.proofs.Common.{ap, arith, subst}
+use Rattle.std.specs.Prelude.{IfOk}
+use Rattle.flow_model.specs.Begin.{Begin}
+use Rattle.flow_model.specs.Setup.{outline}
+use Rattle.flow_ends.specs.Crews.{IsCrew}
+use Rattle.flow_ends.proofs.Crewing.{first_has_all}
 use Rattle.flow_ends.proofs.crew.Crew.make.Goals as goal
 
-pub returns-clause-matched : goal.returns-clause-matched
-returns-clause-matched g c =
-    match_so _ _ _ _ c.in_ok-workers-2.ensures.sides
-    (fed_ends g.L.Tx.Tx.lane g.L.Tx.Tx.number g.L.Tx.Tx.origin g.L.Tx.Tx.capacity g.L.Tx.Tx.sent g.L.Tx.Tx.full c.in_ok-workers.field-0.feeder.items)
-    c.in_ok-workers.ensures.matched
+pub make_from-requires-clause-turned : goal.make_from-requires-clause-turned
+make_from-requires-clause-turned g c κs within =
+    let none = ap (λ (b : Begin). b.turned) c.in_ok-start.ensures in omega (arith, none)
+
+pub make_from-requires-clause-states : goal.make_from-requires-clause-states
+make_from-requires-clause-states g c κs within = first_has_all (outline c.args.setup.now) c.in_ok-start.start c.in_ok-start.ensures
+
+pub returns-clause-workers : goal.returns-clause-workers
+returns-clause-workers g c =
+    subst (λ (b : Begin). IfOk c.make_from.result (λ crew. IsCrew (outline c.args.setup.now) b crew.workers.items)) c.in_ok-start.ensures c.make_from.ensures.workers
