@@ -22,12 +22,14 @@
 
 mod charter;
 mod moves;
+mod parts;
 mod rule;
 mod runner;
 mod steps;
 
 pub use charter::{Beginning, Charter};
 pub use moves::{give, open, share, take, unite};
+pub use parts::{Held, PartPromise, Ticket, start_part};
 pub use rule::{EachOnce, Queue, Tally};
 pub use runner::{Runner, VISIT};
 pub use steps::{Stepped, round, step};

@@ -8,12 +8,11 @@ ghost use Rattle.flow_worker.specs.Worker.{IsWorker};
 ghost use Rattle.runners.specs.Crew.{fixed_in, number_in, runner_of};
 ghost use Rattle.runner.specs.Rule.{Agrees, AreListed, HasEachOf, HasEnded, fixed_of, numbers};
 
-use crate::parts::Held;
 use crossbeam_queue::SegPass;
 use flow_model::Setup;
 use flow_worker::{Turn, Worker};
 use lane_core::Lanes;
-use runner::{Charter, Queue, Runner, Tally, give, round, take};
+use runner::{Charter, Held, Queue, Runner, Tally, give, round, take};
 use std::alloc::Global;
 use std::sync::Wait;
 use std::sync::atomic::{AtomicBool, Ordering};

@@ -8,11 +8,10 @@ ghost use Rattle.runners.specs.Crew.{HasFed};
 ghost use Rattle.runner.specs.Rule.{AreListed};
 ghost use Rattle.runner.specs.declared.steps.Stepped.TheVariants.{End};
 
-use crate::parts::Held;
 use coordinator::{FeedTurn, Feeding};
 use flow_model::Setup;
 use lane_core::Lanes;
-use runner::{Charter, Queue, Stepped, VISIT, step};
+use runner::{Charter, Held, Queue, Stepped, VISIT, step};
 use std::sync::Wait;
 use std::sync::atomic::{AtomicBool, Ordering};
 use std::thread;

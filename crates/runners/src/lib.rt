@@ -17,7 +17,6 @@
 
 mod crew;
 mod lead;
-mod parts;
 mod run;
 mod threads;
 

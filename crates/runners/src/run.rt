@@ -13,14 +13,13 @@ ghost use Rattle.runner.specs.Runner.{ends_of};
 
 use crate::crew::{drain, push_all, rounds, sort_by_number, to_workers};
 use crate::lead::{Led, lead};
-use crate::parts::Held;
 use crate::threads::{join_all, start_all};
 use coordinator::Feeding;
 use crossbeam_queue::SegPass;
 use flow_model::Setup;
 use flow_worker::Worker;
 use lane_core::Lanes;
-use runner::{Beginning, Charter, Queue, Runner, Tally, open};
+use runner::{Beginning, Charter, Held, Queue, Runner, Tally, open};
 use std::alloc::Global;
 use std::marker::Brand;
 use std::sync::Wait;

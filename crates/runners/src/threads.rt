@@ -3,9 +3,8 @@ ghost use Rattle.std.specs.List.{All};
 ghost use Rattle.crossbeam_queue.specs.SegTies.{IsSegPassOf};
 ghost use Rattle.runner.specs.Rule.{AreListed};
 
-use crate::parts::{Held, PartPromise, Ticket, start_part};
 use lane_core::Lanes;
-use runner::{Charter, Queue, share, unite};
+use runner::{Charter, Held, PartPromise, Queue, Ticket, share, start_part, unite};
 use std::alloc::Global;
 use std::sync::Wait;
 use std::sync::atomic::AtomicBool;

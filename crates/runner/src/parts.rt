@@ -2,9 +2,12 @@ ghost use Rattle.std.specs.Prelude.{◌≡◌, [], IfErr, IfOk};
 ghost use Rattle.crossbeam_queue.specs.SegTies.{IsSegPassOf};
 ghost use Rattle.runner.specs.Rule.{AreListed, tally};
 
+use crate::charter::Charter;
+use crate::rule::{Queue, Tally};
+use crate::runner::Runner;
+use crate::steps::{Stepped, step};
 use crossbeam_queue::SegPass;
 use lane_core::Lanes;
-use runner::{Charter, Queue, Runner, Stepped, Tally, step};
 use std::alloc::Global;
 use std::snapshot::Snapshot;
 use std::sync::Wait;
@@ -16,7 +19,9 @@ use tuple_trace::Gate;
 /// The runners that a thread keeps, and its pass.
 #[derive(Drop)]
 pub struct Held<'s, L: Lanes, C: Charter> {
+    /// Those that the thread popped and hasn't pushed back.
     pub runners: Vec<Runner<'s, L, C>>,
+    /// Its list has the numbers of these runners.
     pub pass: SegPass<Runner<'s, L, C>, Tally>,
 }
 
@@ -99,9 +104,11 @@ fn untouched<'s, L: Lanes, C: Charter>(
     }
 }
 
-/// What a thread promises: the runners that it keeps are those of its pass's list.
+/// What a thread promises: it brings back a pass of this queue with one part, and the runners that
+/// it keeps are those of the pass's list.
 #[derive(Drop)]
 pub struct PartPromise<'s, L: Lanes, C: Charter> {
+    /// The queue at the start of the thread.
     pub queue: Snapshot<Queue<'s, L, C>>,
 }
 
@@ -116,10 +123,12 @@ impl<'s, L: Lanes, C: Charter> Promise<Held<'s, L, C>> for PartPromise<'s, L, C>
         × AreListed C.ends b.runners.items b.pass.me.view.client.list };
 }
 
-/// A queue and a pass of it.
+/// What a thread begins with.
 #[derive(Drop)]
 pub struct Ticket<'q, 's: 'q, L: Lanes + 'q, C: Charter + 'q> {
+    /// The queue of the run.
     pub queue: &'q Queue<'s, L, C>,
+    /// A pass of the queue that was given out, with one part and no number.
     pub pass: SegPass<Runner<'s, L, C>, Tally>,
 }
 
@@ -143,8 +152,11 @@ pub fn part_of<'q, 's: 'q, R: Wait, L: Lanes + 'q, G: Gate, C: Charter + 'q>(
     part_unless(rt, alloc, need, gate, stop, refused, queue, pass)
 }
 
-/// Starts a thread of the scope. If none can be made, the thread's word is set, and its pass comes
-/// back.
+/// Starts a thread of the scope. It steps until the queue is empty and its kept runners are done,
+/// or `stop` is set. It sets `stop` if memory runs out.
+///
+/// If no thread can be made, `refused` is set, and what the thread would bring back comes here: its
+/// pass, and no runners.
 pub fn start_part<
     'q,
     's: 'q,

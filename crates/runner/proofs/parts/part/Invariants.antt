@@ -1,7 +1,7 @@
 use Rattle.std.proofs.Common.{◌≡◌}
 use Rattle.crossbeam_queue.specs.SegTies.{IsSegPassOf}
 use Rattle.runner.specs.Rule.{AreListed}
-use Rattle.runners.proofs.parts.part.Given as goal
+use Rattle.runner.proofs.parts.part.Given as goal
 
 abbrev pub invariant-loop : goal.invariant-loop
 invariant-loop g l = record {
