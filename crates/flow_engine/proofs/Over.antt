@@ -6,8 +6,8 @@ use Rattle.std.proofs.lemmas.Simd.{map-map}
 use Rattle.lane_core.specs.Lane.{LaneId}
 use Rattle.sink_journal.specs.declared.journal.Feed.{Feed}
 use Rattle.tuple_trace.specs.declared.row.Row.{Row}
-use Rattle.flow_model.specs.Begin.{Begin, at_first}
-use Rattle.flow_model.specs.Outline.{Outline, Post}
+use Rattle.flow_model.specs.Begin.{Begin}
+use Rattle.flow_model.specs.Outline.{Outline}
 use Rattle.flow_model.specs.Workers.{posts}
 use Rattle.flow_worker.specs.Endpoints.{LaneInIs, LaneOutIs}
 use Rattle.flow_worker.specs.Pairs.{Each}
@@ -63,17 +63,18 @@ leaves_number : (ws : List WorkerIs) → map number_of (map worked_of ws) ≡ ma
 leaves_number [] = refl
 leaves_number (w ∷ ws) = ap (λ (ks : List ℕ). w.number ∷ ks) (leaves_number ws)
 
-pub numbers_after : (setup : Outline) (begin : Begin) (new old : List WorkerIs) (left : List WorkedIs) → map fixed_in new ≡ map fixed_in old → IsCrew setup (at_first setup) old → AreWorkers setup begin new
+pub numbers_after : (setup : Outline) (begin begun : Begin) (new old : List WorkerIs) (left : List WorkedIs) → map fixed_in new ≡ map fixed_in old → IsCrew setup begun old → AreWorkers setup begin new
     → left ≡ map worked_of new → map number_of left ≡ range_with_len 0 (length (posts setup.job))
-numbers_after setup begin new old left same crew are is =
+numbers_after setup begin begun new old left same crew are is =
     ap (map number_of) is ∙ (leaves_number new ∙ (in_order new are.number ∙ ap (range_with_len 0) (same_many new old same ∙ crew.many)))
 
 -- ---- the end of the turns
 
 -- what was made for a run, and what its turns leave
-pub record HasTurned (setup : Outline) (begin : Begin) (rows : List Row) (old new : List WorkerIs) (fed left : List OutIs) (feeds : List Feed) (f : FeederIs) : Type 0 where
-  pub first : begin ≡ at_first setup
-  pub crew : IsCrew setup (at_first setup) old
+pub record HasTurned (setup : Outline) (begin begun : Begin) (rows : List Row) (old new : List WorkerIs) (fed left : List OutIs) (feeds : List Feed) (f : FeederIs) : Type 0 where
+  pub begins : begin ≡ begun
+  pub starts : length begun.states ≡ length (posts setup.job)
+  pub crew : IsCrew setup begun old
   pub matched : AreMatched (map worker_side old) (map fed_end fed)
   pub are : AreWorkers setup begin new
   pub done : Each IsDone new
@@ -84,18 +85,18 @@ pub record HasTurned (setup : Outline) (begin : Begin) (rows : List Row) (old ne
   pub feeds_are : feeds ≡ f.feeds
   pub outs_are : f.outs ≡ left
 
--- the turns of a run from its first row on are over
-pub are_over : (setup : Outline) (begin : Begin) (rows : List Row) (old new : List WorkerIs) (fed left : List OutIs) (feeds : List Feed) (f : FeederIs)
+-- the turns of a run from its beginning on are over
+pub are_over : (setup : Outline) (begin begun : Begin) (rows : List Row) (old new : List WorkerIs) (fed left : List OutIs) (feeds : List Feed) (f : FeederIs)
     → ((workers later : List WorkerIs) (outs left : List OutIs) → map lane_ids later ≡ map lane_ids workers → map end_of left ≡ map end_of outs
     → AreMatched (map worker_side workers) (map fed_end outs) → AreMatched (map worker_side later) (map fed_end left))
-    → HasTurned setup begin rows old new fed left feeds f → IsOver setup (at_first setup) rows new feeds left
-are_over setup begin rows old new fed left feeds f stay h = record {
-  starts = length-map (posts setup.job) (λ (post : Post). _);
-  crew = to_crew setup (at_first setup) new old h.same h.crew (subst (λ (b : Begin). AreWorkers setup b new) h.first h.are);
+    → HasTurned setup begin begun rows old new fed left feeds f → IsOver setup begun rows new feeds left
+are_over setup begin begun rows old new fed left feeds f stay h = record {
+  starts = h.starts;
+  crew = to_crew setup begun new old h.same h.crew (subst (λ (b : Begin). AreWorkers setup b new) h.begins h.are);
   done = h.done;
   matched = stay old new fed left (same_lanes new old h.same) (ap (map end_of) (sym h.outs_are) ∙ h.ends) h.matched;
   feeder = f;
-  feeding = (subst (λ (b : Begin). IsFeeder false setup b rows f) h.first h.law).feeding;
+  feeding = (subst (λ (b : Begin). IsFeeder false setup b rows f) h.begins h.law).feeding;
   stopped = h.stopped;
   feeds_are = h.feeds_are;
   outs_are = sym h.outs_are;

@@ -1,8 +1,9 @@
 //! The engine: a run of a setup on several threads.
 //!
 //! Workers and the feeder of a setup are made over lanes of some form. The workers move between
-//! threads until all are done, and the lanes are settled. [`run_flow`] answers the setup, the feed
-//! and what each worker left; [`Flown::record`] makes the record of them.
+//! threads until all are done, and the lanes are settled. [`run_flow`] returns the setup, the feed
+//! and what each worker left; [`Flown::record`] makes the record of them. [`run_from`] does the
+//! same from a beginning on, as from a savepoint.
 //!
 //! ```
 //! let flown = run_flow(&rt, alloc, &RingLanes, setup, &rows, 4, 16, &OpenGate)?;
@@ -14,4 +15,4 @@ mod flown;
 mod run;
 
 pub use flown::Flown;
-pub use run::run_flow;
+pub use run::{run_flow, run_from};

@@ -2,8 +2,7 @@
 ghost use Rattle.std.specs.Prelude.{◌≡◌, ◌≤◌, IfOk, length, map};
 ghost use Rattle.std.specs.List.{range_with_len};
 ghost use Rattle.jobs.specs.Nodes.{AreFromSources};
-ghost use Rattle.flow_model.specs.Run.{IsRun};
-ghost use Rattle.flow_model.specs.Begin.{at_first};
+ghost use Rattle.flow_model.specs.Run.{IsRun, IsRunSince};
 ghost use Rattle.flow_model.specs.Setup.{outline};
 ghost use Rattle.flow_model.specs.Workers.{posts};
 ghost use Rattle.flow_ends.specs.Ended.{record_of};
@@ -12,7 +11,7 @@ ghost use Rattle.flow_engine.specs.Flown.{number_of};
 use crate::Flown;
 use coordinator::{Feeder, Feeding};
 use flow_ends::{Crew, Ended, end_run, endpoints_stay_matched};
-use flow_model::Setup;
+use flow_model::{Setup, Start};
 use lane_core::Lanes;
 use runners::{Beginning, Ran, run_all};
 use std::alloc::Global;
@@ -54,7 +53,45 @@ where
     ensures run { IfOk result (λ flown. IsRun (outline setup) rows.now
         (record_of (outline setup) flown.feeds flown.crew.items)) }
 {
-    let ended = run_over::<R, L, G, Brand>(rt, alloc, form, &setup, rows, threads, cap, gate)?;
+    let start = Start::first(alloc, &setup)?;
+    run_from(rt, alloc, form, setup, rows, threads, cap, gate, &start)
+}
+
+/// As [`run_flow`], but from a beginning on. `rows` are all rows, also those that were fed before;
+/// the first `start.row` of them aren't fed again. The beginning has counts for each worker, and
+/// has turned no more requests than the setup has.
+///
+/// The record of what it returns is a run of the setup and the rows from this beginning on. The one
+/// error is out of memory.
+pub fn run_from<R, L: Lanes + Sync, G: Gate + Sync>(
+    rt: &R,
+    alloc: Global,
+    form: &L,
+    setup: Setup,
+    rows: &Rows,
+    threads: u32,
+    cap: u32,
+    gate: &G,
+    start: &Start,
+) -> Result<Flown<L>, NoMemory>
+where
+    R: Threads + Wait + Sync,
+    requires some_threads { 1 ≤ threads }
+    requires few_threads { threads ≤ 16 }
+    requires some_items { 1 ≤ cap }
+    requires few_items { cap ≤ 64 }
+    requires rows { AreFromSources (outline setup).job rows.now }
+    requires turned { start.now.turned ≤ length (outline setup).requests }
+    requires states { length start.now.states ≡ length (posts (outline setup).job) }
+    ensures setup { IfOk result (λ flown. flown.setup ≡ setup) }
+    ensures crew { IfOk result (λ flown. map number_of flown.crew.items
+        ≡ range_with_len 0 (length (posts (outline setup).job))) }
+    ensures run { IfOk result (λ flown. IsRunSince start.now (outline setup) rows.now
+        (record_of (outline setup) flown.feeds flown.crew.items)) }
+{
+    let ended = run_over::<R, L, G, Brand>(
+        rt, alloc, form, &setup, rows, threads, cap, gate, start,
+    )?;
     let Ended { feeds, workers } = ended;
     Ok(Flown {
         setup,
@@ -63,7 +100,7 @@ where
     })
 }
 
-// Runs rows from the beginning of a run on.
+// Runs rows from a beginning on, which `B` names.
 fn run_over<R, L: Lanes + Sync, G: Gate + Sync, B: Beginning>(
     rt: &R,
     alloc: Global,
@@ -73,27 +110,30 @@ fn run_over<R, L: Lanes + Sync, G: Gate + Sync, B: Beginning>(
     threads: u32,
     cap: u32,
     gate: &G,
+    start: &Start,
 ) -> Result<Ended<L>, NoMemory>
 where
     R: Threads + Wait + Sync,
-    requires begin { B.begin ≡ at_first (outline setup.now) }
+    requires begin { B.begin ≡ start.now }
     requires some_threads { 1 ≤ threads }
     requires few_threads { threads ≤ 16 }
     requires some_items { 1 ≤ cap }
     requires few_items { cap ≤ 64 }
     requires rows { AreFromSources (outline setup.now).job rows.now }
+    requires turned { start.now.turned ≤ length (outline setup.now).requests }
+    requires states { length start.now.states ≡ length (posts (outline setup.now).job) }
     ensures crew { IfOk result (λ ended. map number_of ended.workers.items
         ≡ range_with_len 0 (length (posts (outline setup.now).job))) }
-    ensures run { IfOk result (λ ended. IsRun (outline setup.now) rows.now
+    ensures run { IfOk result (λ ended. IsRunSince start.now (outline setup.now) rows.now
         (record_of (outline setup.now) ended.feeds ended.workers.items)) }
 {
     let Crew {
         workers,
         posters,
         outs,
-    } = Crew::make(alloc, form, setup, cap)?;
+    } = Crew::make_from(alloc, form, setup, cap, start)?;
     endpoints_stay_matched();
-    let feeder = Feeder::make(alloc, setup, outs, posters, ())?;
+    let feeder = Feeder::make_from(alloc, setup, outs, posters, start)?;
     let Ran { workers, feeder } = run_all::<R, L, G, Feeder<L>, B>(
         rt, alloc, form, gate, threads, setup, rows, workers, feeder,
     )?;
