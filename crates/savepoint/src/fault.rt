@@ -1,3 +1,6 @@
+ghost use Rattle.savepoint.specs.declared.fault.SaveFault.TheVariants.{NoMemory as OutOfMemory};
+ghost use Rattle.std.specs.Prelude.{◌≡◌};
+
 use tuple_trace::NoMemory;
 
 /// Why a savepoint isn't read. Records are counted from 0.
@@ -16,6 +19,8 @@ pub enum SaveFault {
 }
 
 impl From<NoMemory> for SaveFault {
+    ghost from_gives = { λ _ e. e ≡ OutOfMemory };
+
     fn from(_: NoMemory) -> Self {
         SaveFault::NoMemory
     }
