@@ -1,0 +1,7 @@
+pub mod NodeLemmas
+pub mod CellLemmas
+pub mod ReadLemmas
+pub mod OrderLemmas
+pub mod NamedLemmas
+pub mod SpellingLemmas
+pub mod IssuedLemmas

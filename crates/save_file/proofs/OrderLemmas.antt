@@ -1,0 +1,165 @@
+-- Counts in their order: each is new to its worker, and changes its counts alone.
+use Rattle.std.proofs.Common.{FitsSigned, w64, ◌≡◌, ◌≢◌, ◌∙◌, ◌⊎◌, ◌<◌, ◌≤◌, ◌+◌, ◌++◌, ◌==◌, ◌&&◌, ◌||◌, ◌+ℤ◌, Less, Equal, Greater, Ordering, ◌-◌, ◌^◌, ℕ, ℤ, pos, negsuc, zero, suc, Bool, true, false, List, [], ◌∷◌, Option, Some, None, Result, Ok, Err, inl, inr, refl, sym, subst, ap, arith, filter, get_or, length, map, nat_lt, slice_get, slice_set, take, if◌then◌else◌}
+use Rattle.std.specs.Cmp.Lexicographic.{nat_list_cmp_total, slice_cmp}
+use Rattle.std.specs.FinMap.{find, from_entries, from_entries_push, get, get-from_entries, insert, nat_cmp-IsAntisymmetric, slice_cmp-IsAntisymmetric}
+use Rattle.std.specs.Ordering.{is_eq, is_lt, nat_cmp, ordering_reverse}
+use Rattle.std.proofs.lemmas.Bool.{and_parts, eqb-true, eq-eqb, ltb-true, ne_eqb}
+use Rattle.std.proofs.lemmas.List.{append-nil, map-append}
+use Rattle.std.proofs.lemmas.List.Elements.{filter-append}
+use Rattle.std.specs.Prelude.{unwrap_or}
+use Rattle.std.specs.Int.{saturate_signed}
+use Rattle.std.proofs.Math.IntN.{+ℤ_idl}
+use Rattle.std.proofs.Math.Nat.{min-eq_left}
+use Rattle.keyed_state.specs.Counts.{Counts, clamp, raised}
+use Rattle.flow_model.specs.Outline.{Post}
+use Rattle.savepoint.specs.SaveReading.{Placed, counts_at, one_more, one_placed, stands_behind}
+use Rattle.savepoint.specs.declared.fault.SaveFault.{SaveFault}
+use Rattle.savepoint.specs.declared.fault.SaveFault.TheVariants as fault
+use Rattle.save_file.specs.Steps.{placed_in, there}
+
+-- ---- which comes first
+
+abbrev Behind : Placed → Placed → Type 0
+Behind b p = (b.worker < p.worker) ⊎ ((b.worker ≡ p.worker) × (slice_cmp nat_cmp b.key p.key ≡ Less))
+
+less_is : (r : Ordering) → is_lt r ≡ true → r ≡ Less
+less_is Less e = refl
+less_is Equal e = absurd (cc e)
+less_is Greater e = absurd (cc e)
+
+behind : (b p : Placed) → stands_behind (Some b) p ≡ true → Behind b p
+behind b p h = go (nat_lt b.worker p.worker) refl h
+  where
+    go : (x : Bool) → nat_lt b.worker p.worker ≡ x → (x || ((b.worker == p.worker) && is_lt (slice_cmp nat_cmp b.key p.key))) ≡ true → Behind b p
+    go true e h = inl (ltb-true b.worker p.worker e)
+    go false e h =
+        let parts = and_parts (b.worker == p.worker) (is_lt (slice_cmp nat_cmp b.key p.key)) h in
+        inr (eqb-true b.worker p.worker parts.0, less_is (slice_cmp nat_cmp b.key p.key) parts.1)
+
+behind-trans : (a b p : Placed) → Behind a b → Behind b p → Behind a p
+behind-trans a b p (inl x) (inl y) = inl (omega (arith, x, y))
+behind-trans a b p (inl x) (inr y) = inl (let e = y.0 in omega (arith, x, e))
+behind-trans a b p (inr x) (inl y) = inl (let e = x.0 in omega (arith, y, e))
+behind-trans a b p (inr x) (inr y) = inr (x.0 ∙ y.0, nat_list_cmp_total.trans a.key b.key p.key x.1 y.1)
+
+-- ---- what stands before a count
+
+abbrev pub AllBefore : Placed → List Placed → Type 0
+AllBefore p [] = Unit {0}
+AllBefore p (q ∷ qs) = Behind q p × AllBefore p qs
+
+ok_parts : (number : ℕ) (q : Placed) (rest : Result (List Placed) SaveFault) (b : Bool) (xs : List Placed) → (if b then one_more q rest else Err (fault.State number)) ≡ Ok xs → (b ≡ true) × ((ys : List Placed) × (rest ≡ Ok ys))
+ok_parts number q rest false xs h = absurd (cc h)
+ok_parts number q (Err f) true xs h = absurd (cc h)
+ok_parts number q (Ok ys) true xs h = (refl, (ys, refl))
+
+all_behind : (number : ℕ) (before : Placed) (os : List (Option Placed)) (xs : List Placed) → placed_in number (Some before) os ≡ Ok xs
+    → (i : ℕ) (p : Placed) → i < length os → get_or os i (Some p) ≡ Some p → Behind before p
+all_behind number before [] xs h i p lt at = absurd (omega (arith, lt))
+all_behind number before (None ∷ os) xs h i p lt at = absurd (cc h)
+all_behind number before (Some q ∷ os) xs h zero p lt at =
+    let parts = ok_parts number q (placed_in (number + 1) (Some q) os) (stands_behind (Some before) q) xs h in
+    let same : q ≡ p = cc at in
+    subst (Behind before) same (behind before q parts.0)
+all_behind number before (Some q ∷ os) xs h (suc i) p lt at =
+    let parts = ok_parts number q (placed_in (number + 1) (Some q) os) (stands_behind (Some before) q) xs h in
+    behind-trans before q p (behind before q parts.0) (all_behind (number + 1) q os parts.1.0 parts.1.1 i p (omega (arith, lt)) at)
+
+pub all-before : (number : ℕ) (before : Option Placed) (os : List (Option Placed)) (xs : List Placed) → placed_in number before os ≡ Ok xs
+    → (i : ℕ) (p : Placed) → i < length os → get_or os i (Some p) ≡ Some p → AllBefore p (there (take i os))
+all-before number before [] xs h i p lt at = absurd (omega (arith, lt))
+all-before number before (None ∷ os) xs h i p lt at = absurd (cc h)
+all-before number before (Some q ∷ os) xs h zero p lt at = tt
+all-before number before (Some q ∷ os) xs h (suc i) p lt at =
+    let parts = ok_parts number q (placed_in (number + 1) (Some q) os) (stands_behind before q) xs h in (
+      all_behind (number + 1) q os parts.1.0 parts.1.1 i p (omega (arith, lt)) at,
+      all-before (number + 1) (Some q) os parts.1.0 parts.1.1 i p (omega (arith, lt)) at,
+    )
+
+-- ---- its key is new
+
+abbrev is_of : ℕ → Placed → Bool
+is_of w p = p.worker == w
+
+abbrev pair : Placed → List ℕ × ℤ
+pair p = (p.key, p.count)
+
+other_key : (a b : List ℕ) → slice_cmp nat_cmp a b ≡ Less → is_eq (slice_cmp nat_cmp b a) ≡ false
+other_key a b less = ap is_eq (nat_list_cmp_total.antisymm b a ∙ ap ordering_reverse less)
+
+none_found : (p : Placed) (w : ℕ) (qs : List Placed) → p.worker ≡ w → AllBefore p qs → find (slice_cmp nat_cmp) p.key (map pair (filter (is_of w) qs)) ≡ None
+none_found p w [] e h = refl
+none_found p w (q ∷ qs) e h = go (q.worker == w) refl (none_found p w qs e h.1)
+  where
+    key_other : q.worker ≡ w → Behind q p → is_eq (slice_cmp nat_cmp p.key q.key) ≡ false
+    key_other same (inl x) = absurd (omega (arith, x, same, e))
+    key_other same (inr x) = other_key q.key p.key x.1
+
+    go : (b : Bool) → (q.worker == w) ≡ b → find (slice_cmp nat_cmp) p.key (map pair (filter (is_of w) qs)) ≡ None → find (slice_cmp nat_cmp) p.key (map pair (filter (is_of w) (q ∷ qs))) ≡ None
+    go true is none = rw (is, key_other (eqb-true q.worker w is) h.0) none
+    go false is none = rw is none
+
+new_key : (p : Placed) (done : List Placed) (post : Post) → p.worker ≡ post.number → AllBefore p done → get (counts_at done post) p.key ≡ None
+new_key p done post e h = get-from_entries nat_list_cmp_total (map pair (filter (is_of post.number) done)) p.key ∙ none_found p post.number done e h
+
+get_or_map : {A B : Type 0} (f : A → B) (xs : List A) (i : ℕ) (x : A) (d : B) → slice_get xs i ≡ Some x → get_or (map f xs) i d ≡ f x
+get_or_map f [] i x d at = absurd (cc at)
+get_or_map f (y ∷ xs) zero x d at = let same : y ≡ x = cc at in ap f same
+get_or_map f (y ∷ xs) (suc i) x d at = get_or_map f xs i x d at
+
+pub key-new : (p : Placed) (done : List Placed) (posts : List Post) (post : Post) (d : Counts) → slice_get posts p.worker ≡ Some post → post.number ≡ p.worker → AllBefore p done
+    → get (get_or (map (counts_at done) posts) p.worker d) p.key ≡ None
+key-new p done posts post d at e h = ap (λ (c : Counts). get c p.key) (get_or_map (counts_at done) posts p.worker post d at) ∙ new_key p done post (sym e) h
+
+-- ---- what it changes
+
+others_stay : (done : List Placed) (p : Placed) (post : Post) → (p.worker == post.number) ≡ false → counts_at (done ++ p ∷ []) post ≡ counts_at done post
+others_stay done p post other =
+    let none : filter (is_of post.number) (p ∷ []) ≡ [] = rw other refl in
+    ap (λ (l : List Placed). from_entries (map pair l)) (filter-append (is_of post.number) done (p ∷ []) ∙ (ap (λ (l : List Placed). filter (is_of post.number) done ++ l) none ∙ append-nil (filter (is_of post.number) done)))
+
+own_grow : (done : List Placed) (p : Placed) (post : Post) → p.worker ≡ post.number → AllBefore p done → counts_at (done ++ p ∷ []) post ≡ insert (counts_at done post) p.key p.count
+own_grow done p post e h =
+    let one : filter (is_of post.number) (p ∷ []) ≡ p ∷ [] = rw (eq-eqb p.worker post.number e) refl in
+    let own : List Placed = filter (is_of post.number) done in
+    ap (λ (l : List Placed). from_entries (map pair l)) (filter-append (is_of post.number) done (p ∷ []) ∙ ap (λ (l : List Placed). own ++ l) one)
+    ∙ (ap from_entries (map-append pair own (p ∷ []))
+    ∙ from_entries_push nat_list_cmp_total (slice_cmp-IsAntisymmetric nat_cmp-IsAntisymmetric) (map pair own) p.key p.count (none_found p post.number done e h))
+
+abbrev AreNumbered : ℕ → List Post → Type 0
+AreNumbered k posts = (i : ℕ) (post : Post) → slice_get posts i ≡ Some post → post.number ≡ k + i
+
+numbered_tail : (k : ℕ) (post : Post) (posts : List Post) → AreNumbered k (post ∷ posts) → AreNumbered (k + 1) posts
+numbered_tail k post posts h i q at = let e : q.number ≡ k + suc i = h (suc i) q at in omega (arith, e)
+
+later_stay : (done : List Placed) (p : Placed) (k : ℕ) (posts : List Post) → AreNumbered k posts → p.worker < k → map (counts_at done) posts ≡ map (counts_at (done ++ p ∷ [])) posts
+later_stay done p k [] h lt = refl
+later_stay done p k (post ∷ posts) h lt =
+    let e : post.number ≡ k + 0 = h 0 post refl in
+    let other : (p.worker == post.number) ≡ false = ne_eqb p.worker post.number (omega (arith, lt, e)) in
+    ap (λ (c : Counts). c ∷ map (counts_at done) posts) (sym (others_stay done p post other))
+    ∙ ap (λ (l : List Counts). counts_at (done ++ p ∷ []) post ∷ l) (later_stay done p (k + 1) posts (numbered_tail k post posts h) (omega (arith, lt)))
+
+pub one-grows : (done : List Placed) (p : Placed) (k w : ℕ) (posts : List Post) (d : Counts) → AllBefore p done → AreNumbered k posts → p.worker ≡ k + w → w < length posts
+    → slice_set (map (counts_at done) posts) w (insert (get_or (map (counts_at done) posts) w d) p.key p.count) ≡ map (counts_at (done ++ p ∷ [])) posts
+one-grows done p k w [] d h n is lt = absurd (omega (arith, lt))
+one-grows done p k zero (post ∷ posts) d h n is lt =
+    let e : post.number ≡ k + 0 = n 0 post refl in
+    let same : p.worker ≡ post.number = omega (arith, is, e) in
+    ap (λ (c : Counts). c ∷ map (counts_at done) posts) (sym (own_grow done p post same h))
+    ∙ ap (λ (l : List Counts). counts_at (done ++ p ∷ []) post ∷ l) (later_stay done p (k + 1) posts (numbered_tail k post posts n) (omega (arith, is)))
+one-grows done p k (suc w) (post ∷ posts) d h n is lt =
+    let e : post.number ≡ k + 0 = n 0 post refl in
+    let other : (p.worker == post.number) ≡ false = ne_eqb p.worker post.number (omega (arith, is, e)) in
+    ap (λ (c : Counts). c ∷ slice_set (map (counts_at done) posts) w (insert (get_or (map (counts_at done) posts) w d) p.key p.count)) (sym (others_stay done p post other))
+    ∙ ap (λ (l : List Counts). counts_at (done ++ p ∷ []) post ∷ l) (one-grows done p (k + 1) w posts d h (numbered_tail k post posts n) (omega (arith, is)) (omega (arith, lt)))
+
+-- ---- its count
+
+fits_whole : (c : ℤ) → FitsSigned w64 c → saturate_signed w64 c ≡ c
+fits_whole (pos n) fits = ap pos (let less : n < 2 ^ 63 = fits.sfits in min-eq_left {n = n} {m = 2 ^ 63 - 1} (omega (arith, less)))
+fits_whole (negsuc n) fits = ap negsuc (let less : n < 2 ^ 63 = fits.sfits in min-eq_left {n = n} {m = 2 ^ 63 - 1} (omega (arith, less)))
+
+-- a count that is added to a new key is the count
+pub raised-new : (counts : Counts) (key : List ℕ) (c : ℤ) → get counts key ≡ None → FitsSigned w64 c → raised counts key c ≡ c
+raised-new counts key c none fits = ap (λ o. clamp (unwrap_or o (pos 0) +ℤ c)) none ∙ (ap clamp (+ℤ_idl c) ∙ fits_whole c fits)

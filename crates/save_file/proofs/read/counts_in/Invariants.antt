@@ -1,0 +1,9 @@
+use Rattle.std.proofs.Common.{◌≡◌}
+use Rattle.flow_model.specs.Setup.{outline}
+use Rattle.save_file.specs.Steps.{after, read_from}
+use Rattle.save_file.proofs.read.counts_in.Given as goal
+
+abbrev pub invariant-loop-number : goal.invariant-loop-number
+invariant-loop-number l =
+    after l.counts (read_from (outline l.setup).job l.number l.records)
+    ≡ read_from (outline l.setup).job 1 l.fn.records

@@ -1,0 +1,199 @@
+ghost use Rattle.std.specs.Prelude.{◌≡◌, ◌≢◌, ◌<◌, Ok, Err, Some, None, IfErr, IfOk, OnOk, List, get_or, length, map, option_map, slice_set};
+ghost use Rattle.std.specs.FinMap.{get, insert};
+ghost use Rattle.keyed_state.specs.Counts.{Counts as CountsIs};
+ghost use Rattle.csv.specs.Records.{fields_of};
+ghost use Rattle.flow_model.specs.Setup.{outline};
+ghost use Rattle.flow_model.specs.Workers.{posts};
+ghost use Rattle.savepoint.specs.SaveReading.{Spelled as SpelledIs, begin_at as begin_at_of, counts_at, head_of as head_of_record, placed_of as placed_of_spelled, save_of, spelled_of};
+ghost use Rattle.savepoint.specs.declared.fault.SaveFault.TheVariants.{Shape as ShapeOf};
+ghost use Rattle.save_file.specs.Steps.{placed_in, read_from, there};
+ghost use Rattle.save_file.specs.Views.{spelled_view};
+
+use crate::issued_up_to;
+use crate::placed::{Placed, Spelled, placed_of, stands_behind};
+use crate::records::{TextRecords, four_of};
+use crate::spelling::{head_number, number};
+use csv::ByteRecord;
+use flow_model::{Setup, Start};
+use keyed_state::Keyed;
+use savepoint::SaveFault;
+use sink_journal::States;
+use std::alloc::Global;
+use tuple_trace::{Items, NoMemory};
+
+/// Counts as they are read: `None` stands for one that has no place.
+type Counts = Items<Option<Placed>>;
+
+/// Where a run goes on by the text of a savepoint, or the text's first fault.
+///
+/// `rows` is the number of all rows. The form of each record is judged first, then the row, the
+/// number of requests, and the places of the counts in their order.
+///
+/// # Errors
+///
+/// The fault of the text, or out of memory.
+pub fn read_save(alloc: Global, setup: &Setup, rows: u64, bytes: &[u8]) -> Result<Start, SaveFault>
+    ensures ok { IfOk result (λ start. save_of (outline setup.now) rows bytes.now ≡ Ok start) }
+    ensures fault { IfErr result (λ fault. fault ≢ SaveFault.NoMemory →
+        save_of (outline setup.now) rows bytes.now ≡ Err fault) }
+{
+    let mut records = TextRecords::of(alloc, bytes);
+    let mut cells = ByteRecord::new(alloc);
+    if !records.next(&mut cells)? {
+        return Err(SaveFault::Shape(0));
+    }
+    let Some((row, turned)) = head_of(&cells) else {
+        return Err(SaveFault::Shape(0));
+    };
+    let counts = counts_in(alloc, setup, &mut records, &mut cells)?;
+    begin_at(alloc, setup, rows, row, turned, counts.as_slice())
+}
+
+// The row and the number of requests of the first record.
+#[tactic(auto, using(crate::proofs::ReadLemmas::no_head))]
+fn head_of(cells: &ByteRecord) -> Option<(u64, u64)>
+    ensures { result ≡ head_of_record (fields_of cells.now) }
+{
+    let four = four_of(cells)?;
+    if four.first == b"fries".as_slice() && four.second == b"save".as_slice() {
+        Some((head_number(four.third)?, head_number(four.fourth)?))
+    } else {
+        None
+    }
+}
+
+// The counts of the records that are left. `cells` holds each record in turn.
+fn counts_in(
+    alloc: Global,
+    setup: &Setup,
+    records: &mut TextRecords<'_>,
+    cells: &mut ByteRecord,
+) -> Result<Counts, SaveFault>
+    ensures ok { IfOk result (λ counts.
+        read_from (outline setup.now).job 1 records.old ≡ Ok counts) }
+    ensures fault { IfErr result (λ fault. fault ≢ SaveFault.NoMemory →
+        read_from (outline setup.now).job 1 records.old ≡ Err fault) }
+{
+    let mut counts = Counts::new(alloc);
+    for number in 1..u64::MAX {
+        if !records.next(cells)? {
+            return Ok(counts);
+        }
+        counts.push(count_in(alloc, setup, number, cells)?)?;
+    }
+    Err(SaveFault::NoMemory)
+}
+
+// The count of the record with this number, in its place.
+fn count_in(
+    alloc: Global,
+    setup: &Setup,
+    number: u64,
+    cells: &ByteRecord,
+) -> Result<Option<Placed>, SaveFault>
+    ensures ok { IfOk result (λ placed. option_map (placed_of_spelled (outline setup.now).job)
+        (spelled_of (fields_of cells.now)) ≡ Some placed) }
+    ensures fault { IfErr result (λ fault. fault ≢ SaveFault.NoMemory →
+        (spelled_of (fields_of cells.now) ≡ None) × (fault ≡ ShapeOf number)) }
+{
+    let Some(spelled) = spelled(cells) else {
+        return Err(SaveFault::Shape(number));
+    };
+    Ok(placed_of(alloc, setup, spelled)?)
+}
+
+// What a record spells.
+#[tactic(auto, using(crate::proofs::ReadLemmas::no_spelling))]
+fn spelled(cells: &ByteRecord) -> Option<Spelled<'_>>
+    ensures { option_map spelled_view result ≡ spelled_of (fields_of cells.now) }
+{
+    let four = four_of(cells)?;
+    Some(Spelled {
+        name: four.first,
+        place: number(four.second)?,
+        key: four.third,
+        count: number(four.fourth)?,
+    })
+}
+
+// Where a run goes on with these counts.
+fn begin_at(
+    alloc: Global,
+    setup: &Setup,
+    rows: u64,
+    row: u64,
+    turned: u64,
+    counts: &[Option<Placed>],
+) -> Result<Start, SaveFault>
+    requires { (spelled : List SpelledIs) ×
+        (counts.now ≡ map (placed_of_spelled (outline setup.now).job) spelled) }
+    ensures ok { IfOk result (λ start. (spelled : List SpelledIs) →
+        counts.now ≡ map (placed_of_spelled (outline setup.now).job) spelled →
+        begin_at_of (outline setup.now) rows (row, turned) spelled ≡ Ok start) }
+    ensures fault { IfErr result (λ fault. fault ≢ SaveFault.NoMemory → (spelled : List SpelledIs) →
+        counts.now ≡ map (placed_of_spelled (outline setup.now).job) spelled →
+        begin_at_of (outline setup.now) rows (row, turned) spelled ≡ Err fault) }
+{
+    let issued = issued_up_to(setup, row, rows);
+    if row > rows {
+        return Err(SaveFault::Past(row));
+    }
+    if turned != issued {
+        return Err(SaveFault::Count(issued));
+    }
+    check_order(counts)?;
+    Ok(Start {
+        row,
+        turned,
+        states: states_of(alloc, setup, counts)?,
+    })
+}
+
+// Whether each count has a place, and comes after the one before it.
+fn check_order(counts: &[Option<Placed>]) -> Result<(), SaveFault>
+    ensures ok { OnOk result (placed_in 1 None counts.now ≡ Ok (there counts.now)) }
+    ensures fault { IfErr result (λ fault. placed_in 1 None counts.now ≡ Err fault) }
+{
+    let mut before = None;
+    for (place, count) in counts.iter().enumerate() {
+        let number = place as u64 + 1;
+        let Some(placed) = count else {
+            return Err(SaveFault::State(number));
+        };
+        if !stands_behind(before, placed) {
+            return Err(SaveFault::State(number));
+        }
+        before = Some(placed);
+    }
+    Ok(())
+}
+
+// The counts of each worker. All counts have a place, and come in order.
+fn states_of(alloc: Global, setup: &Setup, counts: &[Option<Placed>]) -> Result<States, NoMemory>
+    requires named { (spelled : List SpelledIs) ×
+        (counts.now ≡ map (placed_of_spelled (outline setup.now).job) spelled) }
+    requires order { placed_in 1 None counts.now ≡ Ok (there counts.now) }
+    ensures { IfOk result (λ states. states ≡
+        map (counts_at (there counts.now)) (posts (outline setup.now).job)) }
+{
+    let Start { states, .. } = Start::first(alloc, setup)?;
+    let mut states = states.into_vec();
+    for count in counts {
+        match count {
+            Some(placed) => add(&mut states, placed)?,
+            None => {}
+        }
+    }
+    Ok(States::from_vec(states))
+}
+
+// Gives the worker of a count this count, whose key is new to it.
+fn add(states: &mut Vec<Keyed>, placed: &Placed) -> Result<(), NoMemory>
+    requires within { placed.now.worker < length states.old.items }
+    requires new { (d : CountsIs) → get (get_or states.old.items placed.now.worker d) placed.now.key ≡ None }
+    ensures { OnOk result ((d : CountsIs) → states.new.items ≡ slice_set states.old.items placed.now.worker
+        (insert (get_or states.old.items placed.now.worker d) placed.now.key placed.now.count)) }
+{
+    states[placed.worker as usize].add(placed.key.as_slice(), placed.count)?;
+    Ok(())
+}

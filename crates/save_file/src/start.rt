@@ -1,0 +1,32 @@
+ghost use Rattle.std.specs.Prelude.{◌≡◌, IfOk};
+ghost use Rattle.flow_model.specs.Record.{told};
+ghost use Rattle.savepoint.specs.Parts.{start_of as start_of_run};
+
+use flow_model::{RunRecord, Start};
+use keyed_state::Keyed;
+use sink_journal::States;
+use std::alloc::Global;
+use tuple_trace::NoMemory;
+
+/// Where a run goes on after this record, which was fed `rows` rows. Its counts are copied.
+///
+/// The only error is out of memory.
+pub fn start_of(alloc: Global, ran: &RunRecord, rows: u64) -> Result<Start, NoMemory>
+    ensures { IfOk result (λ start. start ≡ start_of_run rows (told ran.now)) }
+{
+    Ok(Start {
+        row: rows,
+        turned: ran.setup.requests() as u64,
+        states: copies(alloc, ran.states.as_slice())?,
+    })
+}
+
+fn copies(alloc: Global, states: &[Keyed]) -> Result<States, NoMemory>
+    ensures { IfOk result (λ copies. copies ≡ states.now) }
+{
+    let mut copies = States::new(alloc);
+    for state in states {
+        copies.push(state.copy()?)?;
+    }
+    Ok(copies)
+}
