@@ -1,4 +1,5 @@
 pub mod PrintLemmas
+pub mod ReadLemmas
 pub mod FollowLemmas
 pub mod MakeLemmas
 pub mod RunLemmas

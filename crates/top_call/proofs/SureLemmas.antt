@@ -19,7 +19,8 @@ use Rattle.top_call.specs.Ends.{EndsAfterRun, EndsStoring, Stops, StopsStoring, 
 use Rattle.top_call.specs.Explain.{AnswersText}
 use Rattle.top_call.specs.First.{asked_job}
 use Rattle.top_call.specs.Make.{IsNotMade, MakesNoRows}
-use Rattle.top_call.specs.Outside.{FileText, Outside, Prints, PrintsFault, PrintsReport}
+use Rattle.payments.specs.World.{ShelfState, SinkState, World}
+use Rattle.top_call.specs.Outside.{FileText, Prints, PrintsFault, PrintsReport}
 use Rattle.top_call.specs.Plan.{IsNoSetup, setup_lines}
 use Rattle.top_call.specs.Reading.{IsUnread, RefusesJob, RefusesRequests, RefusesRows}
 use Rattle.top_call.specs.Run.{IsNoRun}
@@ -52,26 +53,26 @@ own_status (Some (fault.Long which)) refused own = (7, omega arith, refl)
 not_risen : (before now : ℕ) → before ≡ 0 → now ≡ 0 → Rose before now → ⊥
 not_risen before now none still rose = omega (arith, none, still, rose.more)
 
-same_sure : (old stored : Outside) → stored.shelf ≡ old.shelf → stored.out ≡ old.out → IsSure old → IsSure stored
+same_sure : (old stored : World) → stored.shelf.faults ≡ old.shelf.faults → stored.out ≡ old.out → IsSure old → IsSure stored
 same_sure old stored shelf out sure = record {
   reads = ap (λ (s : Faults). s.reads) shelf ∙ sure.reads;
   writes = ap (λ (s : Faults). s.writes) shelf ∙ sure.writes;
-  out = out ∙ sure.out;
+  out = ap (λ (o : SinkState). o.faults) out ∙ sure.out;
 }
 
 -- printing the line of a fault lowers no count
-report_above : (answer : Option Fault) (old new : Option (List ℕ)) (out later : ℕ) → PrintsReport answer old new out later → out ≤ later
-report_above None old new out later (same, kept) = omega (arith, kept)
-report_above (Some (fault.Write file.Out)) old new out later (same, kept) = omega (arith, kept)
-report_above (Some why) old new out later (gains, above) = above
+report_above : (answer : Option Fault) (old new : SinkState) → PrintsReport answer old new → old.faults ≤ new.faults
+report_above None old new same = let kept = ap (λ (s : SinkState). s.faults) same in omega (arith, kept)
+report_above (Some (fault.Write file.Out)) old new same = let kept = ap (λ (s : SinkState). s.faults) same in omega (arith, kept)
+report_above (Some why) old new (gains, above) = above
 
 -- nothing was counted before the line of the fault was printed
-sure_before : (answer : Option Fault) (between new : Outside) → PrintsFault answer between new → IsSure new → IsSure between
+sure_before : (answer : Option Fault) (between new : World) → PrintsFault answer between new → IsSure new → IsSure between
 sure_before answer between new prints sure =
-    let above : between.out ≤ new.out = report_above answer between.written new.written between.out new.out prints.line in
+    let above : between.out.faults ≤ new.out.faults = report_above answer between.out new.out prints.line in
     record {
-      reads = ap (λ (s : Faults). s.reads) (sym prints.shelf) ∙ sure.reads;
-      writes = ap (λ (s : Faults). s.writes) (sym prints.shelf) ∙ sure.writes;
+      reads = ap (λ (s : ShelfState). s.faults.reads) (sym prints.shelf) ∙ sure.reads;
+      writes = ap (λ (s : ShelfState). s.faults.writes) (sym prints.shelf) ∙ sure.writes;
       out = omega (arith, above, sure.out);
     }
 
@@ -93,24 +94,24 @@ of_rows : (job : Written) → IsOfBytes (RefusesRows job)
 of_rows job (fault.Payments code) bytes refused = tt
 of_rows job _ bytes refused = absurd refused
 
-unread_own : (is : FileIs) (Refuses : Fault → List ℕ → Type 0) (files : Option Files) (name : List ℕ) (old new : Outside) (why : Fault) → IsOfBytes Refuses →
-    IsSure old → IsSure new → IsUnread is Refuses files name old.shelf new.shelf why → IsOwn (Some why)
+unread_own : (is : FileIs) (Refuses : Fault → List ℕ → Type 0) (files : Option Files) (name : List ℕ) (old new : World) (why : Fault) → IsOfBytes Refuses →
+    IsSure old → IsSure new → IsUnread is Refuses files name old.shelf.faults new.shelf.faults why → IsOwn (Some why)
 unread_own is Refuses files name old new (fault.Read which) of sure later unread =
-    absurd (not_risen old.shelf.reads new.shelf.reads sure.reads later.reads unread.1.rose)
+    absurd (not_risen old.shelf.faults.reads new.shelf.faults.reads sure.reads later.reads unread.1.rose)
 unread_own is Refuses files name old new (fault.Long which) of sure later unread = tt
 unread_own is Refuses files name old new fault.NoMemory of sure later unread = tt
 unread_own is Refuses files name old new why of sure later unread = of why unread.0.bytes unread.0.are_so
 
-no_setup_own : (asked : PlanAsked) (files : Option Files) (old new : Outside) (why : Fault) → IsSure old → IsSure new →
-    IsNoSetup asked files old.shelf new.shelf why → IsOwn (Some why)
+no_setup_own : (asked : PlanAsked) (files : Option Files) (old new : World) (why : Fault) → IsSure old → IsSure new →
+    IsNoSetup asked files old.shelf.faults new.shelf.faults why → IsOwn (Some why)
 no_setup_own asked files old new why sure later none =
     elim none [
       | inl unread ↦ unread_own file.Job RefusesJob files asked.job old new why of_job sure later unread
       | inr (job, of, unread) ↦ unread_own file.Requests (RefusesRequests job) files asked.requests old new why (of_requests job) sure later unread
     ]
 
-no_run_own : (asked : RunAsked) (files : Option Files) (old new : Outside) (why : Fault) → IsSure old → IsSure new →
-    IsNoRun asked files old.shelf new.shelf why → IsOwn (Some why)
+no_run_own : (asked : RunAsked) (files : Option Files) (old new : World) (why : Fault) → IsSure old → IsSure new →
+    IsNoRun asked files old.shelf.faults new.shelf.faults why → IsOwn (Some why)
 no_run_own asked files old new why sure later none =
     elim none [
       | inl unread ↦ no_setup_own asked.plan files old new why sure later unread
@@ -122,8 +123,8 @@ no_rows_own asked job (fault.Payments code) none = tt
 no_rows_own asked job fault.NoMemory none = tt
 no_rows_own asked job _ none = absurd none
 
-not_made_own : (asked : MakeAsked) (files : Option Files) (old new : Outside) (why : Fault) → IsSure old → IsSure new →
-    IsNotMade asked files old.shelf new.shelf why → IsOwn (Some why)
+not_made_own : (asked : MakeAsked) (files : Option Files) (old new : World) (why : Fault) → IsSure old → IsSure new →
+    IsNotMade asked files old.shelf.faults new.shelf.faults why → IsOwn (Some why)
 not_made_own asked files old new why sure later none =
     elim none [
       | inl unread ↦ unread_own file.Job RefusesJob files asked.job old new why of_job sure later unread
@@ -132,33 +133,33 @@ not_made_own asked files old new why sure later none =
 
 -- ---- what is stored and printed
 
-prints_own : (text : List ℕ) (old new : Option (List ℕ)) (out later : ℕ) (answer : Option Fault) → out ≡ 0 → later ≡ 0 →
-    Prints text old new out later answer → IsOwn answer
-prints_own text old new out later None none still prints = tt
-prints_own text old new out later (Some (fault.Write file.Out)) none still (gains, rose) = absurd (not_risen out later none still rose)
-prints_own text old new out later (Some fault.NoMemory) none still prints = tt
-prints_own text old new out later (Some _) none still prints = absurd prints
+prints_own : (text : List ℕ) (old new : SinkState) (answer : Option Fault) → old.faults ≡ 0 → new.faults ≡ 0 →
+    Prints text old new answer → IsOwn answer
+prints_own text old new None none still prints = tt
+prints_own text old new (Some (fault.Write file.Out)) none still (gains, rose) = absurd (not_risen old.faults new.faults none still rose)
+prints_own text old new (Some fault.NoMemory) none still prints = tt
+prints_own text old new (Some _) none still prints = absurd prints
 
 no_memory_own : (answer : Option Fault) → answer ≡ Some fault.NoMemory → IsOwn answer
 no_memory_own answer is = subst IsOwn (sym is) tt
 
-stops_own : (text : FileText) (old new : Outside) (answer : Option Fault) → IsSure old → IsSure new → StopsStoring text old new answer → IsOwn answer
+stops_own : (text : FileText) (old new : World) (answer : Option Fault) → IsSure old → IsSure new → StopsStoring text old new answer → IsOwn answer
 stops_own text old new answer sure later stops =
     elim stops.cause [
-      | inl (is, failed) ↦ absurd (not_risen old.shelf.writes new.shelf.writes sure.writes later.writes failed.rose)
+      | inl (is, failed) ↦ absurd (not_risen old.shelf.faults.writes new.shelf.faults.writes sure.writes later.writes failed.rose)
       | inr (is, kept) ↦ no_memory_own answer (stops.answer_is ∙ ap (λ (f : Fault). Some f) is)
     ]
 
-storing_own : (texts : List FileText) (lines : List ℕ) (old new : Outside) (answer : Option Fault) → IsSure old → IsSure new →
+storing_own : (texts : List FileText) (lines : List ℕ) (old new : World) (answer : Option Fault) → IsSure old → IsSure new →
     EndsStoring texts lines old new answer → IsOwn answer
-storing_own [] lines old new answer sure later ends = prints_own lines old.written new.written old.out new.out answer sure.out later.out ends.prints
+storing_own [] lines old new answer sure later ends = prints_own lines old.out new.out answer sure.out later.out ends.prints
 storing_own (text ∷ rest) lines old new answer sure later ends =
     elim ends [
       | inl stops ↦ stops_own text old new answer sure later stops
-      | inr (stored, stores, more) ↦ storing_own rest lines stored new answer (same_sure old stored stores.shelf stores.prints.out sure) later more
+      | inr (stored, stores, more) ↦ storing_own rest lines stored new answer (same_sure old stored stores.faults stores.out sure) later more
     ]
 
-run_own : (texts : List FileText) (lines : List ℕ) (old new : Outside) (answer : Option Fault) → IsSure old → IsSure new →
+run_own : (texts : List FileText) (lines : List ℕ) (old new : World) (answer : Option Fault) → IsSure old → IsSure new →
     EndsAfterRun texts lines old new answer → IsOwn answer
 run_own texts lines old new answer sure later ends =
     elim ends [
@@ -168,14 +169,14 @@ run_own texts lines old new answer sure later ends =
 
 -- ---- each command
 
-stopped_own : (Cause : Faults → Faults → Fault → Type 0) (old new : Outside) (answer : Answer) → (s : Stops Cause old new answer) →
+stopped_own : (Cause : Faults → Faults → Fault → Type 0) (old new : World) (answer : Answer) → (s : Stops Cause old new answer) →
     IsOwn (Some s.why) → IsOwn answer.fault
 stopped_own Cause old new answer s own = subst (λ (x : Answer). IsOwn x.fault) (sym s.answer_is) own
 
-text_own : (text : List ℕ) (old new : Outside) (answer : Answer) → AnswersText text old new answer → IsSure old → IsSure new → IsOwn answer.fault
+text_own : (text : List ℕ) (old new : World) (answer : Answer) → AnswersText text old new answer → IsSure old → IsSure new → IsOwn answer.fault
 text_own text old new answer a sure later =
     let before = sure_before answer.fault a.between new a.prints later in
-    prints_own text old.written a.between.written old.out a.between.out answer.fault sure.out before.out a.lines.prints
+    prints_own text old.out a.between.out answer.fault sure.out before.out a.lines.prints
 
 usage_own : (answer : Answer) → (answer ≡ stopped fault.Usage) ⊎ (answer ≡ stopped fault.NoMemory) → IsOwn answer.fault
 usage_own answer usage =
@@ -184,36 +185,36 @@ usage_own answer usage =
       | inr e ↦ subst (λ (x : Answer). IsOwn x.fault) (sym e) tt
     ]
 
-answers_own : (asked : Asked) (old new : Outside) (answer : Answer) → Answers asked old new answer → IsSure old → IsSure new → IsOwn answer.fault
+answers_own : (asked : Asked) (old new : World) (answer : Answer) → Answers asked old new answer → IsSure old → IsSure new → IsOwn answer.fault
 answers_own (First asked) old new answer a sure later =
     let before = sure_before answer.fault a.between new a.prints later in
     elim a.ends [
-      | inl s ↦ stopped_own _ old a.between answer s (unread_own file.Payments (RefusesRows (asked_job asked)) old.files asked.payments old a.between s.why (of_rows (asked_job asked)) sure before s.cause)
+      | inl s ↦ stopped_own _ old a.between answer s (unread_own file.Payments (RefusesRows (asked_job asked)) old.shelf.files asked.payments old a.between s.why (of_rows (asked_job asked)) sure before s.cause)
       | inr r ↦ run_own (files_of asked.alerts None r.done) (run_lines r.done) old a.between answer.fault sure before r.ends
     ]
 answers_own (Check name) old new answer a sure later =
     let before = sure_before answer.fault a.between new a.prints later in
     elim a.ends [
-      | inl s ↦ stopped_own _ old a.between answer s (unread_own file.Job RefusesJob old.files name old a.between s.why of_job sure before s.cause)
-      | inr p ↦ prints_own (sizes_line p.job) old.written a.between.written old.out a.between.out answer.fault sure.out before.out p.lines.prints
+      | inl s ↦ stopped_own _ old a.between answer s (unread_own file.Job RefusesJob old.shelf.files name old a.between s.why of_job sure before s.cause)
+      | inr p ↦ prints_own (sizes_line p.job) old.out a.between.out answer.fault sure.out before.out p.lines.prints
     ]
 answers_own (Plan asked) old new answer a sure later =
     let before = sure_before answer.fault a.between new a.prints later in
     elim a.ends [
-      | inl s ↦ stopped_own _ old a.between answer s (no_setup_own asked old.files old a.between s.why sure before s.cause)
-      | inr p ↦ prints_own (setup_lines p.setup) old.written a.between.written old.out a.between.out answer.fault sure.out before.out p.lines.prints
+      | inl s ↦ stopped_own _ old a.between answer s (no_setup_own asked old.shelf.files old a.between s.why sure before s.cause)
+      | inr p ↦ prints_own (setup_lines p.setup) old.out a.between.out answer.fault sure.out before.out p.lines.prints
     ]
 answers_own (Run asked) old new answer a sure later =
     let before = sure_before answer.fault a.between new a.prints later in
     elim a.ends [
-      | inl s ↦ stopped_own _ old a.between answer s (no_run_own asked old.files old a.between s.why sure before s.cause)
+      | inl s ↦ stopped_own _ old a.between answer s (no_run_own asked old.shelf.files old a.between s.why sure before s.cause)
       | inr r ↦ run_own (files_of asked.alerts (Some asked.audit) r.done) (run_lines r.done) old a.between answer.fault sure before r.ends
     ]
 answers_own (Make asked) old new answer a sure later =
     let before = sure_before answer.fault a.between new a.prints later in
     elim a.ends [
-      | inl s ↦ stopped_own _ old a.between answer s (not_made_own asked old.files old a.between s.why sure before s.cause)
-      | inr r ↦ prints_own (run_lines r.done) old.written a.between.written old.out a.between.out answer.fault sure.out before.out r.lines.prints
+      | inl s ↦ stopped_own _ old a.between answer s (not_made_own asked old.shelf.files old a.between s.why sure before s.cause)
+      | inr r ↦ prints_own (run_lines r.done) old.out a.between.out answer.fault sure.out before.out r.lines.prints
     ]
 answers_own (Help about) old new answer a sure later = text_own (help_of about) old new answer a sure later
 answers_own Version old new answer a sure later = text_own version_line old new answer a sure later

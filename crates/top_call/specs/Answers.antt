@@ -7,7 +7,8 @@ use Rattle.top_call.specs.Ends.{stopped}
 use Rattle.top_call.specs.Explain.{AnswersText, FollowsText}
 use Rattle.top_call.specs.First.{AnswersFirst, FollowsFirst}
 use Rattle.top_call.specs.Make.{AnswersMake, FollowsMake}
-use Rattle.top_call.specs.Outside.{Outside, PrintsFault}
+use Rattle.payments.specs.World.{World}
+use Rattle.top_call.specs.Outside.{PrintsFault}
 use Rattle.top_call.specs.Plan.{AnswersPlan, FollowsPlan}
 use Rattle.top_call.specs.Run.{AnswersRun, FollowsRun}
 use Rattle.top_call.specs.declared.answer.Answer.{Answer}
@@ -20,7 +21,7 @@ abbrev pub answer_of : Outcome → Answer
 answer_of outcome = record { fault = outcome.fault; refused = outcome.refused; ran = outcome.ran }
 
 -- what a call answers, leaves and prints that was asked this
-abbrev pub Answers : Asked → Outside → Outside → Answer → Type 0
+abbrev pub Answers : Asked → World → World → Answer → Type 0
 Answers (First asked) old new answer = AnswersFirst asked old new answer
 Answers (Check name) old new answer = AnswersCheck name old new answer
 Answers (Plan asked) old new answer = AnswersPlan asked old new answer
@@ -30,12 +31,12 @@ Answers (Help about) old new answer = AnswersText (help_of about) old new answer
 Answers Version old new answer = AnswersText version_line old new answer
 
 -- what a call answers, leaves and prints whose words are no full form of a command and ask for neither help nor the version; memory may run out
-pub record AnswersUsage (old new : Outside) (answer : Answer) : Type 0 where
+pub record AnswersUsage (old new : World) (answer : Answer) : Type 0 where
   pub usage : (answer ≡ stopped fault.Usage) ⊎ (answer ≡ stopped fault.NoMemory)
   pub prints : PrintsFault answer.fault old new
 
 -- what a call answers, seen from the files that it reads
-abbrev pub Follows : Asked → Outside → Outside → Option Fault → Type 0
+abbrev pub Follows : Asked → World → World → Option Fault → Type 0
 Follows (First asked) old new answer = FollowsFirst asked old new answer
 Follows (Check name) old new answer = FollowsCheck name old new answer
 Follows (Plan asked) old new answer = FollowsPlan asked old new answer

@@ -3,30 +3,31 @@ use Rattle.std.specs.Prelude.{◌≡◌, ◌⊎◌, ℕ, List, [], Option, None}
 use Rattle.jobs.specs.Written.{Written}
 use Rattle.top_call.specs.Ends.{PrintsLines, Stops}
 use Rattle.report.specs.Lines.{sizes_line}
-use Rattle.top_call.specs.Outside.{IsExcused, Outside, PrintsFault}
+use Rattle.payments.specs.World.{World}
+use Rattle.top_call.specs.Outside.{IsExcused, PrintsFault}
 use Rattle.top_call.specs.Reading.{FollowsJob, IsJobOf, IsNoJob, TellsJob}
 use Rattle.top_call.specs.declared.answer.Answer.{Answer}
 use Rattle.report.specs.declared.fault.Fault.{Fault}
 
 -- it read a job, and came to printing its sizes; it changed no file
-pub record PrintsSizes (name : List ℕ) (old new : Outside) (answer : Answer) : Type 0 where
+pub record PrintsSizes (name : List ℕ) (old new : World) (answer : Answer) : Type 0 where
   pub job : Written
-  pub of_file : IsJobOf old.files name job
+  pub of_file : IsJobOf old.shelf.files name job
   pub lines : PrintsLines (sizes_line job) old new answer.fault
   pub refused : answer.refused ≡ []
   pub ran : answer.ran ≡ None
 
 -- how a call of `check` ends, before the line of its fault is printed
-abbrev pub EndsCheck : List ℕ → Outside → Outside → Answer → Type 0
-EndsCheck name old new answer = Stops (IsNoJob old.files name) old new answer ⊎ PrintsSizes name old new answer
+abbrev pub EndsCheck : List ℕ → World → World → Answer → Type 0
+EndsCheck name old new answer = Stops (IsNoJob old.shelf.files name) old new answer ⊎ PrintsSizes name old new answer
 
 -- what a call of `check` answers, leaves and prints
-pub record AnswersCheck (name : List ℕ) (old new : Outside) (answer : Answer) : Type 0 where
-  pub between : Outside
+pub record AnswersCheck (name : List ℕ) (old new : World) (answer : Answer) : Type 0 where
+  pub between : World
   pub ends : EndsCheck name old between answer
   pub prints : PrintsFault answer.fault between new
 
 -- the answer, seen from the job file
-pub record FollowsCheck (name : List ℕ) (old new : Outside) (answer : Option Fault) : Type 0 where
+pub record FollowsCheck (name : List ℕ) (old new : World) (answer : Option Fault) : Type 0 where
   pub job : FollowsJob name old new answer
-  pub done : (job : Written) → TellsJob old.files name job → (answer ≡ None) ⊎ IsExcused old new answer
+  pub done : (job : Written) → TellsJob old.shelf.files name job → (answer ≡ None) ⊎ IsExcused old new answer

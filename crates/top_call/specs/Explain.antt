@@ -2,17 +2,18 @@
 use Rattle.std.specs.Prelude.{◌≡◌, ◌⊎◌, ℕ, List, [], Option, None}
 use Rattle.report.specs.declared.fault.Fault.{Fault}
 use Rattle.top_call.specs.Ends.{PrintsLines}
-use Rattle.top_call.specs.Outside.{IsExcused, Outside, PrintsFault}
+use Rattle.payments.specs.World.{World}
+use Rattle.top_call.specs.Outside.{IsExcused, PrintsFault}
 use Rattle.top_call.specs.declared.answer.Answer.{Answer}
 
 -- it came to printing the text; it read and changed no file, and ran nothing
-pub record AnswersText (text : List ℕ) (old new : Outside) (answer : Answer) : Type 0 where
-  pub between : Outside
+pub record AnswersText (text : List ℕ) (old new : World) (answer : Answer) : Type 0 where
+  pub between : World
   pub lines : PrintsLines text old between answer.fault
   pub refused : answer.refused ≡ []
   pub ran : answer.ran ≡ None
   pub prints : PrintsFault answer.fault between new
 
 -- the answer, seen from outside
-abbrev pub FollowsText : Outside → Outside → Option Fault → Type 0
+abbrev pub FollowsText : World → World → Option Fault → Type 0
 FollowsText old new answer = (answer ≡ None) ⊎ IsExcused old new answer

@@ -11,7 +11,8 @@ use Rattle.command_line.specs.Asked.{FirstAsked}
 use Rattle.top_call.specs.Ends.{Stops}
 use Rattle.top_call.specs.FirstJob.{first_job, first_request}
 use Rattle.top_call.specs.Plan.{AreSame}
-use Rattle.top_call.specs.Outside.{IsExcused, Outside, PrintsFault}
+use Rattle.payments.specs.World.{World}
+use Rattle.top_call.specs.Outside.{IsExcused, PrintsFault}
 use Rattle.top_call.specs.Reading.{AreNoRows, AreRowsOf, FollowsRows, TellsRows}
 use Rattle.top_call.specs.Running.{IsRunOf, Runs}
 use Rattle.top_call.specs.declared.answer.Answer.{Answer}
@@ -52,17 +53,17 @@ pub record IsFirstRun (asked : FirstAsked) (files : Option Files) (done : Done) 
 -- ---- the answer
 
 -- how a call of `first` ends, before the line of its fault is printed
-abbrev pub EndsFirst : FirstAsked → Outside → Outside → Answer → Type 0
+abbrev pub EndsFirst : FirstAsked → World → World → Answer → Type 0
 EndsFirst asked old new answer =
-    Stops (AreNoRows old.files asked.payments (asked_job asked)) old new answer ⊎ Runs (IsFirstRun asked old.files) asked.alerts None old new answer
+    Stops (AreNoRows old.shelf.files asked.payments (asked_job asked)) old new answer ⊎ Runs (IsFirstRun asked old.shelf.files) asked.alerts None old new answer
 
 -- what a call of `first` answers, leaves and prints
-pub record AnswersFirst (asked : FirstAsked) (old new : Outside) (answer : Answer) : Type 0 where
-  pub between : Outside
+pub record AnswersFirst (asked : FirstAsked) (old new : World) (answer : Answer) : Type 0 where
+  pub between : World
   pub ends : EndsFirst asked old between answer
   pub prints : PrintsFault answer.fault between new
 
 -- the answer, seen from the payments file
-pub record FollowsFirst (asked : FirstAsked) (old new : Outside) (answer : Option Fault) : Type 0 where
+pub record FollowsFirst (asked : FirstAsked) (old new : World) (answer : Option Fault) : Type 0 where
   pub payments : FollowsRows (asked_job asked) asked.payments old new answer
-  pub done : (rows : List Row) → TellsRows old.files asked.payments (asked_job asked) rows → (answer ≡ None) ⊎ IsExcused old new answer
+  pub done : (rows : List Row) → TellsRows old.shelf.files asked.payments (asked_job asked) rows → (answer ≡ None) ⊎ IsExcused old new answer

@@ -11,7 +11,8 @@ use Rattle.tuple_trace.specs.declared.row.Row.{Row}
 use Rattle.report.specs.declared.fault.Fault.{Fault}
 use Rattle.report.specs.declared.fault.Fault.TheVariants as fault
 use Rattle.top_call.specs.Ends.{PrintsLines, Stops}
-use Rattle.top_call.specs.Outside.{IsExcused, Outside, PrintsFault}
+use Rattle.payments.specs.World.{World}
+use Rattle.top_call.specs.Outside.{IsExcused, PrintsFault}
 use Rattle.top_call.specs.Plan.{AreSame}
 use Rattle.top_call.specs.Reading.{FollowsJob, IsJobOf, IsNoJob, TellsJob}
 use Rattle.top_call.specs.Running.{IsRunOf, run_lines}
@@ -41,27 +42,27 @@ IsNotMade asked files old new why =
 -- ---- the answer
 
 -- it ran the rows, and came to printing the lines of that; it changed no file
-pub record RunsMade (asked : MakeAsked) (old new : Outside) (answer : Answer) : Type 0 where
+pub record RunsMade (asked : MakeAsked) (old new : World) (answer : Answer) : Type 0 where
   pub done : Done
-  pub is_so : IsMadeRun asked old.files done
+  pub is_so : IsMadeRun asked old.shelf.files done
   pub lines : PrintsLines (run_lines done) old new answer.fault
   pub refused : answer.refused ≡ done.refused
   pub ran : answer.ran ≡ Some done.ran
 
 -- how a call of `make` ends, before the line of its fault is printed
-abbrev pub EndsMake : MakeAsked → Outside → Outside → Answer → Type 0
-EndsMake asked old new answer = Stops (IsNotMade asked old.files) old new answer ⊎ RunsMade asked old new answer
+abbrev pub EndsMake : MakeAsked → World → World → Answer → Type 0
+EndsMake asked old new answer = Stops (IsNotMade asked old.shelf.files) old new answer ⊎ RunsMade asked old new answer
 
 -- what a call of `make` answers, leaves and prints
-pub record AnswersMake (asked : MakeAsked) (old new : Outside) (answer : Answer) : Type 0 where
-  pub between : Outside
+pub record AnswersMake (asked : MakeAsked) (old new : World) (answer : Answer) : Type 0 where
+  pub between : World
   pub ends : EndsMake asked old between answer
   pub prints : PrintsFault answer.fault between new
 
 -- the answer, seen from the job file: the rows are looked at if it holds a job
-pub record FollowsMake (asked : MakeAsked) (old new : Outside) (answer : Option Fault) : Type 0 where
+pub record FollowsMake (asked : MakeAsked) (old new : World) (answer : Option Fault) : Type 0 where
   pub job : FollowsJob asked.job old new answer
-  pub rows : (job : Written) (code : PFault) → TellsJob old.files asked.job job → made_rows job asked.seed asked.rows ≡ Err code →
+  pub rows : (job : Written) (code : PFault) → TellsJob old.shelf.files asked.job job → made_rows job asked.seed asked.rows ≡ Err code →
       (answer ≡ Some (fault.Payments code)) ⊎ IsExcused old new answer
-  pub done : (job : Written) (rows : List Row) → TellsJob old.files asked.job job → made_rows job asked.seed asked.rows ≡ Ok rows →
+  pub done : (job : Written) (rows : List Row) → TellsJob old.shelf.files asked.job job → made_rows job asked.seed asked.rows ≡ Ok rows →
       (answer ≡ None) ⊎ IsExcused old new answer

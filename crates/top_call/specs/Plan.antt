@@ -13,7 +13,8 @@ use Rattle.flow_model.specs.declared.setup.Setup.{Setup}
 use Rattle.command_line.specs.Asked.{PlanAsked}
 use Rattle.top_call.specs.Ends.{PrintsLines, Stops}
 use Rattle.report.specs.Lines.{plan_lines, refused_lines}
-use Rattle.top_call.specs.Outside.{IsExcused, Outside, PrintsFault}
+use Rattle.payments.specs.World.{World}
+use Rattle.top_call.specs.Outside.{IsExcused, PrintsFault}
 use Rattle.top_call.specs.Reading.{AreNoRequests, AreRequestsOf, FollowsJob, FollowsRequests, IsJobOf, IsNoJob, TellsJob, TellsRequests}
 use Rattle.top_call.specs.declared.answer.Answer.{Answer}
 use Rattle.report.specs.declared.fault.Fault.{Fault}
@@ -55,26 +56,26 @@ abbrev pub setup_lines : Setup → List ℕ
 setup_lines setup = plan_lines (written setup.job) setup.plans ++ refused_lines setup.judged.refused
 
 -- it made the setup of what the files hold, and came to printing its lines; it changed no file
-pub record PrintsSetup (asked : PlanAsked) (old new : Outside) (answer : Answer) : Type 0 where
+pub record PrintsSetup (asked : PlanAsked) (old new : World) (answer : Answer) : Type 0 where
   pub setup : Setup
-  pub of_files : IsSetupOf asked old.files setup
+  pub of_files : IsSetupOf asked old.shelf.files setup
   pub lines : PrintsLines (setup_lines setup) old new answer.fault
   pub refused : answer.refused ≡ setup.judged.refused
   pub ran : answer.ran ≡ None
 
 -- how a call of `plan` ends, before the line of its fault is printed
-abbrev pub EndsPlan : PlanAsked → Outside → Outside → Answer → Type 0
-EndsPlan asked old new answer = Stops (IsNoSetup asked old.files) old new answer ⊎ PrintsSetup asked old new answer
+abbrev pub EndsPlan : PlanAsked → World → World → Answer → Type 0
+EndsPlan asked old new answer = Stops (IsNoSetup asked old.shelf.files) old new answer ⊎ PrintsSetup asked old new answer
 
 -- what a call of `plan` answers, leaves and prints
-pub record AnswersPlan (asked : PlanAsked) (old new : Outside) (answer : Answer) : Type 0 where
-  pub between : Outside
+pub record AnswersPlan (asked : PlanAsked) (old new : World) (answer : Answer) : Type 0 where
+  pub between : World
   pub ends : EndsPlan asked old between answer
   pub prints : PrintsFault answer.fault between new
 
 -- the answer, seen from the files: each is looked at where those before it hold what they should
-pub record FollowsPlan (asked : PlanAsked) (old new : Outside) (answer : Option Fault) : Type 0 where
+pub record FollowsPlan (asked : PlanAsked) (old new : World) (answer : Option Fault) : Type 0 where
   pub job : FollowsJob asked.job old new answer
-  pub requests : (job : Written) → TellsJob old.files asked.job job → FollowsRequests job asked.requests old new answer
-  pub done : (job : Written) (requests : List Request) → TellsJob old.files asked.job job → TellsRequests old.files asked.requests job requests →
+  pub requests : (job : Written) → TellsJob old.shelf.files asked.job job → FollowsRequests job asked.requests old new answer
+  pub done : (job : Written) (requests : List Request) → TellsJob old.shelf.files asked.job job → TellsRequests old.shelf.files asked.requests job requests →
       (answer ≡ None) ⊎ IsExcused old new answer

@@ -12,7 +12,8 @@ use Rattle.payments.specs.declared.read.PFault.TheVariants as rows
 use Rattle.tuple_trace.specs.declared.row.Row.{Row}
 use Rattle.versions.specs.declared.request.Request.{Request}
 use Rattle.report.specs.Faults.{limit_of}
-use Rattle.top_call.specs.Outside.{IsExcused, Outside}
+use Rattle.payments.specs.World.{World}
+use Rattle.top_call.specs.Outside.{IsExcused}
 use Rattle.report.specs.declared.fault.Fault.{Fault}
 use Rattle.report.specs.declared.fault.Fault.TheVariants as fault
 use Rattle.report.specs.declared.fault.FileIs.{FileIs}
@@ -97,16 +98,16 @@ TellsRows files name job rows = Tells file.Payments (λ bytes. rows_of job bytes
 
 -- What a file is answered by, where it is told: one that is too long by just that, and one that is refused by just the fault that its bytes have.
 -- Otherwise the call is excused.
-pub record FollowsFile (is : FileIs) (Refuses : Fault → List ℕ → Type 0) (name : List ℕ) (old new : Outside) (answer : Option Fault) : Type 0 where
-  pub long : (bytes : List ℕ) → told_bytes old.files name ≡ Some bytes → limit_of is < length bytes →
+pub record FollowsFile (is : FileIs) (Refuses : Fault → List ℕ → Type 0) (name : List ℕ) (old new : World) (answer : Option Fault) : Type 0 where
+  pub long : (bytes : List ℕ) → told_bytes old.shelf.files name ≡ Some bytes → limit_of is < length bytes →
       (answer ≡ Some (fault.Long is)) ⊎ IsExcused old new answer
-  pub refused : (why : Fault) → Tells is (Refuses why) old.files name → (answer ≡ Some why) ⊎ IsExcused old new answer
+  pub refused : (why : Fault) → Tells is (Refuses why) old.shelf.files name → (answer ≡ Some why) ⊎ IsExcused old new answer
 
-abbrev pub FollowsJob : List ℕ → Outside → Outside → Option Fault → Type 0
+abbrev pub FollowsJob : List ℕ → World → World → Option Fault → Type 0
 FollowsJob name old new answer = FollowsFile file.Job RefusesJob name old new answer
 
-abbrev pub FollowsRequests : Written → List ℕ → Outside → Outside → Option Fault → Type 0
+abbrev pub FollowsRequests : Written → List ℕ → World → World → Option Fault → Type 0
 FollowsRequests job name old new answer = FollowsFile file.Requests (RefusesRequests job) name old new answer
 
-abbrev pub FollowsRows : Written → List ℕ → Outside → Outside → Option Fault → Type 0
+abbrev pub FollowsRows : Written → List ℕ → World → World → Option Fault → Type 0
 FollowsRows job name old new answer = FollowsFile file.Payments (RefusesRows job) name old new answer

@@ -7,7 +7,8 @@ use Rattle.tuple_trace.specs.declared.row.Row.{Row}
 use Rattle.versions.specs.declared.request.Request.{Request}
 use Rattle.command_line.specs.Asked.{RunAsked}
 use Rattle.top_call.specs.Ends.{Stops}
-use Rattle.top_call.specs.Outside.{IsExcused, Outside, PrintsFault}
+use Rattle.payments.specs.World.{World}
+use Rattle.top_call.specs.Outside.{IsExcused, PrintsFault}
 use Rattle.top_call.specs.Plan.{AreSame, IsNoSetup}
 use Rattle.top_call.specs.Reading.{AreNoRows, AreRequestsOf, AreRowsOf, FollowsJob, FollowsRequests, FollowsRows, IsJobOf, TellsJob, TellsRequests, TellsRows}
 use Rattle.top_call.specs.Running.{IsRunOf, Runs}
@@ -35,20 +36,20 @@ IsNoRun asked files old new why =
 -- ---- the answer
 
 -- how a call of `run` ends, before the line of its fault is printed
-abbrev pub EndsRun : RunAsked → Outside → Outside → Answer → Type 0
-EndsRun asked old new answer = Stops (IsNoRun asked old.files) old new answer ⊎ Runs (IsRunOfFiles asked old.files) asked.alerts (Some asked.audit) old new answer
+abbrev pub EndsRun : RunAsked → World → World → Answer → Type 0
+EndsRun asked old new answer = Stops (IsNoRun asked old.shelf.files) old new answer ⊎ Runs (IsRunOfFiles asked old.shelf.files) asked.alerts (Some asked.audit) old new answer
 
 -- what a call of `run` answers, leaves and prints
-pub record AnswersRun (asked : RunAsked) (old new : Outside) (answer : Answer) : Type 0 where
-  pub between : Outside
+pub record AnswersRun (asked : RunAsked) (old new : World) (answer : Answer) : Type 0 where
+  pub between : World
   pub ends : EndsRun asked old between answer
   pub prints : PrintsFault answer.fault between new
 
 -- the answer, seen from the files: each is looked at where those before it hold what they should
-pub record FollowsRun (asked : RunAsked) (old new : Outside) (answer : Option Fault) : Type 0 where
+pub record FollowsRun (asked : RunAsked) (old new : World) (answer : Option Fault) : Type 0 where
   pub job : FollowsJob asked.plan.job old new answer
-  pub requests : (job : Written) → TellsJob old.files asked.plan.job job → FollowsRequests job asked.plan.requests old new answer
-  pub payments : (job : Written) (requests : List Request) → TellsJob old.files asked.plan.job job → TellsRequests old.files asked.plan.requests job requests →
+  pub requests : (job : Written) → TellsJob old.shelf.files asked.plan.job job → FollowsRequests job asked.plan.requests old new answer
+  pub payments : (job : Written) (requests : List Request) → TellsJob old.shelf.files asked.plan.job job → TellsRequests old.shelf.files asked.plan.requests job requests →
       FollowsRows job asked.payments old new answer
-  pub done : (job : Written) (requests : List Request) (rows : List Row) → TellsJob old.files asked.plan.job job →
-      TellsRequests old.files asked.plan.requests job requests → TellsRows old.files asked.payments job rows → (answer ≡ None) ⊎ IsExcused old new answer
+  pub done : (job : Written) (requests : List Request) (rows : List Row) → TellsJob old.shelf.files asked.plan.job job →
+      TellsRequests old.shelf.files asked.plan.requests job requests → TellsRows old.shelf.files asked.payments job rows → (answer ≡ None) ⊎ IsExcused old new answer

@@ -16,7 +16,8 @@ use Rattle.flow_model.specs.declared.record.RunRecord.{RunRecord}
 use Rattle.serial_order.specs.Serials.{serial_line, serials}
 use Rattle.top_call.specs.Ends.{EndsAfterRun}
 use Rattle.report.specs.Lines.{alert_count, noted, refused_lines, row_count, summary_line}
-use Rattle.top_call.specs.Outside.{FileText, Outside}
+use Rattle.payments.specs.World.{World}
+use Rattle.top_call.specs.Outside.{FileText}
 use Rattle.top_call.specs.Plan.{IsSetupFor}
 use Rattle.top_call.specs.declared.answer.Answer.{Answer}
 use Rattle.report.specs.declared.fault.FileIs.TheVariants as file
@@ -91,7 +92,7 @@ abbrev pub run_lines : Done → List ℕ
 run_lines done = (refused_lines done.refused ++ serial_lines done) ++ summary_line (summary_of done)
 
 -- the call ran something that is so, and came to storing its files and printing the lines of that
-pub record Runs (IsSo : Done → Type 0) (alerts : List ℕ) (audit : Option (List ℕ)) (old new : Outside) (answer : Answer) : Type 0 where
+pub record Runs (IsSo : Done → Type 0) (alerts : List ℕ) (audit : Option (List ℕ)) (old new : World) (answer : Answer) : Type 0 where
   pub done : Done
   pub is_so : IsSo done
   pub ends : EndsAfterRun (files_of alerts audit done) (run_lines done) old new answer.fault

@@ -3,24 +3,24 @@ use Rattle.std.specs.Prelude.{◌≡◌, ◌⊎◌, ℕ, [], ◌∷◌, Contains
 use Rattle.command_line.specs.Asked.{Asked}
 use Rattle.report.specs.Faults.{status_for}
 use Rattle.top_call.specs.Answers.{Answers, AnswersUsage}
-use Rattle.top_call.specs.Outside.{Outside}
+use Rattle.payments.specs.World.{World}
 use Rattle.top_call.specs.declared.answer.Answer.{Answer}
 
 -- neither the shelf nor the output has counted a fault
-pub record IsSure (outside : Outside) : Type 0 where
-  pub reads : outside.shelf.reads ≡ 0
-  pub writes : outside.shelf.writes ≡ 0
-  pub out : outside.out ≡ 0
+pub record IsSure (outside : World) : Type 0 where
+  pub reads : outside.shelf.faults.reads ≡ 0
+  pub writes : outside.shelf.faults.writes ≡ 0
+  pub out : outside.out.faults ≡ 0
 
 -- the status of a call that no refusal of the outside has ended
 abbrev pub IsSureStatus : ℕ → Type 0
 IsSureStatus status = Contains (0 ∷ 1 ∷ 2 ∷ 3 ∷ 4 ∷ 7 ∷ 8 ∷ 9 ∷ []) status
 
 -- a call answered this, whatever it was asked
-abbrev pub IsAnswered : Outside → Outside → Answer → Type 0
+abbrev pub IsAnswered : World → World → Answer → Type 0
 IsAnswered old new answer = AnswersUsage old new answer ⊎ ((asked : Asked) × Answers asked old new answer)
 
 -- a call ends with such a status if neither the shelf nor the output has counted a fault before or in it
 abbrev pub SureCallsEndWell : Type 0
-SureCallsEndWell = (old new : Outside) (answer : Answer) → IsAnswered old new answer → IsSure old → IsSure new →
+SureCallsEndWell = (old new : World) (answer : Answer) → IsAnswered old new answer → IsSure old → IsSure new →
     IsSureStatus (status_for answer.fault answer.refused)

@@ -2,7 +2,8 @@ ghost use Rattle.std.specs.Result.{result_err};
 ghost use Rattle.jobs.specs.Job.{written};
 ghost use Rattle.top_call.specs.Check.{EndsCheck};
 ghost use Rattle.report.specs.Lines.{sizes_line as sizes_line_of};
-ghost use Rattle.top_call.specs.Outside.{outside, Prints};
+ghost use Rattle.payments.specs.World.{world};
+ghost use Rattle.top_call.specs.Outside.{Prints};
 
 use crate::answer::Answer;
 use crate::printing::print;
@@ -22,8 +23,8 @@ pub fn check_command<S: Shelf, O: Sink>(
     out: &mut O,
 ) -> Answer
     ensures { EndsCheck name.now
-        (outside (S.files shelf.old) (S.faults shelf.old) (S.target shelf.old) (O.written out.old) (O.faults out.old))
-        (outside (S.files shelf.new) (S.faults shelf.new) (S.target shelf.new) (O.written out.new) (O.faults out.new))
+        (world (S.state shelf.old) (O.state out.old))
+        (world (S.state shelf.new) (O.state out.new))
         result }
 {
     match job_in(alloc, name, shelf) {
@@ -38,7 +39,8 @@ pub fn check_command<S: Shelf, O: Sink>(
 
 #[tactic(auto, using(crate::proofs::PrintLemmas::prints_nothing))]
 fn print_sizes<O: Sink>(alloc: Global, job: &Job, out: &mut O) -> Result<(), Fault>
-    ensures { Prints (sizes_line_of (written job.now)) (O.written out.old) (O.written out.new) (O.faults out.old) (O.faults out.new) (result_err result) }
+    ensures { Prints (sizes_line_of (written job.now))
+        (O.state out.old) (O.state out.new) (result_err result) }
 {
     let line = sizes_line(alloc, job)?;
     print(out, line.as_bytes())

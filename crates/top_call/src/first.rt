@@ -2,7 +2,7 @@ ghost use Rattle.std.specs.Prelude.{◌≡◌, IfOk, IfErr, OnOk, length};
 ghost use Rattle.jobs.specs.Nodes.{worker_count};
 ghost use Rattle.command_line.specs.Asked.{first_asked};
 ghost use Rattle.top_call.specs.First.{asked_job, EndsFirst, IsFirstRun};
-ghost use Rattle.top_call.specs.Outside.{outside};
+ghost use Rattle.payments.specs.World.{world};
 ghost use Rattle.top_call.specs.Reading.{AreNoRows};
 
 use crate::answer::Answer;
@@ -22,8 +22,8 @@ pub fn first_command<S: Shelf, O: Sink>(
     out: &mut O,
 ) -> Answer
     ensures { EndsFirst (first_asked first.now)
-        (outside (S.files shelf.old) (S.faults shelf.old) (S.target shelf.old) (O.written out.old) (O.faults out.old))
-        (outside (S.files shelf.new) (S.faults shelf.new) (S.target shelf.new) (O.written out.new) (O.faults out.new))
+        (world (S.state shelf.old) (O.state out.old))
+        (world (S.state shelf.new) (O.state out.new))
         result }
 {
     let names = Outputs {
@@ -38,13 +38,15 @@ pub fn first_command<S: Shelf, O: Sink>(
 
 // Reads the payments and runs them, with the one request.
 fn run_first<S: Shelf>(alloc: Global, first: &First, shelf: &mut S) -> Result<Done, Fault>
-    ensures run { IfOk result (IsFirstRun (first_asked first.now) (S.files shelf.old)) }
+    ensures run { IfOk result (IsFirstRun (first_asked first.now) (S.state shelf.old).files) }
     ensures journals { IfOk result (λ done. length done.ran.journals ≡ worker_count done.ran.setup.job.nodes) }
     ensures states { IfOk result (λ done. length done.ran.states ≡ worker_count done.ran.setup.job.nodes) }
-    ensures counts { OnOk result (S.faults shelf.new ≡ S.faults shelf.old) }
-    ensures files { S.files shelf.new ≡ S.files shelf.old }
-    ensures target { S.target shelf.new ≡ S.target shelf.old }
-    ensures cause { IfErr result (AreNoRows (S.files shelf.old) first.now.payments (asked_job (first_asked first.now)) (S.faults shelf.old) (S.faults shelf.new)) }
+    ensures kept { OnOk result (S.state shelf.new ≡ S.state shelf.old) }
+    ensures files { (S.state shelf.new).files ≡ (S.state shelf.old).files }
+    ensures target { (S.state shelf.new).target ≡ (S.state shelf.old).target }
+    ensures cause { IfErr result (AreNoRows (S.state shelf.old).files first.now.payments
+        (asked_job (first_asked first.now))
+        (S.state shelf.old).faults (S.state shelf.new).faults) }
 {
     let job = first_job(alloc, first.least)?;
     let requests = first_requests(alloc, first)?;

@@ -5,7 +5,8 @@ ghost use Rattle.jobs.specs.Job.{written};
 ghost use Rattle.jobs.specs.Nodes.{AreFromSources, worker_count};
 ghost use Rattle.payments.specs.Made.{made_rows};
 ghost use Rattle.top_call.specs.Make.{EndsMake, IsMadeRun, IsNotMade, MakesNoRows};
-ghost use Rattle.top_call.specs.Outside.{outside, Prints};
+ghost use Rattle.payments.specs.World.{world};
+ghost use Rattle.top_call.specs.Outside.{Prints};
 ghost use Rattle.top_call.specs.Running.{run_lines as run_lines_of};
 
 use crate::answer::Answer;
@@ -41,8 +42,8 @@ where
     G: Gate + Sync,
     requires { IsThreads make.now.threads }
     ensures { EndsMake (make_asked make.now)
-        (outside (S.files shelf.old) (S.faults shelf.old) (S.target shelf.old) (O.written out.old) (O.faults out.old))
-        (outside (S.files shelf.new) (S.faults shelf.new) (S.target shelf.new) (O.written out.new) (O.faults out.new))
+        (world (S.state shelf.old) (O.state out.old))
+        (world (S.state shelf.new) (O.state out.new))
         result }
 {
     match run_made(rt, alloc, make, shelf, gate) {
@@ -72,12 +73,13 @@ where
     S: Shelf,
     G: Gate + Sync,
     requires { IsThreads make.now.threads }
-    ensures run { IfOk result (IsMadeRun (make_asked make.now) (S.files shelf.old)) }
+    ensures run { IfOk result (IsMadeRun (make_asked make.now) (S.state shelf.old).files) }
     ensures journals { IfOk result (λ done. length done.ran.journals ≡ worker_count done.ran.setup.job.nodes) }
-    ensures counts { OnOk result (S.faults shelf.new ≡ S.faults shelf.old) }
-    ensures files { S.files shelf.new ≡ S.files shelf.old }
-    ensures target { S.target shelf.new ≡ S.target shelf.old }
-    ensures cause { IfErr result (IsNotMade (make_asked make.now) (S.files shelf.old) (S.faults shelf.old) (S.faults shelf.new)) }
+    ensures kept { OnOk result (S.state shelf.new ≡ S.state shelf.old) }
+    ensures files { (S.state shelf.new).files ≡ (S.state shelf.old).files }
+    ensures target { (S.state shelf.new).target ≡ (S.state shelf.old).target }
+    ensures cause { IfErr result (IsNotMade (make_asked make.now) (S.state shelf.old).files
+        (S.state shelf.old).faults (S.state shelf.new).faults) }
 {
     let job = job_in(alloc, &make.job, shelf)?;
     let rows = rows_made(alloc, &job, make)?;
@@ -101,7 +103,8 @@ fn rows_made(alloc: Global, job: &Job, make: &Make) -> Result<Rows, Fault>
 #[tactic(auto, using(crate::proofs::PrintLemmas::prints_nothing))]
 fn print_run<O: Sink>(alloc: Global, done: &Done, out: &mut O) -> Result<(), Fault>
     requires { length done.now.ran.journals ≡ worker_count done.now.ran.setup.job.nodes }
-    ensures { Prints (run_lines_of done.now) (O.written out.old) (O.written out.new) (O.faults out.old) (O.faults out.new) (result_err result) }
+    ensures { Prints (run_lines_of done.now)
+        (O.state out.old) (O.state out.new) (result_err result) }
 {
     let lines = run_lines(alloc, done)?;
     print(out, lines.as_slice())

@@ -6,7 +6,8 @@ ghost use Rattle.versions.specs.Judged.{AreAccepted};
 ghost use Rattle.flow_model.specs.Planned.{IsExact};
 ghost use Rattle.flow_model.specs.Setup.{outline};
 ghost use Rattle.command_line.specs.Asked.{plan_asked};
-ghost use Rattle.top_call.specs.Outside.{outside, Prints};
+ghost use Rattle.payments.specs.World.{world};
+ghost use Rattle.top_call.specs.Outside.{Prints};
 ghost use Rattle.top_call.specs.Plan.{AreSame, EndsPlan, IsNoSetup, IsSetupFor, IsSetupOf, setup_lines as setup_lines_of};
 
 use crate::answer::Answer;
@@ -29,8 +30,8 @@ pub fn plan_command<S: Shelf, O: Sink>(
     out: &mut O,
 ) -> Answer
     ensures { EndsPlan (plan_asked files.now)
-        (outside (S.files shelf.old) (S.faults shelf.old) (S.target shelf.old) (O.written out.old) (O.faults out.old))
-        (outside (S.files shelf.new) (S.faults shelf.new) (S.target shelf.new) (O.written out.new) (O.faults out.new))
+        (world (S.state shelf.old) (O.state out.old))
+        (world (S.state shelf.new) (O.state out.new))
         result }
 {
     match setup_in(alloc, files, shelf) {
@@ -48,11 +49,12 @@ pub fn plan_command<S: Shelf, O: Sink>(
 
 // Reads a job and its requests, and judges these.
 fn setup_in<S: Shelf>(alloc: Global, files: &PlanFiles, shelf: &mut S) -> Result<Setup, Fault>
-    ensures setup { IfOk result (IsSetupOf (plan_asked files.now) (S.files shelf.old)) }
-    ensures counts { OnOk result (S.faults shelf.new ≡ S.faults shelf.old) }
-    ensures files { S.files shelf.new ≡ S.files shelf.old }
-    ensures target { S.target shelf.new ≡ S.target shelf.old }
-    ensures cause { IfErr result (IsNoSetup (plan_asked files.now) (S.files shelf.old) (S.faults shelf.old) (S.faults shelf.new)) }
+    ensures setup { IfOk result (IsSetupOf (plan_asked files.now) (S.state shelf.old).files) }
+    ensures kept { OnOk result (S.state shelf.new ≡ S.state shelf.old) }
+    ensures files { (S.state shelf.new).files ≡ (S.state shelf.old).files }
+    ensures target { (S.state shelf.new).target ≡ (S.state shelf.old).target }
+    ensures cause { IfErr result (IsNoSetup (plan_asked files.now) (S.state shelf.old).files
+        (S.state shelf.old).faults (S.state shelf.new).faults) }
 {
     let job = job_in(alloc, &files.job, shelf)?;
     let requests = requests_in(alloc, &job, &files.requests, shelf)?;
@@ -100,7 +102,8 @@ fn refused_of(setup: Setup) -> Refusals
 
 #[tactic(auto, using(crate::proofs::PrintLemmas::prints_nothing))]
 fn print_setup<O: Sink>(alloc: Global, setup: &Setup, out: &mut O) -> Result<(), Fault>
-    ensures { Prints (setup_lines_of setup.now) (O.written out.old) (O.written out.new) (O.faults out.old) (O.faults out.new) (result_err result) }
+    ensures { Prints (setup_lines_of setup.now)
+        (O.state out.old) (O.state out.new) (result_err result) }
 {
     let lines = setup_lines(alloc, setup)?;
     print(out, lines.as_slice())

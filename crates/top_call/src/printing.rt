@@ -6,7 +6,7 @@ use report::{Fault, FileIs};
 
 /// Prints a text. After a fault a prefix of it is printed; where it is empty, nothing is handed to the output.
 pub fn print<O: Sink>(out: &mut O, text: &[u8]) -> Result<(), Fault>
-    ensures { Prints text.now (O.written out.old) (O.written out.new) (O.faults out.old) (O.faults out.new) (result_err result) }
+    ensures { Prints text.now (O.state out.old) (O.state out.new) (result_err result) }
 {
     match write_all(out, text) {
         Ok(()) => Ok(()),

@@ -15,11 +15,12 @@ use versions::Requests;
 
 /// The job of a job file.
 pub fn job_in<S: Shelf>(alloc: Global, name: &Word, shelf: &mut S) -> Result<Job, Fault>
-    ensures job { IfOk result (λ job. IsJobOf (S.files shelf.old) name.now (written job)) }
-    ensures counts { OnOk result (S.faults shelf.new ≡ S.faults shelf.old) }
-    ensures files { S.files shelf.new ≡ S.files shelf.old }
-    ensures target { S.target shelf.new ≡ S.target shelf.old }
-    ensures cause { IfErr result (IsNoJob (S.files shelf.old) name.now (S.faults shelf.old) (S.faults shelf.new)) }
+    ensures job { IfOk result (λ job. IsJobOf (S.state shelf.old).files name.now (written job)) }
+    ensures kept { OnOk result (S.state shelf.new ≡ S.state shelf.old) }
+    ensures files { (S.state shelf.new).files ≡ (S.state shelf.old).files }
+    ensures target { (S.state shelf.new).target ≡ (S.state shelf.old).target }
+    ensures cause { IfErr result (IsNoJob (S.state shelf.old).files name.now
+        (S.state shelf.old).faults (S.state shelf.new).faults) }
 {
     let bytes = read_file(alloc, FileIs::Job, name, shelf)?;
     Ok(read_job(alloc, bytes.as_slice())?)
@@ -32,12 +33,14 @@ pub fn requests_in<S: Shelf>(
     name: &Word,
     shelf: &mut S,
 ) -> Result<Requests, Fault>
-    ensures requests { IfOk result (λ requests. AreRequestsOf (S.files shelf.old) name.now (written job.now) requests) }
+    ensures requests { IfOk result (λ requests.
+        AreRequestsOf (S.state shelf.old).files name.now (written job.now) requests) }
     ensures few { IfOk result AreFew }
-    ensures counts { OnOk result (S.faults shelf.new ≡ S.faults shelf.old) }
-    ensures files { S.files shelf.new ≡ S.files shelf.old }
-    ensures target { S.target shelf.new ≡ S.target shelf.old }
-    ensures cause { IfErr result (AreNoRequests (S.files shelf.old) name.now (written job.now) (S.faults shelf.old) (S.faults shelf.new)) }
+    ensures kept { OnOk result (S.state shelf.new ≡ S.state shelf.old) }
+    ensures files { (S.state shelf.new).files ≡ (S.state shelf.old).files }
+    ensures target { (S.state shelf.new).target ≡ (S.state shelf.old).target }
+    ensures cause { IfErr result (AreNoRequests (S.state shelf.old).files name.now (written job.now)
+        (S.state shelf.old).faults (S.state shelf.new).faults) }
 {
     let bytes = read_file(alloc, FileIs::Requests, name, shelf)?;
     Ok(read_requests(alloc, job, bytes.as_slice())?)
@@ -50,29 +53,33 @@ pub fn rows_in<S: Shelf>(
     name: &Word,
     shelf: &mut S,
 ) -> Result<Rows, Fault>
-    ensures rows { IfOk result (λ rows. AreRowsOf (S.files shelf.old) name.now (written job.now) rows) }
+    ensures rows { IfOk result (λ rows.
+        AreRowsOf (S.state shelf.old).files name.now (written job.now) rows) }
     ensures sources { IfOk result (λ rows. AreFromSources (written job.now) rows) }
-    ensures counts { OnOk result (S.faults shelf.new ≡ S.faults shelf.old) }
-    ensures files { S.files shelf.new ≡ S.files shelf.old }
-    ensures target { S.target shelf.new ≡ S.target shelf.old }
-    ensures cause { IfErr result (AreNoRows (S.files shelf.old) name.now (written job.now) (S.faults shelf.old) (S.faults shelf.new)) }
+    ensures kept { OnOk result (S.state shelf.new ≡ S.state shelf.old) }
+    ensures files { (S.state shelf.new).files ≡ (S.state shelf.old).files }
+    ensures target { (S.state shelf.new).target ≡ (S.state shelf.old).target }
+    ensures cause { IfErr result (AreNoRows (S.state shelf.old).files name.now (written job.now)
+        (S.state shelf.old).faults (S.state shelf.new).faults) }
 {
     let bytes = read_file(alloc, FileIs::Payments, name, shelf)?;
     Ok(read_rows(alloc, job, bytes.as_slice())?)
 }
 
 // All bytes of a file.
+#[tactic(auto, using(crate::proofs::ReadLemmas::kept_whole))]
 fn read_file<S: Shelf>(
     alloc: Global,
     file: FileIs,
     name: &Word,
     shelf: &mut S,
 ) -> Result<Bytes, Fault>
-    ensures bytes { IfOk result (λ bytes. IsRead file (S.files shelf.old) name.now bytes) }
-    ensures counts { OnOk result (S.faults shelf.new ≡ S.faults shelf.old) }
-    ensures files { S.files shelf.new ≡ S.files shelf.old }
-    ensures target { S.target shelf.new ≡ S.target shelf.old }
-    ensures cause { IfErr result (IsUnread file (λ why bytes. ⊥) (S.files shelf.old) name.now (S.faults shelf.old) (S.faults shelf.new)) }
+    ensures bytes { IfOk result (λ bytes. IsRead file (S.state shelf.old).files name.now bytes) }
+    ensures kept { OnOk result (S.state shelf.new ≡ S.state shelf.old) }
+    ensures files { (S.state shelf.new).files ≡ (S.state shelf.old).files }
+    ensures target { (S.state shelf.new).target ≡ (S.state shelf.old).target }
+    ensures cause { IfErr result (IsUnread file (λ why bytes. ⊥) (S.state shelf.old).files name.now
+        (S.state shelf.old).faults (S.state shelf.new).faults) }
 {
     match shelf.read_all(alloc, name, file.limit()) {
         Ok(bytes) => Ok(bytes),

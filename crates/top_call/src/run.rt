@@ -1,7 +1,7 @@
 ghost use Rattle.std.specs.Prelude.{◌≡◌, IfOk, IfErr, OnOk, length};
 ghost use Rattle.jobs.specs.Nodes.{worker_count};
 ghost use Rattle.command_line.specs.Asked.{IsSize, run_asked};
-ghost use Rattle.top_call.specs.Outside.{outside};
+ghost use Rattle.payments.specs.World.{world};
 ghost use Rattle.top_call.specs.Run.{EndsRun, IsNoRun, IsRunOfFiles};
 
 use crate::answer::Answer;
@@ -33,8 +33,8 @@ where
     G: Gate + Sync,
     requires { IsSize files.now.size }
     ensures { EndsRun (run_asked files.now)
-        (outside (S.files shelf.old) (S.faults shelf.old) (S.target shelf.old) (O.written out.old) (O.faults out.old))
-        (outside (S.files shelf.new) (S.faults shelf.new) (S.target shelf.new) (O.written out.new) (O.faults out.new))
+        (world (S.state shelf.old) (O.state out.old))
+        (world (S.state shelf.new) (O.state out.new))
         result }
 {
     let names = Outputs {
@@ -60,13 +60,14 @@ where
     S: Shelf,
     G: Gate + Sync,
     requires { IsSize files.now.size }
-    ensures run { IfOk result (IsRunOfFiles (run_asked files.now) (S.files shelf.old)) }
+    ensures run { IfOk result (IsRunOfFiles (run_asked files.now) (S.state shelf.old).files) }
     ensures journals { IfOk result (λ done. length done.ran.journals ≡ worker_count done.ran.setup.job.nodes) }
     ensures states { IfOk result (λ done. length done.ran.states ≡ worker_count done.ran.setup.job.nodes) }
-    ensures counts { OnOk result (S.faults shelf.new ≡ S.faults shelf.old) }
-    ensures files { S.files shelf.new ≡ S.files shelf.old }
-    ensures target { S.target shelf.new ≡ S.target shelf.old }
-    ensures cause { IfErr result (IsNoRun (run_asked files.now) (S.files shelf.old) (S.faults shelf.old) (S.faults shelf.new)) }
+    ensures kept { OnOk result (S.state shelf.new ≡ S.state shelf.old) }
+    ensures files { (S.state shelf.new).files ≡ (S.state shelf.old).files }
+    ensures target { (S.state shelf.new).target ≡ (S.state shelf.old).target }
+    ensures cause { IfErr result (IsNoRun (run_asked files.now) (S.state shelf.old).files
+        (S.state shelf.old).faults (S.state shelf.new).faults) }
 {
     let job = job_in(alloc, &files.plan.job, shelf)?;
     let requests = requests_in(alloc, &job, &files.plan.requests, shelf)?;

@@ -8,7 +8,7 @@ ghost use Rattle.flow_model.specs.Record.{told};
 ghost use Rattle.flow_replay.specs.Order.{IsInOrder};
 ghost use Rattle.command_line.specs.Asked.{IsSize};
 ghost use Rattle.top_call.specs.Ends.{EndsAfterRun};
-ghost use Rattle.top_call.specs.Outside.{outside};
+ghost use Rattle.payments.specs.World.{world};
 ghost use Rattle.top_call.specs.Plan.{AreSame};
 ghost use Rattle.top_call.specs.Running.{audit_of, files_of, run_lines as run_lines_of, serial_lines as serial_lines_of, summary_of as summary_of_done, IsDoneOf, IsRunOf};
 ghost use Rattle.serial_order.specs.Serials.{serials};
@@ -145,8 +145,8 @@ pub fn leave_run<S: Shelf, O: Sink>(
     requires states { length done.ran.states ≡ worker_count done.ran.setup.job.nodes }
     ensures ends { EndsAfterRun
         (files_of names.entry.alerts.now (option_copied names.entry.audit) done) (run_lines_of done)
-        (outside (S.files shelf.old) (S.faults shelf.old) (S.target shelf.old) (O.written out.old) (O.faults out.old))
-        (outside (S.files shelf.new) (S.faults shelf.new) (S.target shelf.new) (O.written out.new) (O.faults out.new))
+        (world (S.state shelf.old) (O.state out.old))
+        (world (S.state shelf.new) (O.state out.new))
         result.fault }
     ensures refused { result.refused ≡ done.refused }
     ensures ran { result.ran ≡ Some done.ran }
@@ -171,8 +171,8 @@ fn write_run<S: Shelf, O: Sink>(
     requires states { length done.now.ran.states ≡ worker_count done.now.ran.setup.job.nodes }
     ensures { EndsAfterRun
         (files_of names.entry.alerts.now (option_copied names.entry.audit) done.now) (run_lines_of done.now)
-        (outside (S.files shelf.old) (S.faults shelf.old) (S.target shelf.old) (O.written out.old) (O.faults out.old))
-        (outside (S.files shelf.new) (S.faults shelf.new) (S.target shelf.new) (O.written out.new) (O.faults out.new))
+        (world (S.state shelf.old) (O.state out.old))
+        (world (S.state shelf.new) (O.state out.new))
         (result_err result) }
 {
     let texts = texts_of(alloc, done, names)?;

@@ -9,7 +9,8 @@ ghost use Rattle.report.specs.Faults.{status_for};
 ghost use Rattle.top_call.specs.Explain.{AnswersText, FollowsText};
 ghost use Rattle.top_call.specs.First.{AnswersFirst, FollowsFirst};
 ghost use Rattle.top_call.specs.Make.{AnswersMake, FollowsMake};
-ghost use Rattle.top_call.specs.Outside.{outside, Prints, PrintsReport};
+ghost use Rattle.payments.specs.World.{world};
+ghost use Rattle.top_call.specs.Outside.{Prints, PrintsReport};
 ghost use Rattle.top_call.specs.Plan.{AnswersPlan, FollowsPlan};
 ghost use Rattle.top_call.specs.Run.{AnswersRun, FollowsRun};
 
@@ -65,16 +66,16 @@ where
     O: Sink,
     G: Gate + Sync,
     ensures usage { IfNone (asked_of words.now) (AnswersUsage
-        (outside (S.files shelf.old) (S.faults shelf.old) (S.target shelf.old) (O.written out.old) (O.faults out.old))
-        (outside (S.files shelf.new) (S.faults shelf.new) (S.target shelf.new) (O.written out.new) (O.faults out.new))
+        (world (S.state shelf.old) (O.state out.old))
+        (world (S.state shelf.new) (O.state out.new))
         (answer_of result)) }
     ensures answers { IfSome (asked_of words.now) (λ asked. Answers asked
-        (outside (S.files shelf.old) (S.faults shelf.old) (S.target shelf.old) (O.written out.old) (O.faults out.old))
-        (outside (S.files shelf.new) (S.faults shelf.new) (S.target shelf.new) (O.written out.new) (O.faults out.new))
+        (world (S.state shelf.old) (O.state out.old))
+        (world (S.state shelf.new) (O.state out.new))
         (answer_of result)) }
     ensures file { IfSome (asked_of words.now) (λ asked. Follows asked
-        (outside (S.files shelf.old) (S.faults shelf.old) (S.target shelf.old) (O.written out.old) (O.faults out.old))
-        (outside (S.files shelf.new) (S.faults shelf.new) (S.target shelf.new) (O.written out.new) (O.faults out.new))
+        (world (S.state shelf.old) (O.state out.old))
+        (world (S.state shelf.new) (O.state out.new))
         result.fault) }
     ensures status { result.status ≡ status_for result.fault result.refused }
 {
@@ -112,12 +113,12 @@ where
     G: Gate + Sync,
     requires { IsSized command.now }
     ensures answers { Answers (asked_by command.now)
-        (outside (S.files shelf.old) (S.faults shelf.old) (S.target shelf.old) (O.written out.old) (O.faults out.old))
-        (outside (S.files shelf.new) (S.faults shelf.new) (S.target shelf.new) (O.written out.new) (O.faults out.new))
+        (world (S.state shelf.old) (O.state out.old))
+        (world (S.state shelf.new) (O.state out.new))
         result }
     ensures file { Follows (asked_by command.now)
-        (outside (S.files shelf.old) (S.faults shelf.old) (S.target shelf.old) (O.written out.old) (O.faults out.old))
-        (outside (S.files shelf.new) (S.faults shelf.new) (S.target shelf.new) (O.written out.new) (O.faults out.new))
+        (world (S.state shelf.old) (O.state out.old))
+        (world (S.state shelf.new) (O.state out.new))
         result.fault }
 {
     match command {
@@ -148,12 +149,12 @@ fn answer_first<S: Shelf, O: Sink>(
     out: &mut O,
 ) -> Answer
     ensures answers { AnswersFirst (first_asked first.now)
-        (outside (S.files shelf.old) (S.faults shelf.old) (S.target shelf.old) (O.written out.old) (O.faults out.old))
-        (outside (S.files shelf.new) (S.faults shelf.new) (S.target shelf.new) (O.written out.new) (O.faults out.new))
+        (world (S.state shelf.old) (O.state out.old))
+        (world (S.state shelf.new) (O.state out.new))
         result }
     ensures file { FollowsFirst (first_asked first.now)
-        (outside (S.files shelf.old) (S.faults shelf.old) (S.target shelf.old) (O.written out.old) (O.faults out.old))
-        (outside (S.files shelf.new) (S.faults shelf.new) (S.target shelf.new) (O.written out.new) (O.faults out.new))
+        (world (S.state shelf.old) (O.state out.old))
+        (world (S.state shelf.new) (O.state out.new))
         result.fault }
 {
     let answer = first_command(alloc, first, shelf, out);
@@ -163,12 +164,12 @@ fn answer_first<S: Shelf, O: Sink>(
 
 fn answer_check<S: Shelf, O: Sink>(alloc: Global, job: &Word, shelf: &mut S, out: &mut O) -> Answer
     ensures answers { AnswersCheck job.now
-        (outside (S.files shelf.old) (S.faults shelf.old) (S.target shelf.old) (O.written out.old) (O.faults out.old))
-        (outside (S.files shelf.new) (S.faults shelf.new) (S.target shelf.new) (O.written out.new) (O.faults out.new))
+        (world (S.state shelf.old) (O.state out.old))
+        (world (S.state shelf.new) (O.state out.new))
         result }
     ensures file { FollowsCheck job.now
-        (outside (S.files shelf.old) (S.faults shelf.old) (S.target shelf.old) (O.written out.old) (O.faults out.old))
-        (outside (S.files shelf.new) (S.faults shelf.new) (S.target shelf.new) (O.written out.new) (O.faults out.new))
+        (world (S.state shelf.old) (O.state out.old))
+        (world (S.state shelf.new) (O.state out.new))
         result.fault }
 {
     faulty_is_no_job();
@@ -185,12 +186,12 @@ fn answer_plan<S: Shelf, O: Sink>(
     out: &mut O,
 ) -> Answer
     ensures answers { AnswersPlan (plan_asked files.now)
-        (outside (S.files shelf.old) (S.faults shelf.old) (S.target shelf.old) (O.written out.old) (O.faults out.old))
-        (outside (S.files shelf.new) (S.faults shelf.new) (S.target shelf.new) (O.written out.new) (O.faults out.new))
+        (world (S.state shelf.old) (O.state out.old))
+        (world (S.state shelf.new) (O.state out.new))
         result }
     ensures file { FollowsPlan (plan_asked files.now)
-        (outside (S.files shelf.old) (S.faults shelf.old) (S.target shelf.old) (O.written out.old) (O.faults out.old))
-        (outside (S.files shelf.new) (S.faults shelf.new) (S.target shelf.new) (O.written out.new) (O.faults out.new))
+        (world (S.state shelf.old) (O.state out.old))
+        (world (S.state shelf.new) (O.state out.new))
         result.fault }
 {
     faulty_is_no_job();
@@ -215,12 +216,12 @@ where
     G: Gate + Sync,
     requires sized { IsSize files.now.size }
     ensures answers { AnswersRun (run_asked files.now)
-        (outside (S.files shelf.old) (S.faults shelf.old) (S.target shelf.old) (O.written out.old) (O.faults out.old))
-        (outside (S.files shelf.new) (S.faults shelf.new) (S.target shelf.new) (O.written out.new) (O.faults out.new))
+        (world (S.state shelf.old) (O.state out.old))
+        (world (S.state shelf.new) (O.state out.new))
         result }
     ensures file { FollowsRun (run_asked files.now)
-        (outside (S.files shelf.old) (S.faults shelf.old) (S.target shelf.old) (O.written out.old) (O.faults out.old))
-        (outside (S.files shelf.new) (S.faults shelf.new) (S.target shelf.new) (O.written out.new) (O.faults out.new))
+        (world (S.state shelf.old) (O.state out.old))
+        (world (S.state shelf.new) (O.state out.new))
         result.fault }
 {
     faulty_is_no_job();
@@ -245,12 +246,12 @@ where
     G: Gate + Sync,
     requires sized { IsThreads make.now.threads }
     ensures answers { AnswersMake (make_asked make.now)
-        (outside (S.files shelf.old) (S.faults shelf.old) (S.target shelf.old) (O.written out.old) (O.faults out.old))
-        (outside (S.files shelf.new) (S.faults shelf.new) (S.target shelf.new) (O.written out.new) (O.faults out.new))
+        (world (S.state shelf.old) (O.state out.old))
+        (world (S.state shelf.new) (O.state out.new))
         result }
     ensures file { FollowsMake (make_asked make.now)
-        (outside (S.files shelf.old) (S.faults shelf.old) (S.target shelf.old) (O.written out.old) (O.faults out.old))
-        (outside (S.files shelf.new) (S.faults shelf.new) (S.target shelf.new) (O.written out.new) (O.faults out.new))
+        (world (S.state shelf.old) (O.state out.old))
+        (world (S.state shelf.new) (O.state out.new))
         result.fault }
 {
     faulty_is_no_job();
@@ -262,12 +263,12 @@ where
 
 fn answer_text<S: Shelf, O: Sink>(alloc: Global, text: &str, shelf: &mut S, out: &mut O) -> Answer
     ensures answers { AnswersText text.now
-        (outside (S.files shelf.old) (S.faults shelf.old) (S.target shelf.old) (O.written out.old) (O.faults out.old))
-        (outside (S.files shelf.new) (S.faults shelf.new) (S.target shelf.new) (O.written out.new) (O.faults out.new))
+        (world (S.state shelf.old) (O.state out.old))
+        (world (S.state shelf.new) (O.state out.new))
         result }
     ensures file { FollowsText
-        (outside (S.files shelf.old) (S.faults shelf.old) (S.target shelf.old) (O.written out.old) (O.faults out.old))
-        (outside (S.files shelf.new) (S.faults shelf.new) (S.target shelf.new) (O.written out.new) (O.faults out.new))
+        (world (S.state shelf.old) (O.state out.old))
+        (world (S.state shelf.new) (O.state out.new))
         result.fault }
 {
     let fault = print(out, text.as_bytes()).err();
@@ -282,7 +283,7 @@ fn answer_text<S: Shelf, O: Sink>(alloc: Global, text: &str, shelf: &mut S, out:
 // That of a call that stops before it has read a file.
 fn answer_fault<O: Sink>(alloc: Global, fault: Fault, out: &mut O) -> Answer
     ensures answer { result ≡ stopped fault }
-    ensures prints { PrintsReport (Some fault) (O.written out.old) (O.written out.new) (O.faults out.old) (O.faults out.new) }
+    ensures prints { PrintsReport (Some fault) (O.state out.old) (O.state out.new) }
 {
     report(alloc, Some(fault), out);
     Answer::stopped(alloc, fault)
@@ -291,7 +292,7 @@ fn answer_fault<O: Sink>(alloc: Global, fault: Fault, out: &mut O) -> Answer
 // Prints the line of a fault, unless it is the output that failed. What printing it comes to changes no answer.
 #[tactic(auto, using(crate::proofs::PrintLemmas::reports))]
 fn report<O: Sink>(alloc: Global, fault: Option<Fault>, out: &mut O)
-    ensures { PrintsReport fault (O.written out.old) (O.written out.new) (O.faults out.old) (O.faults out.new) }
+    ensures { PrintsReport fault (O.state out.old) (O.state out.new) }
 {
     match fault {
         None | Some(Fault::Write(FileIs::Out)) => {}
@@ -303,7 +304,7 @@ fn report<O: Sink>(alloc: Global, fault: Option<Fault>, out: &mut O)
 
 #[tactic(auto, using(crate::proofs::PrintLemmas::prints_nothing))]
 fn print_fault<O: Sink>(alloc: Global, fault: Fault, out: &mut O) -> Result<(), Fault>
-    ensures { Prints (fault_line_of fault) (O.written out.old) (O.written out.new) (O.faults out.old) (O.faults out.new) (result_err result) }
+    ensures { Prints (fault_line_of fault) (O.state out.old) (O.state out.new) (result_err result) }
 {
     let line = fault_line(alloc, fault)?;
     print(out, line.as_bytes())

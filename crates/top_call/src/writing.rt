@@ -2,7 +2,8 @@ ghost use Rattle.std.specs.Prelude.{◌≡◌, ◌⊎◌, None, Some, IfErr, OnE
 ghost use Rattle.std.specs.Result.{result_err};
 ghost use Rattle.payments.specs.Files.{HoldsProperPrefix, with_bytes};
 ghost use Rattle.top_call.specs.Ends.{EndsStoring};
-ghost use Rattle.top_call.specs.Outside.{outside, StoresNot};
+ghost use Rattle.payments.specs.World.{world};
+ghost use Rattle.top_call.specs.Outside.{StoresNot};
 
 use crate::printing::print;
 use payments::{Shelf, ShelfFault, Sink, store};
@@ -43,8 +44,8 @@ pub fn write_texts<S: Shelf, O: Sink>(
     out: &mut O,
 ) -> Result<(), Fault>
     ensures { EndsStoring texts.now.files.items texts.now.lines
-        (outside (S.files shelf.old) (S.faults shelf.old) (S.target shelf.old) (O.written out.old) (O.faults out.old))
-        (outside (S.files shelf.new) (S.faults shelf.new) (S.target shelf.new) (O.written out.new) (O.faults out.new))
+        (world (S.state shelf.old) (O.state out.old))
+        (world (S.state shelf.new) (O.state out.new))
         (result_err result) }
 {
     for text in texts.files.as_slice() {
@@ -55,16 +56,18 @@ pub fn write_texts<S: Shelf, O: Sink>(
 
 // Makes the file with its text. After a fault the file wasn't made, or it holds a part of the text.
 fn store_text<S: Shelf>(shelf: &mut S, text: &FileText<'_>) -> Result<(), Fault>
-    ensures whole { OnOk result (S.files shelf.new ≡
-        with_bytes (S.files shelf.old) text.now.name text.now.text) }
-    ensures counts { OnOk result (S.faults shelf.new ≡ S.faults shelf.old) }
-    ensures target { OnOk result (S.target shelf.new ≡ Some text.now.name) }
-    ensures unmade { OnErr result (S.target shelf.new ≡ None →
-        S.files shelf.new ≡ S.files shelf.old) }
-    ensures part { OnErr result ((S.target shelf.new ≡ None)
-        ⊎ HoldsProperPrefix (S.files shelf.old) (S.files shelf.new) text.now.name text.now.text) }
+    ensures whole { OnOk result ((S.state shelf.new).files ≡
+        with_bytes (S.state shelf.old).files text.now.name text.now.text) }
+    ensures counts { OnOk result ((S.state shelf.new).faults ≡ (S.state shelf.old).faults) }
+    ensures target { OnOk result ((S.state shelf.new).target ≡ Some text.now.name) }
+    ensures unmade { OnErr result ((S.state shelf.new).target ≡ None →
+        (S.state shelf.new).files ≡ (S.state shelf.old).files) }
+    ensures part { OnErr result (((S.state shelf.new).target ≡ None)
+        ⊎ HoldsProperPrefix (S.state shelf.old).files (S.state shelf.new).files
+        text.now.name text.now.text) }
     ensures cause { IfErr result
-        (StoresNot text.now.is text.now.name (S.faults shelf.old) (S.faults shelf.new)) }
+        (StoresNot text.now.is text.now.name
+        (S.state shelf.old).faults (S.state shelf.new).faults) }
 {
     match store(shelf, text.name, text.text.as_slice()) {
         Ok(()) => Ok(()),

@@ -7,7 +7,7 @@ returns-in-Ok g c = inr (record {
   job = written c.in-Ok.job;
   of_file = c.in-Ok.ensures.job;
   lines = record {
-    stores = record { files = c.in-Ok.ensures.files; shelf = c.in-Ok.ensures.counts; target = c.in-Ok.ensures.target };
+    shelf = c.in-Ok.ensures.kept;
     prints = rw c.err.ensures.value c.print_sizes.ensures;
   };
   refused = c.new.ensures;

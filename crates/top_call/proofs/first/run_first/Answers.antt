@@ -15,7 +15,7 @@ use Rattle.top_call.proofs.first.run_first.Goals as goal
 pub returns-clause-run : goal.returns-clause-run
 returns-clause-run g c =
     let asked = first_asked c.args.first.now in
-    let files = g.S.Shelf.files c.args.shelf.now in
+    let files = (g.S.Shelf.state c.args.shelf.now).files in
     let rows = c.in_ok-rows.rows in
     let done = c.in_ok-run_in_order.field-0 in
     let job : written c.in_ok-job.job ≡ asked_job asked = search rules in

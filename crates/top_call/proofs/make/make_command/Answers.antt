@@ -6,7 +6,7 @@ returns-in-Ok g c = inr (record {
   done = c.in-Ok.done;
   is_so = c.in-Ok.ensures.run;
   lines = record {
-    stores = record { files = c.in-Ok.ensures.files; shelf = c.in-Ok.ensures.counts; target = c.in-Ok.ensures.target };
+    shelf = c.in-Ok.ensures.kept;
     prints = rw c.err-fault.ensures.value c.print_run.ensures;
   };
   refused = refl;

@@ -6,7 +6,7 @@ returns-in-Ok g c = inr (record {
   setup = c.in-Ok.setup;
   of_files = c.in-Ok.ensures.setup;
   lines = record {
-    stores = record { files = c.in-Ok.ensures.files; shelf = c.in-Ok.ensures.counts; target = c.in-Ok.ensures.target };
+    shelf = c.in-Ok.ensures.kept;
     prints = rw c.err-fault.ensures.value c.print_setup.ensures;
   };
   refused = c.refused_of.ensures;

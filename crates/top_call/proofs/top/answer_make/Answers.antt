@@ -1,14 +1,14 @@
 use Rattle.std.proofs.Common.{refl}
 use Rattle.command_line.specs.Asked.{make_asked}
-use Rattle.top_call.specs.Outside.{outside}
+use Rattle.payments.specs.World.{world}
 use Rattle.top_call.proofs.FollowLemmas.{follows_make}
 use Rattle.top_call.proofs.top.answer_make.Goals as goal
 
 pub returns-clause-answers : goal.returns-clause-answers
 returns-clause-answers g c = record {
-  between = outside (g.S.Shelf.files c.make_command-answer.new.shelf) (g.S.Shelf.faults c.make_command-answer.new.shelf) (g.S.Shelf.target c.make_command-answer.new.shelf) (g.O.Sink.written c.make_command-answer.new.out) (g.O.Sink.faults c.make_command-answer.new.out);
+  between = world (g.S.Shelf.state c.make_command-answer.new.shelf) (g.O.Sink.state c.make_command-answer.new.out);
   ends = c.make_command-answer.ensures;
-  prints = record { files = refl; shelf = refl; target = refl; line = c.report.ensures };
+  prints = record { shelf = refl; line = c.report.ensures };
 }
 
 pub returns-clause-file : goal.returns-clause-file

@@ -1,18 +1,18 @@
 use Rattle.std.proofs.Common.{refl}
-use Rattle.top_call.specs.Outside.{outside}
+use Rattle.payments.specs.World.{world}
 use Rattle.top_call.proofs.FollowLemmas.{follows_text}
 use Rattle.top_call.proofs.top.answer_text.Goals as goal
 
 pub returns-clause-answers : goal.returns-clause-answers
 returns-clause-answers g c = record {
-  between = outside (g.S.Shelf.files c.args.shelf.now) (g.S.Shelf.faults c.args.shelf.now) (g.S.Shelf.target c.args.shelf.now) (g.O.Sink.written c.print.new.out) (g.O.Sink.faults c.print.new.out);
+  between = world (g.S.Shelf.state c.args.shelf.now) (g.O.Sink.state c.print.new.out);
   lines = record {
-    stores = record { files = refl; shelf = refl; target = refl };
+    shelf = refl;
     prints = rw c.err-fault.ensures.value (rw c.as_bytes.ensures.value at c.print.ensures);
   };
   refused = c.new.ensures;
   ran = refl;
-  prints = record { files = refl; shelf = refl; target = refl; line = c.report.ensures };
+  prints = record { shelf = refl; line = c.report.ensures };
 }
 
 pub returns-clause-file : goal.returns-clause-file

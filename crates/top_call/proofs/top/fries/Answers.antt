@@ -18,5 +18,5 @@ returns-clause-answers g c =
       | in-Err-NoMemory w ↦
           let is = w.answer_fault-answer-in-Err-NoMemory.ensures.answer in
           rw (w.shelf-is, w.out-is, w.answer-is) (whatever (asked_of c.args.words.now) _ (λ asked. answers_memory asked _ _ _ is
-          (record { files = refl; shelf = refl; target = refl; line = rw (ap (λ (a : Answer). a.fault) is) w.answer_fault-answer-in-Err-NoMemory.ensures.prints })))
+          (record { shelf = refl; line = rw (ap (λ (a : Answer). a.fault) is) w.answer_fault-answer-in-Err-NoMemory.ensures.prints })))
     ]

@@ -2,7 +2,8 @@ use Rattle.std.proofs.Common.{◌≡◌, ◌+◌, ◌∷◌, ◌∙◌, List, ap
 use Rattle.std.specs.Result.{result_err}
 use Rattle.std.proofs.lemmas.List.{drop_more}
 use Rattle.std.proofs.lemmas.Result.{err_from_is_err_and}
-use Rattle.top_call.specs.Outside.{FileText, outside}
+use Rattle.payments.specs.World.{world}
+use Rattle.top_call.specs.Outside.{FileText}
 use Rattle.top_call.proofs.writing.write_texts.Goals as goal
 
 pub returns-in_err-store_text : goal.returns-in_err-store_text
@@ -15,7 +16,7 @@ returns-in_err-store_text g c =
     (drop_more items i text c.loop-text-test.true ∙ ap (λ (t : FileText). t ∷ drop (i + 1) items) (sym c.text-item.is)) in
     let shelf = c.store_text.new.shelf in
     let out = c.args.out.now in
-    let left = outside (g.S.Shelf.files shelf) (g.S.Shelf.faults shelf) (g.S.Shelf.target shelf) (g.O.Sink.written out) (g.O.Sink.faults out) in
+    let left = world (g.S.Shelf.state shelf) (g.O.Sink.state out) in
     let fault = err_from_is_err_and c.from_residual.result c.from_residual.ensures.1 in
     let broken = c.in_err-store_text.ensures in
     c.loop-text.invariant left (result_err c.from_residual.result)
@@ -24,7 +25,7 @@ returns-in_err-store_text g c =
       answer_is = refl;
       cause = broken.cause;
       part = record { unmade = broken.unmade; part = broken.part };
-      prints = record { written = refl; out = refl };
+      out = refl;
     })))
 
 pub loop-text-preserved : goal.loop-text-preserved
@@ -37,11 +38,11 @@ loop-text-preserved g c new answer ends =
     (drop_more items i text c.loop-text-test.true ∙ ap (λ (t : FileText). t ∷ drop (i + 1) items) (sym c.text-item.is)) in
     let shelf = c.store_text.new.shelf in
     let out = c.args.out.now in
-    let stored = outside (g.S.Shelf.files shelf) (g.S.Shelf.faults shelf) (g.S.Shelf.target shelf) (g.O.Sink.written out) (g.O.Sink.faults out) in
+    let stored = world (g.S.Shelf.state shelf) (g.O.Sink.state out) in
     let whole = c.in_ok-store_text.ensures in
     c.loop-text.invariant new answer
     (rw here (inr (
       stored,
-      record { files = whole.whole; shelf = whole.counts; target = whole.target; prints = record { written = refl; out = refl } },
+      record { files = whole.whole; faults = whole.counts; target = whole.target; out = refl },
       ends,
     )))
