@@ -41,11 +41,11 @@ use Rattle.versions.specs.declared.in_order.Judged.{Judged}
 use Rattle.versions.specs.declared.request.Request.{Request}
 use Rattle.command_line.specs.Asked.{FirstAsked}
 use Rattle.top_call.specs.First.{IsFirstRun, TurnsAfterRow, asked_job}
-use Rattle.top_call.specs.FirstJob.{at_least, first_job, first_request}
-use Rattle.top_call.specs.Plan.{AreSame}
-use Rattle.top_call.specs.Reading.{AreRowsOf}
-use Rattle.top_call.specs.Running.{IsRunOf}
-use Rattle.top_call.specs.declared.running.Done.{Done}
+use Rattle.call_steps.specs.FirstJob.{at_least, first_job, first_request}
+use Rattle.call_steps.specs.SetupFor.{AreSame}
+use Rattle.call_steps.specs.Reading.{AreRowsOf}
+use Rattle.call_steps.specs.Running.{IsRunOf}
+use Rattle.call_steps.specs.declared.running.Done.{Done}
 
 -- ---- its request
 

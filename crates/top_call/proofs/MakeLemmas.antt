@@ -10,10 +10,10 @@ use Rattle.report.specs.Faults.{payments_fault}
 use Rattle.tuple_trace.specs.declared.row.Row.{Row}
 use Rattle.versions.specs.Judged.{judged, judged_from}
 use Rattle.top_call.specs.Make.{IsMadeRun, MakesNoRows}
-use Rattle.top_call.specs.Plan.{AreSame}
-use Rattle.top_call.specs.Reading.{IsJobOf}
-use Rattle.top_call.specs.Running.{IsRunOf}
-use Rattle.top_call.specs.declared.running.Done.{Done}
+use Rattle.call_steps.specs.SetupFor.{AreSame}
+use Rattle.call_steps.specs.Reading.{IsJobOf}
+use Rattle.call_steps.specs.Running.{IsRunOf}
+use Rattle.call_steps.specs.declared.running.Done.{Done}
 
 -- without a request none is refused
 judged_none : (job : Written) → (judged job []).refused ≡ []

@@ -15,18 +15,18 @@ use Rattle.report.specs.declared.fault.FileIs.TheVariants as file
 use Rattle.tuple_trace.specs.Counts.{Rose}
 use Rattle.versions.specs.declared.in_order.Refused.{Refused}
 use Rattle.top_call.specs.Answers.{Answers}
-use Rattle.top_call.specs.Ends.{EndsAfterRun, EndsStoring, Stops, StopsStoring, stopped}
+use Rattle.call_steps.specs.Ends.{EndsAfterRun, EndsStoring, Stops, StopsStoring, stopped}
 use Rattle.top_call.specs.Explain.{AnswersText}
 use Rattle.top_call.specs.First.{asked_job}
 use Rattle.top_call.specs.Make.{IsNotMade, MakesNoRows}
 use Rattle.payments.specs.World.{ShelfState, SinkState, World}
-use Rattle.top_call.specs.Outside.{FileText, Prints, PrintsFault, PrintsReport}
+use Rattle.call_steps.specs.Outside.{FileText, Prints, PrintsFault, PrintsReport}
 use Rattle.top_call.specs.Plan.{IsNoSetup, setup_lines}
-use Rattle.top_call.specs.Reading.{IsUnread, RefusesJob, RefusesRequests, RefusesRows}
+use Rattle.call_steps.specs.Reading.{IsUnread, RefusesJob, RefusesRequests, RefusesRows}
 use Rattle.top_call.specs.Run.{IsNoRun}
-use Rattle.top_call.specs.Running.{files_of, run_lines}
+use Rattle.call_steps.specs.Running.{files_of, run_lines}
 use Rattle.top_call.specs.Sure.{IsSure, IsSureStatus, SureCallsEndWell}
-use Rattle.top_call.specs.declared.answer.Answer.{Answer}
+use Rattle.call_steps.specs.declared.answer.Answer.{Answer}
 
 -- ---- answers that are no refusal of the outside
 

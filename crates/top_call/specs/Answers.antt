@@ -3,15 +3,15 @@ use Rattle.std.specs.Prelude.{◌≡◌, ◌⊎◌, Option}
 use Rattle.command_line.specs.Asked.{Asked, Check, First, Help, Make, Plan, Run, Version}
 use Rattle.command_line.specs.Help.{help_of, version_line}
 use Rattle.top_call.specs.Check.{AnswersCheck, FollowsCheck}
-use Rattle.top_call.specs.Ends.{stopped}
+use Rattle.call_steps.specs.Ends.{stopped}
 use Rattle.top_call.specs.Explain.{AnswersText, FollowsText}
 use Rattle.top_call.specs.First.{AnswersFirst, FollowsFirst}
 use Rattle.top_call.specs.Make.{AnswersMake, FollowsMake}
 use Rattle.payments.specs.World.{World}
-use Rattle.top_call.specs.Outside.{PrintsFault}
+use Rattle.call_steps.specs.Outside.{PrintsFault}
 use Rattle.top_call.specs.Plan.{AnswersPlan, FollowsPlan}
 use Rattle.top_call.specs.Run.{AnswersRun, FollowsRun}
-use Rattle.top_call.specs.declared.answer.Answer.{Answer}
+use Rattle.call_steps.specs.declared.answer.Answer.{Answer}
 use Rattle.report.specs.declared.fault.Fault.{Fault}
 use Rattle.report.specs.declared.fault.Fault.TheVariants as fault
 use Rattle.top_call.specs.declared.top.Outcome.{Outcome}

@@ -1,12 +1,12 @@
 -- What a call of `check` answers, why, and what it leaves.
 use Rattle.std.specs.Prelude.{◌≡◌, ◌⊎◌, ℕ, List, [], Option, None}
 use Rattle.jobs.specs.Written.{Written}
-use Rattle.top_call.specs.Ends.{PrintsLines, Stops}
+use Rattle.call_steps.specs.Ends.{PrintsLines, Stops}
 use Rattle.report.specs.Lines.{sizes_line}
 use Rattle.payments.specs.World.{World}
-use Rattle.top_call.specs.Outside.{IsExcused, PrintsFault}
-use Rattle.top_call.specs.Reading.{FollowsJob, IsJobOf, IsNoJob, TellsJob}
-use Rattle.top_call.specs.declared.answer.Answer.{Answer}
+use Rattle.call_steps.specs.Outside.{IsExcused, PrintsFault}
+use Rattle.call_steps.specs.Reading.{FollowsJob, IsJobOf, IsNoJob, TellsJob}
+use Rattle.call_steps.specs.declared.answer.Answer.{Answer}
 use Rattle.report.specs.declared.fault.Fault.{Fault}
 
 -- it read a job, and came to printing its sizes; it changed no file

@@ -1,10 +1,10 @@
 -- What a call answers that only prints a text, as help or the version.
 use Rattle.std.specs.Prelude.{◌≡◌, ◌⊎◌, ℕ, List, [], Option, None}
 use Rattle.report.specs.declared.fault.Fault.{Fault}
-use Rattle.top_call.specs.Ends.{PrintsLines}
+use Rattle.call_steps.specs.Ends.{PrintsLines}
 use Rattle.payments.specs.World.{World}
-use Rattle.top_call.specs.Outside.{IsExcused, PrintsFault}
-use Rattle.top_call.specs.declared.answer.Answer.{Answer}
+use Rattle.call_steps.specs.Outside.{IsExcused, PrintsFault}
+use Rattle.call_steps.specs.declared.answer.Answer.{Answer}
 
 -- it came to printing the text; it read and changed no file, and ran nothing
 pub record AnswersText (text : List ℕ) (old new : World) (answer : Answer) : Type 0 where

@@ -8,16 +8,16 @@ use Rattle.flow_model.specs.Record.{told}
 use Rattle.flow_model.specs.Whole.{after_turn, before_turn, meets_row}
 use Rattle.flow_replay.specs.Order.{IsInOrder}
 use Rattle.command_line.specs.Asked.{FirstAsked}
-use Rattle.top_call.specs.Ends.{Stops}
-use Rattle.top_call.specs.FirstJob.{first_job, first_request}
-use Rattle.top_call.specs.Plan.{AreSame}
+use Rattle.call_steps.specs.Ends.{Stops}
+use Rattle.call_steps.specs.FirstJob.{first_job, first_request}
+use Rattle.call_steps.specs.SetupFor.{AreSame}
 use Rattle.payments.specs.World.{World}
-use Rattle.top_call.specs.Outside.{IsExcused, PrintsFault}
-use Rattle.top_call.specs.Reading.{AreNoRows, AreRowsOf, FollowsRows, TellsRows}
-use Rattle.top_call.specs.Running.{IsRunOf, Runs}
-use Rattle.top_call.specs.declared.answer.Answer.{Answer}
+use Rattle.call_steps.specs.Outside.{IsExcused, PrintsFault}
+use Rattle.call_steps.specs.Reading.{AreNoRows, AreRowsOf, FollowsRows, TellsRows}
+use Rattle.call_steps.specs.Running.{IsRunOf, Runs}
+use Rattle.call_steps.specs.declared.answer.Answer.{Answer}
 use Rattle.report.specs.declared.fault.Fault.{Fault}
-use Rattle.top_call.specs.declared.running.Done.{Done}
+use Rattle.call_steps.specs.declared.running.Done.{Done}
 
 -- ---- the run
 

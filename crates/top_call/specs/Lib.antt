@@ -1,8 +1,3 @@
-pub mod FirstJob
-pub mod Outside
-pub mod Reading
-pub mod Ends
-pub mod Running
 pub mod First
 pub mod Check
 pub mod Plan

@@ -10,14 +10,14 @@ use Rattle.payments.specs.declared.read.PFault.TheVariants as rows
 use Rattle.tuple_trace.specs.declared.row.Row.{Row}
 use Rattle.report.specs.declared.fault.Fault.{Fault}
 use Rattle.report.specs.declared.fault.Fault.TheVariants as fault
-use Rattle.top_call.specs.Ends.{PrintsLines, Stops}
+use Rattle.call_steps.specs.Ends.{PrintsLines, Stops}
 use Rattle.payments.specs.World.{World}
-use Rattle.top_call.specs.Outside.{IsExcused, PrintsFault}
-use Rattle.top_call.specs.Plan.{AreSame}
-use Rattle.top_call.specs.Reading.{FollowsJob, IsJobOf, IsNoJob, TellsJob}
-use Rattle.top_call.specs.Running.{IsRunOf, run_lines}
-use Rattle.top_call.specs.declared.answer.Answer.{Answer}
-use Rattle.top_call.specs.declared.running.Done.{Done}
+use Rattle.call_steps.specs.Outside.{IsExcused, PrintsFault}
+use Rattle.call_steps.specs.SetupFor.{AreSame}
+use Rattle.call_steps.specs.Reading.{FollowsJob, IsJobOf, IsNoJob, TellsJob}
+use Rattle.call_steps.specs.Running.{IsRunOf, run_lines}
+use Rattle.call_steps.specs.declared.answer.Answer.{Answer}
+use Rattle.call_steps.specs.declared.running.Done.{Done}
 
 -- the rows that were run are those that are made for the job of the file, and no request was made
 pub record IsMadeRun (asked : MakeAsked) (files : Option Files) (done : Done) : Type 0 where

@@ -1,39 +1,22 @@
 -- What a call of `plan` answers, why, and what it leaves.
-use Rattle.std.specs.Prelude.{◌≡◌, ◌⊎◌, ◌++◌, ℕ, Bool, List, Option, None}
+use Rattle.std.specs.Prelude.{◌≡◌, ◌⊎◌, ◌++◌, ℕ, List, Option, None}
 use Rattle.jobs.specs.Job.{written}
 use Rattle.jobs.specs.Written.{Written}
 use Rattle.payments.specs.Causes.{Faults}
 use Rattle.payments.specs.Files.{Files}
-use Rattle.versions.specs.Judged.{judged}
 use Rattle.versions.specs.declared.request.Request.{Request}
-use Rattle.flow_model.specs.Least.{ArePlansLeast}
-use Rattle.flow_model.specs.Planned.{IsExact}
-use Rattle.flow_model.specs.Setup.{outline}
 use Rattle.flow_model.specs.declared.setup.Setup.{Setup}
 use Rattle.command_line.specs.Asked.{PlanAsked}
-use Rattle.top_call.specs.Ends.{PrintsLines, Stops}
+use Rattle.call_steps.specs.SetupFor.{AreSame, IsSetupFor}
+use Rattle.call_steps.specs.Ends.{PrintsLines, Stops}
 use Rattle.report.specs.Lines.{plan_lines, refused_lines}
 use Rattle.payments.specs.World.{World}
-use Rattle.top_call.specs.Outside.{IsExcused, PrintsFault}
-use Rattle.top_call.specs.Reading.{AreNoRequests, AreRequestsOf, FollowsJob, FollowsRequests, IsJobOf, IsNoJob, TellsJob, TellsRequests}
-use Rattle.top_call.specs.declared.answer.Answer.{Answer}
+use Rattle.call_steps.specs.Outside.{IsExcused, PrintsFault}
+use Rattle.call_steps.specs.Reading.{AreNoRequests, AreRequestsOf, FollowsJob, FollowsRequests, IsJobOf, IsNoJob, TellsJob, TellsRequests}
+use Rattle.call_steps.specs.declared.answer.Answer.{Answer}
 use Rattle.report.specs.declared.fault.Fault.{Fault}
 
 -- ---- the setup
-
--- the requests that are kept are those that were accepted
-abbrev pub AreSame : List Request → List Request → Type 0
-AreSame accepted kept = kept ≡ accepted
-
--- the setup is that of a job and these requests: it keeps what judging accepts and has what it refuses, and exactly the planner's plans for this
--- mode, each of which is the least cover
-pub record IsSetupFor (Keeps : List Request → List Request → Type 0) (ordered : Bool) (job : Written) (requests : List Request) (setup : Setup) : Type 0 where
-  pub job_is : written setup.job ≡ job
-  pub accepted : Keeps (judged job requests).accepted setup.judged.accepted
-  pub refused : setup.judged.refused ≡ (judged job requests).refused
-  pub exact : IsExact (outline setup)
-  pub least : ArePlansLeast (outline setup)
-  pub mode : setup.ordered ≡ ordered
 
 -- the setup is that of what the files hold
 pub record IsSetupOf (asked : PlanAsked) (files : Option Files) (setup : Setup) : Type 0 where

@@ -6,15 +6,16 @@ use Rattle.payments.specs.Files.{Files}
 use Rattle.tuple_trace.specs.declared.row.Row.{Row}
 use Rattle.versions.specs.declared.request.Request.{Request}
 use Rattle.command_line.specs.Asked.{RunAsked}
-use Rattle.top_call.specs.Ends.{Stops}
+use Rattle.call_steps.specs.Ends.{Stops}
 use Rattle.payments.specs.World.{World}
-use Rattle.top_call.specs.Outside.{IsExcused, PrintsFault}
-use Rattle.top_call.specs.Plan.{AreSame, IsNoSetup}
-use Rattle.top_call.specs.Reading.{AreNoRows, AreRequestsOf, AreRowsOf, FollowsJob, FollowsRequests, FollowsRows, IsJobOf, TellsJob, TellsRequests, TellsRows}
-use Rattle.top_call.specs.Running.{IsRunOf, Runs}
-use Rattle.top_call.specs.declared.answer.Answer.{Answer}
+use Rattle.call_steps.specs.Outside.{IsExcused, PrintsFault}
+use Rattle.call_steps.specs.SetupFor.{AreSame}
+use Rattle.top_call.specs.Plan.{IsNoSetup}
+use Rattle.call_steps.specs.Reading.{AreNoRows, AreRequestsOf, AreRowsOf, FollowsJob, FollowsRequests, FollowsRows, IsJobOf, TellsJob, TellsRequests, TellsRows}
+use Rattle.call_steps.specs.Running.{IsRunOf, Runs}
+use Rattle.call_steps.specs.declared.answer.Answer.{Answer}
 use Rattle.report.specs.declared.fault.Fault.{Fault}
-use Rattle.top_call.specs.declared.running.Done.{Done}
+use Rattle.call_steps.specs.declared.running.Done.{Done}
 
 -- what was run is what the files hold
 pub record IsRunOfFiles (asked : RunAsked) (files : Option Files) (done : Done) : Type 0 where

@@ -4,7 +4,7 @@ use Rattle.command_line.specs.Asked.{Asked}
 use Rattle.report.specs.Faults.{status_for}
 use Rattle.top_call.specs.Answers.{Answers, AnswersUsage}
 use Rattle.payments.specs.World.{World}
-use Rattle.top_call.specs.declared.answer.Answer.{Answer}
+use Rattle.call_steps.specs.declared.answer.Answer.{Answer}
 
 -- neither the shelf nor the output has counted a fault
 pub record IsSure (outside : World) : Type 0 where

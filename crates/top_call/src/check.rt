@@ -3,11 +3,9 @@ ghost use Rattle.jobs.specs.Job.{written};
 ghost use Rattle.top_call.specs.Check.{EndsCheck};
 ghost use Rattle.report.specs.Lines.{sizes_line as sizes_line_of};
 ghost use Rattle.payments.specs.World.{world};
-ghost use Rattle.top_call.specs.Outside.{Prints};
+ghost use Rattle.call_steps.specs.Outside.{Prints};
 
-use crate::answer::Answer;
-use crate::printing::print;
-use crate::reading::job_in;
+use call_steps::{Answer, job_in, print};
 use jobs::Job;
 use payments::{Shelf, Sink};
 use report::{Fault, sizes_line};
@@ -37,7 +35,7 @@ pub fn check_command<S: Shelf, O: Sink>(
     }
 }
 
-#[tactic(auto, using(crate::proofs::PrintLemmas::prints_nothing))]
+#[tactic(auto, using(call_steps::proofs::PrintLemmas::prints_nothing))]
 fn print_sizes<O: Sink>(alloc: Global, job: &Job, out: &mut O) -> Result<(), Fault>
     ensures { Prints (sizes_line_of (written job.now))
         (O.state out.old) (O.state out.new) (result_err result) }

@@ -3,12 +3,11 @@ ghost use Rattle.jobs.specs.Nodes.{worker_count};
 ghost use Rattle.command_line.specs.Asked.{first_asked};
 ghost use Rattle.top_call.specs.First.{asked_job, EndsFirst, IsFirstRun};
 ghost use Rattle.payments.specs.World.{world};
-ghost use Rattle.top_call.specs.Reading.{AreNoRows};
+ghost use Rattle.call_steps.specs.Reading.{AreNoRows};
 
-use crate::answer::Answer;
-use crate::job::{first_job, first_requests};
-use crate::reading::rows_in;
-use crate::running::{Done, Outputs, leave_run, run_in_order};
+use call_steps::{
+    Answer, Done, Outputs, first_job, first_requests, leave_run, rows_in, run_in_order,
+};
 use command_line::First;
 use payments::{Shelf, Sink};
 use report::Fault;

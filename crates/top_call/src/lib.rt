@@ -9,19 +9,13 @@
 //! ```
 #![tactic(auto)]
 
-mod answer;
 mod check;
 mod first;
-mod job;
 mod laws;
 mod make;
 mod plan;
-mod printing;
-mod reading;
 mod run;
-mod running;
 mod top;
-mod writing;
 
 pub use laws::sure_calls_end_well;
 pub use top::{Outcome, fries};

@@ -6,13 +6,10 @@ ghost use Rattle.jobs.specs.Nodes.{AreFromSources, worker_count};
 ghost use Rattle.payments.specs.Made.{made_rows};
 ghost use Rattle.top_call.specs.Make.{EndsMake, IsMadeRun, IsNotMade, MakesNoRows};
 ghost use Rattle.payments.specs.World.{world};
-ghost use Rattle.top_call.specs.Outside.{Prints};
-ghost use Rattle.top_call.specs.Running.{run_lines as run_lines_of};
+ghost use Rattle.call_steps.specs.Outside.{Prints};
+ghost use Rattle.call_steps.specs.Running.{run_lines as run_lines_of};
 
-use crate::answer::Answer;
-use crate::printing::print;
-use crate::reading::job_in;
-use crate::running::{Done, run_lines, run_on_threads};
+use call_steps::{Answer, Done, job_in, print, run_lines, run_on_threads};
 use command_line::{EngineSize, Make};
 use jobs::Job;
 use payments::{Shelf, Sink, make_rows};
@@ -100,7 +97,7 @@ fn rows_made(alloc: Global, job: &Job, make: &Make) -> Result<Rows, Fault>
     Ok(make_rows(alloc, job, make.seed, make.rows)?)
 }
 
-#[tactic(auto, using(crate::proofs::PrintLemmas::prints_nothing))]
+#[tactic(auto, using(call_steps::proofs::PrintLemmas::prints_nothing))]
 fn print_run<O: Sink>(alloc: Global, done: &Done, out: &mut O) -> Result<(), Fault>
     requires { length done.now.ran.journals ≡ worker_count done.now.ran.setup.job.nodes }
     ensures { Prints (run_lines_of done.now)

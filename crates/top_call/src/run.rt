@@ -4,9 +4,7 @@ ghost use Rattle.command_line.specs.Asked.{IsSize, run_asked};
 ghost use Rattle.payments.specs.World.{world};
 ghost use Rattle.top_call.specs.Run.{EndsRun, IsNoRun, IsRunOfFiles};
 
-use crate::answer::Answer;
-use crate::reading::{job_in, requests_in, rows_in};
-use crate::running::{Done, Outputs, leave_run, run_on_threads};
+use call_steps::{Answer, Done, Outputs, job_in, leave_run, requests_in, rows_in, run_on_threads};
 use command_line::RunFiles;
 use payments::{Shelf, Sink};
 use report::Fault;

@@ -3,24 +3,23 @@ ghost use Rattle.std.specs.Result.{result_err};
 ghost use Rattle.top_call.specs.Answers.{answer_of, Answers, AnswersUsage, Follows};
 ghost use Rattle.command_line.specs.Asked.{IsSize, IsSized, IsThreads, asked_by, asked_of, first_asked, make_asked, plan_asked, run_asked};
 ghost use Rattle.top_call.specs.Check.{AnswersCheck, FollowsCheck};
-ghost use Rattle.top_call.specs.Ends.{stopped};
+ghost use Rattle.call_steps.specs.Ends.{stopped};
 ghost use Rattle.report.specs.FaultWords.{fault_line as fault_line_of};
 ghost use Rattle.report.specs.Faults.{status_for};
 ghost use Rattle.top_call.specs.Explain.{AnswersText, FollowsText};
 ghost use Rattle.top_call.specs.First.{AnswersFirst, FollowsFirst};
 ghost use Rattle.top_call.specs.Make.{AnswersMake, FollowsMake};
 ghost use Rattle.payments.specs.World.{world};
-ghost use Rattle.top_call.specs.Outside.{Prints, PrintsReport};
+ghost use Rattle.call_steps.specs.Outside.{Prints, PrintsReport};
 ghost use Rattle.top_call.specs.Plan.{AnswersPlan, FollowsPlan};
 ghost use Rattle.top_call.specs.Run.{AnswersRun, FollowsRun};
 
-use crate::answer::Answer;
 use crate::check::check_command;
 use crate::first::first_command;
 use crate::make::make_command;
 use crate::plan::plan_command;
-use crate::printing::print;
 use crate::run::run_command;
+use call_steps::{Answer, print};
 use command_line::{
     Command, First, Make, PlanFiles, RunFiles, WordsFault, command_of, help_text, version_text,
 };
@@ -290,7 +289,7 @@ fn answer_fault<O: Sink>(alloc: Global, fault: Fault, out: &mut O) -> Answer
 }
 
 // Prints the line of a fault, unless it is the output that failed. What printing it comes to changes no answer.
-#[tactic(auto, using(crate::proofs::PrintLemmas::reports))]
+#[tactic(auto, using(call_steps::proofs::PrintLemmas::reports))]
 fn report<O: Sink>(alloc: Global, fault: Option<Fault>, out: &mut O)
     ensures { PrintsReport fault (O.state out.old) (O.state out.new) }
 {
@@ -302,7 +301,7 @@ fn report<O: Sink>(alloc: Global, fault: Option<Fault>, out: &mut O)
     }
 }
 
-#[tactic(auto, using(crate::proofs::PrintLemmas::prints_nothing))]
+#[tactic(auto, using(call_steps::proofs::PrintLemmas::prints_nothing))]
 fn print_fault<O: Sink>(alloc: Global, fault: Fault, out: &mut O) -> Result<(), Fault>
     ensures { Prints (fault_line_of fault) (O.state out.old) (O.state out.new) (result_err result) }
 {

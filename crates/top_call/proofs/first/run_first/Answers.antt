@@ -5,10 +5,10 @@ use Rattle.jobs.specs.Nodes.{AreFromSources}
 use Rattle.tuple_trace.specs.Rows.{AreRows}
 use Rattle.command_line.specs.Asked.{first_asked}
 use Rattle.top_call.specs.First.{asked_job}
-use Rattle.top_call.specs.FirstJob.{first_request}
-use Rattle.top_call.specs.Reading.{AreRowsOf}
-use Rattle.top_call.specs.Running.{IsRunOf}
-use Rattle.top_call.specs.Plan.{AreSame}
+use Rattle.call_steps.specs.FirstJob.{first_request}
+use Rattle.call_steps.specs.Reading.{AreRowsOf}
+use Rattle.call_steps.specs.Running.{IsRunOf}
+use Rattle.call_steps.specs.SetupFor.{AreSame}
 use Rattle.top_call.proofs.FirstLemmas.{first_runs}
 use Rattle.top_call.proofs.first.run_first.Goals as goal
 

@@ -1,7 +1,7 @@
 use Rattle.std.proofs.Common.{ap, refl}
 use Rattle.command_line.specs.Asked.{asked_of}
 use Rattle.top_call.proofs.FollowLemmas.{answers_memory, whatever}
-use Rattle.top_call.specs.declared.answer.Answer.{Answer}
+use Rattle.call_steps.specs.declared.answer.Answer.{Answer}
 use Rattle.top_call.proofs.top.fries.Goals as goal
 use Rattle.top_call.proofs.top.fries.Goals.{in-Ok+in-First-1, in-Ok+in-Check-1, in-Ok+in-Plan-1, in-Ok+in-Run-1, in-Ok+in-Make-1, in-Ok+in-Help-1, in-Err-Usage, in-Err-NoMemory}
 

@@ -19,9 +19,9 @@ use Rattle.flow_worker.specs.Parts.{WorkedIs}
 use Rattle.flow_ends.specs.Ended.{record_of as ended}
 use Rattle.flow_engine.specs.Flown.{record_of}
 use Rattle.serial_order.specs.Serials.{serials}
-use Rattle.top_call.specs.Plan.{AreSame, IsSetupFor}
-use Rattle.top_call.specs.Running.{IsDoneOf, IsRunOf}
-use Rattle.top_call.specs.declared.running.Done.{Done}
+use Rattle.call_steps.specs.SetupFor.{AreSame, IsSetupFor}
+use Rattle.call_steps.specs.Running.{IsDoneOf, IsRunOf}
+use Rattle.call_steps.specs.declared.running.Done.{Done}
 
 -- what the laws of runs say of each run of a setup
 pub record HasLaws (setup : Setup) (rows : List Row) : Type 0 where

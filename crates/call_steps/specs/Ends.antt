@@ -2,8 +2,8 @@
 use Rattle.std.specs.Prelude.{◌≡◌, ◌⊎◌, ◌∷◌, ℕ, List, [], Option, None, Some}
 use Rattle.payments.specs.Causes.{Faults}
 use Rattle.payments.specs.World.{World}
-use Rattle.top_call.specs.Outside.{FileText, Prints, StoresNot, StoresPart, StoresWhole}
-use Rattle.top_call.specs.declared.answer.Answer.{Answer}
+use Rattle.call_steps.specs.Outside.{FileText, Prints, StoresNot, StoresPart, StoresWhole}
+use Rattle.call_steps.specs.declared.answer.Answer.{Answer}
 use Rattle.report.specs.declared.fault.Fault.{Fault}
 use Rattle.report.specs.declared.fault.Fault.TheVariants as fault
 

@@ -1,5 +1,5 @@
 ghost use Rattle.std.specs.Result.{result_err};
-ghost use Rattle.top_call.specs.Outside.{Prints};
+ghost use Rattle.call_steps.specs.Outside.{Prints};
 
 use payments::{Sink, SinkFault, write_all};
 use report::{Fault, FileIs};

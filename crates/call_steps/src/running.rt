@@ -7,14 +7,14 @@ ghost use Rattle.job_file.specs.RequestSizes.{AreFew};
 ghost use Rattle.flow_model.specs.Record.{told};
 ghost use Rattle.flow_replay.specs.Order.{IsInOrder};
 ghost use Rattle.command_line.specs.Asked.{IsSize};
-ghost use Rattle.top_call.specs.Ends.{EndsAfterRun};
+ghost use Rattle.call_steps.specs.Ends.{EndsAfterRun};
 ghost use Rattle.payments.specs.World.{world};
-ghost use Rattle.top_call.specs.Plan.{AreSame};
-ghost use Rattle.top_call.specs.Running.{audit_of, files_of, run_lines as run_lines_of, serial_lines as serial_lines_of, summary_of as summary_of_done, IsDoneOf, IsRunOf};
+ghost use Rattle.call_steps.specs.SetupFor.{AreSame};
+ghost use Rattle.call_steps.specs.Running.{audit_of, files_of, run_lines as run_lines_of, serial_lines as serial_lines_of, summary_of as summary_of_done, IsDoneOf, IsRunOf};
 ghost use Rattle.serial_order.specs.Serials.{serials};
 
 use crate::answer::Answer;
-use crate::plan::setup_of;
+use crate::setup::setup_of;
 use crate::writing::{FileText, Texts, write_texts};
 use command_line::EngineSize;
 use flow_engine::run_flow;

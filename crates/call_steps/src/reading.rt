@@ -3,7 +3,7 @@ ghost use Rattle.std.specs.Prelude.{◌≡◌, IfOk, IfErr, OnOk};
 ghost use Rattle.jobs.specs.Job.{written};
 ghost use Rattle.jobs.specs.Nodes.{AreFromSources};
 ghost use Rattle.job_file.specs.RequestSizes.{AreFew};
-ghost use Rattle.top_call.specs.Reading.{AreNoRequests, AreNoRows, AreRequestsOf, AreRowsOf, IsJobOf, IsNoJob, IsRead, IsUnread};
+ghost use Rattle.call_steps.specs.Reading.{AreNoRequests, AreNoRows, AreRequestsOf, AreRowsOf, IsJobOf, IsNoJob, IsRead, IsUnread};
 
 use job_file::{read_job, read_requests};
 use jobs::Job;

@@ -2,8 +2,8 @@ use Rattle.std.proofs.Common.{◌∙◌, ap}
 use Rattle.std.proofs.lemmas.Result.{IfOk-weaker}
 use Rattle.jobs.specs.Job.{written}
 use Rattle.flow_model.specs.declared.record.RunRecord.{RunRecord}
-use Rattle.top_call.proofs.RunLemmas.{is_run_of, journals_of, run_so, states_of}
-use Rattle.top_call.proofs.running.run_on_threads.Goals as goal
+use Rattle.call_steps.proofs.RunLemmas.{is_run_of, journals_of, run_so, states_of}
+use Rattle.call_steps.proofs.running.run_on_threads.Goals as goal
 
 pub returns-clause-run : goal.returns-clause-run
 returns-clause-run g c =

@@ -1,8 +1,8 @@
 use Rattle.std.proofs.Common.{false}
 use Rattle.std.proofs.lemmas.Result.{IfOk-weaker}
 use Rattle.jobs.specs.Job.{written}
-use Rattle.top_call.proofs.RunLemmas.{is_run_of, journals_of, states_of}
-use Rattle.top_call.proofs.running.run_in_order.Goals as goal
+use Rattle.call_steps.proofs.RunLemmas.{is_run_of, journals_of, states_of}
+use Rattle.call_steps.proofs.running.run_in_order.Goals as goal
 
 pub returns-clause-run : goal.returns-clause-run
 returns-clause-run c =

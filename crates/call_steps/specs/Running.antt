@@ -14,15 +14,15 @@ use Rattle.flow_model.specs.Serial.{IsSerial, SeesPrefix, serial}
 use Rattle.flow_model.specs.Setup.{outline}
 use Rattle.flow_model.specs.declared.record.RunRecord.{RunRecord}
 use Rattle.serial_order.specs.Serials.{serial_line, serials}
-use Rattle.top_call.specs.Ends.{EndsAfterRun}
+use Rattle.call_steps.specs.Ends.{EndsAfterRun}
 use Rattle.report.specs.Lines.{alert_count, noted, refused_lines, row_count, summary_line}
 use Rattle.payments.specs.World.{World}
-use Rattle.top_call.specs.Outside.{FileText}
-use Rattle.top_call.specs.Plan.{IsSetupFor}
-use Rattle.top_call.specs.declared.answer.Answer.{Answer}
+use Rattle.call_steps.specs.Outside.{FileText}
+use Rattle.call_steps.specs.SetupFor.{IsSetupFor}
+use Rattle.call_steps.specs.declared.answer.Answer.{Answer}
 use Rattle.report.specs.declared.fault.FileIs.TheVariants as file
 use Rattle.report.specs.declared.lines.Summary.{Summary}
-use Rattle.top_call.specs.declared.running.Done.{Done}
+use Rattle.call_steps.specs.declared.running.Done.{Done}
 
 -- ---- the run
 

@@ -1,6 +1,6 @@
 ghost use Rattle.std.specs.Prelude.{◌≡◌, ◌∷◌, [], IfOk};
 ghost use Rattle.jobs.specs.Job.{written};
-ghost use Rattle.top_call.specs.FirstJob.{at_least as at_least_of, column_of, first_columns, first_job as first_job_of, first_request, node_of};
+ghost use Rattle.call_steps.specs.FirstJob.{at_least as at_least_of, column_of, first_columns, first_job as first_job_of, first_request, node_of};
 
 use command_line::First;
 use flow_dag::Edge;

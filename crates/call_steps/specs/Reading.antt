@@ -13,7 +13,7 @@ use Rattle.tuple_trace.specs.declared.row.Row.{Row}
 use Rattle.versions.specs.declared.request.Request.{Request}
 use Rattle.report.specs.Faults.{limit_of}
 use Rattle.payments.specs.World.{World}
-use Rattle.top_call.specs.Outside.{IsExcused}
+use Rattle.call_steps.specs.Outside.{IsExcused}
 use Rattle.report.specs.declared.fault.Fault.{Fault}
 use Rattle.report.specs.declared.fault.Fault.TheVariants as fault
 use Rattle.report.specs.declared.fault.FileIs.{FileIs}

@@ -2,7 +2,7 @@ use Rattle.std.proofs.Common.{sym, subst}
 use Rattle.jobs.specs.Job.{written}
 use Rattle.versions.specs.Judged.{AreAccepted}
 use Rattle.versions.specs.declared.in_order.Judged.{Judged}
-use Rattle.top_call.proofs.plan.setup_of.Goals as goal
+use Rattle.call_steps.proofs.setup.setup_of.Goals as goal
 
 pub setup_in_mode-requires : goal.setup_in_mode-requires
 setup_in_mode-requires c =

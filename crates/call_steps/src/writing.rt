@@ -1,9 +1,9 @@
 ghost use Rattle.std.specs.Prelude.{◌≡◌, ◌⊎◌, None, Some, IfErr, OnErr, OnOk};
 ghost use Rattle.std.specs.Result.{result_err};
 ghost use Rattle.payments.specs.Files.{HoldsProperPrefix, with_bytes};
-ghost use Rattle.top_call.specs.Ends.{EndsStoring};
+ghost use Rattle.call_steps.specs.Ends.{EndsStoring};
 ghost use Rattle.payments.specs.World.{world};
-ghost use Rattle.top_call.specs.Outside.{StoresNot};
+ghost use Rattle.call_steps.specs.Outside.{StoresNot};
 
 use crate::printing::print;
 use payments::{Shelf, ShelfFault, Sink, store};
@@ -21,7 +21,7 @@ pub struct FileText<'a> {
 }
 
 impl<'a> Model for FileText<'a> {
-    ghost use Rattle.top_call.specs.Outside.{FileText};
+    ghost use Rattle.call_steps.specs.Outside.{FileText};
 
     ghost Value = { FileText };
 

@@ -1,8 +1,8 @@
 use Rattle.std.proofs.Common.{Option, drop}
 use Rattle.report.specs.declared.fault.Fault.{Fault}
-use Rattle.top_call.specs.Ends.{EndsStoring}
+use Rattle.call_steps.specs.Ends.{EndsStoring}
 use Rattle.payments.specs.World.{World, world}
-use Rattle.top_call.proofs.writing.write_texts.Given as goal
+use Rattle.call_steps.proofs.writing.write_texts.Given as goal
 
 -- however storing the files that are left ends, storing all of them ends
 abbrev pub invariant-loop-text : goal.invariant-loop-text

@@ -1,0 +1,6 @@
+pub mod FirstJob
+pub mod Outside
+pub mod Reading
+pub mod Ends
+pub mod SetupFor
+pub mod Running

@@ -1,0 +1,28 @@
+//! The steps that the commands of `fries` share: a file is read, requests are judged, rows are run,
+//! files are written, and lines are printed.
+//!
+//! Each step meets files and the output by the traits [`payments::Shelf`] and [`payments::Sink`] only.
+//! Its clauses say what it leaves of them, and why it failed.
+//!
+//! ```text
+//! let job = job_in(alloc, &name, &mut shelf)?;
+//! let requests = requests_in(alloc, &job, &other, &mut shelf)?;
+//! let rows = rows_in(alloc, &job, &third, &mut shelf)?;
+//! let done = run_on_threads(&rt, alloc, &OpenGate, size, job, &requests, &rows, false)?;
+//! ```
+#![tactic(auto)]
+
+mod answer;
+mod job;
+mod printing;
+mod reading;
+mod running;
+mod setup;
+mod writing;
+
+pub use answer::Answer;
+pub use job::{first_job, first_requests};
+pub use printing::print;
+pub use reading::{job_in, requests_in, rows_in};
+pub use running::{Done, Outputs, leave_run, run_in_order, run_lines, run_on_threads};
+pub use setup::setup_of;
