@@ -74,21 +74,26 @@ from = \"often\"
 to = \"watch\"
 ";
 
-// The journal of a worker that met these rows, turned a request after each, and ended.
+// The entry with this number in the journal of a worker that met these rows, turned a request after
+// each, and ended.
+fn entry_at(rows: &[Row], met: &[usize], number: usize) -> Option<Entry> {
+    let lane = 0;
+    match (met.get(number / 3), number % 3) {
+        (Some(place), 0) => {
+            let tuple = rows.get(*place)?.tuple.copy().ok()?;
+            Some(Entry::Met { lane, tuple })
+        }
+        (Some(_), 1) => Some(Entry::Marked { lane, request: 1 }),
+        (Some(_), _) => Some(Entry::Turned { request: 1 }),
+        (None, _) => Some(Entry::Ended { lane }),
+    }
+}
+
 fn journal_of(alloc: Global, rows: &[Row], met: &[usize]) -> Option<Journal> {
     let mut journal = Journal::new(alloc);
-    for place in met {
-        let tuple = rows.get(*place)?.tuple.copy().ok()?;
-        journal.push(Entry::Met { lane: 0, tuple }).ok()?;
-        journal
-            .push(Entry::Marked {
-                lane: 0,
-                request: 1,
-            })
-            .ok()?;
-        journal.push(Entry::Turned { request: 1 }).ok()?;
+    for number in 0..=met.len().saturating_mul(3) {
+        journal.push(entry_at(rows, met, number)?).ok()?;
     }
-    journal.push(Entry::Ended { lane: 0 }).ok()?;
     Some(journal)
 }
 

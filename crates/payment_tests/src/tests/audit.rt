@@ -27,7 +27,7 @@ const REFUSED: [Noted; 2] = [Noted { place: 2, code: 4 }, Noted { place: 64, cod
 const FEEDS: [Feed; 4] = [Feed::Fed(1), Feed::Issued(1), Feed::Fed(2), Feed::Stopped];
 
 /// The counts of the first worker of `tally`. The others have none.
-const COUNTS: [(&str, i64); 3] = [("b", -7), ("a,\"x", i64::MAX), ("a", 2)];
+const COUNTS: [&[(&str, i64)]; 3] = [&[("b", -7), ("a,\"x", i64::MAX), ("a", 2)], &[], &[]];
 
 const AUDIT: &str = r#"entry,node,worker,lane,number,extra
 refused,,,,2,Q4
@@ -61,40 +61,84 @@ fn tuple_of(alloc: Global, job: &Job) -> Result<Tuple, NoMemory> {
     }
 }
 
-// The entry of a tuple that was born so.
-fn met(tuple: &Tuple, lane: u32, birth: &[u32]) -> Result<Entry, NoMemory> {
+/// An entry of a journal. A tuple that is met has this birth.
+enum Step {
+    Met(u32, &'static [u32]),
+    Marked,
+    Turned,
+    Ended(u32),
+}
+
+/// The journals of the two workers of `tally` and of `out`.
+const STEPS: [&[Step]; 3] = [
+    &[
+        Step::Met(0, &[]),
+        Step::Marked,
+        Step::Turned,
+        Step::Ended(0),
+    ],
+    &[Step::Ended(1)],
+    &[
+        Step::Met(2, &[2]),
+        Step::Met(3, &[3, 0, 12]),
+        Step::Ended(2),
+        Step::Ended(3),
+    ],
+];
+
+fn born(tuple: &Tuple, birth: &[u32]) -> Result<Tuple, NoMemory> {
     let mut tuple = tuple.copy()?;
     for index in birth {
         tuple = tuple.child(*index)?;
     }
-    Ok(Entry::Met { lane, tuple })
+    Ok(tuple)
+}
+
+fn entry_of(tuple: &Tuple, step: &Step) -> Result<Entry, NoMemory> {
+    match step {
+        Step::Met(lane, birth) => Ok(Entry::Met {
+            lane: *lane,
+            tuple: born(tuple, birth)?,
+        }),
+        Step::Marked => Ok(Entry::Marked {
+            lane: 0,
+            request: 1,
+        }),
+        Step::Turned => Ok(Entry::Turned { request: 1 }),
+        Step::Ended(lane) => Ok(Entry::Ended { lane: *lane }),
+    }
+}
+
+fn journal_of(alloc: Global, tuple: &Tuple, steps: &[Step]) -> Result<Journal, NoMemory> {
+    let mut journal = Journal::new(alloc);
+    for step in steps {
+        journal.push(entry_of(tuple, step)?)?;
+    }
+    Ok(journal)
 }
 
 fn journals_of(alloc: Global, tuple: &Tuple) -> Result<Journals, NoMemory> {
-    let mut first = Journal::new(alloc);
-    first.push(met(tuple, 0, &[])?)?;
-    first.push(Entry::Marked {
-        lane: 0,
-        request: 1,
-    })?;
-    first.push(Entry::Turned { request: 1 })?;
-    first.push(Entry::Ended { lane: 0 })?;
-    let mut second = Journal::new(alloc);
-    second.push(Entry::Ended { lane: 1 })?;
-    let mut sink = Journal::new(alloc);
-    sink.push(met(tuple, 2, &[2])?)?;
-    sink.push(met(tuple, 3, &[3, 0, 12])?)?;
-    sink.push(Entry::Ended { lane: 2 })?;
-    sink.push(Entry::Ended { lane: 3 })?;
-    Ok(Journals::from_vec(Vec::from_array(alloc, [first, second, sink])?))
+    let mut journals = Journals::new(alloc);
+    for steps in STEPS {
+        journals.push(journal_of(alloc, tuple, steps)?)?;
+    }
+    Ok(journals)
+}
+
+fn counts_of(alloc: Global, table: &[(&str, i64)]) -> Result<Keyed, NoMemory> {
+    let mut counts = Keyed::new(alloc);
+    for (key, count) in table {
+        counts.bump(&Txt::from_slice(alloc, key.as_bytes())?, *count)?;
+    }
+    Ok(counts)
 }
 
 fn states_of(alloc: Global) -> Result<States, NoMemory> {
-    let mut counts = Keyed::new(alloc);
-    for (key, count) in COUNTS {
-        counts.bump(&Txt::from_slice(alloc, key.as_bytes())?, count)?;
+    let mut states = States::new(alloc);
+    for table in COUNTS {
+        states.push(counts_of(alloc, table)?)?;
     }
-    Ok(States::from_vec(Vec::from_array(alloc, [counts, Keyed::new(alloc), Keyed::new(alloc)])?))
+    Ok(states)
 }
 
 fn text_of(

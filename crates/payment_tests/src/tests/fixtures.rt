@@ -55,12 +55,25 @@ to = \"other\"
 port = 1
 ";
 
+/// The job that these texts are, one after the other.
+pub fn job_in(alloc: Global, texts: &[&str]) -> Option<Job> {
+    let mut text = String::new(alloc);
+    for part in texts {
+        text.push_str(part).ok()?;
+    }
+    read_job(alloc, text.as_bytes()).ok()
+}
+
+const IN_AND_X: &str = "[[node]]
+name = \"in\"
+kind = \"source\"
+[[node]]
+name = \"x\"
+";
+
 /// A job of a source `in`, a node `x` with this function, and sinks behind it.
 pub fn job_of(alloc: Global, columns: &str, func: &str, ways: &str) -> Option<Job> {
-    let text = format!(in alloc;
-        "{columns}[[node]]\nname = \"in\"\nkind = \"source\"\n[[node]]\nname = \"x\"\n{func}{ways}"
-    );
-    read_job(alloc, text.ok()?.as_bytes()).ok()
+    job_in(alloc, &[columns, IN_AND_X, func, ways])
 }
 
 /// The rows of payments with these columns, all from the source `in`.

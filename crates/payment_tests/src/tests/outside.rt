@@ -8,7 +8,7 @@ use std::fs;
 use std::rt::Files;
 use tuple_trace::{Bytes, Word};
 
-fn word(alloc: Global, name: &str) -> Option<Word> {
+pub fn word(alloc: Global, name: &str) -> Option<Word> {
     Some(Word::from_string(name.to_string(alloc).ok()?))
 }
 
@@ -20,7 +20,7 @@ fn holds(shelf: &MemoryShelf, name: &Word, text: &[u8]) -> bool {
 }
 
 // Whether a read of so many bytes answers this text.
-fn reads<S: Shelf>(shelf: &mut S, alloc: Global, name: &Word, limit: u64, text: &[u8]) -> bool {
+pub fn reads<S: Shelf>(shelf: &mut S, alloc: Global, name: &Word, limit: u64, text: &[u8]) -> bool {
     match shelf.read_all(alloc, name, limit) {
         Ok(bytes) => bytes.as_slice() == text,
         Err(_) => false,
@@ -28,7 +28,7 @@ fn reads<S: Shelf>(shelf: &mut S, alloc: Global, name: &Word, limit: u64, text: 
 }
 
 // Whether a read of so many bytes is refused for this fault.
-fn refuses<S: Shelf>(
+pub fn refuses<S: Shelf>(
     shelf: &mut S,
     alloc: Global,
     name: &Word,

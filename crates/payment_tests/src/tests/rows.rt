@@ -1,17 +1,18 @@
 // The rows of payments files, and their faults.
-use super::fixtures::{are, lines_of_rows};
-use job_file::read_job;
+use super::fixtures::{are, job_in, lines_of_rows};
 use jobs::{Job, weight};
 use payments::{PFault, read_rows};
 use std::alloc::Global;
 use tuple_trace::Bytes;
 
+const CARD: &str = "[[node]]
+name = \"card\"
+kind = \"source\"
+";
+
 // A job of a source `card`, another source, and what stands behind them.
 pub fn job_of(alloc: Global, columns: &str, behind: &str) -> Option<Job> {
-    let text = format!(in alloc;
-        "columns = [{columns}]\n[[node]]\nname = \"card\"\nkind = \"source\"\n{behind}"
-    );
-    read_job(alloc, text.ok()?.as_bytes()).ok()
+    job_in(alloc, &["columns = [", columns, "]\n", CARD, behind])
 }
 
 /// A sink behind the source.
@@ -70,9 +71,16 @@ fn answer_to(alloc: Global, columns: &str, behind: &str, payments: &[u8]) -> Res
     }
 }
 
+/// Payments, and how many rows there are, or their fault.
+type Case<'a> = (&'a [u8], Result<usize, PFault>);
+
 // Whether each text has its answer, in a job with two sources.
-fn all_answered(alloc: Global, columns: &str, cases: &[(&[u8], Result<usize, PFault>)]) -> bool {
-    cases.iter().all(|case| answer_to(alloc, columns, TWO_SOURCES, case.0) == case.1)
+fn all_answered(alloc: Global, columns: &str, cases: &[Case<'_>]) -> bool {
+    let mut answered = true;
+    for (payments, answer) in cases {
+        answered &= answer_to(alloc, columns, TWO_SOURCES, payments) == *answer;
+    }
+    answered
 }
 
 const SEVENTH_IS_SHORT: &[u8] = b"source,account,merchant,amount,tags
