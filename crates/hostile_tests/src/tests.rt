@@ -4,6 +4,7 @@ mod cut;
 mod sizes;
 mod texts;
 
+use crate::tests::cut::Cuts;
 use crate::tests::texts::{CHAIN, FOUR_PAYMENTS};
 use payments::{Calls, MemoryShelf, MemorySink};
 use std::alloc::Global;
@@ -12,7 +13,7 @@ use std::thread::Threads;
 use top_call::{Outcome, fries};
 use tuple_trace::{Bytes, NoMemory, OpenGate, Word};
 
-/// The words of `run`.
+/// The words of `run`. The last two name the alerts and the audit.
 const RUN: [&str; 6] = [
     "run",
     "job.toml",
@@ -22,44 +23,76 @@ const RUN: [&str; 6] = [
     "audit.csv",
 ];
 
+const ALERTS: usize = 4;
+
+const AUDIT: usize = 5;
+
+/// A text: how it begins, a piece that stands so many times then, and the rest.
+#[derive(Clone, Copy)]
+pub struct Text<'a> {
+    pub head: &'a [u8],
+    pub piece: &'a [u8],
+    pub times: u32,
+    pub rest: &'a [u8],
+}
+
+impl<'a> Text<'a> {
+    pub fn of(bytes: &'a [u8]) -> Self {
+        Text {
+            head: bytes,
+            piece: &[],
+            times: 0,
+            rest: &[],
+        }
+    }
+}
+
 /// What a call of `run` finds outside.
 #[derive(Clone, Copy)]
 pub struct Around<'a> {
-    pub job: &'a [u8],
-    pub requests: &'a [u8],
-    pub payments: &'a [u8],
+    pub job: Text<'a>,
+    pub requests: Text<'a>,
+    pub payments: Text<'a>,
     /// The greatest number of bytes that one append takes.
     pub step: u64,
-    /// The numbers of the calls of the shelf that fail, counted from 0.
-    pub failing: &'a [u64],
-    /// Those of the writes to the output.
-    pub refusing: &'a [u64],
+    /// The number of the call of the shelf that fails, counted from 0.
+    pub failing: Option<u64>,
+    /// That of the write to the output.
+    pub refusing: Option<u64>,
 }
 
 /// The chain over the four payments, without a request, where no call fails.
 pub fn four() -> Around<'static> {
     Around {
-        job: CHAIN.as_bytes(),
-        requests: b"",
-        payments: FOUR_PAYMENTS.as_bytes(),
+        job: Text::of(CHAIN.as_bytes()),
+        requests: Text::of(b""),
+        payments: Text::of(FOUR_PAYMENTS.as_bytes()),
         step: 1_000_000,
-        failing: &[],
-        refusing: &[],
+        failing: None,
+        refusing: None,
     }
 }
 
-/// What a call of `run` is to leave.
+/// What is to stand under a name.
+#[derive(Clone, Copy)]
+pub enum Stored<'a> {
+    /// It isn't compared.
+    Any,
+    /// There is no file, or there is one.
+    Made(bool),
+    Text(&'a [u8]),
+}
+
+/// What a call of `run` is to leave. What is `None` isn't compared.
 #[derive(Clone, Copy)]
 pub struct Left<'a> {
     pub status: u8,
     /// Whether a run was completed.
-    pub has_run: bool,
-    /// The alerts, if there is such a file.
-    pub alerts: Option<&'a [u8]>,
-    /// The audit, if there is such a file.
-    pub audit: Option<&'a [u8]>,
+    pub has_run: Option<bool>,
+    pub alerts: Stored<'a>,
+    pub audit: Stored<'a>,
     /// What is printed.
-    pub out: &'a str,
+    pub out: Option<&'a str>,
 }
 
 impl<'a> Left<'a> {
@@ -67,125 +100,169 @@ impl<'a> Left<'a> {
     pub fn refused(status: u8, line: &'a str) -> Self {
         Left {
             status,
-            has_run: false,
-            alerts: None,
-            audit: None,
-            out: line,
+            has_run: Some(false),
+            alerts: Stored::Made(false),
+            audit: Stored::Made(false),
+            out: Some(line),
+        }
+    }
+
+    /// This status. Alerts, which are written first, are there exactly if the call was done.
+    pub fn ends(status: u8) -> Self {
+        Left {
+            status,
+            has_run: None,
+            alerts: Stored::Made(status == 0 || status == 8),
+            audit: Stored::Any,
+            out: None,
         }
     }
 }
 
-/// Whether a call of `run` leaves this.
-pub fn leaves<R>(rt: &R, alloc: Global, around: Around<'_>, left: Left<'_>) -> bool
-where
-    R: Threads + Wait + Copy + Send + Sync + 'static,
-{
-    matches!(call_leaves(rt, alloc, around, left), Ok(true))
+/// The words of a call, and what it finds outside.
+#[derive(Drop)]
+struct Call {
+    words: Vec<Word>,
+    shelf: MemoryShelf,
+    out: MemorySink,
 }
 
-fn call_leaves<R>(
-    rt: &R,
-    alloc: Global,
-    around: Around<'_>,
-    left: Left<'_>,
-) -> Result<bool, NoMemory>
-where
-    R: Threads + Wait + Copy + Send + Sync + 'static,
-{
-    let mut shelf = shelf_of(alloc, around)?;
-    shelf_leaves(rt, alloc, around.refusing, &mut shelf, left)
+impl Call {
+    fn of(alloc: Global, around: &Around<'_>) -> Result<Call, NoMemory> {
+        Ok(Call {
+            words: words_of(alloc)?,
+            shelf: shelf_of(alloc, around)?,
+            out: MemorySink::new(alloc, calls_of(alloc, around.refusing)?),
+        })
+    }
 }
 
-fn shelf_leaves<R>(
-    rt: &R,
-    alloc: Global,
-    refusing: &[u64],
-    shelf: &mut MemoryShelf,
-    left: Left<'_>,
-) -> Result<bool, NoMemory>
-where
-    R: Threads + Wait + Copy + Send + Sync + 'static,
-{
-    let mut out = MemorySink::new(alloc, Calls::from_slice(alloc, refusing)?);
-    let outcome = call(rt, alloc, shelf, &mut out)?;
-    Ok(
-        outcome.status == left.status
-            && outcome.ran.is_some() == left.has_run
-            && out.written() == left.out.as_bytes()
-            && stands(alloc, shelf, "alerts.csv", left.alerts)?
-            && stands(alloc, shelf, "audit.csv", left.audit)?,
-    )
-}
-
-/// Whether just this stands under a name.
-fn stands(
-    alloc: Global,
+/// Whether a call with these words left this.
+fn has_left(
+    outcome: &Outcome,
+    words: &[Word],
     shelf: &MemoryShelf,
-    name: &str,
-    wanted: Option<&[u8]>,
-) -> Result<bool, NoMemory> {
-    let name = word(alloc, name)?;
-    Ok(is_text(shelf.get(&name), wanted))
+    out: &[u8],
+    left: &Left<'_>,
+) -> bool {
+    outcome.status == left.status
+        && is_wanted(outcome.ran.is_some(), left.has_run)
+        && is_printed(out, left.out)
+        && is_stored(file(words, ALERTS, shelf), left.alerts)
+        && is_stored(file(words, AUDIT, shelf), left.audit)
 }
 
-fn is_text(bytes: Option<&Bytes>, wanted: Option<&[u8]>) -> bool {
-    match (bytes, wanted) {
-        (None, None) => true,
-        (Some(bytes), Some(text)) => bytes.as_slice() == text,
-        _ => false,
+/// What stands under the word at this place.
+fn file<'a>(words: &[Word], place: usize, shelf: &'a MemoryShelf) -> Option<&'a Bytes> {
+    match words.get(place) {
+        Some(name) => shelf.get(name),
+        None => None,
     }
 }
 
-/// The status of a call of `run`. `None` if the call made a file and yet wasn't done, or was done and
-/// left a file unmade.
-pub fn status_of<R>(rt: &R, alloc: Global, around: Around<'_>) -> Option<u8>
-where
-    R: Threads + Wait + Copy + Send + Sync + 'static,
-{
-    match call_ends(rt, alloc, around) {
-        Ok(End { status, made }) if made == has_done(status) => Some(status),
-        _ => None,
+fn is_wanted(has_run: bool, wanted: Option<bool>) -> bool {
+    match wanted {
+        Some(wanted) => has_run == wanted,
+        None => true,
     }
 }
 
-fn has_done(status: u8) -> bool {
-    status == 0 || status == 8
+fn is_printed(out: &[u8], wanted: Option<&str>) -> bool {
+    match wanted {
+        Some(wanted) => out == wanted.as_bytes(),
+        None => true,
+    }
 }
 
-/// The status of a call, and whether the alerts are there, which are written first.
-#[derive(Clone, Copy)]
-struct End {
-    status: u8,
-    made: bool,
+fn is_stored(file: Option<&Bytes>, wanted: Stored<'_>) -> bool {
+    match (file, wanted) {
+        (_, Stored::Any) => true,
+        (file, Stored::Made(made)) => file.is_some() == made,
+        (Some(bytes), Stored::Text(text)) => bytes.as_slice() == text,
+        (None, Stored::Text(_)) => false,
+    }
 }
 
-fn call_ends<R>(rt: &R, alloc: Global, around: Around<'_>) -> Result<End, NoMemory>
+/// Whether a call of `run` leaves this.
+pub fn leaves<R>(rt: &R, alloc: Global, around: &Around<'_>, left: &Left<'_>) -> bool
 where
     R: Threads + Wait + Copy + Send + Sync + 'static,
 {
-    let mut shelf = shelf_of(alloc, around)?;
-    let mut out = MemorySink::new(alloc, Calls::new(alloc));
-    let outcome = call(rt, alloc, &mut shelf, &mut out)?;
-    let name = word(alloc, "alerts.csv")?;
-    Ok(End {
-        status: outcome.status,
-        made: shelf.get(&name).is_some(),
-    })
+    let Ok(call) = Call::of(alloc, around) else {
+        return false;
+    };
+    let Call {
+        words,
+        mut shelf,
+        mut out,
+    } = call;
+    let outcome = answer(rt, alloc, &words, &mut shelf, &mut out);
+    has_left(&outcome, &words, &shelf, out.written(), left)
 }
 
 // The top call. It stands in a function without clauses, since a caller of its contract is dear to
 // prove.
-fn call<R>(
+fn answer<R>(
     rt: &R,
     alloc: Global,
+    words: &[Word],
     shelf: &mut MemoryShelf,
     out: &mut MemorySink,
-) -> Result<Outcome, NoMemory>
+) -> Outcome
 where
     R: Threads + Wait + Copy + Send + Sync + 'static,
 {
-    let words = words_of(alloc)?;
-    Ok(fries(rt, alloc, &words, shelf, out, &OpenGate))
+    fries(rt, alloc, words, shelf, out, &OpenGate)
+}
+
+/// Calls of which each has a number.
+#[derive(Clone, Copy)]
+pub enum Tried {
+    /// The call of the shelf with this number fails, where an append takes at most so many bytes.
+    Failing { step: usize },
+    /// So many bytes are left of a file.
+    Cut(Cuts),
+    /// The byte of the job file at this place is another.
+    Changed(&'static [u8]),
+}
+
+impl Tried {
+    fn count(self) -> usize {
+        match self {
+            Tried::Failing { step } => calls::call_count(step).saturating_add(1),
+            Tried::Cut(cuts) => cuts.text.len().saturating_add(1),
+            Tried::Changed(_) => CHAIN.len(),
+        }
+    }
+
+    fn around(self, number: usize) -> Around<'static> {
+        match self {
+            Tried::Failing { step } => calls::around_at(number, step),
+            Tried::Cut(cuts) => cuts.around_at(number),
+            Tried::Changed(byte) => changed::around_at(number, byte),
+        }
+    }
+
+    fn left(self, number: usize) -> Left<'static> {
+        match self {
+            Tried::Failing { step } => calls::left_at(number, step),
+            Tried::Cut(cuts) => Left::ends(cuts.status_at(number)),
+            Tried::Changed(byte) => Left::ends(changed::status_at(number, byte)),
+        }
+    }
+}
+
+/// The number of the first call that leaves something else than it is to leave.
+pub fn first_wrong<R>(rt: &R, alloc: Global, tried: Tried) -> Option<usize>
+where
+    R: Threads + Wait + Copy + Send + Sync + 'static,
+{
+    for number in 0..tried.count() {
+        if !leaves(rt, alloc, &tried.around(number), &tried.left(number)) {
+            return Some(number);
+        }
+    }
+    None
 }
 
 fn words_of(alloc: Global) -> Result<Vec<Word>, NoMemory> {
@@ -200,22 +277,39 @@ fn word(alloc: Global, text: &str) -> Result<Word, NoMemory> {
     Ok(Word::from_string(text.to_string(alloc)?))
 }
 
-fn shelf_of(alloc: Global, around: Around<'_>) -> Result<MemoryShelf, NoMemory> {
+fn calls_of(alloc: Global, number: Option<u64>) -> Result<Calls, NoMemory> {
+    match number {
+        Some(number) => Calls::from_slice(alloc, &[number]),
+        None => Ok(Calls::new(alloc)),
+    }
+}
+
+fn shelf_of(alloc: Global, around: &Around<'_>) -> Result<MemoryShelf, NoMemory> {
     let files = [
         ("job.toml", around.job),
         ("requests.toml", around.requests),
         ("payments.csv", around.payments),
     ];
-    let failing = Calls::from_slice(alloc, around.failing)?;
-    let mut shelf = MemoryShelf::new(alloc, around.step, failing);
-    for (name, bytes) in files {
-        put(alloc, name, bytes, &mut shelf)?;
+    let mut shelf = MemoryShelf::new(alloc, around.step, calls_of(alloc, around.failing)?);
+    for (name, text) in files {
+        put(alloc, name, text, &mut shelf)?;
     }
     Ok(shelf)
 }
 
-fn put(alloc: Global, name: &str, bytes: &[u8], shelf: &mut MemoryShelf) -> Result<(), NoMemory> {
-    let name = word(alloc, name)?;
-    let bytes = Bytes::from_slice(alloc, bytes)?;
-    shelf.put(name, bytes).map_err(|_| NoMemory)
+fn put(alloc: Global, name: &str, text: Text<'_>, shelf: &mut MemoryShelf) -> Result<(), NoMemory> {
+    let bytes = bytes_of(alloc, text)?;
+    match shelf.put(word(alloc, name)?, bytes) {
+        Ok(()) => Ok(()),
+        Err(_) => Err(NoMemory),
+    }
+}
+
+fn bytes_of(alloc: Global, text: Text<'_>) -> Result<Bytes, NoMemory> {
+    let mut bytes = Bytes::from_slice(alloc, text.head)?;
+    for _ in 0..text.times {
+        bytes.extend_from_slice(text.piece)?;
+    }
+    bytes.extend_from_slice(text.rest)?;
+    Ok(bytes)
 }

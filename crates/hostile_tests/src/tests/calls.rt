@@ -1,10 +1,7 @@
 //! Each call of the outside fails alone.
 
 use crate::tests::texts::{AUDIT, TWO_ALERTS};
-use crate::tests::{Around, Left, four, leaves};
-use std::alloc::Global;
-use std::sync::Wait;
-use std::thread::Threads;
+use crate::tests::{Around, Left, Stored, Tried, first_wrong, four, leaves};
 
 /// The calls of the shelf that read, in their order, and the line if one of them fails.
 const READS: [&str; 3] = ["fault 5 job\n", "fault 5 requests\n", "fault 5 payments\n"];
@@ -17,17 +14,29 @@ fn calls_of(text: &str, step: usize) -> usize {
 }
 
 /// What stands of a text whose file is made by the call `making` if the call `failing` fails.
-fn part_of(text: &str, making: usize, failing: usize, step: usize) -> Option<&[u8]> {
+fn part_of(text: &'static str, making: usize, failing: usize, step: usize) -> Stored<'static> {
     if failing <= making {
-        return None;
+        return Stored::Made(false);
     }
     let appends = failing.saturating_sub(making.saturating_add(1));
     let stored = appends.saturating_mul(step).min(text.len());
-    text.as_bytes().get(..stored)
+    match text.as_bytes().get(..stored) {
+        Some(part) => Stored::Text(part),
+        None => Stored::Made(false),
+    }
+}
+
+/// The call of the shelf with this number fails. `step` is the most that an append takes.
+pub fn around_at(failing: usize, step: usize) -> Around<'static> {
+    Around {
+        step: step as u64,
+        failing: Some(failing as u64),
+        ..four()
+    }
 }
 
 /// What is left if the call of the shelf with this number fails. Past the last call, no call fails.
-fn left_at(failing: usize, step: usize) -> Left<'static> {
+pub fn left_at(failing: usize, step: usize) -> Left<'static> {
     if let Some(line) = READS.get(failing) {
         return Left::refused(5, line);
     }
@@ -42,44 +51,26 @@ fn left_at(failing: usize, step: usize) -> Left<'static> {
     };
     Left {
         status,
-        has_run: true,
+        has_run: Some(true),
         alerts: part_of(TWO_ALERTS, alerts, failing, step),
         audit: part_of(AUDIT, audit, failing, step),
-        out,
+        out: Some(out),
     }
 }
 
 /// The number of calls of a run without faults.
-fn call_count(step: usize) -> usize {
+pub fn call_count(step: usize) -> usize {
     READS
         .len()
         .saturating_add(calls_of(TWO_ALERTS, step))
         .saturating_add(calls_of(AUDIT, step))
 }
 
-/// The first call that leaves something else if it fails. `step` is the most that an append takes.
-fn first_wrong_call<R>(rt: &R, alloc: Global, step: usize) -> Option<usize>
-where
-    R: Threads + Wait + Copy + Send + Sync + 'static,
-{
-    for failing in 0..=call_count(step) {
-        let around = Around {
-            step: step as u64,
-            failing: &[failing as u64],
-            ..four()
-        };
-        if !leaves(rt, alloc, around, left_at(failing, step)) {
-            return Some(failing);
-        }
-    }
-    None
-}
-
 #[test]
 fn each_call_of_the_shelf_fails_alone(rt: HostRuntime) {
     for step in [1, 1_000_000] {
         assert_eq!(rt;
-            first_wrong_call(&rt, rt.alloc(), step),
+            first_wrong(&rt, rt.alloc(), Tried::Failing { step }),
             None,
             "step {step}"
         );
@@ -89,26 +80,26 @@ fn each_call_of_the_shelf_fails_alone(rt: HostRuntime) {
 #[test]
 fn first_write_of_the_output_fails(rt: HostRuntime) {
     let around = Around {
-        refusing: &[0],
+        refusing: Some(0),
         ..four()
     };
     let left = Left {
         status: 6,
-        out: "",
+        out: Some(""),
         ..left_at(call_count(1_000_000), 1_000_000)
     };
-    assert!(rt; leaves(&rt, rt.alloc(), around, left));
+    assert!(rt; leaves(&rt, rt.alloc(), &around, &left));
 }
 
 /// The status of a fault stays if its line can't be printed.
 #[test]
 fn line_of_a_fault_is_refused(rt: HostRuntime) {
-    for failing in 0..READS.len() {
+    for failing in [0, 1, 2] {
         let around = Around {
-            failing: &[failing as u64],
-            refusing: &[0],
+            failing: Some(failing),
+            refusing: Some(0),
             ..four()
         };
-        assert!(rt; leaves(&rt, rt.alloc(), around, Left::refused(5, "")));
+        assert!(rt; leaves(&rt, rt.alloc(), &around, &Left::refused(5, "")));
     }
 }

@@ -1,53 +1,39 @@
 //! A job file of which one byte is another.
 
 use crate::tests::texts::CHAIN;
-use crate::tests::{Around, four, status_of};
-use std::alloc::Global;
-use std::sync::Wait;
-use std::thread::Threads;
-use tuple_trace::{Bytes, NoMemory};
+use crate::tests::{Around, Text, Tried, first_wrong, four};
+
+/// The bytes that stand in the place of each, as numbers and as texts.
+const BYTES: [(u8, &[u8]); 3] = [(0, b"\0"), (255, b"\xff"), (b'"', b"\"")];
 
 /// The chain with this byte at a place.
-fn changed(alloc: Global, place: usize, byte: u8) -> Result<Bytes, NoMemory> {
-    let mut text = Bytes::new(alloc);
-    for (at, old) in CHAIN.as_bytes().iter().enumerate() {
-        text.push(if at == place { byte } else { *old })?;
-    }
-    Ok(text)
-}
-
-fn status_with<R>(rt: &R, alloc: Global, place: usize, byte: u8) -> Result<Option<u8>, NoMemory>
-where
-    R: Threads + Wait + Copy + Send + Sync + 'static,
-{
-    let job = changed(alloc, place, byte)?;
-    let around = Around {
-        job: job.as_slice(),
+pub fn around_at(place: usize, byte: &'static [u8]) -> Around<'static> {
+    let chain = CHAIN.as_bytes();
+    Around {
+        job: Text {
+            head: chain.get(..place).unwrap_or(chain),
+            piece: byte,
+            times: 1,
+            rest: chain.get(place.saturating_add(1)..).unwrap_or(&[]),
+        },
         ..four()
-    };
-    Ok(status_of(rt, alloc, around))
+    }
 }
 
-/// The first place at which this byte is answered by another status than it is to be: 0 if it
-/// stood there before, and else 2.
-fn first_wrong_place<R>(rt: &R, alloc: Global, byte: u8) -> Option<usize>
-where
-    R: Threads + Wait + Copy + Send + Sync + 'static,
-{
-    for (place, old) in CHAIN.as_bytes().iter().enumerate() {
-        let wanted = if *old == byte { 0 } else { 2 };
-        if status_with(rt, alloc, place, byte) != Ok(Some(wanted)) {
-            return Some(place);
-        }
+/// The status if this byte stands at a place: 0 if it stood there before, and else 2.
+pub fn status_at(place: usize, byte: &[u8]) -> u8 {
+    if CHAIN.as_bytes().get(place) == byte.first() {
+        0
+    } else {
+        2
     }
-    None
 }
 
 #[test]
 fn each_byte_of_a_job_file_is_changed(rt: HostRuntime) {
-    for byte in [0, 255, b'"'] {
+    for (byte, text) in BYTES {
         assert_eq!(rt;
-            first_wrong_place(&rt, rt.alloc(), byte),
+            first_wrong(&rt, rt.alloc(), Tried::Changed(text)),
             None,
             "byte {byte}"
         );

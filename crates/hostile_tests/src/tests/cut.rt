@@ -4,13 +4,10 @@ use crate::tests::texts::{
     CHAIN, FOUR_PAYMENTS, PAYMENTS, REQUESTS, TEN_PAYMENTS, WHOLE_JOB, WHOLE_PAYMENTS,
     WHOLE_REQUESTS, Whole,
 };
-use crate::tests::{Around, four, status_of};
-use std::alloc::Global;
-use std::sync::Wait;
-use std::thread::Threads;
+use crate::tests::{Around, Text, Tried, first_wrong, four};
 
 #[derive(Clone, Copy)]
-enum File {
+pub enum File {
     Job,
     Requests,
     Payments,
@@ -18,89 +15,86 @@ enum File {
 
 /// A file that is cut.
 #[derive(Clone, Copy)]
-struct Cuts {
-    file: File,
-    text: &'static str,
+pub struct Cuts {
+    pub file: File,
+    pub text: &'static str,
     /// Where it may be cut.
-    whole: &'static [Whole],
+    pub whole: &'static [Whole],
     /// The status if it is cut anywhere else.
-    refused: u8,
+    pub refused: u8,
 }
 
-/// What a call finds if these bytes of the file are left.
-fn around_of(file: File, bytes: &[u8]) -> Around<'_> {
-    match file {
-        File::Job => Around {
-            job: bytes,
-            ..four()
-        },
-        File::Requests => Around {
-            job: PAYMENTS.as_bytes(),
-            requests: bytes,
-            payments: TEN_PAYMENTS.as_bytes(),
-            ..four()
-        },
-        File::Payments => Around {
-            payments: bytes,
-            ..four()
-        },
-    }
-}
+const JOB: Cuts = Cuts {
+    file: File::Job,
+    text: CHAIN,
+    whole: WHOLE_JOB,
+    refused: 2,
+};
 
-/// The status if so many bytes are left.
-fn status_at(cuts: Cuts, end: usize) -> u8 {
-    for (least, most, status) in cuts.whole {
-        if *least <= end && end <= *most {
-            return *status;
+const REQUEST_FILE: Cuts = Cuts {
+    file: File::Requests,
+    text: REQUESTS,
+    whole: WHOLE_REQUESTS,
+    refused: 3,
+};
+
+const PAYMENT_FILE: Cuts = Cuts {
+    file: File::Payments,
+    text: FOUR_PAYMENTS,
+    whole: WHOLE_PAYMENTS,
+    refused: 4,
+};
+
+impl Cuts {
+    /// What a call finds if so many bytes of the file are left.
+    pub fn around_at(self, end: usize) -> Around<'static> {
+        let left = Text::of(self.text.as_bytes().get(..end).unwrap_or(&[]));
+        match self.file {
+            File::Job => Around {
+                job: left,
+                ..four()
+            },
+            File::Requests => Around {
+                job: Text::of(PAYMENTS.as_bytes()),
+                requests: left,
+                payments: Text::of(TEN_PAYMENTS.as_bytes()),
+                ..four()
+            },
+            File::Payments => Around {
+                payments: left,
+                ..four()
+            },
         }
     }
-    cuts.refused
-}
 
-/// The first cut that has another end than it is to have.
-fn first_wrong_cut<R>(rt: &R, alloc: Global, cuts: Cuts) -> Option<usize>
-where
-    R: Threads + Wait + Copy + Send + Sync + 'static,
-{
-    for end in 0..=cuts.text.len() {
-        let left = cuts.text.as_bytes().get(..end).unwrap_or(&[]);
-        let status = status_of(rt, alloc, around_of(cuts.file, left));
-        if status != Some(status_at(cuts, end)) {
-            return Some(end);
+    /// The status if so many bytes are left.
+    pub fn status_at(self, end: usize) -> u8 {
+        for (least, most, status) in self.whole {
+            if *least <= end && end <= *most {
+                return *status;
+            }
         }
+        self.refused
     }
-    None
 }
 
 #[test]
 fn job_file_cut_anywhere(rt: HostRuntime) {
-    let cuts = Cuts {
-        file: File::Job,
-        text: CHAIN,
-        whole: WHOLE_JOB,
-        refused: 2,
-    };
-    assert_eq!(rt; first_wrong_cut(&rt, rt.alloc(), cuts), None);
+    assert_eq!(rt; first_wrong(&rt, rt.alloc(), Tried::Cut(JOB)), None);
 }
 
 #[test]
 fn request_file_cut_anywhere(rt: HostRuntime) {
-    let cuts = Cuts {
-        file: File::Requests,
-        text: REQUESTS,
-        whole: WHOLE_REQUESTS,
-        refused: 3,
-    };
-    assert_eq!(rt; first_wrong_cut(&rt, rt.alloc(), cuts), None);
+    assert_eq!(rt;
+        first_wrong(&rt, rt.alloc(), Tried::Cut(REQUEST_FILE)),
+        None
+    );
 }
 
 #[test]
 fn payments_cut_anywhere(rt: HostRuntime) {
-    let cuts = Cuts {
-        file: File::Payments,
-        text: FOUR_PAYMENTS,
-        whole: WHOLE_PAYMENTS,
-        refused: 4,
-    };
-    assert_eq!(rt; first_wrong_cut(&rt, rt.alloc(), cuts), None);
+    assert_eq!(rt;
+        first_wrong(&rt, rt.alloc(), Tried::Cut(PAYMENT_FILE)),
+        None
+    );
 }
