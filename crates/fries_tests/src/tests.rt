@@ -12,6 +12,7 @@ mod told;
 mod ways;
 mod words;
 
+use crate::tests::alone::{ByThemselves, are_alerts};
 use crate::tests::told::{has_audit, tells_feed, tells_turns};
 use flow_model::RunRecord;
 use payments::{Calls, MemoryShelf, MemorySink};
@@ -21,7 +22,8 @@ use std::thread::Threads;
 use top_call::{Outcome, fries};
 use tuple_trace::{Bytes, NoMemory, OpenGate, Word};
 
-/// What a call finds outside: files by their names, and the numbers of the calls of the shelf and of the output that fail.
+/// What a call finds outside: files by their names, and the numbers of the calls of the shelf and of
+/// the output that fail.
 #[derive(Clone, Copy)]
 pub struct Around<'a> {
     pub files: &'a [(&'a str, &'a str)],
@@ -53,6 +55,8 @@ pub enum Wanted<'a> {
     Text(&'a str),
     /// It holds the first bytes of this text, so many.
     Part(&'a str, usize),
+    /// It holds the alerts of rows that are sent by themselves.
+    Alone(ByThemselves<'a>),
 }
 
 /// What of a record is compared.
@@ -85,6 +89,8 @@ pub struct Left<'a> {
     pub out: &'a str,
     /// What the record tells, if there is one.
     pub ran: Ran<'a>,
+    /// The file that failed: one read, and no write. `None` if that isn't compared.
+    pub failed: Option<&'a str>,
 }
 
 impl<'a> Left<'a> {
@@ -96,88 +102,71 @@ impl<'a> Left<'a> {
             audit: Wanted::Nothing,
             out,
             ran: Ran::Nothing,
+            failed: None,
         }
     }
 
     /// The same with alerts, and with some record.
     pub fn alerts(status: u8, alerts: &'a str, out: &'a str) -> Self {
         Left {
-            status,
             alerts: Wanted::Text(alerts),
-            audit: Wanted::Nothing,
-            out,
             ran: Ran::Something,
+            ..Left::lines(status, out)
         }
     }
 
     /// The same, and with some audit.
     pub fn run(status: u8, alerts: &'a str, out: &'a str) -> Self {
         Left {
-            status,
-            alerts: Wanted::Text(alerts),
             audit: Wanted::Something,
-            out,
-            ran: Ran::Something,
+            ..Left::alerts(status, alerts, out)
         }
     }
 }
 
-/// Whether a call with these words leaves this. An append takes at most 16 bytes.
-pub fn leaves<R>(rt: &R, alloc: Global, around: Around<'_>, words: &[&str], left: Left<'_>) -> bool
+/// The words of a call, the names of the files that are looked at after it, and what it finds outside.
+#[derive(Drop)]
+struct Call {
+    words: Vec<Word>,
+    names: Vec<Word>,
+    shelf: MemoryShelf,
+    out: MemorySink,
+}
+
+impl Call {
+    fn of(alloc: Global, around: &Around<'_>, line: &str) -> Result<Call, NoMemory> {
+        Ok(Call {
+            words: words_of(alloc, line)?,
+            names: words_of(alloc, "alerts.csv audit.csv")?,
+            shelf: shelf_of(alloc, around)?,
+            out: MemorySink::new(alloc, Calls::from_slice(alloc, around.refusing)?),
+        })
+    }
+}
+
+/// Whether a call leaves this. The line has its words, with a space between two. An append takes at
+/// most 16 bytes.
+pub fn leaves<R>(rt: &R, alloc: Global, around: &Around<'_>, line: &str, left: &Left<'_>) -> bool
 where
     R: Threads + Wait + Copy + Send + Sync + 'static,
 {
-    matches!(call_leaves(rt, alloc, around, words, left), Ok(true))
+    let Ok(call) = Call::of(alloc, around, line) else {
+        return false;
+    };
+    let Call {
+        words,
+        names,
+        mut shelf,
+        mut out,
+    } = call;
+    let outcome = answer(rt, alloc, &words, &mut shelf, &mut out);
+    let has_left = has_left(alloc, &outcome, &names, &shelf, out.written(), left);
+    matches!(has_left, Ok(true))
 }
 
-fn call_leaves<R>(
-    rt: &R,
-    alloc: Global,
-    around: Around<'_>,
-    words: &[&str],
-    left: Left<'_>,
-) -> Result<bool, NoMemory>
-where
-    R: Threads + Wait + Copy + Send + Sync + 'static,
-{
-    let mut shelf = shelf_of(alloc, around)?;
-    shelf_leaves(rt, alloc, around.refusing, words, &mut shelf, left)
-}
-
-/// Whether a call with these words over this shelf leaves this, where these calls of the output fail.
-pub fn shelf_leaves<R>(
-    rt: &R,
-    alloc: Global,
-    refusing: &[u64],
-    words: &[&str],
-    shelf: &mut MemoryShelf,
-    left: Left<'_>,
-) -> Result<bool, NoMemory>
-where
-    R: Threads + Wait + Copy + Send + Sync + 'static,
-{
-    let words = words_of(alloc, words)?;
-    words_leave(rt, alloc, refusing, &words, shelf, left)
-}
-
-fn words_leave<R>(
-    rt: &R,
-    alloc: Global,
-    refusing: &[u64],
-    words: &[Word],
-    shelf: &mut MemoryShelf,
-    left: Left<'_>,
-) -> Result<bool, NoMemory>
-where
-    R: Threads + Wait + Copy + Send + Sync + 'static,
-{
-    let mut out = MemorySink::new(alloc, Calls::from_slice(alloc, refusing)?);
-    let outcome = call(rt, alloc, words, shelf, &mut out);
-    outcome_leaves(alloc, &outcome, shelf, &out, left)
-}
-
-// The top call. It stands in a function without clauses, since a caller of its contract is dear to prove.
-fn call<R>(
+// The top call. It stands in a function without clauses, since a caller of its contract is dear to
+// prove.
+fn answer<R>(
     rt: &R,
     alloc: Global,
     words: &[Word],
@@ -190,20 +179,32 @@ where
     fries(rt, alloc, words, shelf, out, &OpenGate)
 }
 
-fn outcome_leaves(
+fn has_left(
     alloc: Global,
     outcome: &Outcome,
+    names: &[Word],
     shelf: &MemoryShelf,
-    out: &MemorySink,
-    left: Left<'_>,
+    out: &[u8],
+    left: &Left<'_>,
 ) -> Result<bool, NoMemory> {
     Ok(
         outcome.status == left.status
-            && out.written() == left.out.as_bytes()
+            && out == left.out.as_bytes()
+            && has_failed(shelf, left.failed)
             && is_ran(alloc, &outcome.ran, left.ran)?
-            && holds(alloc, shelf, "alerts.csv", left.alerts)?
-            && holds(alloc, shelf, "audit.csv", left.audit)?,
+            && is_stored(alloc, file(names, 0, shelf), left.alerts)?
+            && is_stored(alloc, file(names, 1, shelf), left.audit)?,
     )
+}
+
+fn has_failed(shelf: &MemoryShelf, wanted: Option<&str>) -> bool {
+    match (shelf.failed(), wanted) {
+        (_, None) => true,
+        (Some(name), Some(wanted)) => {
+            name.as_str() == wanted && shelf.read_faults() == 1 && shelf.write_faults() == 0
+        }
+        (None, Some(_)) => false,
+    }
 }
 
 fn is_ran(alloc: Global, ran: &Option<RunRecord>, wanted: Ran<'_>) -> Result<bool, NoMemory> {
@@ -216,40 +217,33 @@ fn is_ran(alloc: Global, ran: &Option<RunRecord>, wanted: Ran<'_>) -> Result<boo
     }
 }
 
-fn holds(
-    alloc: Global,
-    shelf: &MemoryShelf,
-    name: &str,
-    wanted: Wanted<'_>,
-) -> Result<bool, NoMemory> {
-    let name = word(alloc, name)?;
-    Ok(is_text(shelf.get(&name), wanted))
+/// What stands under the name at this place.
+fn file<'a>(names: &[Word], place: usize, shelf: &'a MemoryShelf) -> Option<&'a Bytes> {
+    match names.get(place) {
+        Some(name) => shelf.get(name),
+        None => None,
+    }
 }
 
-fn is_text(bytes: Option<&Bytes>, wanted: Wanted<'_>) -> bool {
+fn is_stored(alloc: Global, bytes: Option<&Bytes>, wanted: Wanted<'_>) -> Result<bool, NoMemory> {
     match (bytes, wanted) {
-        (_, Wanted::Any) | (None, Wanted::Nothing) | (Some(_), Wanted::Something) => true,
-        (Some(bytes), Wanted::Text(text)) => bytes.as_slice() == text.as_bytes(),
+        (_, Wanted::Any) | (None, Wanted::Nothing) | (Some(_), Wanted::Something) => Ok(true),
+        (Some(bytes), Wanted::Text(text)) => Ok(bytes.as_slice() == text.as_bytes()),
         (Some(bytes), Wanted::Part(text, count)) => {
-            bytes.len() == count && text.as_bytes().starts_with(bytes.as_slice())
+            Ok(bytes.len() == count && text.as_bytes().starts_with(bytes.as_slice()))
         }
-        _ => false,
+        (Some(bytes), Wanted::Alone(rows)) => are_alerts(alloc, bytes.as_slice(), rows),
+        _ => Ok(false),
     }
 }
 
-/// What stands under `alerts.csv`; nothing if there is no such file.
-pub fn alerts_on(alloc: Global, shelf: &MemoryShelf) -> Result<Bytes, NoMemory> {
-    let name = word(alloc, "alerts.csv")?;
-    match shelf.get(&name) {
-        Some(bytes) => Bytes::from_slice(alloc, bytes.as_slice()),
-        None => Ok(Bytes::new(alloc)),
-    }
-}
-
-fn words_of(alloc: Global, texts: &[&str]) -> Result<Vec<Word>, NoMemory> {
+// An empty line has no word.
+fn words_of(alloc: Global, line: &str) -> Result<Vec<Word>, NoMemory> {
     let mut words = Vec::new(alloc);
-    for text in texts {
-        words.push(word(alloc, text)?)?;
+    if !line.is_empty() {
+        for text in line.split(' ') {
+            words.push(word(alloc, text)?)?;
+        }
     }
     Ok(words)
 }
@@ -258,8 +252,7 @@ fn word(alloc: Global, text: &str) -> Result<Word, NoMemory> {
     Ok(Word::from_string(text.to_string(alloc)?))
 }
 
-/// The shelf that holds these files.
-pub fn shelf_of(alloc: Global, around: Around<'_>) -> Result<MemoryShelf, NoMemory> {
+fn shelf_of(alloc: Global, around: &Around<'_>) -> Result<MemoryShelf, NoMemory> {
     let mut shelf = MemoryShelf::new(alloc, 16, Calls::from_slice(alloc, around.failing)?);
     for (name, text) in around.files {
         put(alloc, name, text, &mut shelf)?;
@@ -268,7 +261,9 @@ pub fn shelf_of(alloc: Global, around: Around<'_>) -> Result<MemoryShelf, NoMemo
 }
 
 fn put(alloc: Global, name: &str, text: &str, shelf: &mut MemoryShelf) -> Result<(), NoMemory> {
-    let name = word(alloc, name)?;
     let bytes = Bytes::from_slice(alloc, text.as_bytes())?;
-    shelf.put(name, bytes).map_err(|_| NoMemory)
+    match shelf.put(word(alloc, name)?, bytes) {
+        Ok(()) => Ok(()),
+        Err(_) => Err(NoMemory),
+    }
 }

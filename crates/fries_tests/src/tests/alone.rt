@@ -1,14 +1,15 @@
-use crate::tests::run::{RUN, run_leaves};
+use crate::tests::run::run_leaves;
 use crate::tests::texts::{CHAIN, FOUR_PAYMENTS};
-use crate::tests::{Around, Left, Ran, Wanted, alerts_on, shelf_leaves, shelf_of};
+use crate::tests::{Around, Left, Ran, Wanted, leaves};
 use flow_replay::{FuncTable, Landing, alone};
 use job_file::read_job;
 use jobs::{ColumnKind, Job};
 use payments::read_rows;
 use std::alloc::Global;
+use std::str;
 use std::sync::Wait;
 use std::thread::Threads;
-use tuple_trace::{Bytes, NoMemory, Row, Rows, Txt, Value};
+use tuple_trace::{Bytes, NoMemory, Row, Rows, Value};
 
 /// Two sources, a split into as many pieces as there may be, `counted` with eight workers, and a replicate whose eight ways meet in a sink. The
 /// map on the first way has these steps.
@@ -74,53 +75,43 @@ q,x;;y
 p,a;b
 ";
 
-/// The lines of an alerts file.
-type Lines = Vec<Txt>;
-
-fn lines_of(alloc: Global, text: &[u8]) -> Result<Lines, NoMemory> {
-    let mut lines = Vec::new(alloc);
-    let mut line = Vec::new(alloc);
-    for byte in text {
-        if *byte == b'\n' {
-            lines.push(Txt::from_slice(alloc, line.as_slice())?)?;
-            line.clear();
-        } else {
-            line.push(*byte)?;
-        }
-    }
-    Ok(lines)
-}
-
-/// A field as an alert shows it, behind a comma. It needs no quotes, and no sign.
+/// Adds a field as an alert shows it, after a comma. It needs no quotes, and no sign.
 fn push_field(
     alloc: Global,
     kind: ColumnKind,
     field: &Value,
-    line: &mut Vec<u8>,
+    lines: &mut Bytes,
 ) -> Result<(), NoMemory> {
-    line.push(b',')?;
     match (field, kind) {
-        (Value::Text(text), _) => line.extend_from_slice(text.as_slice())?,
+        (Value::Text(text), _) => {
+            lines.push(b',')?;
+            lines.extend_from_slice(text.as_slice())
+        }
         (Value::Num(cents), ColumnKind::Cents) => {
-            let amount = format!(in alloc; "{}.{:02}", cents / 100, cents % 100)?;
-            line.extend_from_slice(amount.as_bytes())?
+            let amount = format!(in alloc; ",{}.{:02}", cents / 100, cents % 100)?;
+            lines.extend_from_slice(amount.as_bytes())
         }
         (Value::Num(number), _) => {
-            line.extend_from_slice(format!(in alloc; "{number}")?.as_bytes())?
+            let number = format!(in alloc; ",{number}")?;
+            lines.extend_from_slice(number.as_bytes())
         }
     }
-    Ok(())
 }
 
-/// The alert of what came to a sink with this name.
-fn alert(alloc: Global, job: &Job, sink: &str, landing: &Landing) -> Result<Txt, NoMemory> {
-    let mut line = Vec::new(alloc);
-    line.extend_from_slice(format!(in alloc; "{sink},{}", landing.row)?.as_bytes())?;
+/// Adds the alert of what came to a sink with this name.
+fn push_alert(
+    alloc: Global,
+    job: &Job,
+    sink: &str,
+    landing: &Landing,
+    lines: &mut Bytes,
+) -> Result<(), NoMemory> {
+    lines.extend_from_slice(format!(in alloc; "{sink},{}", landing.row)?.as_bytes())?;
     let columns = job.columns.as_slice().iter();
     for (column, field) in columns.zip(landing.fields.as_slice()) {
-        push_field(alloc, column.kind, field, &mut line)?;
+        push_field(alloc, column.kind, field, lines)?;
     }
-    Txt::from_slice(alloc, line.as_slice())
+    lines.push(b'\n')
 }
 
 /// The functions of a job, one for each node.
@@ -138,11 +129,11 @@ fn push_alone(
     job: &Job,
     sink: &str,
     row: &Row,
-    lines: &mut Lines,
+    lines: &mut Bytes,
 ) -> Result<(), NoMemory> {
     let table = funcs(alloc, job)?;
     for landing in alone(alloc, job, &table, row)?.as_slice() {
-        lines.push(alert(alloc, job, sink, landing)?)?;
+        push_alert(alloc, job, sink, landing, lines)?;
     }
     Ok(())
 }
@@ -154,7 +145,7 @@ fn push_rows(
     rows: ByThemselves<'_>,
     olds: &[bool],
     old: bool,
-    lines: &mut Lines,
+    lines: &mut Bytes,
 ) -> Result<(), NoMemory> {
     let job = job_of(alloc, job)?;
     let all = rows_of(alloc, &job, rows.payments)?;
@@ -167,32 +158,43 @@ fn push_rows(
 }
 
 fn job_of(alloc: Global, text: &str) -> Result<Job, NoMemory> {
-    read_job(alloc, text.as_bytes()).map_err(|_| NoMemory)
+    match read_job(alloc, text.as_bytes()) {
+        Ok(job) => Ok(job),
+        Err(_) => Err(NoMemory),
+    }
 }
 
 fn rows_of(alloc: Global, job: &Job, text: &str) -> Result<Rows, NoMemory> {
-    read_rows(alloc, job, text.as_bytes()).map_err(|_| NoMemory)
+    match read_rows(alloc, job, text.as_bytes()) {
+        Ok(rows) => Ok(rows),
+        Err(_) => Err(NoMemory),
+    }
 }
 
-fn times(lines: &[Txt], wanted: &Txt) -> usize {
-    lines
-        .iter()
-        .filter(|line| line.as_slice() == wanted.as_slice())
-        .count()
+/// How many lines of a text are this one.
+fn times(text: &str, line: &str) -> usize {
+    let mut found = 0usize;
+    for other in text.lines() {
+        if other == line {
+            found = found.saturating_add(1);
+        }
+    }
+    found
 }
 
-/// Whether two lists hold the same lines, each as often.
-fn same_lines(some: &[Txt], others: &[Txt]) -> bool {
-    some.len() == others.len()
-        && some
-            .iter()
-            .all(|line| times(some, line) == times(others, line))
+/// Whether two texts have the same lines, each as often. A line feed ends each line.
+fn same_lines(some: &str, others: &str) -> bool {
+    let mut same = some.len() == others.len();
+    for line in some.lines() {
+        same &= times(some, line) == times(others, line);
+    }
+    same
 }
 
 /// Rows that are sent through a job by themselves: each through the old one if its flag is set, else
 /// through the new one.
 #[derive(Clone, Copy)]
-struct ByThemselves<'a> {
+pub struct ByThemselves<'a> {
     old: &'a str,
     new: &'a str,
     sink: &'a str,
@@ -202,67 +204,41 @@ struct ByThemselves<'a> {
 }
 
 /// The alerts of these rows with these flags.
-fn wanted(alloc: Global, rows: ByThemselves<'_>, olds: &[bool]) -> Result<Lines, NoMemory> {
-    let mut lines = Vec::new(alloc);
+fn wanted(alloc: Global, rows: ByThemselves<'_>, olds: &[bool]) -> Result<Bytes, NoMemory> {
+    let mut lines = Bytes::new(alloc);
     push_rows(alloc, rows.old, rows, olds, true, &mut lines)?;
     push_rows(alloc, rows.new, rows, olds, false, &mut lines)?;
     Ok(lines)
 }
 
 /// Whether the alerts are a header and those of these rows in one of the ways, in any order.
-fn are_alerts(alloc: Global, alerts: &Bytes, rows: ByThemselves<'_>) -> Result<bool, NoMemory> {
-    let lines = lines_of(alloc, alerts.as_slice())?;
-    match lines.split_first() {
-        Some((_, rest)) => are_wanted(alloc, rest, rows),
-        None => Ok(false),
-    }
-}
-
-fn are_wanted(alloc: Global, lines: &[Txt], rows: ByThemselves<'_>) -> Result<bool, NoMemory> {
+pub fn are_alerts(alloc: Global, alerts: &[u8], rows: ByThemselves<'_>) -> Result<bool, NoMemory> {
     let mut found = false;
     for olds in rows.ways {
-        found |= are_these(alloc, lines, rows, olds)?;
+        let wanted = wanted(alloc, rows, olds)?;
+        found |= are_lines(alerts, wanted.as_slice());
     }
     Ok(found)
 }
 
-fn are_these(
-    alloc: Global,
-    lines: &[Txt],
-    rows: ByThemselves<'_>,
-    olds: &[bool],
-) -> Result<bool, NoMemory> {
-    let wanted = wanted(alloc, rows, olds)?;
-    Ok(same_lines(lines, &wanted))
+/// Whether a header and then these lines stand here, in any order.
+fn are_lines(alerts: &[u8], lines: &[u8]) -> bool {
+    match (str::from_utf8(alerts), str::from_utf8(lines)) {
+        (Ok(alerts), Ok(lines)) => match alerts.split_once('\n') {
+            Some((_, rest)) => same_lines(rest, lines),
+            None => false,
+        },
+        _ => false,
+    }
 }
 
-/// Whether a call prints this, and its alerts are those of these rows.
-fn agrees<R>(
-    rt: &R,
-    alloc: Global,
-    around: Around<'_>,
-    words: &[&str],
-    out: &str,
-    rows: ByThemselves<'_>,
-) -> Result<bool, NoMemory>
-where
-    R: Threads + Wait + Copy + Send + Sync + 'static,
-{
-    let mut shelf = shelf_of(alloc, around)?;
-    Ok(
-        shelf_leaves(rt, alloc, &[], words, &mut shelf, prints(out))?
-            && are_alerts(alloc, &alerts_on(alloc, &shelf)?, rows)?,
-    )
-}
-
-/// Some alerts, some record, and these lines.
-fn prints(out: &str) -> Left<'_> {
+/// These alerts, some record, and these lines.
+fn prints<'a>(alerts: Wanted<'a>, out: &'a str) -> Left<'a> {
     Left {
-        status: 0,
-        alerts: Wanted::Something,
+        alerts,
         audit: Wanted::Any,
-        out,
         ran: Ran::Something,
+        ..Left::lines(0, out)
     }
 }
 
@@ -274,8 +250,8 @@ const WAYS_OF_ROWS: [[bool; 4]; 4] = [
     [true, true, false, false],
 ];
 
-/// Whether `run` of the wide job agrees with its rows by themselves. The new job has this step in the
-/// map on the first way.
+/// Whether `run` of the wide job prints this, and its alerts are those of its rows by themselves. The
+/// new job has this step in the map on the first way.
 fn wide_agrees<R>(
     rt: &R,
     alloc: Global,
@@ -288,33 +264,18 @@ where
 {
     let old = wide(alloc, MAP, "")?;
     let new = wide(alloc, MAP, step)?;
-    jobs_agree(rt, alloc, old.as_str(), new.as_str(), requests, out)
+    let left = prints(wide_alone(old.as_str(), new.as_str()), out);
+    Ok(run_leaves(rt, alloc, old.as_str(), requests, PIECES, left))
 }
 
-fn jobs_agree<'a, R>(
-    rt: &R,
-    alloc: Global,
-    old: &'a str,
-    new: &'a str,
-    requests: &'a str,
-    out: &str,
-) -> Result<bool, NoMemory>
-where
-    R: Threads + Wait + Copy + Send + Sync + 'static,
-{
-    let files = [
-        ("job.toml", old),
-        ("requests.toml", requests),
-        ("payments.csv", PIECES),
-    ];
-    let rows = ByThemselves {
+fn wide_alone<'a>(old: &'a str, new: &'a str) -> Wanted<'a> {
+    Wanted::Alone(ByThemselves {
         old,
         new,
         sink: "out",
         payments: PIECES,
         ways: &WAYS_OF_ROWS,
-    };
-    agrees(rt, alloc, Around::of(&files), &RUN, out, rows)
+    })
 }
 
 fn counts_run<R>(rt: &R, alloc: Global) -> Result<bool, NoMemory>
@@ -322,7 +283,10 @@ where
     R: Threads + Wait + Copy + Send + Sync + 'static,
 {
     let job = wide(alloc, COUNT, "")?;
-    let left = prints("rows 4 alerts 176 requests 0 refused 0\n");
+    let left = prints(
+        Wanted::Something,
+        "rows 4 alerts 176 requests 0 refused 0\n",
+    );
     Ok(run_leaves(rt, alloc, job.as_str(), "", PIECES, left))
 }
 
@@ -351,22 +315,22 @@ fn each_row_by_one_table(rt: HostRuntime) {
     assert!(rt; matches!(wide_agrees(&rt, rt.alloc(), ADD_SEVEN, step, out), Ok(true)));
 }
 
+/// The four payments, all through the chain.
+const FOUR_ALONE: ByThemselves<'static> = ByThemselves {
+    old: CHAIN,
+    new: CHAIN,
+    sink: "alerts",
+    payments: FOUR_PAYMENTS,
+    ways: &[[true; 4]],
+};
+
 #[test]
 fn four_payments_by_themselves(rt: HostRuntime) {
-    let words = ["first", "pay.csv", "alerts.csv", "10000", "99", "5000"];
     let files = [("pay.csv", FOUR_PAYMENTS)];
-    let rows = ByThemselves {
-        old: CHAIN,
-        new: CHAIN,
-        sink: "alerts",
-        payments: FOUR_PAYMENTS,
-        ways: &[[true; 4]],
-    };
-    let out = "rows 4 alerts 2 requests 1 refused 0\n";
-    assert!(rt;
-        matches!(
-            agrees(&rt, rt.alloc(), Around::of(&files), &words, out, rows),
-            Ok(true)
-        )
+    let line = "first pay.csv alerts.csv 10000 99 5000";
+    let left = prints(
+        Wanted::Alone(FOUR_ALONE),
+        "rows 4 alerts 2 requests 1 refused 0\n",
     );
+    assert!(rt; leaves(&rt, rt.alloc(), &Around::of(&files), line, &left));
 }

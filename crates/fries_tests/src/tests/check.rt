@@ -1,10 +1,8 @@
 use crate::tests::texts::{CHAIN, PAYMENTS};
-use crate::tests::{Around, Left, leaves, shelf_leaves, shelf_of};
-use payments::MemoryShelf;
+use crate::tests::{Around, Left, leaves};
 use std::alloc::Global;
 use std::sync::Wait;
 use std::thread::Threads;
-use tuple_trace::NoMemory;
 
 const CYCLE: &str = r#"columns = ["amount:cents"]
 
@@ -36,24 +34,31 @@ from = "c"
 to = "a"
 "#;
 
+const CHECK: &str = "check job.toml";
+
 /// Whether `check job.toml` leaves this where this is the job file.
 fn check_leaves<R>(rt: &R, alloc: Global, job: &str, left: Left<'_>) -> bool
 where
     R: Threads + Wait + Copy + Send + Sync + 'static,
 {
     let files = [("job.toml", job)];
-    leaves(rt, alloc, Around::of(&files), &["check", "job.toml"], left)
+    leaves(rt, alloc, &Around::of(&files), CHECK, &left)
 }
+
+/// Jobs, and the line of their sizes.
+const SIZES: [(&str, &str); 2] = [
+    (CHAIN, "nodes 3 edges 2 workers 2 weight 2\n"),
+    (PAYMENTS, "nodes 9 edges 8 workers 8 weight 14\n"),
+];
 
 #[test]
 fn sizes_of_jobs(rt: HostRuntime) {
-    let chain = Left::lines(0, "nodes 3 edges 2 workers 2 weight 2\n");
-    assert!(rt; check_leaves(&rt, rt.alloc(), CHAIN, chain), "chain");
-    let payments = Left::lines(0, "nodes 9 edges 8 workers 8 weight 14\n");
-    assert!(rt;
-        check_leaves(&rt, rt.alloc(), PAYMENTS, payments),
-        "payments"
-    );
+    for (job, line) in SIZES {
+        assert!(rt;
+            check_leaves(&rt, rt.alloc(), job, Left::lines(0, line)),
+            "{line}"
+        );
+    }
 }
 
 #[test]
@@ -63,27 +68,13 @@ fn unprinted_sizes(rt: HostRuntime) {
         failing: &[],
         refusing: &[0],
     };
-    assert!(rt;
-        leaves(
-            &rt,
-            rt.alloc(),
-            around,
-            &["check", "job.toml"],
-            Left::lines(6, "")
-        )
-    );
+    assert!(rt; leaves(&rt, rt.alloc(), &around, CHECK, &Left::lines(6, "")));
 }
 
 #[test]
 fn cycle_is_refused(rt: HostRuntime) {
-    assert!(rt;
-        check_leaves(
-            &rt,
-            rt.alloc(),
-            CYCLE,
-            Left::lines(2, "fault 2 J7 node 0\n")
-        )
-    );
+    let left = Left::lines(2, "fault 2 J7 node 0\n");
+    assert!(rt; check_leaves(&rt, rt.alloc(), CYCLE, left));
 }
 
 #[test]
@@ -91,67 +82,45 @@ fn missing_and_cut_files(rt: HostRuntime) {
     let other = [("other.toml", CHAIN)];
     let missing = Left::lines(5, "fault 5 job\n");
     assert!(rt;
+        leaves(&rt, rt.alloc(), &Around::of(&other), CHECK, &missing),
+        "missing"
+    );
+    let counted = Left {
+        failed: Some("none.toml"),
+        ..missing
+    };
+    assert!(rt;
         leaves(
             &rt,
             rt.alloc(),
-            Around::of(&other),
-            &["check", "job.toml"],
-            missing
+            &Around::of(&[]),
+            "check none.toml",
+            &counted
         ),
-        "missing"
+        "counted"
     );
-    let cut = "columns = [\"account:t";
+    let cut = Left::lines(2, "fault 2 J1\n");
     assert!(rt;
-        check_leaves(&rt, rt.alloc(), cut, Left::lines(2, "fault 2 J1\n")),
+        check_leaves(&rt, rt.alloc(), "columns = [\"account:t", cut),
         "cut"
     );
-    assert!(rt; is_too_long(&rt, rt.alloc()), "too long");
-    assert!(rt; missing_file_is_counted(&rt, rt.alloc()), "counted");
+    let long = Left::lines(9, "fault 9 job\n");
+    assert!(rt; feeds_leave(&rt, rt.alloc(), 1_048_577, long), "too long");
 }
 
 /// Whether a job file of so many line feeds leaves this.
-fn feeds_leave<R>(rt: &R, alloc: Global, count: usize, left: Left<'_>) -> Result<bool, NoMemory>
+fn feeds_leave<R>(rt: &R, alloc: Global, count: usize, left: Left<'_>) -> bool
 where
     R: Threads + Wait + Copy + Send + Sync + 'static,
 {
-    let text = "\n".repeat(alloc, count)?;
-    Ok(check_leaves(rt, alloc, text.as_str(), left))
-}
-
-fn is_too_long<R>(rt: &R, alloc: Global) -> bool
-where
-    R: Threads + Wait + Copy + Send + Sync + 'static,
-{
-    let left = Left::lines(9, "fault 9 job\n");
-    matches!(feeds_leave(rt, alloc, 1_048_577, left), Ok(true))
+    match "\n".repeat(alloc, count) {
+        Ok(text) => check_leaves(rt, alloc, text.as_str(), left),
+        Err(_) => false,
+    }
 }
 
 #[test]
 fn the_longest_file(rt: HostRuntime) {
     let left = Left::lines(2, "fault 2 J2 columns\n");
-    assert!(rt; matches!(feeds_leave(&rt, rt.alloc(), 1_048_576, left), Ok(true)));
-}
-
-fn missing_file_is_counted<R>(rt: &R, alloc: Global) -> bool
-where
-    R: Threads + Wait + Copy + Send + Sync + 'static,
-{
-    matches!(call_counts(rt, alloc), Ok(true))
-}
-
-/// Whether a call over no file names its file, and the shelf has counted one read that failed.
-fn call_counts<R>(rt: &R, alloc: Global) -> Result<bool, NoMemory>
-where
-    R: Threads + Wait + Copy + Send + Sync + 'static,
-{
-    let mut shelf = shelf_of(alloc, Around::of(&[]))?;
-    let left = Left::lines(5, "fault 5 job\n");
-    let words = ["check", "none.toml"];
-    Ok(shelf_leaves(rt, alloc, &[], &words, &mut shelf, left)? && has_counted(&shelf))
-}
-
-fn has_counted(shelf: &MemoryShelf) -> bool {
-    shelf.read_faults() == 1
-        && shelf.write_faults() == 0
-        && matches!(shelf.failed(), Some(name) if name.as_str() == "none.toml")
+    assert!(rt; feeds_leave(&rt, rt.alloc(), 1_048_576, left));
 }

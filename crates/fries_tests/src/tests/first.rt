@@ -1,46 +1,9 @@
 use crate::tests::texts::{FOUR_ALERTS, FOUR_PAYMENTS, HEADER, THREE_ALERTS, TWO_ALERTS};
 use crate::tests::{Around, Left, Ran, Wanted, leaves};
-use std::alloc::Global;
-use std::sync::Wait;
-use std::thread::Threads;
 
-const FIRST: [&str; 6] = ["first", "pay.csv", "alerts.csv", "10000", "2", "5000"];
+const FIRST: &str = "first pay.csv alerts.csv 10000 2 5000";
 
-/// Whether a call over the four payments leaves this.
-fn first_leaves<R>(rt: &R, alloc: Global, words: &[&str], left: Left<'_>) -> bool
-where
-    R: Threads + Wait + Copy + Send + Sync + 'static,
-{
-    payments_leave(rt, alloc, FOUR_PAYMENTS, words, left)
-}
-
-/// Whether a call over these payments leaves this.
-fn payments_leave<R>(rt: &R, alloc: Global, payments: &str, words: &[&str], left: Left<'_>) -> bool
-where
-    R: Threads + Wait + Copy + Send + Sync + 'static,
-{
-    let files = [("pay.csv", payments)];
-    leaves(rt, alloc, Around::of(&files), words, left)
-}
-
-/// Whether the call of the four payments leaves this if these calls of the shelf and of the output fail.
-fn failing_leaves<R>(
-    rt: &R,
-    alloc: Global,
-    failing: &[u64],
-    refusing: &[u64],
-    left: Left<'_>,
-) -> bool
-where
-    R: Threads + Wait + Copy + Send + Sync + 'static,
-{
-    let around = Around {
-        files: &[("pay.csv", FOUR_PAYMENTS)],
-        failing,
-        refusing,
-    };
-    leaves(rt, alloc, around, &FIRST, left)
-}
+const FILES: [(&str, &str); 1] = [("pay.csv", FOUR_PAYMENTS)];
 
 /// The audit of the four payments where the request is issued after row 2.
 const BETWEEN_ROWS: &str = "entry,node,worker,lane,number,extra
@@ -84,47 +47,34 @@ ended,alerts,0,1,,
 #[test]
 fn four_payments(rt: HostRuntime) {
     let left = Left {
-        status: 0,
-        alerts: Wanted::Text(THREE_ALERTS),
-        out: "rows 4 alerts 3 requests 1 refused 0\n",
-        audit: Wanted::Nothing,
         ran: Ran::Audit(BETWEEN_ROWS),
+        ..Left::alerts(0, THREE_ALERTS, "rows 4 alerts 3 requests 1 refused 0\n")
     };
-    assert!(rt; first_leaves(&rt, rt.alloc(), &FIRST, left));
+    assert!(rt; leaves(&rt, rt.alloc(), &Around::of(&FILES), FIRST, &left));
 }
 
 #[test]
 fn request_before_the_first_row(rt: HostRuntime) {
-    let words = ["first", "pay.csv", "alerts.csv", "10000", "0", "5000"];
+    let line = "first pay.csv alerts.csv 10000 0 5000";
     let left = Left::alerts(0, FOUR_ALERTS, "rows 4 alerts 4 requests 1 refused 0\n");
-    assert!(rt; first_leaves(&rt, rt.alloc(), &words, left));
+    assert!(rt; leaves(&rt, rt.alloc(), &Around::of(&FILES), line, &left));
 }
 
 #[test]
 fn request_after_the_last_row(rt: HostRuntime) {
-    let words = ["first", "pay.csv", "alerts.csv", "10000", "99", "5000"];
+    let line = "first pay.csv alerts.csv 10000 99 5000";
     let left = Left {
-        status: 0,
-        alerts: Wanted::Text(TWO_ALERTS),
-        out: "rows 4 alerts 2 requests 1 refused 0\n",
-        audit: Wanted::Nothing,
         ran: Ran::Audit(BEHIND_ALL_ROWS),
+        ..Left::alerts(0, TWO_ALERTS, "rows 4 alerts 2 requests 1 refused 0\n")
     };
-    assert!(rt; first_leaves(&rt, rt.alloc(), &words, left));
+    assert!(rt; leaves(&rt, rt.alloc(), &Around::of(&FILES), line, &left));
 }
 
 #[test]
 fn header_without_a_line_feed(rt: HostRuntime) {
+    let files = [("pay.csv", "source,account,merchant,amount,tags")];
     let left = Left::alerts(0, HEADER, "rows 0 alerts 0 requests 1 refused 0\n");
-    assert!(rt;
-        payments_leave(
-            &rt,
-            rt.alloc(),
-            "source,account,merchant,amount,tags",
-            &FIRST,
-            left
-        )
-    );
+    assert!(rt; leaves(&rt, rt.alloc(), &Around::of(&files), FIRST, &left));
 }
 
 /// A byte order mark, lines that end in CRLF, and a quoted merchant.
@@ -137,23 +87,16 @@ alerts,1,a,\"A, \"\"B\"\" Ltd\",150.00,x;y
 
 #[test]
 fn marked_payments(rt: HostRuntime) {
+    let files = [("pay.csv", MARKED)];
     let left = Left::alerts(0, MARKED_ALERTS, "rows 1 alerts 1 requests 1 refused 0\n");
-    assert!(rt; payments_leave(&rt, rt.alloc(), MARKED, &FIRST, left));
+    assert!(rt; leaves(&rt, rt.alloc(), &Around::of(&files), FIRST, &left));
 }
-
-const GREATEST: [&str; 6] = [
-    "first",
-    "pay.csv",
-    "alerts.csv",
-    "9223372036854775807",
-    "01048576",
-    "0",
-];
 
 #[test]
 fn greatest_numbers(rt: HostRuntime) {
+    let line = "first pay.csv alerts.csv 9223372036854775807 01048576 0";
     let left = Left::alerts(0, HEADER, "rows 4 alerts 0 requests 1 refused 0\n");
-    assert!(rt; first_leaves(&rt, rt.alloc(), &GREATEST, left));
+    assert!(rt; leaves(&rt, rt.alloc(), &Around::of(&FILES), line, &left));
 }
 
 /// Payments that are refused, and the line of their fault.
@@ -187,50 +130,57 @@ card,a,0123456789012345678901234567890123456789012345678,1,\n",
 #[test]
 fn payment_faults(rt: HostRuntime) {
     for (payments, line) in PAYMENT_FAULTS {
+        let files = [("pay.csv", payments)];
+        let left = Left::lines(4, line);
         assert!(rt;
-            payments_leave(&rt, rt.alloc(), payments, &FIRST, Left::lines(4, line)),
+            leaves(&rt, rt.alloc(), &Around::of(&files), FIRST, &left),
             "{line}"
         );
     }
 }
 
-// Call 0 reads the payments, call 1 makes the alerts, and each later one appends 16 bytes.
+/// A call of the shelf that is refused, and what is left then. Call 0 reads the payments, call 1 makes
+/// the alerts, and each later one appends 16 bytes.
+const REFUSED_CALLS: [(u64, u8, Wanted<'static>, &str, Ran<'static>); 3] = [
+    (0, 5, Wanted::Nothing, "fault 5 payments\n", Ran::Nothing),
+    (1, 6, Wanted::Nothing, "fault 6 alerts\n", Ran::Something),
+    (
+        3,
+        6,
+        Wanted::Text("sink,row,account"),
+        "fault 6 alerts\n",
+        Ran::Something,
+    ),
+];
+
 #[test]
 fn refusals_of_the_outside(rt: HostRuntime) {
-    let unread = Left::lines(5, "fault 5 payments\n");
-    assert!(rt;
-        failing_leaves(&rt, rt.alloc(), &[0], &[], unread),
-        "unread"
-    );
-    let unmade = Left {
-        status: 6,
-        alerts: Wanted::Nothing,
-        audit: Wanted::Nothing,
-        out: "fault 6 alerts\n",
-        ran: Ran::Something,
+    for (call, status, alerts, out, ran) in REFUSED_CALLS {
+        let around = Around {
+            failing: &[call],
+            ..Around::of(&FILES)
+        };
+        let left = Left {
+            alerts,
+            ran,
+            ..Left::lines(status, out)
+        };
+        assert!(rt; leaves(&rt, rt.alloc(), &around, FIRST, &left), "{call}");
+    }
+    let unprinted = Around {
+        refusing: &[0],
+        ..Around::of(&FILES)
     };
+    let left = Left::alerts(6, THREE_ALERTS, "");
     assert!(rt;
-        failing_leaves(&rt, rt.alloc(), &[1], &[], unmade),
-        "unmade"
-    );
-    let cut = Left::alerts(6, "sink,row,account", "fault 6 alerts\n");
-    assert!(rt; failing_leaves(&rt, rt.alloc(), &[3], &[], cut), "cut");
-    let unprinted = Left::alerts(6, THREE_ALERTS, "");
-    assert!(rt;
-        failing_leaves(&rt, rt.alloc(), &[], &[0], unprinted),
+        leaves(&rt, rt.alloc(), &unprinted, FIRST, &left),
         "unprinted"
     );
 }
 
 #[test]
 fn missing_payments(rt: HostRuntime) {
-    let words = ["first", "none.csv", "alerts.csv", "10000", "2", "5000"];
-    assert!(rt;
-        first_leaves(
-            &rt,
-            rt.alloc(),
-            &words,
-            Left::lines(5, "fault 5 payments\n")
-        )
-    );
+    let line = "first none.csv alerts.csv 10000 2 5000";
+    let left = Left::lines(5, "fault 5 payments\n");
+    assert!(rt; leaves(&rt, rt.alloc(), &Around::of(&FILES), line, &left));
 }

@@ -1,6 +1,5 @@
 use crate::tests::texts::{CHAIN, PAYMENTS};
-use crate::tests::words::line_leaves;
-use crate::tests::{Left, Ran};
+use crate::tests::{Around, Left, Ran, leaves};
 
 /// A job of three maps without steps in a row. Its weight is 4.
 const THREE_MAPS: &str = r#"columns = ["account:text", "amount:cents"]
@@ -53,13 +52,17 @@ fn made(lines: &str) -> Left<'_> {
     }
 }
 
+const TOO_MANY: [&str; 2] = ["make maps 7 262145", "make maps 7 4294967295"];
+
 #[test]
 fn largest_make(rt: HostRuntime) {
-    let lines = "rows 262144 alerts 262144 requests 0 refused 0\n";
-    assert!(rt; line_leaves(&rt, rt.alloc(), &FILES, "make maps 7 262144", made(lines)));
+    let around = Around::of(&FILES);
+    let largest = made("rows 262144 alerts 262144 requests 0 refused 0\n");
+    assert!(rt; leaves(&rt, rt.alloc(), &around, "make maps 7 262144", &largest));
     let left = Left::lines(4, "fault 4 P7 row 262145\n");
-    assert!(rt; line_leaves(&rt, rt.alloc(), &FILES, "make maps 7 262145", left));
-    assert!(rt; line_leaves(&rt, rt.alloc(), &FILES, "make maps 7 4294967295", left));
+    for line in TOO_MANY {
+        assert!(rt; leaves(&rt, rt.alloc(), &around, line, &left));
+    }
 }
 
 /// Runs of rows that are made, by one thread or by more, and what they print. The numbers of alerts were counted by another program.
@@ -94,12 +97,20 @@ const MADE: [(&str, &str); 7] = [
 #[test]
 fn makes_print_the_same(rt: HostRuntime) {
     for (line, lines) in MADE {
-        assert!(rt; line_leaves(&rt, rt.alloc(), &FILES, line, made(lines)));
+        assert!(rt; leaves(&rt, rt.alloc(), &Around::of(&FILES), line, &made(lines)));
     }
 }
 
 #[test]
 fn make_without_a_job(rt: HostRuntime) {
     let left = Left::lines(5, "fault 5 job\n");
-    assert!(rt; line_leaves(&rt, rt.alloc(), &FILES, "make missing 7 1", left));
+    assert!(rt;
+        leaves(
+            &rt,
+            rt.alloc(),
+            &Around::of(&FILES),
+            "make missing 7 1",
+            &left
+        )
+    );
 }

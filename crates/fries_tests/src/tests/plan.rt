@@ -4,14 +4,15 @@ use std::alloc::Global;
 use std::sync::Wait;
 use std::thread::Threads;
 
+const PLAN: &str = "plan job.toml requests.toml";
+
 /// Whether `plan` leaves this where these are the job and the requests.
 fn plan_leaves<R>(rt: &R, alloc: Global, job: &str, requests: &str, left: Left<'_>) -> bool
 where
     R: Threads + Wait + Copy + Send + Sync + 'static,
 {
     let files = [("job.toml", job), ("requests.toml", requests)];
-    let words = ["plan", "job.toml", "requests.toml"];
-    leaves(rt, alloc, Around::of(&files), &words, left)
+    leaves(rt, alloc, &Around::of(&files), PLAN, &left)
 }
 
 /// Three maps in a row.
@@ -164,20 +165,13 @@ refused 3 Q4 change 1 current 1
 #[test]
 fn ordered_plan(rt: HostRuntime) {
     let files = [("job.toml", PAYMENTS), ("requests.toml", PAYMENTS_REQUESTS)];
-    let words = ["plan", "job.toml", "requests.toml", "--ordered"];
     let lines = "request 1 asked big,hot members big,hot heads big parts 1 edges big-hot
 request 2 asked big,hot,often members big,hot,often heads big parts 1 edges big-hot,big-tally,tally-often
 refused 3 Q4 change 1 current 1
 ";
-    assert!(rt;
-        leaves(
-            &rt,
-            rt.alloc(),
-            Around::of(&files),
-            &words,
-            Left::lines(8, lines)
-        )
-    );
+    let line = "plan job.toml requests.toml --ordered";
+    let left = Left::lines(8, lines);
+    assert!(rt; leaves(&rt, rt.alloc(), &Around::of(&files), line, &left));
 }
 
 /// One request that is accepted, and one for each reason to refuse one.
@@ -263,9 +257,8 @@ fn faults_of_plan(rt: HostRuntime) {
 #[test]
 fn missing_requests(rt: HostRuntime) {
     let files = [("job.toml", CHAIN)];
-    let words = ["plan", "job.toml", "requests.toml"];
     let left = Left::lines(5, "fault 5 requests\n");
-    assert!(rt; leaves(&rt, rt.alloc(), Around::of(&files), &words, left));
+    assert!(rt; leaves(&rt, rt.alloc(), &Around::of(&files), PLAN, &left));
 }
 
 /// Requests that give `big` another kind, of which the last but one is accepted, one that changes a sink, one that changes nothing, and one that
@@ -315,16 +308,24 @@ change = [
 ]
 "#;
 
+/// Requests that change copies, and the line of their plan.
+const CHANGED_COPIES: [(&str, &str); 2] = [
+    (
+        ONE_COPY,
+        "request 1 asked a members a heads a parts 1 edges -\n",
+    ),
+    (
+        BOTH_COPIES,
+        "request 1 asked a,b members r,a,b heads r parts 1 edges r-a,r-b\n",
+    ),
+];
+
 #[test]
 fn copies_that_do_not_meet(rt: HostRuntime) {
-    let one = "request 1 asked a members a heads a parts 1 edges -\n";
-    assert!(rt;
-        plan_leaves(&rt, rt.alloc(), COPIES, ONE_COPY, Left::lines(0, one)),
-        "one"
-    );
-    let both = "request 1 asked a,b members r,a,b heads r parts 1 edges r-a,r-b\n";
-    assert!(rt;
-        plan_leaves(&rt, rt.alloc(), COPIES, BOTH_COPIES, Left::lines(0, both)),
-        "both"
-    );
+    for (requests, line) in CHANGED_COPIES {
+        assert!(rt;
+            plan_leaves(&rt, rt.alloc(), COPIES, requests, Left::lines(0, line)),
+            "{line}"
+        );
+    }
 }

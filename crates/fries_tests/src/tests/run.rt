@@ -6,16 +6,8 @@ use crate::tests::{Around, Left, Ran, Wanted, leaves};
 use std::alloc::Global;
 use std::sync::Wait;
 use std::thread::Threads;
-use tuple_trace::NoMemory;
 
-pub const RUN: [&str; 6] = [
-    "run",
-    "job.toml",
-    "requests.toml",
-    "payments.csv",
-    "alerts.csv",
-    "audit.csv",
-];
+pub const RUN: &str = "run job.toml requests.toml payments.csv alerts.csv audit.csv";
 
 /// Whether `run` leaves this where these are the job, the requests and the payments.
 pub fn run_leaves<R>(
@@ -34,7 +26,7 @@ where
         ("requests.toml", requests),
         ("payments.csv", payments),
     ];
-    leaves(rt, alloc, Around::of(&files), &RUN, left)
+    leaves(rt, alloc, &Around::of(&files), RUN, &left)
 }
 
 const NO_PAYMENTS: &str = "source,account,merchant,amount,tags\n";
@@ -54,40 +46,25 @@ fn header_alone(rt: HostRuntime) {
     assert!(rt; run_leaves(&rt, rt.alloc(), CHAIN, "", NO_PAYMENTS, left));
 }
 
-/// Lets payments from 50.00 on pass.
-const LOWER: &str = r#"
-[[request.change]]
-node = "big"
-from = 0
-kind = "filter"
-when = [["amount", ">=", 5000]]
+/// Lets payments from 50.00 on pass, before the first row.
+const AT_FIRST: &str = r#"
+[[request]]
+after = 0
+change = [{ node = "big", from = 0, kind = "filter", when = [["amount", ">=", 5000]] }]
 "#;
-
-/// Whether these payments leave this if the filter's threshold falls after a row.
-fn lowered_leaves<R>(
-    rt: &R,
-    alloc: Global,
-    after: u64,
-    payments: &str,
-    left: Left<'_>,
-) -> Result<bool, NoMemory>
-where
-    R: Threads + Wait + Copy + Send + Sync + 'static,
-{
-    let requests = format!(in alloc; "[[request]]\nafter = {after}\n{LOWER}")?;
-    Ok(run_leaves(rt, alloc, CHAIN, &requests, payments, left))
-}
 
 #[test]
 fn request_before_the_first_row(rt: HostRuntime) {
     let left = Left::run(0, FOUR_ALERTS, "rows 4 alerts 4 requests 1 refused 0\n");
-    assert!(rt;
-        matches!(
-            lowered_leaves(&rt, rt.alloc(), 0, FOUR_PAYMENTS, left),
-            Ok(true)
-        )
-    );
+    assert!(rt; run_leaves(&rt, rt.alloc(), CHAIN, AT_FIRST, FOUR_PAYMENTS, left));
 }
+
+/// The same after row 2.
+const AFTER_2: &str = r#"
+[[request]]
+after = 2
+change = [{ node = "big", from = 0, kind = "filter", when = [["amount", ">=", 5000]] }]
+"#;
 
 /// Two payments for which both thresholds decide the same way, and two for which they don't.
 ///
@@ -109,30 +86,24 @@ alerts,4,d,m,99.99,
 fn later_rows_meet_the_request(rt: HostRuntime) {
     let lines = "rows 4 alerts 3 requests 1 refused 0\n";
     let left = Left::run(0, ALERTS_OF_TWO_AND_TWO, lines);
-    assert!(rt;
-        matches!(
-            lowered_leaves(&rt, rt.alloc(), 2, TWO_AND_TWO, left),
-            Ok(true)
-        )
-    );
+    assert!(rt; run_leaves(&rt, rt.alloc(), CHAIN, AFTER_2, TWO_AND_TWO, left));
 }
 
-/// Whether those four payments leave this if two requests let the threshold fall.
-fn lowered_twice_leaves<R>(rt: &R, alloc: Global, left: Left<'_>) -> Result<bool, NoMemory>
-where
-    R: Threads + Wait + Copy + Send + Sync + 'static,
-{
-    let requests = format!(in alloc;
-        "[[request]]\nafter = 2\n{LOWER}\n[[request]]\nafter = 3\n{LOWER}"
-    )?;
-    Ok(run_leaves(rt, alloc, CHAIN, &requests, TWO_AND_TWO, left))
-}
+/// Two requests from the same function.
+const AFTER_2_AND_3: &str = r#"
+[[request]]
+after = 2
+change = [{ node = "big", from = 0, kind = "filter", when = [["amount", ">=", 5000]] }]
+[[request]]
+after = 3
+change = [{ node = "big", from = 0, kind = "filter", when = [["amount", ">=", 5000]] }]
+"#;
 
 #[test]
 fn stale_request(rt: HostRuntime) {
     let lines = "refused 2 Q4 change 1 current 1\nrows 4 alerts 3 requests 2 refused 1\n";
     let left = Left::run(8, ALERTS_OF_TWO_AND_TWO, lines);
-    assert!(rt; matches!(lowered_twice_leaves(&rt, rt.alloc(), left), Ok(true)));
+    assert!(rt; run_leaves(&rt, rt.alloc(), CHAIN, AFTER_2_AND_3, TWO_AND_TWO, left));
 }
 
 #[test]
@@ -151,44 +122,49 @@ fn payments_job(rt: HostRuntime) {
     );
 }
 
-/// The step of a map between a source and a sink, an amount, and how that is shown.
-const MAPPED: [(&str, &str, &str); 2] = [
-    (
-        r#"["amount", "mul", "amount", 1000000]"#,
-        "92233720368547.75",
-        "92233720368547758.07",
-    ),
-    ("", "-0.05", "-0.05"),
-];
-
-/// Whether a map with this step shows an amount so.
-fn shows<R>(rt: &R, alloc: Global, step: &str, amount: &str, shown: &str) -> Result<bool, NoMemory>
-where
-    R: Threads + Wait + Copy + Send + Sync + 'static,
-{
-    let job = format!(in alloc;
-        r#"
+/// A map between a source and a sink, which multiplies by a million.
+const TIMES_A_MILLION: &str = r#"
 columns = ["amount:cents"]
 node = [
-  {{ name = "card", kind = "source" }},
-  {{ name = "change", kind = "map", steps = [{step}] }},
-  {{ name = "out", kind = "sink", columns = ["amount"] }},
+  { name = "card", kind = "source" },
+  { name = "change", kind = "map", steps = [["amount", "mul", "amount", 1000000]] },
+  { name = "out", kind = "sink", columns = ["amount"] },
 ]
-edge = [{{ from = "card", to = "change" }}, {{ from = "change", to = "out" }}]
-"#
-    )?;
-    let payments = format!(in alloc; "source,amount\ncard,{amount}\n")?;
-    let alerts = format!(in alloc; "sink,row,amount\nout,1,{shown}\n")?;
-    let left = Left::run(0, &alerts, "rows 1 alerts 1 requests 0 refused 0\n");
-    Ok(run_leaves(rt, alloc, &job, "", &payments, left))
-}
+edge = [{ from = "card", to = "change" }, { from = "change", to = "out" }]
+"#;
+
+/// The same map without steps.
+const UNCHANGED: &str = r#"
+columns = ["amount:cents"]
+node = [
+  { name = "card", kind = "source" },
+  { name = "change", kind = "map", steps = [] },
+  { name = "out", kind = "sink", columns = ["amount"] },
+]
+edge = [{ from = "card", to = "change" }, { from = "change", to = "out" }]
+"#;
+
+/// A job with one map, a payment, and how its amount is shown.
+const MAPPED: [(&str, &str, &str); 2] = [
+    (
+        TIMES_A_MILLION,
+        "source,amount\ncard,92233720368547.75\n",
+        "sink,row,amount\nout,1,92233720368547758.07\n",
+    ),
+    (
+        UNCHANGED,
+        "source,amount\ncard,-0.05\n",
+        "sink,row,amount\nout,1,-0.05\n",
+    ),
+];
 
 #[test]
 fn clamped_product(rt: HostRuntime) {
-    for (step, amount, shown) in MAPPED {
+    for (job, payment, alerts) in MAPPED {
+        let left = Left::run(0, alerts, "rows 1 alerts 1 requests 0 refused 0\n");
         assert!(rt;
-            matches!(shows(&rt, rt.alloc(), step, amount, shown), Ok(true)),
-            "{shown}"
+            run_leaves(&rt, rt.alloc(), job, "", payment, left),
+            "{alerts}"
         );
     }
 }
@@ -226,15 +202,7 @@ review,2,bob,casino,250.00,3,
 review,6,fay,casino,75.00,3,
 ";
 
-const ORDERED: [&str; 7] = [
-    "run",
-    "job.toml",
-    "requests.toml",
-    "payments.csv",
-    "alerts.csv",
-    "audit.csv",
-    "--ordered",
-];
+const ORDERED: &str = "run job.toml requests.toml payments.csv alerts.csv audit.csv --ordered";
 
 #[test]
 fn ordered_run(rt: HostRuntime) {
@@ -245,7 +213,7 @@ fn ordered_run(rt: HostRuntime) {
     ];
     let lines = "serial 0 10\nrows 10 alerts 2 requests 1 refused 0\n";
     let left = Left::run(0, ORDERED_ALERTS, lines);
-    assert!(rt; leaves(&rt, rt.alloc(), Around::of(&files), &ORDERED, left));
+    assert!(rt; leaves(&rt, rt.alloc(), &Around::of(&files), ORDERED, &left));
 }
 
 /// A job, requests and payments, and the status and the line of their fault.
@@ -288,7 +256,7 @@ fn sixth_call_fails(rt: HostRuntime) {
         refusing: &[],
     };
     let left = Left::alerts(6, "sink,row,account", "fault 6 alerts\n");
-    assert!(rt; leaves(&rt, rt.alloc(), around, &RUN, left));
+    assert!(rt; leaves(&rt, rt.alloc(), &around, RUN, &left));
 }
 
 /// A call of the shelf that fails, the status and the line of the fault, and how many bytes of the
@@ -325,37 +293,39 @@ fn part(text: &str, count: Option<usize>) -> Wanted<'_> {
     }
 }
 
-/// Whether a run without a payment leaves this if this call of the shelf fails.
-fn failing_leaves<R>(rt: &R, alloc: Global, failing: u64, left: Left<'_>) -> bool
-where
-    R: Threads + Wait + Copy + Send + Sync + 'static,
-{
-    let around = Around {
-        files: &[
-            ("job.toml", CHAIN),
-            ("requests.toml", ""),
-            ("payments.csv", NO_PAYMENTS),
-        ],
-        failing: &[failing],
-        refusing: &[],
-    };
-    leaves(rt, alloc, around, &RUN, left)
+const FILES_WITHOUT_A_PAYMENT: [(&str, &str); 3] = [
+    ("job.toml", CHAIN),
+    ("requests.toml", ""),
+    ("payments.csv", NO_PAYMENTS),
+];
+
+/// What is left of a row of `FAILING`.
+fn left_of(
+    status: u8,
+    out: &'static str,
+    alerts: Option<usize>,
+    audit: Option<usize>,
+) -> Left<'static> {
+    Left {
+        alerts: part(HEADER, alerts),
+        audit: part(AUDIT_OF_NONE, audit),
+        ran: if status == 5 {
+            Ran::Nothing
+        } else {
+            Ran::Something
+        },
+        ..Left::lines(status, out)
+    }
 }
 
 #[test]
 fn each_call_of_the_shelf_fails(rt: HostRuntime) {
     for (failing, status, out, alerts, audit) in FAILING {
-        let left = Left {
-            status,
-            alerts: part(HEADER, alerts),
-            audit: part(AUDIT_OF_NONE, audit),
-            out,
-            ran: if status == 5 {
-                Ran::Nothing
-            } else {
-                Ran::Something
-            },
+        let around = Around {
+            failing: &[failing],
+            ..Around::of(&FILES_WITHOUT_A_PAYMENT)
         };
-        assert!(rt; failing_leaves(&rt, rt.alloc(), failing, left), "{failing}");
+        let left = left_of(status, out, alerts, audit);
+        assert!(rt; leaves(&rt, rt.alloc(), &around, RUN, &left), "{failing}");
     }
 }

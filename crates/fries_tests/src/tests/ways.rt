@@ -46,11 +46,10 @@ stopped
 fn two_requests_after_one_row(rt: HostRuntime) {
     let payments = "source,amount\ncard,1\ncard,0.50\ncard,2\ncard,0.50\ncard,3\n";
     let left = Left {
-        status: 0,
         alerts: Wanted::Something,
         audit: Wanted::Something,
-        out: "rows 5 alerts 5 requests 2 refused 0\n",
         ran: Ran::Feed(TWO_WAYS_FEED),
+        ..Left::lines(0, "rows 5 alerts 5 requests 2 refused 0\n")
     };
     assert!(rt; run_leaves(&rt, rt.alloc(), TWO_WAYS, TWO_REQUESTS, payments, left));
 }
@@ -66,11 +65,10 @@ change = [{ node = "a", from = 0, kind = "map", steps = [["amount", "add", "amou
 #[test]
 fn copies_that_do_not_meet(rt: HostRuntime) {
     let left = Left {
-        status: 0,
         alerts: Wanted::Something,
         audit: Wanted::Something,
-        out: "rows 2 alerts 4 requests 1 refused 0\n",
         ran: Ran::Turns("1 turned 1\n"),
+        ..Left::lines(0, "rows 2 alerts 4 requests 1 refused 0\n")
     };
     let payments = "source,amount\ncard,1\ncard,2\n";
     assert!(rt; run_leaves(&rt, rt.alloc(), COPIES, ON_ONE_COPY, payments, left));

@@ -2,42 +2,13 @@ use crate::tests::texts::{
     CHAIN, FOUR_PAYMENTS, PAYMENTS, PAYMENTS_ALERTS, PAYMENTS_REQUESTS, TEN_PAYMENTS, TWO_ALERTS,
 };
 use crate::tests::{Around, Left, leaves};
-use std::alloc::Global;
-use std::sync::Wait;
-use std::thread::Threads;
-use tuple_trace::NoMemory;
 
 /// The chain, no request, and the four payments.
 const FILES: [(&str, &str); 3] = [("j", CHAIN), ("r", ""), ("p", FOUR_PAYMENTS)];
 
-/// Whether a call with the words of this line leaves this over these files.
-pub fn line_leaves<R>(
-    rt: &R,
-    alloc: Global,
-    files: &[(&str, &str)],
-    line: &str,
-    left: Left<'_>,
-) -> bool
-where
-    R: Threads + Wait + Copy + Send + Sync + 'static,
-{
-    match words_in(alloc, line) {
-        Ok(words) => leaves(rt, alloc, Around::of(files), &words, left),
-        Err(_) => false,
-    }
-}
-
-fn words_in<'w>(alloc: Global, line: &'w str) -> Result<Vec<&'w str>, NoMemory> {
-    let mut words = Vec::new(alloc);
-    for word in line.split_whitespace() {
-        words.push(word)?;
-    }
-    Ok(words)
-}
-
 const USAGE: &str = "fault 1 usage\n";
 
-/// Words that are no full form.
+/// Words that are no full form. The first line has none.
 const FAULTY_WORDS: [&str; 46] = [
     "",
     "help",
@@ -90,25 +61,40 @@ const FAULTY_WORDS: [&str; 46] = [
 #[test]
 fn faulty_words(rt: HostRuntime) {
     for line in FAULTY_WORDS {
-        assert!(rt; line_leaves(&rt, rt.alloc(), &FILES, line, Left::lines(1, USAGE)));
+        assert!(rt;
+            leaves(
+                &rt,
+                rt.alloc(),
+                &Around::of(&FILES),
+                line,
+                &Left::lines(1, USAGE)
+            )
+        );
     }
 }
 
-/// Words of which one is empty.
-const EMPTY_WORDS: [&[&str]; 6] = [
-    &["", "j"],
-    &["check", ""],
-    &["run", "j", "r", "p", "", "audit.csv"],
-    &["run", "j", "r", "p", "alerts.csv", ""],
-    &["first", "p", "alerts.csv", "10000", "2", ""],
-    &["make", "j", "7", "1", "--threads", ""],
+/// Words of which one is empty: the first, the last, or that between two spaces.
+const EMPTY_WORDS: [&str; 6] = [
+    " j",
+    "check ",
+    "run j r p  audit.csv",
+    "run j r p alerts.csv ",
+    "first p alerts.csv 10000 2 ",
+    "make j 7 1 --threads ",
 ];
 
 #[test]
 fn empty_words(rt: HostRuntime) {
-    for words in EMPTY_WORDS {
-        let around = Around::of(&FILES);
-        assert!(rt; leaves(&rt, rt.alloc(), around, words, Left::lines(1, USAGE)));
+    for line in EMPTY_WORDS {
+        assert!(rt;
+            leaves(
+                &rt,
+                rt.alloc(),
+                &Around::of(&FILES),
+                line,
+                &Left::lines(1, USAGE)
+            )
+        );
     }
 }
 
@@ -139,7 +125,15 @@ const FAULTY_OPTIONS: [&str; 20] = [
 #[test]
 fn faulty_options(rt: HostRuntime) {
     for line in FAULTY_OPTIONS {
-        assert!(rt; line_leaves(&rt, rt.alloc(), &FILES, line, Left::lines(1, USAGE)));
+        assert!(rt;
+            leaves(
+                &rt,
+                rt.alloc(),
+                &Around::of(&FILES),
+                line,
+                &Left::lines(1, USAGE)
+            )
+        );
     }
 }
 
@@ -178,7 +172,7 @@ const OPTIONS: [(&str, &str); 11] = [
 fn options_of_run(rt: HostRuntime) {
     for (line, lines) in OPTIONS {
         let left = Left::run(0, TWO_ALERTS, lines);
-        assert!(rt; line_leaves(&rt, rt.alloc(), &FILES, line, left));
+        assert!(rt; leaves(&rt, rt.alloc(), &Around::of(&FILES), line, &left));
     }
 }
 
@@ -191,15 +185,8 @@ fn threads_after_the_names(rt: HostRuntime) {
     ];
     let line = "run j r p alerts.csv audit.csv --threads=2";
     let lines = "refused 3 Q4 change 1 current 1\nrows 10 alerts 4 requests 3 refused 1\n";
-    assert!(rt;
-        line_leaves(
-            &rt,
-            rt.alloc(),
-            &files,
-            line,
-            Left::run(8, PAYMENTS_ALERTS, lines)
-        )
-    );
+    let left = Left::run(8, PAYMENTS_ALERTS, lines);
+    assert!(rt; leaves(&rt, rt.alloc(), &Around::of(&files), line, &left));
 }
 
 /// Words that ask for a text, and how it begins or is.
@@ -222,6 +209,14 @@ example: fries check job.toml
 #[test]
 fn help_and_version(rt: HostRuntime) {
     for (line, text) in TEXTS {
-        assert!(rt; line_leaves(&rt, rt.alloc(), &FILES, line, Left::lines(0, text)));
+        assert!(rt;
+            leaves(
+                &rt,
+                rt.alloc(),
+                &Around::of(&FILES),
+                line,
+                &Left::lines(0, text)
+            )
+        );
     }
 }
