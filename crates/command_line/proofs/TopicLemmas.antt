@@ -31,6 +31,8 @@ word_of topic.Check = codes "check"
 word_of topic.Plan = codes "plan"
 word_of topic.Run = codes "run"
 word_of topic.Make = codes "make"
+word_of topic.Save = codes "save"
+word_of topic.Resume = codes "resume"
 
 -- the rules of a command, as it is built
 abbrev pub rules_of : Topic → List Rule
@@ -65,6 +67,8 @@ enters topic.Check ws other = ap (entered (built program_app)) (stops_at (codes 
 enters topic.Plan ws other = ap (entered (built program_app)) (stops_at (codes "plan") ws refl)
 enters topic.Run ws other = ap (entered (built program_app)) (stops_at (codes "run") ws refl)
 enters topic.Make ws other = ap (entered (built program_app)) (stops_at (codes "make") ws refl)
+enters topic.Save ws other = ap (entered (built program_app)) (stops_at (codes "save") ws refl)
+enters topic.Resume ws other = ap (entered (built program_app)) (stops_at (codes "resume") ws refl)
 
 -- ---- the rules read the forms
 
@@ -195,6 +199,122 @@ make_threads = record {
   use_of = λ value rs. refl;
 }
 
+save_job : IsName (rules_of topic.Save) 1 (codes "job")
+unfolding clap_on_literals
+save_job = record { rule = rule_at (rules_of topic.Save) 1; at = refl; one = refl; single = refl; last = refl; next = refl; by_id = refl; use_of = λ value rs. refl }
+
+save_requests : IsName (rules_of topic.Save) 2 (codes "requests")
+unfolding clap_on_literals
+save_requests = record { rule = rule_at (rules_of topic.Save) 2; at = refl; one = refl; single = refl; last = refl; next = refl; by_id = refl; use_of = λ value rs. refl }
+
+save_payments : IsName (rules_of topic.Save) 3 (codes "payments")
+unfolding clap_on_literals
+save_payments = record { rule = rule_at (rules_of topic.Save) 3; at = refl; one = refl; single = refl; last = refl; next = refl; by_id = refl; use_of = λ value rs. refl }
+
+save_alerts : IsName (rules_of topic.Save) 4 (codes "alerts")
+unfolding clap_on_literals
+save_alerts = record { rule = rule_at (rules_of topic.Save) 4; at = refl; one = refl; single = refl; last = refl; next = refl; by_id = refl; use_of = λ value rs. refl }
+
+save_audit : IsName (rules_of topic.Save) 5 (codes "audit")
+unfolding clap_on_literals
+save_audit = record { rule = rule_at (rules_of topic.Save) 5; at = refl; one = refl; single = refl; last = refl; next = refl; by_id = refl; use_of = λ value rs. refl }
+
+save_save : IsName (rules_of topic.Save) 6 (codes "save")
+unfolding clap_on_literals
+save_save = record { rule = rule_at (rules_of topic.Save) 6; at = refl; one = refl; single = refl; last = refl; next = refl; by_id = refl; use_of = λ value rs. refl }
+
+save_rows : IsName (rules_of topic.Save) 7 (codes "rows")
+unfolding clap_on_literals
+save_rows = record { rule = rule_at (rules_of topic.Save) 7; at = refl; one = refl; single = refl; last = refl; next = refl; by_id = refl; use_of = λ value rs. refl }
+
+save_threads : IsOption (rules_of topic.Save) threads_option
+unfolding clap_on_literals
+save_threads = record {
+  rule = rule_called (rules_of topic.Save) (codes "threads");
+  dashes = refl;
+  long = refl;
+  dashes_joined = λ value. refl;
+  joined = λ value. refl;
+  by_long = refl;
+  takes = refl;
+  most = refl;
+  called = refl;
+  by_id = refl;
+  use_of = λ value rs. refl;
+}
+
+save_capacity : IsOption (rules_of topic.Save) capacity_option
+unfolding clap_on_literals
+save_capacity = record {
+  rule = rule_called (rules_of topic.Save) (codes "capacity");
+  dashes = refl;
+  long = refl;
+  dashes_joined = λ value. refl;
+  joined = λ value. refl;
+  by_long = refl;
+  takes = refl;
+  most = refl;
+  called = refl;
+  by_id = refl;
+  use_of = λ value rs. refl;
+}
+
+resume_job : IsName (rules_of topic.Resume) 1 (codes "job")
+unfolding clap_on_literals
+resume_job = record { rule = rule_at (rules_of topic.Resume) 1; at = refl; one = refl; single = refl; last = refl; next = refl; by_id = refl; use_of = λ value rs. refl }
+
+resume_requests : IsName (rules_of topic.Resume) 2 (codes "requests")
+unfolding clap_on_literals
+resume_requests = record { rule = rule_at (rules_of topic.Resume) 2; at = refl; one = refl; single = refl; last = refl; next = refl; by_id = refl; use_of = λ value rs. refl }
+
+resume_payments : IsName (rules_of topic.Resume) 3 (codes "payments")
+unfolding clap_on_literals
+resume_payments = record { rule = rule_at (rules_of topic.Resume) 3; at = refl; one = refl; single = refl; last = refl; next = refl; by_id = refl; use_of = λ value rs. refl }
+
+resume_save : IsName (rules_of topic.Resume) 4 (codes "save")
+unfolding clap_on_literals
+resume_save = record { rule = rule_at (rules_of topic.Resume) 4; at = refl; one = refl; single = refl; last = refl; next = refl; by_id = refl; use_of = λ value rs. refl }
+
+resume_alerts : IsName (rules_of topic.Resume) 5 (codes "alerts")
+unfolding clap_on_literals
+resume_alerts = record { rule = rule_at (rules_of topic.Resume) 5; at = refl; one = refl; single = refl; last = refl; next = refl; by_id = refl; use_of = λ value rs. refl }
+
+resume_audit : IsName (rules_of topic.Resume) 6 (codes "audit")
+unfolding clap_on_literals
+resume_audit = record { rule = rule_at (rules_of topic.Resume) 6; at = refl; one = refl; single = refl; last = refl; next = refl; by_id = refl; use_of = λ value rs. refl }
+
+resume_threads : IsOption (rules_of topic.Resume) threads_option
+unfolding clap_on_literals
+resume_threads = record {
+  rule = rule_called (rules_of topic.Resume) (codes "threads");
+  dashes = refl;
+  long = refl;
+  dashes_joined = λ value. refl;
+  joined = λ value. refl;
+  by_long = refl;
+  takes = refl;
+  most = refl;
+  called = refl;
+  by_id = refl;
+  use_of = λ value rs. refl;
+}
+
+resume_capacity : IsOption (rules_of topic.Resume) capacity_option
+unfolding clap_on_literals
+resume_capacity = record {
+  rule = rule_called (rules_of topic.Resume) (codes "capacity");
+  dashes = refl;
+  long = refl;
+  dashes_joined = λ value. refl;
+  joined = λ value. refl;
+  by_long = refl;
+  takes = refl;
+  most = refl;
+  called = refl;
+  by_id = refl;
+  use_of = λ value rs. refl;
+}
+
 -- the rules of each command read its form
 pub reads : (about : Topic) → about ≢ topic.Program → Reads (rules_of about) (form_of about)
 reads topic.Program other = absurd (other refl)
@@ -203,6 +323,8 @@ reads topic.Check other = record { names = (check_job, tt); options = tt; flags 
 reads topic.Plan other = record { names = (plan_job, (plan_requests, tt)); options = tt; flags = (plan_ordered, tt) }
 reads topic.Run other = record { names = (run_job, (run_requests, (run_payments, (run_alerts, (run_audit, tt))))); options = (run_threads, (run_capacity, tt)); flags = (run_ordered, tt) }
 reads topic.Make other = record { names = (make_job, (make_seed, (make_rows, tt))); options = (make_threads, tt); flags = tt }
+reads topic.Save other = record { names = (save_job, (save_requests, (save_payments, (save_alerts, (save_audit, (save_save, (save_rows, tt))))))); options = (save_threads, (save_capacity, tt)); flags = tt }
+reads topic.Resume other = record { names = (resume_job, (resume_requests, (resume_payments, (resume_save, (resume_alerts, (resume_audit, tt)))))); options = (resume_threads, (resume_capacity, tt)); flags = tt }
 
 -- ---- the values
 
@@ -215,6 +337,8 @@ asked_same topic.Check v w same flag = rw (same (codes "job") refl) refl
 asked_same topic.Plan v w same flag = rw (same (codes "job") refl, same (codes "requests") refl, flag) refl
 asked_same topic.Run v w same flag = rw (same (codes "job") refl, same (codes "requests") refl, same (codes "payments") refl, same (codes "alerts") refl, same (codes "audit") refl, same (codes "threads") refl, same (codes "capacity") refl, flag) refl
 asked_same topic.Make v w same flag = rw (same (codes "job") refl, same (codes "seed") refl, same (codes "rows") refl, same (codes "threads") refl) refl
+asked_same topic.Save v w same flag = rw (same (codes "job") refl, same (codes "requests") refl, same (codes "payments") refl, same (codes "alerts") refl, same (codes "audit") refl, same (codes "save") refl, same (codes "rows") refl, same (codes "threads") refl, same (codes "capacity") refl) refl
+asked_same topic.Resume v w same flag = rw (same (codes "job") refl, same (codes "requests") refl, same (codes "payments") refl, same (codes "save") refl, same (codes "alerts") refl, same (codes "audit") refl, same (codes "threads") refl, same (codes "capacity") refl) refl
 
 no_flag_is_on : (about : Topic) → list_all (λ (a : Rule). is_off a.defaults) (rules_of about) ≡ true
 no_flag_is_on topic.Program = refl
@@ -223,6 +347,8 @@ no_flag_is_on topic.Check = refl
 no_flag_is_on topic.Plan = refl
 no_flag_is_on topic.Run = refl
 no_flag_is_on topic.Make = refl
+no_flag_is_on topic.Save = refl
+no_flag_is_on topic.Resume = refl
 
 found_topic : (b : Bool) (about other : Topic) (rest : Option Topic) → (if b then Some other else rest) ≡ Some about → ((b ≡ true) × (other ≡ about)) ⊎ (rest ≡ Some about)
 found_topic true about other rest is = inl (refl, cc is)
@@ -247,7 +373,13 @@ word_is word about is =
             | inl p ↦ named word about topic.Run (λ e. absurd (cc e)) p.0 p.1
             | inr is ↦ elim (found_topic (bytes_eq word (codes "make")) about topic.Make _ is) [
               | inl p ↦ named word about topic.Make (λ e. absurd (cc e)) p.0 p.1
-              | inr is ↦ absurd (cc is)
+              | inr is ↦ elim (found_topic (bytes_eq word (codes "save")) about topic.Save _ is) [
+                | inl p ↦ named word about topic.Save (λ e. absurd (cc e)) p.0 p.1
+                | inr is ↦ elim (found_topic (bytes_eq word (codes "resume")) about topic.Resume _ is) [
+                  | inl p ↦ named word about topic.Resume (λ e. absurd (cc e)) p.0 p.1
+                  | inr is ↦ absurd (cc is)
+                ]
+              ]
             ]
           ]
         ]

@@ -9,7 +9,9 @@ use Rattle.command_line.specs.declared.command.Command.TheVariants as command
 use Rattle.command_line.specs.declared.command.First.{First as FirstWords}
 use Rattle.command_line.specs.declared.command.Make.{Make as MakeWords}
 use Rattle.command_line.specs.declared.command.PlanFiles.{PlanFiles}
+use Rattle.command_line.specs.declared.command.ResumeFiles.{ResumeFiles}
 use Rattle.command_line.specs.declared.command.RunFiles.{RunFiles}
+use Rattle.command_line.specs.declared.command.SaveFiles.{SaveFiles}
 use Rattle.command_line.specs.declared.topic.Topic.{Topic}
 use Rattle.command_line.specs.declared.topic.Topic.TheVariants as topic
 
@@ -51,6 +53,17 @@ pub record MakeAsked : Type 0 where
   pub rows : ℕ
   pub threads : ℕ
 
+-- what `save` is asked to do: a run, the savepoint that it is to write, and after how many rows
+pub record SaveAsked : Type 0 where
+  pub run : RunAsked
+  pub save : Text
+  pub rows : ℕ
+
+-- what `resume` is asked to do: a run, and the savepoint that it begins with
+pub record ResumeAsked : Type 0 where
+  pub run : RunAsked
+  pub save : Text
+
 -- an engine has 1 to 16 threads
 abbrev pub IsThreads : ℕ → Type 0
 IsThreads threads = (1 ≤ threads) × (threads ≤ 16)
@@ -63,6 +76,8 @@ pub data Asked : Type 0 where
   Plan : PlanAsked → Asked
   Run : RunAsked → Asked
   Make : MakeAsked → Asked
+  Save : SaveAsked → Asked
+  Resume : ResumeAsked → Asked
   -- to explain the program or a command
   Help : Topic → Asked
   -- to say which version this is
@@ -110,6 +125,24 @@ make_form = record {
   flags = [];
 }
 
+abbrev pub save_form : Form
+save_form = record {
+  names =
+      codes "job" ∷ codes "requests" ∷ codes "payments" ∷ codes "alerts" ∷ codes "audit"
+      ∷ codes "save" ∷ codes "rows" ∷ [];
+  options = threads_option ∷ capacity_option ∷ [];
+  flags = [];
+}
+
+abbrev pub resume_form : Form
+resume_form = record {
+  names =
+      codes "job" ∷ codes "requests" ∷ codes "payments" ∷ codes "save" ∷ codes "alerts"
+      ∷ codes "audit" ∷ [];
+  options = threads_option ∷ capacity_option ∷ [];
+  flags = [];
+}
+
 -- the full form of the words after a command
 abbrev pub form_of : Topic → Form
 form_of topic.Program = record { names = []; options = []; flags = [] }
@@ -118,6 +151,8 @@ form_of topic.Check = check_form
 form_of topic.Plan = plan_form
 form_of topic.Run = run_form
 form_of topic.Make = make_form
+form_of topic.Save = save_form
+form_of topic.Resume = resume_form
 
 -- ---- values
 
@@ -151,7 +186,7 @@ abbrev pub is_true : Option Text → Bool
 is_true None = false
 is_true (Some text) = bytes_eq text (codes "true")
 
--- how many rows a request waits for at most
+-- how many rows a request waits for at most, and how many come before a savepoint at most
 abbrev pub after_max : ℕ
 after_max = 1048576
 
@@ -194,10 +229,44 @@ run_over plan payments alerts audit size =
     if bytes_eq alerts audit then None
     else Some (record { plan = plan; payments = payments; alerts = alerts; audit = audit; size = size })
 
-abbrev pub run_of : Values → Option RunAsked
-run_of values =
-    option_and_then (run_over (plan_of values) (name_in values (codes "payments")) (name_in values (codes "alerts")) (name_in values (codes "audit")))
+-- the files of a plan that isn't in ordered mode
+abbrev pub unordered_of : Values → PlanAsked
+unordered_of values = record {
+  job = name_in values (codes "job");
+  requests = name_in values (codes "requests");
+  ordered = false;
+}
+
+abbrev pub run_with : PlanAsked → Values → Option RunAsked
+run_with plan values =
+    option_and_then (run_over plan (name_in values (codes "payments")) (name_in values (codes "alerts")) (name_in values (codes "audit")))
     (engine_in values)
+
+abbrev pub run_of : Values → Option RunAsked
+run_of values = run_with (plan_of values) values
+
+-- the run writes a file with this name
+abbrev pub writes : RunAsked → Text → Bool
+writes run name = bytes_eq run.alerts name || bytes_eq run.audit name
+
+-- a run and a savepoint, which is another word than the files that the run writes
+abbrev pub resume_with : Text → RunAsked → Option ResumeAsked
+resume_with save run = if writes run save then None else Some (record { run = run; save = save })
+
+abbrev pub resume_of : Values → Option ResumeAsked
+resume_of values =
+    option_and_then (resume_with (name_in values (codes "save"))) (run_with (unordered_of values) values)
+
+-- the same, and a number of rows that is in range
+abbrev pub save_after : ℕ → ResumeAsked → SaveAsked
+save_after rows files = record { run = files.run; save = files.save; rows = rows }
+
+abbrev pub save_with : Option ResumeAsked → Option ℕ → Option SaveAsked
+save_with files None = None
+save_with files (Some rows) = option_map (save_after rows) files
+
+abbrev pub save_of : Values → Option SaveAsked
+save_of values = save_with (resume_of values) (number_in values after_max (codes "rows"))
 
 -- a job file and three numbers, which are in range
 abbrev pub make_with : Text → Option ℕ → Option ℕ → Option ℕ → Option MakeAsked
@@ -231,6 +300,8 @@ topic_of word =
     else if bytes_eq word (codes "plan") then Some topic.Plan
     else if bytes_eq word (codes "run") then Some topic.Run
     else if bytes_eq word (codes "make") then Some topic.Make
+    else if bytes_eq word (codes "save") then Some topic.Save
+    else if bytes_eq word (codes "resume") then Some topic.Resume
     else None
 
 -- what the values of a command ask for
@@ -241,6 +312,8 @@ asked_with topic.Check values = Some (Check (name_in values (codes "job")))
 asked_with topic.Plan values = Some (Plan (plan_of values))
 asked_with topic.Run values = option_map Run (run_of values)
 asked_with topic.Make values = option_map Make (make_of values)
+asked_with topic.Save values = option_map Save (save_of values)
+asked_with topic.Resume values = option_map Resume (resume_of values)
 
 -- what the words after a command ask for, if they have its full form
 abbrev pub asked_after : Topic → List Text → Option Asked
@@ -300,6 +373,14 @@ run_asked files = record { plan = plan_asked files.plan; payments = files.paymen
 abbrev pub make_asked : MakeWords → MakeAsked
 make_asked make = record { job = make.job; seed = make.seed; rows = make.rows; threads = make.threads }
 
+-- what the files of `resume` ask for
+abbrev pub resume_asked : ResumeFiles → ResumeAsked
+resume_asked files = record { run = run_asked files.run; save = files.save }
+
+-- what the files of `save` ask for
+abbrev pub save_asked : SaveFiles → SaveAsked
+save_asked files = record { run = run_asked files.run; save = files.save; rows = files.rows }
+
 -- what a `Command` asks for
 abbrev pub asked_by : Command → Asked
 asked_by (command.First first) = First (first_asked first)
@@ -307,11 +388,15 @@ asked_by (command.Check job) = Check job
 asked_by (command.Plan files) = Plan (plan_asked files)
 asked_by (command.Run files) = Run (run_asked files)
 asked_by (command.Make make) = Make (make_asked make)
+asked_by (command.Save files) = Save (save_asked files)
+asked_by (command.Resume files) = Resume (resume_asked files)
 asked_by (command.Help about) = Help about
 asked_by command.Version = Version
 
--- the engine of a `run` or a `make` has a size in range
+-- the engine of a command that has one has a size in range
 abbrev pub IsSized : Command → Type 0
 IsSized (command.Run files) = IsSize files.size
 IsSized (command.Make make) = IsThreads make.threads
+IsSized (command.Save files) = IsSize files.run.size
+IsSized (command.Resume files) = IsSize files.run.size
 IsSized _ = ⊤

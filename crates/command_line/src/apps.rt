@@ -1,7 +1,7 @@
 // The commands that `clap` reads the words by.
 ghost use Rattle.std.specs.Prelude.{◌≡◌, IfOk, false};
 ghost use Rattle.clap.specs.Words.{rule_of};
-ghost use Rattle.command_line.specs.Apps.{IsApp, check_app, first_app, flag_rule, make_app, name_rule, option_rule, plan_app, program_app, run_app};
+ghost use Rattle.command_line.specs.Apps.{IsApp, check_app, first_app, flag_rule, make_app, name_rule, option_rule, plan_app, program_app, resume_app, run_app, save_app};
 
 use clap::{Arg, ArgAction, Command};
 use std::alloc::{AllocError, Global};
@@ -16,7 +16,9 @@ pub(crate) fn program<'w>(alloc: Global) -> Result<Command<'w>, AllocError>
         .subcommand(check(alloc)?)?
         .subcommand(plan(alloc)?)?
         .subcommand(run(alloc)?)?
-        .subcommand(make(alloc)?)
+        .subcommand(make(alloc)?)?
+        .subcommand(save(alloc)?)?
+        .subcommand(resume(alloc)?)
 }
 
 fn first<'w>(alloc: Global) -> Result<Command<'w>, AllocError>
@@ -67,6 +69,35 @@ fn make<'w>(alloc: Global) -> Result<Command<'w>, AllocError>
         .arg(name(alloc, "seed"))?
         .arg(name(alloc, "rows"))?
         .arg(option(alloc, "threads"))
+}
+
+fn save<'w>(alloc: Global) -> Result<Command<'w>, AllocError>
+    ensures { IfOk result (λ made. IsApp made save_app) }
+{
+    Command::new(alloc, "save")
+        .arg(name(alloc, "job"))?
+        .arg(name(alloc, "requests"))?
+        .arg(name(alloc, "payments"))?
+        .arg(name(alloc, "alerts"))?
+        .arg(name(alloc, "audit"))?
+        .arg(name(alloc, "save"))?
+        .arg(name(alloc, "rows"))?
+        .arg(option(alloc, "threads"))?
+        .arg(option(alloc, "capacity"))
+}
+
+fn resume<'w>(alloc: Global) -> Result<Command<'w>, AllocError>
+    ensures { IfOk result (λ made. IsApp made resume_app) }
+{
+    Command::new(alloc, "resume")
+        .arg(name(alloc, "job"))?
+        .arg(name(alloc, "requests"))?
+        .arg(name(alloc, "payments"))?
+        .arg(name(alloc, "save"))?
+        .arg(name(alloc, "alerts"))?
+        .arg(name(alloc, "audit"))?
+        .arg(option(alloc, "threads"))?
+        .arg(option(alloc, "capacity"))
 }
 
 fn name<'w>(alloc: Global, id: &'w str) -> Arg<'w>

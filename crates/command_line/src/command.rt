@@ -20,6 +20,8 @@ pub enum Command {
     Plan(PlanFiles),
     Run(RunFiles),
     Make(Make),
+    Save(SaveFiles),
+    Resume(ResumeFiles),
     /// To explain the program or one of its commands.
     Help(Topic),
     /// To say which version of the program this is.
@@ -80,6 +82,28 @@ pub struct Make {
     pub rows: u64,
     /// How many threads the engine has, 1 to 16.
     pub threads: u32,
+}
+
+/// The files of the command `save`, and after how many rows it stops.
+#[derive(Debug, Drop)]
+pub struct SaveFiles {
+    /// The files of the run up to there. It isn't in ordered mode.
+    pub run: RunFiles,
+    /// The file that the savepoint is written to. Its name is another word than those of the alerts
+    /// and the audit.
+    pub save: Word,
+    /// How many rows are run at most, 0 to 1,048,576.
+    pub rows: u64,
+}
+
+/// The files of the command `resume`.
+#[derive(Debug, Drop)]
+pub struct ResumeFiles {
+    /// The files of the run from there. It isn't in ordered mode.
+    pub run: RunFiles,
+    /// The file that the savepoint is read from. Its name is another word than those of the alerts
+    /// and the audit.
+    pub save: Word,
 }
 
 /// Why words are no command.
@@ -164,6 +188,10 @@ fn topic_of(word: &str) -> Option<Topic>
         Some(Topic::Run)
     } else if word == "make" {
         Some(Topic::Make)
+    } else if word == "save" {
+        Some(Topic::Save)
+    } else if word == "resume" {
+        Some(Topic::Resume)
     } else {
         None
     }

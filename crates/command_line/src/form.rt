@@ -80,5 +80,17 @@ pub(crate) fn form_of(topic: Topic) -> Form
             options: &[THREADS],
             flags: &[],
         },
+        Topic::Save => Form {
+            names: &[
+                "job", "requests", "payments", "alerts", "audit", "save", "rows",
+            ],
+            options: &[THREADS, CAPACITY],
+            flags: &[],
+        },
+        Topic::Resume => Form {
+            names: &["job", "requests", "payments", "save", "alerts", "audit"],
+            options: &[THREADS, CAPACITY],
+            flags: &[],
+        },
     }
 }

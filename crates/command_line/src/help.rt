@@ -14,6 +14,8 @@ pub fn help_text(topic: Topic) -> &'static str
         Topic::Plan => PLAN,
         Topic::Run => RUN,
         Topic::Make => MAKE,
+        Topic::Save => SAVE,
+        Topic::Resume => RESUME,
     }
 }
 
@@ -31,11 +33,13 @@ fries - changes operators of a dataflow while payments flow through it
 
 usage: fries COMMAND NAMES [OPTIONS]
 
-  check JOB                                   prints the sizes of a job
-  plan JOB REQUESTS                           prints what each request changes
-  run JOB REQUESTS PAYMENTS ALERTS AUDIT      runs payments through a job
-  make JOB SEED ROWS                          runs rows that are made up
-  first PAYMENTS ALERTS MIN AFTER MIN2        runs the smallest job
+  check JOB                                       prints the sizes of a job
+  plan JOB REQUESTS                               prints what each request changes
+  run JOB REQUESTS PAYMENTS ALERTS AUDIT          runs payments through a job
+  save JOB REQUESTS PAYMENTS ALERTS AUDIT SAVE N  runs the first payments, saves the counts
+  resume JOB REQUESTS PAYMENTS SAVE ALERTS AUDIT  runs the later payments from there
+  make JOB SEED ROWS                              runs rows that are made up
+  first PAYMENTS ALERTS MIN AFTER MIN2            runs the smallest job
 
 Options stand anywhere after the command, as two words or one: --threads 2, --threads=2.
 `fries COMMAND --help` explains a command, `fries --version` prints the version.
@@ -107,4 +111,39 @@ Makes rows from a seed, runs them without requests, and prints the summary alone
   --threads N  threads, 1 to 16; without it, 1
 
 example: fries make job.toml 7 1000
+";
+
+const SAVE: &str = "\
+usage: fries save JOB REQUESTS PAYMENTS ALERTS AUDIT SAVE N [OPTIONS]
+
+Runs the first N payments, and writes the counts from which `resume` goes on.
+
+  JOB           file to read: a job as TOML
+  REQUESTS      file to read: requests as TOML
+  PAYMENTS      file to read: payments as CSV
+  ALERTS        file to write: what comes to the sinks, as CSV
+  AUDIT         file to write: what each worker did, as CSV; another word than ALERTS
+  SAVE          file to write: the savepoint, as CSV; another word than ALERTS and AUDIT
+  N             payments before the savepoint, 0 to 1048576; all if there are fewer
+  --threads N   threads, 1 to 16; without it, 1
+  --capacity C  items on a lane, 1 to 64; without it, 16
+
+example: fries save job.toml requests.toml pay.csv alerts.csv audit.csv save.csv 8
+";
+
+const RESUME: &str = "\
+usage: fries resume JOB REQUESTS PAYMENTS SAVE ALERTS AUDIT [OPTIONS]
+
+Runs the payments after a savepoint, from the counts that `save` wrote.
+
+  JOB           file to read: a job as TOML
+  REQUESTS      file to read: requests as TOML
+  PAYMENTS      file to read: payments as CSV, with those before the savepoint
+  SAVE          file to read: the savepoint, as CSV; another word than ALERTS and AUDIT
+  ALERTS        file to write: what comes to the sinks, as CSV
+  AUDIT         file to write: what each worker did, as CSV; another word than ALERTS
+  --threads N   threads, 1 to 16; without it, 1
+  --capacity C  items on a lane, 1 to 64; without it, 16
+
+example: fries resume job.toml requests.toml pay.csv save.csv alerts.csv audit.csv
 ";

@@ -17,6 +17,9 @@ mod parts;
 mod topic;
 mod values;
 
-pub use command::{Command, EngineSize, First, Make, PlanFiles, RunFiles, WordsFault, command_of};
+pub use command::{
+    Command, EngineSize, First, Make, PlanFiles, ResumeFiles, RunFiles, SaveFiles, WordsFault,
+    command_of,
+};
 pub use help::{help_text, version_text};
 pub use topic::Topic;

@@ -8,4 +8,6 @@ pub enum Topic {
     Plan,
     Run,
     Make,
+    Save,
+    Resume,
 }

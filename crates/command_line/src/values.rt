@@ -1,14 +1,17 @@
 // The values that `clap` read, as what a command is asked to do.
 ghost use Rattle.std.specs.Prelude.{◌≡◌, ◌≢◌, ◌≤◌, IfOk, IfErr, IfSome, Some, None, codes, option_map};
 ghost use Rattle.clap.specs.Words.{first_value, found_of};
-ghost use Rattle.command_line.specs.Asked.{IsSize, IsSized, IsThreads, amount_in as amount_of, asked_by, asked_with, engine_in as engine_of, first_asked, first_of as first_of_values, is_true as is_true_text, make_asked, make_of as make_of_values, name_in as name_of, number_in as number_of, plan_asked, plan_of as plan_of_values, run_asked, run_of as run_of_values, size_in as size_of};
+ghost use Rattle.command_line.specs.Asked.{IsSize, IsSized, IsThreads, amount_in as amount_of, asked_by, asked_with, engine_in as engine_of, first_asked, first_of as first_of_values, is_true as is_true_text, make_asked, make_of as make_of_values, name_in as name_of, number_in as number_of, plan_asked, plan_of as plan_of_values, resume_asked, resume_of as resume_of_values, run_asked, run_of as run_of_values, run_with as run_with_values, save_asked, save_of as save_of_values, size_in as size_of, unordered_of as unordered_of_values, writes as writes_to};
 
-use crate::{Command, EngineSize, First, Make, PlanFiles, RunFiles, Topic, WordsFault};
+use crate::{
+    Command, EngineSize, First, Make, PlanFiles, ResumeFiles, RunFiles, SaveFiles, Topic,
+    WordsFault,
+};
 use clap::ArgMatches;
 use std::alloc::Global;
 use tuple_trace::{NoMemory, Word, digits_up_to};
 
-/// The greatest number of rows that a request may wait for.
+/// The greatest number of rows that a request may wait for, and that come before a savepoint.
 const AFTER_MAX: u64 = 1_048_576;
 
 /// What a command is asked to do by these values; a fault if a number is outside its range.
@@ -29,6 +32,8 @@ pub(crate) fn command_with(
         Topic::Plan => Ok(Command::Plan(plan_of(alloc, values)?)),
         Topic::Run => Ok(Command::Run(run_of(alloc, values)?)),
         Topic::Make => Ok(Command::Make(make_of(alloc, values)?)),
+        Topic::Save => Ok(Command::Save(save_of(alloc, values)?)),
+        Topic::Resume => Ok(Command::Resume(resume_of(alloc, values)?)),
     }
 }
 
@@ -64,11 +69,31 @@ fn plan_of(alloc: Global, values: &ArgMatches<'_>) -> Result<PlanFiles, NoMemory
     })
 }
 
+// The files of a plan that isn't in ordered mode.
+fn unordered_of(alloc: Global, values: &ArgMatches<'_>) -> Result<PlanFiles, NoMemory>
+    ensures { IfOk result (λ files. plan_asked files ≡ unordered_of_values (first_value (found_of values.now))) }
+{
+    Ok(PlanFiles {
+        job: name_in(alloc, values, "job")?,
+        requests: name_in(alloc, values, "requests")?,
+        ordered: false,
+    })
+}
+
 fn run_of(alloc: Global, values: &ArgMatches<'_>) -> Result<RunFiles, WordsFault>
     ensures asked { IfOk result (λ files. run_of_values (first_value (found_of values.now)) ≡ Some (run_asked files)) }
     ensures sized { IfOk result (λ files. IsSize files.size) }
     ensures usage { IfErr result (λ fault. fault ≢ WordsFault.NoMemory →
         run_of_values (first_value (found_of values.now)) ≡ None) }
+{
+    run_with(alloc, plan_of(alloc, values)?, values)
+}
+
+fn run_with(alloc: Global, plan: PlanFiles, values: &ArgMatches<'_>) -> Result<RunFiles, WordsFault>
+    ensures asked { IfOk result (λ files. run_with_values (plan_asked plan) (first_value (found_of values.now)) ≡ Some (run_asked files)) }
+    ensures sized { IfOk result (λ files. IsSize files.size) }
+    ensures usage { IfErr result (λ fault. fault ≢ WordsFault.NoMemory →
+        run_with_values (plan_asked plan) (first_value (found_of values.now)) ≡ None) }
 {
     let Some(size) = engine_in(values) else {
         return Err(WordsFault::Usage);
@@ -79,12 +104,46 @@ fn run_of(alloc: Global, values: &ArgMatches<'_>) -> Result<RunFiles, WordsFault
         return Err(WordsFault::Usage);
     }
     Ok(RunFiles {
-        plan: plan_of(alloc, values)?,
+        plan,
         payments: name_in(alloc, values, "payments")?,
         alerts,
         audit,
         size,
     })
+}
+
+fn save_of(alloc: Global, values: &ArgMatches<'_>) -> Result<SaveFiles, WordsFault>
+    ensures asked { IfOk result (λ files. save_of_values (first_value (found_of values.now)) ≡ Some (save_asked files)) }
+    ensures sized { IfOk result (λ files. IsSize files.run.size) }
+    ensures usage { IfErr result (λ fault. fault ≢ WordsFault.NoMemory →
+        save_of_values (first_value (found_of values.now)) ≡ None) }
+{
+    let Some(rows) = number_in(values, "rows", AFTER_MAX) else {
+        return Err(WordsFault::Usage);
+    };
+    let ResumeFiles { run, save } = resume_of(alloc, values)?;
+    Ok(SaveFiles { run, save, rows })
+}
+
+fn resume_of(alloc: Global, values: &ArgMatches<'_>) -> Result<ResumeFiles, WordsFault>
+    ensures asked { IfOk result (λ files. resume_of_values (first_value (found_of values.now)) ≡ Some (resume_asked files)) }
+    ensures sized { IfOk result (λ files. IsSize files.run.size) }
+    ensures usage { IfErr result (λ fault. fault ≢ WordsFault.NoMemory →
+        resume_of_values (first_value (found_of values.now)) ≡ None) }
+{
+    let run = run_with(alloc, unordered_of(alloc, values)?, values)?;
+    let save = name_in(alloc, values, "save")?;
+    if writes(&run, save.as_str()) {
+        return Err(WordsFault::Usage);
+    }
+    Ok(ResumeFiles { run, save })
+}
+
+// Whether the run writes a file with this name.
+fn writes(run: &RunFiles, name: &str) -> bool
+    ensures { result ≡ writes_to (run_asked run.now) name.now }
+{
+    run.alerts.as_str() == name || run.audit.as_str() == name
 }
 
 fn make_of(alloc: Global, values: &ArgMatches<'_>) -> Result<Make, WordsFault>
