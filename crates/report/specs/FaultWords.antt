@@ -12,6 +12,8 @@ use Rattle.job_file.specs.declared.fault.ReqFileFault.{ReqFileFault}
 use Rattle.job_file.specs.declared.fault.ReqFileFault.TheVariants as requests
 use Rattle.payments.specs.declared.read.PFault.{PFault}
 use Rattle.payments.specs.declared.read.PFault.TheVariants as rows
+use Rattle.savepoint.specs.declared.fault.SaveFault.{SaveFault}
+use Rattle.savepoint.specs.declared.fault.SaveFault.TheVariants as save
 use Rattle.report.specs.Faults.{status_of}
 use Rattle.report.specs.declared.fault.Fault.{Fault}
 use Rattle.report.specs.declared.fault.Fault.TheVariants as fault
@@ -24,6 +26,7 @@ file_words file.Requests = codes "requests"
 file_words file.Payments = codes "payments"
 file_words file.Alerts = codes "alerts"
 file_words file.Audit = codes "audit"
+file_words file.Save = codes "save"
 file_words file.Out = codes "out"
 
 abbrev pub part_words : Part → List ℕ
@@ -103,11 +106,20 @@ payments_words (rows.TextLong row column) = codes "P6 row " ++ decimal row ++ co
 payments_words (rows.TooMuch row) = codes "P7 row " ++ decimal row
 payments_words rows.NoMemory = codes "memory"
 
+-- a fault of the savepoint: its code, and the record or the number that it names
+abbrev pub save_words : SaveFault → List ℕ
+save_words (save.Shape number) = codes "S1 record " ++ decimal number
+save_words (save.Past row) = codes "S2 rows " ++ decimal row
+save_words (save.Count requests) = codes "S3 requests " ++ decimal requests
+save_words (save.State number) = codes "S4 record " ++ decimal number
+save_words save.NoMemory = codes "memory"
+
 abbrev pub fault_words : Fault → List ℕ
 fault_words fault.Usage = codes "usage"
 fault_words (fault.Job code) = job_words code
 fault_words (fault.Requests code) = requests_words code
 fault_words (fault.Payments code) = payments_words code
+fault_words (fault.Save code) = save_words code
 fault_words (fault.Read file) = file_words file
 fault_words (fault.Write file) = file_words file
 fault_words fault.NoMemory = codes "memory"

@@ -6,6 +6,8 @@ use Rattle.job_file.specs.declared.fault.ReqFileFault.{ReqFileFault}
 use Rattle.job_file.specs.declared.fault.ReqFileFault.TheVariants as requests
 use Rattle.payments.specs.declared.read.PFault.{PFault}
 use Rattle.payments.specs.declared.read.PFault.TheVariants as rows
+use Rattle.savepoint.specs.declared.fault.SaveFault.{SaveFault}
+use Rattle.savepoint.specs.declared.fault.SaveFault.TheVariants as save
 use Rattle.versions.specs.declared.in_order.Refused.{Refused}
 use Rattle.report.specs.declared.fault.Fault.{Fault}
 use Rattle.report.specs.declared.fault.Fault.TheVariants as fault
@@ -27,6 +29,11 @@ abbrev pub payments_fault : PFault → Fault
 payments_fault rows.NoMemory = fault.NoMemory
 payments_fault code = fault.Payments code
 
+-- the fault of the program for one of the savepoint
+abbrev pub save_fault : SaveFault → Fault
+save_fault save.NoMemory = fault.NoMemory
+save_fault code = fault.Save code
+
 -- the status that a fault ends with
 abbrev pub status_of : Fault → ℕ
 status_of fault.Usage = 1
@@ -37,6 +44,7 @@ status_of (fault.Read file) = 5
 status_of (fault.Write file) = 6
 status_of fault.NoMemory = 7
 status_of (fault.Long file) = 9
+status_of (fault.Save code) = 10
 
 -- the status of a call that was done: 8 where a request was refused
 abbrev pub status_of_done : List Refused → ℕ
@@ -55,4 +63,5 @@ limit_of file.Requests = 1048576
 limit_of file.Payments = 67108864
 limit_of file.Alerts = 0
 limit_of file.Audit = 0
+limit_of file.Save = 536870912
 limit_of file.Out = 0

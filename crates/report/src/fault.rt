@@ -1,10 +1,11 @@
 ghost use Rattle.std.specs.Prelude.{◌≡◌};
-ghost use Rattle.report.specs.Faults.{job_fault, payments_fault, requests_fault, status_of as status_of_fault};
+ghost use Rattle.report.specs.Faults.{job_fault, payments_fault, requests_fault, save_fault, status_of as status_of_fault};
 ghost use Rattle.report.specs.Faults.{limit_of};
 ghost use Rattle.report.specs.declared.fault.Fault.TheVariants.{NoMemory as OutOfMemory};
 
 use job_file::{JobFault, ReqFileFault};
 use payments::PFault;
+use savepoint::SaveFault;
 use std::alloc::AllocError;
 use tuple_trace::NoMemory;
 
@@ -16,6 +17,8 @@ pub enum FileIs {
     Payments,
     Alerts,
     Audit,
+    /// The savepoint, which `save` writes and `resume` reads.
+    Save,
     /// The standard output.
     Out,
 }
@@ -28,6 +31,7 @@ impl FileIs {
         match self {
             FileIs::Job | FileIs::Requests => 1_048_576,
             FileIs::Payments => 67_108_864,
+            FileIs::Save => 536_870_912,
             FileIs::Alerts | FileIs::Audit | FileIs::Out => 0,
         }
     }
@@ -44,6 +48,8 @@ pub enum Fault {
     Requests(ReqFileFault),
     /// The payments were read and are refused.
     Payments(PFault),
+    /// The savepoint was read and is refused.
+    Save(SaveFault),
     /// A file couldn't be read.
     Read(FileIs),
     /// A file couldn't be made or written, or the standard output refused.
@@ -67,6 +73,7 @@ impl Fault {
             Fault::Write(_) => 6,
             Fault::NoMemory => 7,
             Fault::Long(_) => 9,
+            Fault::Save(_) => 10,
         }
     }
 }
@@ -116,6 +123,17 @@ impl From<PFault> for Fault {
         match fault {
             PFault::NoMemory => Fault::NoMemory,
             refused => Fault::Payments(refused),
+        }
+    }
+}
+
+impl From<SaveFault> for Fault {
+    ghost from_gives = { λ p e. e ≡ save_fault p };
+
+    fn from(fault: SaveFault) -> Self {
+        match fault {
+            SaveFault::NoMemory => Fault::NoMemory,
+            refused => Fault::Save(refused),
         }
     }
 }

@@ -1,10 +1,11 @@
 // What is printed of a fault.
 ghost use Rattle.std.specs.Prelude.{Some};
-ghost use Rattle.report.specs.FaultWords.{fault_words, file_words, job_words, part_words, payments_words, requests_words, which_words};
+ghost use Rattle.report.specs.FaultWords.{fault_words, file_words, job_words, part_words, payments_words, requests_words, save_words, which_words};
 
 use crate::fault::{Fault, FileIs};
 use job_file::{JobFault, Named, Part, ReqFileFault, Which};
 use payments::PFault;
+use savepoint::SaveFault;
 use std::fmt;
 
 impl fmt::Display for Fault {
@@ -16,6 +17,7 @@ impl fmt::Display for Fault {
             Fault::Job(fault) => JobWords(*fault).fmt(f),
             Fault::Requests(fault) => RequestsWords(*fault).fmt(f),
             Fault::Payments(fault) => PaymentsWords(*fault).fmt(f),
+            Fault::Save(fault) => SaveWords(*fault).fmt(f),
             Fault::Read(file) | Fault::Write(file) | Fault::Long(file) => file.fmt(f),
             Fault::NoMemory => write!(f, "memory"),
         }
@@ -32,6 +34,7 @@ impl fmt::Display for FileIs {
             FileIs::Payments => write!(f, "payments"),
             FileIs::Alerts => write!(f, "alerts"),
             FileIs::Audit => write!(f, "audit"),
+            FileIs::Save => write!(f, "save"),
             FileIs::Out => write!(f, "out"),
         }
     }
@@ -172,6 +175,24 @@ impl fmt::Display for PaymentsWords {
             PFault::TextLong(row, column) => write!(f, "P6 row {row} column {column}"),
             PFault::TooMuch(row) => write!(f, "P7 row {row}"),
             PFault::NoMemory => write!(f, "memory"),
+        }
+    }
+}
+
+/// Writes a fault of the savepoint as its code, and what it names.
+#[derive(Drop)]
+struct SaveWords(SaveFault);
+
+impl fmt::Display for SaveWords {
+    ghost output = { λ fault. Some (save_words fault.0) };
+
+    fn fmt<W: fmt::Write>(&self, f: &mut fmt::Formatter<W>) -> fmt::Result {
+        match self.0 {
+            SaveFault::Shape(number) => write!(f, "S1 record {number}"),
+            SaveFault::Past(row) => write!(f, "S2 rows {row}"),
+            SaveFault::Count(requests) => write!(f, "S3 requests {requests}"),
+            SaveFault::State(number) => write!(f, "S4 record {number}"),
+            SaveFault::NoMemory => write!(f, "memory"),
         }
     }
 }
