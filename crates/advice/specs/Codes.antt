@@ -10,6 +10,8 @@ use Rattle.report.specs.declared.fault.Fault.{Fault}
 use Rattle.report.specs.declared.fault.Fault.TheVariants as fault
 use Rattle.report.specs.declared.fault.FileIs.{FileIs}
 use Rattle.report.specs.declared.fault.FileIs.TheVariants as file
+use Rattle.savepoint.specs.declared.fault.SaveFault.{SaveFault}
+use Rattle.savepoint.specs.declared.fault.SaveFault.TheVariants as save
 use Rattle.versions.specs.declared.fault.QFault.{QFault}
 use Rattle.versions.specs.declared.fault.QFault.TheVariants as refusal
 
@@ -42,6 +44,18 @@ payments_code (rows.TextLong row column) = codes "P6"
 payments_code (rows.TooMuch row) = codes "P7"
 payments_code rows.NoMemory = codes "7"
 
+abbrev pub save_code : SaveFault → List ℕ
+save_code (save.Shape number) = codes "S1"
+save_code (save.Past row) = codes "S2"
+save_code (save.Count requests) = codes "S3"
+save_code (save.State number) = codes "S4"
+save_code save.NoMemory = codes "7"
+
+-- a file that is too long: the savepoint has a row of its own
+abbrev pub long_code : FileIs → List ℕ
+long_code file.Save = codes "9 save"
+long_code _ = codes "9"
+
 -- a write fault: the standard output has a row of its own
 abbrev pub write_code : FileIs → List ℕ
 write_code file.Out = codes "6 out"
@@ -52,10 +66,11 @@ code_of fault.Usage = codes "1"
 code_of (fault.Job code) = job_code code
 code_of (fault.Requests code) = requests_code code
 code_of (fault.Payments code) = payments_code code
+code_of (fault.Save code) = save_code code
 code_of (fault.Read file) = codes "5"
 code_of (fault.Write file) = write_code file
 code_of fault.NoMemory = codes "7"
-code_of (fault.Long file) = codes "9"
+code_of (fault.Long file) = long_code file
 
 abbrev pub refusal_code : QFault → List ℕ
 refusal_code (refusal.NoNode change) = codes "Q1"

@@ -3,13 +3,13 @@ ghost use Rattle.std.specs.Prelude.{◌≡◌, [], ℕ, List, None, IfOk, IfSome
 ghost use Rattle.advice.specs.Codes.{code_of, refusal_code};
 ghost use Rattle.advice.specs.Told.{Tells, message as message_of};
 
-use crate::call::{Call, role_of};
+use crate::call::{Call, title_of};
 use crate::codes::{help_of, help_of_refusal};
 use crate::job_places::job_place;
 use crate::look::Look;
 use crate::place::Place;
 use crate::request_places::{push_number, push_refused, request_place};
-use crate::row_places::row_place;
+use crate::row_places::{row_place, save_place};
 use crate::shown::push_shown;
 use crate::table::{Help, REFUSED};
 use job_file::read_job;
@@ -89,6 +89,7 @@ fn head_of(alloc: Global, call: Call<'_>, fault: Fault, note: &str) -> Result<St
         Fault::Job(_) => push_coded(call, FileIs::Job, fault, &mut out)?,
         Fault::Requests(_) => push_coded(call, FileIs::Requests, fault, &mut out)?,
         Fault::Payments(_) => push_coded(call, FileIs::Payments, fault, &mut out)?,
+        Fault::Save(_) => push_coded(call, FileIs::Save, fault, &mut out)?,
         Fault::Read(file) | Fault::Write(file) | Fault::Long(file) => {
             push_file(call, file, &mut out)?
         }
@@ -112,7 +113,7 @@ fn push_coded(
 }
 
 fn push_file(call: Call<'_>, file: FileIs, out: &mut String) -> Result<(), AllocError> {
-    let title = role_of(file).title;
+    let title = title_of(file);
     match call.name_of(file) {
         Some(name) => {
             write!(out, "fries: {title} ")?;
@@ -152,6 +153,10 @@ fn place_of<L: Look>(
             };
             Ok(row_place(alloc, job.as_ref(), rows, fault)?)
         }
+        Fault::Save(fault) => match file_of(alloc, call, FileIs::Save, look) {
+            Some(save) => Ok(save_place(alloc, save.as_slice(), fault)?),
+            None => Ok(Place::new(alloc)),
+        },
         Fault::Long(file) => {
             let mut place = Place::new(alloc);
             let most = file.limit();

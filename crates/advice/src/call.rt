@@ -13,30 +13,16 @@ pub struct Call<'a> {
     pub refused: &'a [Refused],
 }
 
-/// What a file is to a call: what it is called, and which of the names after the command it has.
-#[derive(Clone, Copy, Debug)]
-pub(crate) struct Role {
-    pub(crate) title: &'static str,
-    /// Its place among the names of `run`, from 0. The names of `check`, `plan` and `make` begin
-    /// with the same files.
-    place: Option<usize>,
-    /// Its place among those of `first`.
-    in_first: Option<usize>,
-}
-
-pub(crate) fn role_of(file: FileIs) -> Role {
-    let (title, place, in_first) = match file {
-        FileIs::Job => ("job file", Some(0), None),
-        FileIs::Requests => ("request file", Some(1), None),
-        FileIs::Payments => ("payments file", Some(2), Some(0)),
-        FileIs::Alerts => ("alerts file", Some(3), Some(1)),
-        FileIs::Audit => ("audit file", Some(4), None),
-        FileIs::Out => ("standard output", None, None),
-    };
-    Role {
-        title,
-        place,
-        in_first,
+/// What a file is called.
+pub(crate) fn title_of(file: FileIs) -> &'static str {
+    match file {
+        FileIs::Job => "job file",
+        FileIs::Requests => "request file",
+        FileIs::Payments => "payments file",
+        FileIs::Alerts => "alerts file",
+        FileIs::Audit => "audit file",
+        FileIs::Save => "savepoint",
+        FileIs::Out => "standard output",
     }
 }
 
@@ -44,26 +30,41 @@ impl<'a> Call<'a> {
     /// The name of a file, if the words have one for it.
     pub(crate) fn name_of(self, file: FileIs) -> Option<&'a Word> {
         let (command, rest) = self.words.split_first()?;
-        let role = role_of(file);
-        if command.as_str() == "first" {
-            return name_at(rest, role.in_first?);
-        }
-        let place = role.place?;
-        if place < file_count(command) {
-            name_at(rest, place)
-        } else {
-            None
-        }
+        let place = files_of(command).iter().position(|named| *named == file)?;
+        name_at(rest, place)
     }
 }
 
-// How many files a command names, before its numbers.
-fn file_count(command: &Word) -> usize {
+// The files that a command names, in the order of their names. Its numbers follow them.
+fn files_of(command: &Word) -> &'static [FileIs] {
     match command.as_str() {
-        "run" => 5,
-        "plan" => 2,
-        "check" | "make" => 1,
-        _ => 0,
+        "first" => &[FileIs::Payments, FileIs::Alerts],
+        "check" | "make" => &[FileIs::Job],
+        "plan" => &[FileIs::Job, FileIs::Requests],
+        "run" => &[
+            FileIs::Job,
+            FileIs::Requests,
+            FileIs::Payments,
+            FileIs::Alerts,
+            FileIs::Audit,
+        ],
+        "save" => &[
+            FileIs::Job,
+            FileIs::Requests,
+            FileIs::Payments,
+            FileIs::Alerts,
+            FileIs::Audit,
+            FileIs::Save,
+        ],
+        "resume" => &[
+            FileIs::Job,
+            FileIs::Requests,
+            FileIs::Payments,
+            FileIs::Save,
+            FileIs::Alerts,
+            FileIs::Audit,
+        ],
+        _ => &[],
     }
 }
 

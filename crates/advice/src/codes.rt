@@ -1,11 +1,12 @@
 // Which row of the table tells of a fault.
 ghost use Rattle.std.specs.Prelude.{◌≡◌};
-ghost use Rattle.advice.specs.Codes.{code_of, job_code, payments_code, refusal_code, requests_code};
+ghost use Rattle.advice.specs.Codes.{code_of, job_code, payments_code, refusal_code, requests_code, save_code};
 
 use crate::table::*;
 use job_file::{JobFault, ReqFileFault};
 use payments::PFault;
 use report::{Fault, FileIs};
+use savepoint::SaveFault;
 use versions::QFault;
 
 /// What is said of a fault.
@@ -17,11 +18,25 @@ pub fn help_of(fault: Fault) -> Help
         Fault::Job(fault) => help_of_job(fault),
         Fault::Requests(fault) => help_of_requests(fault),
         Fault::Payments(fault) => help_of_payments(fault),
+        Fault::Save(fault) => help_of_save(fault),
         Fault::Read(_) => READ,
         Fault::Write(FileIs::Out) => OUT,
         Fault::Write(_) => WRITE,
         Fault::NoMemory => MEMORY,
+        Fault::Long(FileIs::Save) => LONG_SAVE,
         Fault::Long(_) => LONG,
+    }
+}
+
+fn help_of_save(fault: SaveFault) -> Help
+    ensures { result.code.now ≡ save_code fault }
+{
+    match fault {
+        SaveFault::Shape(_) => S1,
+        SaveFault::Past(_) => S2,
+        SaveFault::Count(_) => S3,
+        SaveFault::State(_) => S4,
+        SaveFault::NoMemory => MEMORY,
     }
 }
 

@@ -4,6 +4,7 @@ use crate::shown::{line_at, push_bytes};
 use csv::{ByteRecord, ReaderBuilder};
 use jobs::{ColumnKind, Job, is_source, weight};
 use payments::PFault;
+use savepoint::SaveFault;
 use std::alloc::{AllocError, Global};
 use std::fmt::Write;
 
@@ -48,6 +49,24 @@ pub(crate) fn row_place(
         }
         PFault::TooMuch(_) => push_most_rows(job, &mut place.detail)?,
         PFault::NoMemory => {}
+    }
+    Ok(place)
+}
+
+/// What the bytes of a savepoint tell of the place of a fault.
+pub(crate) fn save_place(
+    alloc: Global,
+    bytes: &[u8],
+    fault: SaveFault,
+) -> Result<Place, AllocError> {
+    let mut place = Place::new(alloc);
+    match fault {
+        SaveFault::Shape(number) | SaveFault::State(number) => {
+            if let Some(found) = record_at(alloc, bytes, number) {
+                found.push_line(&mut place.note)?;
+            }
+        }
+        SaveFault::Past(_) | SaveFault::Count(_) | SaveFault::NoMemory => {}
     }
     Ok(place)
 }

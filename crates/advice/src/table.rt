@@ -137,6 +137,30 @@ pub const P7: Help = Help {
     cure: "Run fewer rows at a time, or make the job lighter.",
 };
 
+pub const S1: Help = Help {
+    code: "S1",
+    cause: "This record of the savepoint isn't of the form that `save` writes, or there is none.",
+    cure: "Give the file that `fries save` wrote, as it was written.",
+};
+
+pub const S2: Help = Help {
+    code: "S2",
+    cause: "The savepoint was made after this row, and the payments file has fewer rows.",
+    cure: "Give the payments of the run that was saved, with those before the savepoint.",
+};
+
+pub const S3: Help = Help {
+    code: "S3",
+    cause: "Another number of requests was done before the savepoint than is due by its row now.",
+    cure: "Give the requests of the run that was saved; add only requests for later rows.",
+};
+
+pub const S4: Help = Help {
+    code: "S4",
+    cause: "This record is of no worker that counts, its key is too long, or it comes too early.",
+    cure: "Give the job of the run that was saved, and the savepoint as it was written.",
+};
+
 pub const Q1: Help = Help {
     code: "Q1",
     cause: "The change names no node of the job.",
@@ -225,4 +249,10 @@ pub const LONG: Help = Help {
     code: "9",
     cause: "The file is longer than the program reads.",
     cure: "Shorten it; payments may be cut into several files, for several runs.",
+};
+
+pub const LONG_SAVE: Help = Help {
+    code: "9 save",
+    cause: "The savepoint is longer than the program reads.",
+    cure: "Save after fewer rows, before there are so many counts, or run the job in one part.",
 };
