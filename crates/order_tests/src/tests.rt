@@ -2,6 +2,7 @@ ghost use Rattle.std.specs.Prelude.{◌≡◌, IfSome};
 
 mod joins;
 mod orders;
+mod saves;
 mod texts;
 
 use crate::tests::texts::{JOB, PAYMENTS};

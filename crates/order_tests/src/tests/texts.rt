@@ -139,3 +139,15 @@ from = 0
 kind = "filter"
 when = [["seen", ">=", 2]]
 "#;
+
+/// The header and the first eight payments.
+pub const FIRST_8: &str = r#"source,account,merchant,amount
+card,ann,grocer,20.00
+card,bob,casino,250.00
+wire,cid,grocer,1200.00
+card,dee,fuel,45.50
+card,eve,fuel,60.00
+card,fay,casino,75.00
+card,bob,fuel,130.00
+card,gus,grocer,10.00
+"#;

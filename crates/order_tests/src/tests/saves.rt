@@ -1,0 +1,103 @@
+use crate::tests::setup;
+use crate::tests::texts::{AFTER_4_AND_8, FIRST_8};
+use flow_model::{RunRecord, Setup, Start};
+use flow_replay::plain_run;
+use jobs::worker_count;
+use payments::read_rows;
+use save_file::{issued_up_to, read_save, save_text, start_of};
+use savepoint::{SaveFault, first_of};
+use std::alloc::Global;
+use tuple_trace::Bytes;
+
+/// What is saved of the payments after row 8.
+const SAVE: &str = "\
+fries,save,8,2
+tally,0,dee,1
+tally,1,ann,1
+tally,1,gus,1
+";
+
+/// The run of the first eight rows, with the requests up to there.
+fn first_run(alloc: Global) -> Option<RunRecord> {
+    let setup = setup(alloc, AFTER_4_AND_8)?;
+    let issued = issued_up_to(&setup, 8, 10);
+    if issued > setup.requests() as u64 {
+        return None;
+    }
+    let setup = first_of(setup, issued);
+    let Ok(rows) = read_rows(alloc, &setup.job, FIRST_8.as_bytes()) else {
+        return None;
+    };
+    match plain_run(alloc, setup, &rows) {
+        Ok(ran) => Some(ran),
+        Err(_) => None,
+    }
+}
+
+/// The text of a start, if it has one state for each worker.
+fn text_of(alloc: Global, setup: &Setup, start: &Start) -> Option<Bytes> {
+    if start.states.len() as u64 != worker_count(&setup.job) {
+        return None;
+    }
+    match save_text(alloc, &setup.job, start) {
+        Ok(text) => Some(text),
+        Err(_) => None,
+    }
+}
+
+fn is_saved(alloc: Global) -> Option<bool> {
+    let ran = first_run(alloc)?;
+    let Ok(start) = start_of(alloc, &ran, 8) else {
+        return None;
+    };
+    let text = text_of(alloc, &ran.setup, &start)?;
+    Some(text.as_slice() == SAVE.as_bytes())
+}
+
+#[test]
+fn eight_payments_are_saved(rt: HostRuntime) {
+    assert!(rt; is_saved(rt.alloc()) == Some(true));
+}
+
+/// Whether what the text tells has this text again.
+fn is_read_again(alloc: Global) -> Option<bool> {
+    let setup = setup(alloc, AFTER_4_AND_8)?;
+    let Ok(start) = read_save(alloc, &setup, 10, SAVE.as_bytes()) else {
+        return None;
+    };
+    let text = text_of(alloc, &setup, &start)?;
+    Some(text.as_slice() == SAVE.as_bytes())
+}
+
+#[test]
+fn a_savepoint_is_read_again(rt: HostRuntime) {
+    assert!(rt; is_read_again(rt.alloc()) == Some(true));
+}
+
+fn has_fault(alloc: Global, text: &str, wanted: SaveFault) -> bool {
+    match setup(alloc, AFTER_4_AND_8) {
+        Some(setup) => {
+            matches!(read_save(alloc, &setup, 10, text.as_bytes()), Err(fault) if fault == wanted)
+        }
+        None => false,
+    }
+}
+
+const REFUSED: [(&str, SaveFault); 6] = [
+    ("fries,save,8,1\ntally,0,dee,1\n", SaveFault::Count(2)),
+    ("fries,save,11,2\ntally,0,dee,1\n", SaveFault::Past(11)),
+    (
+        "fries,save,8,2\ntally,0,dee,1\ntally,1,gus,1\ntally,1,ann,1\n",
+        SaveFault::State(3),
+    ),
+    ("fries,save,8,2\nreview,0,dee,1\n", SaveFault::State(1)),
+    ("fries,save,11,1\ntally,0,dee\n", SaveFault::Shape(1)),
+    ("", SaveFault::Shape(0)),
+];
+
+#[test]
+fn refused_savepoints(rt: HostRuntime) {
+    for (text, fault) in REFUSED {
+        assert!(rt; has_fault(rt.alloc(), text, fault));
+    }
+}
