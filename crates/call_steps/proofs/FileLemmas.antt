@@ -11,11 +11,14 @@ use Rattle.payments.specs.Reading.{rows_of}
 use Rattle.tuple_trace.specs.Counts.{Rose}
 use Rattle.tuple_trace.specs.declared.row.Row.{Row}
 use Rattle.versions.specs.declared.request.Request.{Request}
+use Rattle.flow_model.specs.Begin.{Begin}
+use Rattle.flow_model.specs.Outline.{Outline}
+use Rattle.savepoint.specs.SaveReading.{save_of}
 use Rattle.call_steps.specs.Ends.{EndsAfterRun, EndsStoring, StopsStoring}
 use Rattle.payments.specs.World.{ShelfState, SinkState, World, world}
 use Rattle.call_steps.specs.Outside.{FileText, IsExcused, Prints, PrintsFault}
 use Rattle.report.specs.Faults.{limit_of}
-use Rattle.call_steps.specs.Reading.{FollowsFile, HasRead, IsJobOf, IsRead, IsUnread, RefusesJob, RefusesRequests, RefusesRows, Tells, TellsJob}
+use Rattle.call_steps.specs.Reading.{AreRequestsOf, AreRowsOf, FollowsFile, FollowsStart, HasRead, IsJobOf, IsRead, IsUnread, RefusesJob, RefusesRequests, RefusesRows, RefusesSave, Tells, TellsJob, TellsRequests, TellsRows, TellsStart}
 use Rattle.report.specs.declared.fault.Fault.{Fault}
 use Rattle.report.specs.declared.fault.Fault.TheVariants as fault
 use Rattle.report.specs.declared.fault.FileIs.{FileIs}
@@ -131,11 +134,50 @@ sole_rows job (fault.Payments f) (fault.Payments g) bytes x y = let same = sym x
 sole_rows job (fault.Payments f) _ bytes x y = absurd y
 sole_rows job _ g bytes x y = absurd x
 
+pub no_start : (setup : Outline) (rows : ℕ) (start : Begin) → Apart (λ bytes. save_of setup rows bytes ≡ Ok start) (RefusesSave setup rows)
+no_start setup rows start (fault.Save code) bytes holds refused = absurd (let clash : Ok start ≡ Err code = sym holds ∙ refused.1 in cc)
+no_start setup rows start _ bytes holds refused = absurd refused
+
+pub sole_start : (setup : Outline) (rows : ℕ) → IsSole (RefusesSave setup rows)
+sole_start setup rows (fault.Save f) (fault.Save g) bytes x y = let same = sym x.1 ∙ y.1 in cc
+sole_start setup rows (fault.Save f) _ bytes x y = absurd y
+sole_start setup rows _ g bytes x y = absurd x
+
 -- the job that was read of a file that is told is the one that the file holds
 pub same_job : (files : Option Files) (name : List ℕ) (job other : Written) → IsJobOf files name job → TellsJob files name other → job ≡ other
 same_job files name job other of tells =
     let there = told_so file.Job (λ bytes. IsJobIn bytes job) files name tells.bytes of tells.told in
     let same = sym there.0 ∙ tells.are_so.0 in cc
+
+pub same_requests : (files : Option Files) (name : List ℕ) (job : Written) (requests other : List Request) → AreRequestsOf files name job requests → TellsRequests files name job other → requests ≡ other
+same_requests files name job requests other of tells =
+    let there = told_so file.Requests (λ bytes. requests_of job bytes ≡ Ok requests) files name tells.bytes of tells.told in
+    let same = sym there ∙ tells.are_so in cc
+
+pub same_rows : (files : Option Files) (name : List ℕ) (job : Written) (rows other : List Row) → AreRowsOf files name job rows → TellsRows files name job other → rows ≡ other
+same_rows files name job rows other of tells =
+    let there = told_so file.Payments (λ bytes. rows_of job bytes ≡ Ok rows) files name tells.bytes of tells.told in
+    let same = sym there ∙ tells.are_so in cc
+
+-- ---- savepoints of setups that read the same
+
+abbrev pub ReadSame : Outline → Outline → ℕ → Type 0
+ReadSame s t rows = (bytes : List ℕ) → save_of s rows bytes ≡ save_of t rows bytes
+
+refuses_same : (s t : Outline) (rows : ℕ) → ReadSame s t rows → (why : Fault) (bytes : List ℕ) → RefusesSave t rows why bytes → RefusesSave s rows why bytes
+refuses_same s t rows same (fault.Save code) bytes refused = (refused.0, same bytes ∙ refused.1)
+refuses_same s t rows same _ bytes refused = absurd refused
+
+pub start_follows_same : (s t : Outline) (rows : ℕ) (name : List ℕ) (old new : World) (answer : Option Fault) → ReadSame s t rows →
+    FollowsStart s rows name old new answer → FollowsStart t rows name old new answer
+start_follows_same s t rows name old new answer same follows = record {
+  long = follows.long;
+  refused = λ why tells. follows.refused why (record { bytes = tells.bytes; told = tells.told; short = tells.short; are_so = refuses_same s t rows same why tells.bytes tells.are_so });
+}
+
+pub start_told_same : (s t : Outline) (rows : ℕ) (files : Option Files) (name : List ℕ) (start : Begin) → ReadSame s t rows → TellsStart files name t rows start → TellsStart files name s rows start
+start_told_same s t rows files name start same tells =
+    record { bytes = tells.bytes; told = tells.told; short = tells.short; are_so = same tells.bytes ∙ tells.are_so }
 
 -- ---- the end of a call
 

@@ -2,3 +2,5 @@ pub mod PrintLemmas
 pub mod ReadLemmas
 pub mod RunLemmas
 pub mod FileLemmas
+pub mod StartLemmas
+pub mod PartLemmas

@@ -11,7 +11,7 @@ use Rattle.report.specs.declared.fault.Fault.TheVariants as fault
 
 -- the answer of a call that stopped for a fault before it had judged or run anything
 abbrev pub stopped : Fault → Answer
-stopped why = record { fault = Some why; refused = []; ran = None }
+stopped why = record { fault = Some why; refused = []; ran = None; start = None }
 
 -- the call stopped for such a cause; it changed no file and printed nothing
 pub record Stops (Cause : Faults → Faults → Fault → Type 0) (old new : World) (answer : Answer) : Type 0 where

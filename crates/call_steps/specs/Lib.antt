@@ -4,3 +4,4 @@ pub mod Reading
 pub mod Ends
 pub mod SetupFor
 pub mod Running
+pub mod Parts

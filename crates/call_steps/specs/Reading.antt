@@ -11,6 +11,10 @@ use Rattle.payments.specs.Reading.{rows_of}
 use Rattle.payments.specs.declared.read.PFault.TheVariants as rows
 use Rattle.tuple_trace.specs.declared.row.Row.{Row}
 use Rattle.versions.specs.declared.request.Request.{Request}
+use Rattle.flow_model.specs.Begin.{Begin}
+use Rattle.flow_model.specs.Outline.{Outline}
+use Rattle.savepoint.specs.SaveReading.{save_of}
+use Rattle.savepoint.specs.declared.fault.SaveFault.TheVariants as save
 use Rattle.report.specs.Faults.{limit_of}
 use Rattle.payments.specs.World.{World}
 use Rattle.call_steps.specs.Outside.{IsExcused}
@@ -44,6 +48,10 @@ AreRequestsOf files name job requests = HasRead file.Requests (λ bytes. request
 abbrev pub AreRowsOf : Option Files → List ℕ → Written → List Row → Type 0
 AreRowsOf files name job rows = HasRead file.Payments (λ bytes. rows_of job bytes ≡ Ok rows) files name
 
+-- the beginning is that of the savepoint's file, for this setup and so many rows
+abbrev pub IsStartOf : Option Files → List ℕ → Outline → ℕ → Begin → Type 0
+IsStartOf files name setup rows start = HasRead file.Save (λ bytes. save_of setup rows bytes ≡ Ok start) files name
+
 -- ---- why nothing is read
 
 -- the bytes are no job, for this fault
@@ -61,6 +69,11 @@ abbrev pub RefusesRows : Written → Fault → List ℕ → Type 0
 RefusesRows job (fault.Payments code) bytes = (code ≢ rows.NoMemory) × (rows_of job bytes ≡ Err code)
 RefusesRows job _ bytes = ⊥
 
+-- the bytes are no savepoint of the setup and so many rows, for this fault
+abbrev pub RefusesSave : Outline → ℕ → Fault → List ℕ → Type 0
+RefusesSave setup rows (fault.Save code) bytes = (code ≢ save.NoMemory) × (save_of setup rows bytes ≡ Err code)
+RefusesSave setup rows _ bytes = ⊥
+
 -- Why a file isn't read: it failed, is too long, or memory ran out; or else its bytes are refused for this fault. Unless it failed, nothing was
 -- counted.
 abbrev pub IsUnread : FileIs → (Fault → List ℕ → Type 0) → Option Files → List ℕ → Faults → Faults → Fault → Type 0
@@ -77,6 +90,9 @@ AreNoRequests files name job old new why = IsUnread file.Requests (RefusesReques
 
 abbrev pub AreNoRows : Option Files → List ℕ → Written → Faults → Faults → Fault → Type 0
 AreNoRows files name job old new why = IsUnread file.Payments (RefusesRows job) files name old new why
+
+abbrev pub IsNoStart : Option Files → List ℕ → Outline → ℕ → Faults → Faults → Fault → Type 0
+IsNoStart files name setup rows old new why = IsUnread file.Save (RefusesSave setup rows) files name old new why
 
 -- ---- seen from a file that is told
 
@@ -96,6 +112,9 @@ TellsRequests files name job requests = Tells file.Requests (λ bytes. requests_
 abbrev pub TellsRows : Option Files → List ℕ → Written → List Row → Type 0
 TellsRows files name job rows = Tells file.Payments (λ bytes. rows_of job bytes ≡ Ok rows) files name
 
+abbrev pub TellsStart : Option Files → List ℕ → Outline → ℕ → Begin → Type 0
+TellsStart files name setup rows start = Tells file.Save (λ bytes. save_of setup rows bytes ≡ Ok start) files name
+
 -- What a file is answered by, where it is told: one that is too long by just that, and one that is refused by just the fault that its bytes have.
 -- Otherwise the call is excused.
 pub record FollowsFile (is : FileIs) (Refuses : Fault → List ℕ → Type 0) (name : List ℕ) (old new : World) (answer : Option Fault) : Type 0 where
@@ -111,3 +130,6 @@ FollowsRequests job name old new answer = FollowsFile file.Requests (RefusesRequ
 
 abbrev pub FollowsRows : Written → List ℕ → World → World → Option Fault → Type 0
 FollowsRows job name old new answer = FollowsFile file.Payments (RefusesRows job) name old new answer
+
+abbrev pub FollowsStart : Outline → ℕ → List ℕ → World → World → Option Fault → Type 0
+FollowsStart setup rows name old new answer = FollowsFile file.Save (RefusesSave setup rows) name old new answer

@@ -6,6 +6,7 @@ use Rattle.sink_journal.specs.Alerts.{alerts}
 use Rattle.sink_journal.specs.Audit.{audit}
 use Rattle.tuple_trace.specs.declared.row.Row.{Row}
 use Rattle.versions.specs.declared.request.Request.{Request}
+use Rattle.flow_model.specs.Begin.{Begin}
 use Rattle.flow_model.specs.Consistent.{IsConsistent}
 use Rattle.flow_model.specs.OneTable.{HasNoCounts}
 use Rattle.flow_model.specs.Record.{told}
@@ -13,6 +14,8 @@ use Rattle.flow_model.specs.Run.{IsRun, Ran}
 use Rattle.flow_model.specs.Serial.{IsSerial, SeesPrefix, serial}
 use Rattle.flow_model.specs.Setup.{outline}
 use Rattle.flow_model.specs.declared.record.RunRecord.{RunRecord}
+use Rattle.savepoint.specs.Parts.{start_of}
+use Rattle.savepoint.specs.SaveText.{save_text}
 use Rattle.serial_order.specs.Serials.{serial_line, serials}
 use Rattle.call_steps.specs.Ends.{EndsAfterRun}
 use Rattle.report.specs.Lines.{alert_count, noted, refused_lines, row_count, summary_line}
@@ -32,10 +35,12 @@ pub record HaveOneOrder (rows : List Row) (ran : Ran) : Type 0 where
   pub prefix : (row : ℕ) → SeesPrefix ran row (serial ran row)
   pub alone : HasNoCounts ran.setup.job → IsSerial rows ran
 
--- What is kept of a run: its record, how many requests there were, those of them that judging refused, and in ordered mode the number of each row.
+-- What is kept of a run: its record, how many requests and rows there were, the requests that judging refused, and in ordered mode the number of
+-- each row.
 pub record IsDoneOf (ran : RunRecord) (requests : List Request) (rows : List Row) (done : Done) : Type 0 where
   pub ran_is : done.ran ≡ ran
   pub count : done.requests ≡ length requests
+  pub row : done.row ≡ length rows
   pub refused : done.refused ≡ ran.setup.judged.refused
   pub numbers : IsTrue ran.setup.ordered → done.serial ≡ serials (told ran) rows
 
@@ -62,18 +67,27 @@ abbrev pub audit_of : Done → List ℕ
 audit_of done =
     audit (written done.ran.setup.job) (map noted done.refused) done.ran.feeds done.ran.journals done.ran.states
 
+-- the text of the savepoint: where a run goes on after this one
+abbrev pub saved_of : Done → List ℕ
+saved_of done = save_text (written done.ran.setup.job) (start_of done.row (told done.ran))
+
 -- an alerts file
 abbrev pub alerts_file : List ℕ → List ℕ → FileText
 alerts_file name text = record { is = file.Alerts; name = name; text = text }
 
--- an audit file, if there is a name for one
-abbrev pub audit_files : Option (List ℕ) → List ℕ → List FileText
-audit_files None text = []
-audit_files (Some name) text = record { is = file.Audit; name = name; text = text } ∷ []
+-- a savepoint's file, if there is a name for one
+abbrev pub save_files : Option (List ℕ) → List ℕ → List FileText
+save_files None text = []
+save_files (Some name) text = record { is = file.Save; name = name; text = text } ∷ []
+
+-- an audit file and the savepoint's, if there are names for them
+abbrev pub audit_files : Option (List ℕ) → Option (List ℕ) → Done → List FileText
+audit_files None save done = []
+audit_files (Some name) save done = record { is = file.Audit; name = name; text = audit_of done } ∷ save_files save (saved_of done)
 
 -- the files that are written of it, in their order
-abbrev pub files_of : List ℕ → Option (List ℕ) → Done → List FileText
-files_of alerts audit done = alerts_file alerts (alerts_of done) ∷ audit_files audit (audit_of done)
+abbrev pub files_of : List ℕ → Option (List ℕ) → Option (List ℕ) → Done → List FileText
+files_of alerts audit save done = alerts_file alerts (alerts_of done) ∷ audit_files audit save done
 
 abbrev pub summary_of : Done → Summary
 summary_of done = record {
@@ -92,9 +106,10 @@ abbrev pub run_lines : Done → List ℕ
 run_lines done = (refused_lines done.refused ++ serial_lines done) ++ summary_line (summary_of done)
 
 -- the call ran something that is so, and came to storing its files and printing the lines of that
-pub record Runs (IsSo : Done → Type 0) (alerts : List ℕ) (audit : Option (List ℕ)) (old new : World) (answer : Answer) : Type 0 where
+pub record Runs (IsSo : Done → Type 0) (alerts : List ℕ) (audit save : Option (List ℕ)) (from : Option Begin) (old new : World) (answer : Answer) : Type 0 where
   pub done : Done
   pub is_so : IsSo done
-  pub ends : EndsAfterRun (files_of alerts audit done) (run_lines done) old new answer.fault
+  pub ends : EndsAfterRun (files_of alerts audit save done) (run_lines done) old new answer.fault
   pub refused : answer.refused ≡ done.refused
   pub ran : answer.ran ≡ Some done.ran
+  pub start : answer.start ≡ from

@@ -1,7 +1,7 @@
 ghost use Rattle.std.specs.Prelude.{◌≡◌};
 ghost use Rattle.call_steps.specs.Ends.{stopped as stopped_for};
 
-use flow_model::RunRecord;
+use flow_model::{RunRecord, Start};
 use report::Fault;
 use std::alloc::Global;
 use versions::Refusals;
@@ -15,6 +15,8 @@ pub struct Answer {
     pub refused: Refusals,
     /// What the run did, where one was completed.
     pub ran: Option<RunRecord>,
+    /// Where the run began, if it began with a savepoint that was read.
+    pub start: Option<Start>,
 }
 
 impl Answer {
@@ -26,6 +28,7 @@ impl Answer {
             fault: Some(fault),
             refused: Refusals::new(alloc),
             ran: None,
+            start: None,
         }
     }
 }

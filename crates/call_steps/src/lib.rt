@@ -14,6 +14,7 @@
 
 mod answer;
 mod job;
+mod parts;
 mod printing;
 mod reading;
 mod running;
@@ -22,7 +23,8 @@ mod writing;
 
 pub use answer::Answer;
 pub use job::{first_job, first_requests};
+pub use parts::{run_first_part, run_later_part};
 pub use printing::print;
-pub use reading::{job_in, requests_in, rows_in};
+pub use reading::{job_in, requests_in, rows_in, start_in};
 pub use running::{Done, Outputs, leave_run, run_in_order, run_lines, run_on_threads};
 pub use setup::setup_of;

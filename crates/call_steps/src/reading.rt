@@ -3,12 +3,15 @@ ghost use Rattle.std.specs.Prelude.{◌≡◌, IfOk, IfErr, OnOk};
 ghost use Rattle.jobs.specs.Job.{written};
 ghost use Rattle.jobs.specs.Nodes.{AreFromSources};
 ghost use Rattle.job_file.specs.RequestSizes.{AreFew};
-ghost use Rattle.call_steps.specs.Reading.{AreNoRequests, AreNoRows, AreRequestsOf, AreRowsOf, IsJobOf, IsNoJob, IsRead, IsUnread};
+ghost use Rattle.flow_model.specs.Setup.{outline};
+ghost use Rattle.call_steps.specs.Reading.{AreNoRequests, AreNoRows, AreRequestsOf, AreRowsOf, IsJobOf, IsNoJob, IsNoStart, IsRead, IsStartOf, IsUnread};
 
+use flow_model::{Setup, Start};
 use job_file::{read_job, read_requests};
 use jobs::Job;
 use payments::{Shelf, ShelfFault, read_rows};
 use report::{Fault, FileIs};
+use save_file::read_save;
 use std::alloc::Global;
 use tuple_trace::{Bytes, Rows, Word};
 use versions::Requests;
@@ -64,6 +67,26 @@ pub fn rows_in<S: Shelf>(
 {
     let bytes = read_file(alloc, FileIs::Payments, name, shelf)?;
     Ok(read_rows(alloc, job, bytes.as_slice())?)
+}
+
+/// Where a run goes on by a savepoint's file, with this setup and so many rows in all.
+pub fn start_in<S: Shelf>(
+    alloc: Global,
+    setup: &Setup,
+    rows: u64,
+    name: &Word,
+    shelf: &mut S,
+) -> Result<Start, Fault>
+    ensures start { IfOk result (IsStartOf (S.state shelf.old).files name.now
+        (outline setup.now) rows) }
+    ensures kept { OnOk result (S.state shelf.new ≡ S.state shelf.old) }
+    ensures files { (S.state shelf.new).files ≡ (S.state shelf.old).files }
+    ensures target { (S.state shelf.new).target ≡ (S.state shelf.old).target }
+    ensures cause { IfErr result (IsNoStart (S.state shelf.old).files name.now
+        (outline setup.now) rows (S.state shelf.old).faults (S.state shelf.new).faults) }
+{
+    let bytes = read_file(alloc, FileIs::Save, name, shelf)?;
+    Ok(read_save(alloc, setup, rows, bytes.as_slice())?)
 }
 
 // All bytes of a file.

@@ -10,7 +10,7 @@ ghost use Rattle.command_line.specs.Asked.{IsSize};
 ghost use Rattle.call_steps.specs.Ends.{EndsAfterRun};
 ghost use Rattle.payments.specs.World.{world};
 ghost use Rattle.call_steps.specs.SetupFor.{AreSame};
-ghost use Rattle.call_steps.specs.Running.{audit_of, files_of, run_lines as run_lines_of, serial_lines as serial_lines_of, summary_of as summary_of_done, IsDoneOf, IsRunOf};
+ghost use Rattle.call_steps.specs.Running.{audit_of, files_of, run_lines as run_lines_of, saved_of, serial_lines as serial_lines_of, summary_of as summary_of_done, IsDoneOf, IsRunOf};
 ghost use Rattle.serial_order.specs.Serials.{serials};
 
 use crate::answer::Answer;
@@ -24,6 +24,7 @@ use jobs::Job;
 use lane_ring::RingLanes;
 use payments::{Shelf, Sink};
 use report::{Fault, FileIs, Summary, alert_count, noted, push_refused, row_count, summary_line};
+use save_file::{save_text, start_of};
 use serial_order::{Serial, push_serial_line, serial};
 use sink_journal::{alerts_text, audit_text};
 use std::alloc::Global;
@@ -42,6 +43,8 @@ pub struct Done {
     pub refused: Refusals,
     /// In ordered mode, after how many of the accepted requests each row comes; else nothing.
     pub serial: Serial,
+    /// The row after which the run ended; 0 if there was none.
+    pub row: u64,
 }
 
 /// Judges the requests, and runs the rows and those that are accepted on one thread, one row after another.
@@ -96,7 +99,7 @@ where
 }
 
 // What was run, with the refused requests, and in ordered mode the number of each row.
-fn done_of(
+pub(crate) fn done_of(
     alloc: Global,
     ran: RunRecord,
     requests: &Requests,
@@ -111,6 +114,7 @@ fn done_of(
         requests: requests.len(),
         refused,
         serial,
+        row: rows.len() as u64,
     })
 }
 
@@ -131,6 +135,8 @@ pub struct Outputs<'a> {
     pub alerts: &'a Word,
     /// That of the audit, if one is to be written.
     pub audit: Option<&'a Word>,
+    /// That of the savepoint, if one is to be written after the audit.
+    pub save: Option<&'a Word>,
 }
 
 /// Stores the files of a run, and then prints its lines. The first fault ends it.
@@ -144,12 +150,14 @@ pub fn leave_run<S: Shelf, O: Sink>(
     requires journals { length done.ran.journals ≡ worker_count done.ran.setup.job.nodes }
     requires states { length done.ran.states ≡ worker_count done.ran.setup.job.nodes }
     ensures ends { EndsAfterRun
-        (files_of names.entry.alerts.now (option_copied names.entry.audit) done) (run_lines_of done)
+        (files_of names.entry.alerts.now (option_copied names.entry.audit)
+        (option_copied names.entry.save) done) (run_lines_of done)
         (world (S.state shelf.old) (O.state out.old))
         (world (S.state shelf.new) (O.state out.new))
         result.fault }
     ensures refused { result.refused ≡ done.refused }
     ensures ran { result.ran ≡ Some done.ran }
+    ensures start { result.start ≡ None }
 {
     let fault = write_run(alloc, &done, names, shelf, out).err();
     let Done { ran, refused, .. } = done;
@@ -157,6 +165,7 @@ pub fn leave_run<S: Shelf, O: Sink>(
         fault,
         refused,
         ran: Some(ran),
+        start: None,
     }
 }
 
@@ -170,7 +179,8 @@ fn write_run<S: Shelf, O: Sink>(
     requires journals { length done.now.ran.journals ≡ worker_count done.now.ran.setup.job.nodes }
     requires states { length done.now.ran.states ≡ worker_count done.now.ran.setup.job.nodes }
     ensures { EndsAfterRun
-        (files_of names.entry.alerts.now (option_copied names.entry.audit) done.now) (run_lines_of done.now)
+        (files_of names.entry.alerts.now (option_copied names.entry.audit)
+        (option_copied names.entry.save) done.now) (run_lines_of done.now)
         (world (S.state shelf.old) (O.state out.old))
         (world (S.state shelf.new) (O.state out.new))
         (result_err result) }
@@ -183,7 +193,8 @@ fn texts_of<'a>(alloc: Global, done: &Done, names: Outputs<'a>) -> Result<Texts<
     requires journals { length done.now.ran.journals ≡ worker_count done.now.ran.setup.job.nodes }
     requires states { length done.now.ran.states ≡ worker_count done.now.ran.setup.job.nodes }
     ensures files { IfOk result (λ texts. texts.files.items ≡
-        files_of names.entry.alerts.now (option_copied names.entry.audit) done.now) }
+        files_of names.entry.alerts.now (option_copied names.entry.audit)
+        (option_copied names.entry.save) done.now) }
     ensures lines { IfOk result (λ texts. texts.lines ≡ run_lines_of done.now) }
 {
     Ok(Texts {
@@ -201,7 +212,8 @@ fn files_in<'a>(
     requires journals { length done.now.ran.journals ≡ worker_count done.now.ran.setup.job.nodes }
     requires states { length done.now.ran.states ≡ worker_count done.now.ran.setup.job.nodes }
     ensures { IfOk result (λ files. files.items ≡
-        files_of names.entry.alerts.now (option_copied names.entry.audit) done.now) }
+        files_of names.entry.alerts.now (option_copied names.entry.audit)
+        (option_copied names.entry.save) done.now) }
 {
     let alerts = FileText {
         file: FileIs::Alerts,
@@ -216,7 +228,24 @@ fn files_in<'a>(
         name,
         text: audit_in(alloc, done)?,
     };
-    Ok(Vec::from_array(alloc, [alerts, audit])?)
+    let Some(name) = names.save else {
+        return Ok(Vec::from_array(alloc, [alerts, audit])?);
+    };
+    let save = FileText {
+        file: FileIs::Save,
+        name,
+        text: save_in(alloc, done)?,
+    };
+    Ok(Vec::from_array(alloc, [alerts, audit, save])?)
+}
+
+// Where a run goes on after this one, as a savepoint.
+fn save_in(alloc: Global, done: &Done) -> Result<Bytes, NoMemory>
+    requires { length done.now.ran.states ≡ worker_count done.now.ran.setup.job.nodes }
+    ensures { IfOk result (λ text. text ≡ saved_of done.now) }
+{
+    let start = start_of(alloc, &done.ran, done.row)?;
+    save_text(alloc, &done.ran.setup.job, &start)
 }
 
 fn audit_in(alloc: Global, done: &Done) -> Result<Bytes, NoMemory>

@@ -1,0 +1,9 @@
+use Rattle.std.proofs.lemmas.Result.{IfOk-weaker}
+use Rattle.call_steps.proofs.PartLemmas.{since_so, workers_of}
+use Rattle.call_steps.proofs.parts.run_later_part.Goals as goal
+
+pub returns-clause-workers : goal.returns-clause-workers
+returns-clause-workers g c =
+    IfOk-weaker c.done_of.result _ _ (λ done of. workers_of c.args.start.now c.args.setup c.args.requests.now c.args.rows.now c.in_ok-ran.ran done
+    (since_so c.args.start.now c.args.setup c.in_ok-flown.flown.setup c.args.rows.now c.in_ok-flown.flown.feeds c.in_ok-flown.flown.crew.items c.in_ok-ran.ran
+    c.in_ok-flown.ensures.setup c.in_ok-flown.ensures.run c.in_ok-ran.ensures) of) c.done_of.ensures

@@ -1,0 +1,124 @@
+// The two parts of a run with a savepoint between them.
+ghost use Rattle.std.specs.Prelude.{◌≡◌, ◌≤◌, IfOk, length, min, take};
+ghost use Rattle.jobs.specs.Job.{written};
+ghost use Rattle.jobs.specs.Nodes.{AreFromSources};
+ghost use Rattle.job_file.specs.RequestSizes.{AreFew};
+ghost use Rattle.tuple_trace.specs.Rows.{AreRows};
+ghost use Rattle.flow_model.specs.Setup.{outline};
+ghost use Rattle.flow_model.specs.Workers.{posts};
+ghost use Rattle.command_line.specs.Asked.{IsSize};
+ghost use Rattle.call_steps.specs.Parts.{HasWorkers, IsFirstPart, IsRunFromStart};
+
+use crate::running::{Done, done_of};
+use crate::setup::setup_of;
+use command_line::EngineSize;
+use flow_engine::{run_flow, run_from};
+use flow_model::{Setup, Start, runs_are_consistent};
+use jobs::Job;
+use lane_ring::RingLanes;
+use save_file::issued_up_to;
+use savepoint::first_of;
+use std::alloc::Global;
+use std::sync::Wait;
+use std::thread::Threads;
+use tuple_trace::{Gate, NoMemory, Row, Rows};
+use versions::Requests;
+
+/// Judges the requests, and runs the first `most` rows, or all if there are fewer.
+///
+/// They run with the accepted requests that are issued up to there. Their plans are those of all
+/// requests.
+///
+/// The one error is out of memory.
+pub fn run_first_part<R, G>(
+    rt: &R,
+    alloc: Global,
+    gate: &G,
+    size: EngineSize,
+    job: Job,
+    requests: &Requests,
+    rows: &Rows,
+    most: u64,
+) -> Result<Done, NoMemory>
+where
+    R: Threads + Wait + Copy + Send + Sync + 'static,
+    G: Gate + Sync,
+    requires size { IsSize size }
+    requires few { AreFew requests.now }
+    requires sources { AreFromSources (written job) rows.now }
+    ensures run { IfOk result (IsFirstPart (min most (length rows.now))
+        (written job) requests.now rows.now) }
+    ensures workers { IfOk result HasWorkers }
+{
+    let setup = setup_of(alloc, job, requests, false)?;
+    let count = rows.len() as u64;
+    let row = most.min(count);
+    let turned = issued_up_to(&setup, row, count);
+    let part = first_of(setup, turned);
+    let first = first_rows(alloc, rows, row)?;
+    runs_are_consistent(&part, &first);
+    let EngineSize { threads, capacity } = size;
+    let flown = run_flow(rt, alloc, &RingLanes, part, &first, threads, capacity, gate)?;
+    let ran = flown.record(alloc)?;
+    done_of(alloc, ran, requests, &first)
+}
+
+// Copies of the first rows.
+fn first_rows(alloc: Global, rows: &Rows, count: u64) -> Result<Rows, NoMemory>
+    requires { count ≤ length rows.now }
+    ensures { IfOk result (λ first. first ≡ take count rows.now) }
+{
+    copies(alloc, &rows.as_slice()[..count as usize])
+}
+
+fn copies(alloc: Global, rows: &[Row]) -> Result<Rows, NoMemory>
+    requires { AreRows rows.now }
+    ensures { IfOk result (λ copies. copies ≡ rows.now) }
+{
+    let mut copies = Rows::new(alloc);
+    for row in rows {
+        copies.push(copy_of(row)?)?;
+    }
+    Ok(copies)
+}
+
+fn copy_of(row: &Row) -> Result<Row, NoMemory>
+    ensures { IfOk result (λ copy. copy ≡ row.now) }
+{
+    Ok(Row {
+        source: row.source,
+        tuple: row.tuple.copy()?,
+    })
+}
+
+/// Runs the rows after a start and the requests that it hasn't turned, by a setup that was judged.
+///
+/// `rows` are all rows, and the start has turned no more requests than the setup has. The one error
+/// is out of memory.
+pub fn run_later_part<R, G>(
+    rt: &R,
+    alloc: Global,
+    gate: &G,
+    size: EngineSize,
+    setup: Setup,
+    requests: &Requests,
+    rows: &Rows,
+    start: &Start,
+) -> Result<Done, NoMemory>
+where
+    R: Threads + Wait + Copy + Send + Sync + 'static,
+    G: Gate + Sync,
+    requires size { IsSize size }
+    requires sources { AreFromSources (outline setup).job rows.now }
+    requires turned { start.now.turned ≤ length (outline setup).requests }
+    requires states { length start.now.states ≡ length (posts (outline setup).job) }
+    ensures run { IfOk result (IsRunFromStart start.now setup requests.now rows.now) }
+    ensures workers { IfOk result HasWorkers }
+{
+    let EngineSize { threads, capacity } = size;
+    let flown = run_from(
+        rt, alloc, &RingLanes, setup, rows, threads, capacity, gate, start,
+    )?;
+    let ran = flown.record(alloc)?;
+    done_of(alloc, ran, requests, rows)
+}
