@@ -1,27 +1,22 @@
 -- What the files that a call reads are answered by.
-use Rattle.std.proofs.Common.{◌≡◌, ◌≤◌, ◌<◌, ◌⊎◌, ◌∙◌, ◌∷◌, [], inl, inr, ℕ, List, Option, None, Some, Ok, Err, refl, sym, ap, subst}
-use Rattle.std.specs.Prelude.{IfSome}
+use Rattle.std.proofs.Common.{◌≡◌, ◌⊎◌, ◌∙◌, inl, inr, ℕ, List, Option, None, Some, Ok, Err, refl, sym, ap, subst}
 use Rattle.jobs.specs.Written.{Written}
 use Rattle.job_file.specs.Job.{Excludes, HaveOneFault, IsJobIn}
 use Rattle.job_file.specs.RequestFile.{requests_of}
-use Rattle.payments.specs.Causes.{Faults}
 use Rattle.payments.specs.Reading.{rows_of}
 use Rattle.tuple_trace.specs.declared.row.Row.{Row}
 use Rattle.versions.specs.declared.request.Request.{Request}
-use Rattle.command_line.specs.Asked.{Asked, Check, First, FirstAsked, Help, Make, MakeAsked, Plan, PlanAsked, Run, RunAsked, Version}
-use Rattle.command_line.specs.Help.{help_of, version_line}
+use Rattle.command_line.specs.Asked.{FirstAsked, MakeAsked, PlanAsked, RunAsked}
 use Rattle.payments.specs.Made.{made_rows}
 use Rattle.payments.specs.declared.read.PFault.{PFault}
-use Rattle.top_call.specs.Answers.{Answers, Follows}
 use Rattle.top_call.specs.Explain.{AnswersText, FollowsText}
 use Rattle.top_call.specs.Make.{AnswersMake, FollowsMake, IsNotMade, MakesNoRows}
 use Rattle.top_call.specs.Check.{AnswersCheck, FollowsCheck}
-use Rattle.call_steps.specs.Ends.{Stops, stopped}
 use Rattle.top_call.specs.First.{AnswersFirst, FollowsFirst, asked_job}
 use Rattle.report.specs.Lines.{sizes_line}
 use Rattle.call_steps.specs.declared.answer.Answer.{Answer}
 use Rattle.payments.specs.World.{World}
-use Rattle.call_steps.specs.Outside.{IsExcused, PrintsFault}
+use Rattle.call_steps.specs.Outside.{IsExcused}
 use Rattle.top_call.specs.Plan.{AnswersPlan, FollowsPlan, IsNoSetup, setup_lines}
 use Rattle.top_call.specs.Run.{AnswersRun, FollowsRun, IsNoRun}
 use Rattle.call_steps.specs.Running.{files_of, run_lines}
@@ -29,7 +24,6 @@ use Rattle.call_steps.specs.Reading.{AreNoRequests, AreNoRows, AreRequestsOf, Ar
 use Rattle.report.specs.declared.fault.Fault.{Fault}
 use Rattle.report.specs.declared.fault.Fault.TheVariants as fault
 use Rattle.report.specs.declared.fault.FileIs.TheVariants as file
-use Rattle.call_steps.proofs.PrintLemmas.{prints_nothing}
 use Rattle.call_steps.proofs.FileLemmas.{done_or_excused, follows_excused, follows_read, follows_unread, no_job, no_requests, no_rows, ran_or_excused, same_job, sole_job, sole_requests, sole_rows, unread_excused}
 
 -- ---- each command
@@ -59,17 +53,17 @@ follows_first asked old new answer a =
           let run = r.is_so in
           record {
             payments = follows_read file.Payments (λ bytes. rows_of job bytes ≡ Ok run.rows) (RefusesRows job) asked.payments old new answer.fault (no_rows job run.rows) run.of_rows;
-            done = λ rows tells. ran_or_excused (files_of asked.alerts None r.done) (run_lines r.done) old a.between new answer.fault r.ends a.prints;
+            done = λ rows tells. ran_or_excused (files_of asked.alerts None None r.done) (run_lines r.done) old a.between new answer.fault r.ends a.prints;
           }
     ]
 
 -- a request file that was read
-follows_requests : (name : List ℕ) (old new : World) (answer : Option Fault) (job : Written) (requests : List Request) → AreRequestsOf old.shelf.files name job requests →
+pub follows_requests : (name : List ℕ) (old new : World) (answer : Option Fault) (job : Written) (requests : List Request) → AreRequestsOf old.shelf.files name job requests →
     FollowsFile file.Requests (RefusesRequests job) name old new answer
 follows_requests name old new answer job requests of =
     follows_read file.Requests (λ bytes. requests_of job bytes ≡ Ok requests) (RefusesRequests job) name old new answer (no_requests job requests) of
 
-excused_where_undone : (old new : World) (why : Fault) → ((Some why ≡ None) ⊎ IsExcused old new (Some why)) → IsExcused old new (Some why)
+pub excused_where_undone : (old new : World) (why : Fault) → ((Some why ≡ None) ⊎ IsExcused old new (Some why)) → IsExcused old new (Some why)
 excused_where_undone old new why (inl done) = absurd (cc)
 excused_where_undone old new why (inr excused) = excused
 
@@ -112,7 +106,7 @@ follows_plan excludes have asked old new answer a =
     ]
 
 -- a call that read no job, no requests of it, or no rows
-follows_no_run : Excludes → HaveOneFault → (asked : RunAsked) (old between new : World) (why : Fault) → new.shelf ≡ between.shelf →
+pub follows_no_run : Excludes → HaveOneFault → (asked : RunAsked) (old between new : World) (why : Fault) → new.shelf ≡ between.shelf →
     IsNoRun asked old.shelf.files old.shelf.faults between.shelf.faults why → FollowsRun asked old new (Some why)
 follows_no_run excludes have asked old between new why same none =
     elim none [
@@ -152,7 +146,7 @@ follows_run excludes have asked old new answer a =
                 (subst (λ (j : Written). AreRequestsOf old.shelf.files asked.plan.requests j of.requests) (same job tells) of.of_requests);
             payments = λ job requests tells more. follows_read file.Payments (λ bytes. rows_of job bytes ≡ Ok of.rows) (RefusesRows job) asked.payments old new answer.fault
                 (no_rows job of.rows) (subst (λ (j : Written). AreRowsOf old.shelf.files asked.payments j of.rows) (same job tells) of.of_rows);
-            done = λ job requests rows tells more most. ran_or_excused (files_of asked.alerts (Some asked.audit) r.done) (run_lines r.done) old a.between new answer.fault r.ends a.prints;
+            done = λ job requests rows tells more most. ran_or_excused (files_of asked.alerts (Some asked.audit) None r.done) (run_lines r.done) old a.between new answer.fault r.ends a.prints;
           }
     ]
 
@@ -208,67 +202,7 @@ follows_make excludes have asked old new answer a =
           }
     ]
 
--- ---- texts, and memory that runs out while the words are read
+-- ---- texts that are printed
 
 pub follows_text : (text : List ℕ) (old new : World) (answer : Answer) → AnswersText text old new answer → FollowsText old new answer.fault
 follows_text text old new answer a = done_or_excused text old a.between new answer.fault a.lines.prints a.prints
-
--- nothing was read, stored or printed
-stops_for_memory : (Cause : Faults → Faults → Fault → Type 0) (old : World) (answer : Answer) → answer ≡ stopped fault.NoMemory → Cause old.shelf.faults old.shelf.faults fault.NoMemory → Stops Cause old old answer
-stops_for_memory Cause old answer is cause =
-    record { why = fault.NoMemory; answer_is = is; cause = cause; files = refl; target = refl; out = refl }
-
-text_for_memory : (text : List ℕ) (old new : World) (answer : Answer) → answer ≡ stopped fault.NoMemory → PrintsFault answer.fault old new → AnswersText text old new answer
-text_for_memory text old new answer is prints = record {
-  between = old;
-  lines = record { shelf = refl; prints = prints_nothing text old.out answer.fault (ap (λ (a : Answer). a.fault) is) };
-  refused = ap (λ (a : Answer). a.refused) is;
-  ran = ap (λ (a : Answer). a.ran) is;
-  prints = prints;
-}
-
--- any call may end so
-pub answers_memory : (asked : Asked) (old new : World) (answer : Answer) → answer ≡ stopped fault.NoMemory → PrintsFault answer.fault old new → Answers asked old new answer
-answers_memory (First asked) old new answer is prints = record { between = old; ends = inl (stops_for_memory _ old answer is refl); prints = prints }
-answers_memory (Check name) old new answer is prints = record { between = old; ends = inl (stops_for_memory _ old answer is refl); prints = prints }
-answers_memory (Plan asked) old new answer is prints = record { between = old; ends = inl (stops_for_memory _ old answer is (inl refl)); prints = prints }
-answers_memory (Run asked) old new answer is prints = record { between = old; ends = inl (stops_for_memory _ old answer is (inl (inl refl))); prints = prints }
-answers_memory (Make asked) old new answer is prints = record { between = old; ends = inl (stops_for_memory _ old answer is (inl refl)); prints = prints }
-answers_memory (Help about) old new answer is prints = text_for_memory (help_of about) old new answer is prints
-answers_memory Version old new answer is prints = text_for_memory version_line old new answer is prints
-
-no_memory : (old new : World) → IsExcused old new (Some fault.NoMemory)
-no_memory old new = inr refl
-
-pub follows_memory : (asked : Asked) (old new : World) → Follows asked old new (Some fault.NoMemory)
-follows_memory (First asked) old new = record {
-  payments = follows_excused file.Payments (RefusesRows (asked_job asked)) asked.payments old new (Some fault.NoMemory) (no_memory old new);
-  done = λ rows tells. inr (no_memory old new);
-}
-follows_memory (Check name) old new = record {
-  job = follows_excused file.Job RefusesJob name old new (Some fault.NoMemory) (no_memory old new);
-  done = λ job tells. inr (no_memory old new);
-}
-follows_memory (Plan asked) old new = record {
-  job = follows_excused file.Job RefusesJob asked.job old new (Some fault.NoMemory) (no_memory old new);
-  requests = λ job tells. follows_excused file.Requests (RefusesRequests job) asked.requests old new (Some fault.NoMemory) (no_memory old new);
-  done = λ job requests tells more. inr (no_memory old new);
-}
-follows_memory (Run asked) old new = record {
-  job = follows_excused file.Job RefusesJob asked.plan.job old new (Some fault.NoMemory) (no_memory old new);
-  requests = λ job tells. follows_excused file.Requests (RefusesRequests job) asked.plan.requests old new (Some fault.NoMemory) (no_memory old new);
-  payments = λ job requests tells more. follows_excused file.Payments (RefusesRows job) asked.payments old new (Some fault.NoMemory) (no_memory old new);
-  done = λ job requests rows tells more most. inr (no_memory old new);
-}
-follows_memory (Make asked) old new = record {
-  job = follows_excused file.Job RefusesJob asked.job old new (Some fault.NoMemory) (no_memory old new);
-  rows = λ job code tells refused. inr (no_memory old new);
-  done = λ job rows tells made. inr (no_memory old new);
-}
-follows_memory (Help about) old new = inr (no_memory old new)
-follows_memory Version old new = inr (no_memory old new)
-
--- what holds of anything that was asked holds of what was
-pub whatever : {A : Type 0} (o : Option A) (P : A → Type 0) → ((a : A) → P a) → IfSome o P
-whatever None P all = tt
-whatever (Some a) P all = all a

@@ -1,4 +1,6 @@
 pub mod FollowLemmas
+pub mod PartLemmas
+pub mod MemoryLemmas
 pub mod MakeLemmas
 pub mod FirstLemmas
 pub mod SureLemmas

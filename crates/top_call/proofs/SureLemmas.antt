@@ -1,7 +1,7 @@
 -- What calls answer if the outside counts no fault.
-use Rattle.std.proofs.Common.{◌≡◌, ◌⊎◌, ◌≤◌, ◌∙◌, ◌∷◌, [], inl, inr, ℕ, List, Option, None, Some, refl, sym, ap, subst, arith}
+use Rattle.std.proofs.Common.{◌≡◌, ◌⊎◌, ◌≤◌, ◌∙◌, ◌∷◌, [], inl, inr, ℕ, List, Option, None, Some, length, refl, sym, ap, subst, arith}
 use Rattle.std.specs.Prelude.{⊤}
-use Rattle.command_line.specs.Asked.{Asked, Check, First, Help, Make, MakeAsked, Plan, PlanAsked, Run, RunAsked, Version}
+use Rattle.command_line.specs.Asked.{Asked, Check, First, Help, Make, MakeAsked, Plan, PlanAsked, Resume, ResumeAsked, Run, RunAsked, Save, Version}
 use Rattle.command_line.specs.Help.{help_of, version_line}
 use Rattle.jobs.specs.Written.{Written}
 use Rattle.payments.specs.Causes.{Faults}
@@ -22,8 +22,11 @@ use Rattle.top_call.specs.Make.{IsNotMade, MakesNoRows}
 use Rattle.payments.specs.World.{ShelfState, SinkState, World}
 use Rattle.call_steps.specs.Outside.{FileText, Prints, PrintsFault, PrintsReport}
 use Rattle.top_call.specs.Plan.{IsNoSetup, setup_lines}
-use Rattle.call_steps.specs.Reading.{IsUnread, RefusesJob, RefusesRequests, RefusesRows}
+use Rattle.call_steps.specs.Reading.{IsUnread, RefusesJob, RefusesRequests, RefusesRows, RefusesSave}
 use Rattle.top_call.specs.Run.{IsNoRun}
+use Rattle.top_call.specs.Resume.{IsNoResume}
+use Rattle.flow_model.specs.Outline.{Outline}
+use Rattle.flow_model.specs.Setup.{outline}
 use Rattle.call_steps.specs.Running.{files_of, run_lines}
 use Rattle.top_call.specs.Sure.{IsSure, IsSureStatus, SureCallsEndWell}
 use Rattle.call_steps.specs.declared.answer.Answer.{Answer}
@@ -46,6 +49,7 @@ own_status (Some (fault.Read which)) refused own = absurd own
 own_status (Some (fault.Write which)) refused own = absurd own
 own_status (Some fault.NoMemory) refused own = (5, omega arith, refl)
 own_status (Some (fault.Long which)) refused own = (7, omega arith, refl)
+own_status (Some (fault.Save code)) refused own = (8, omega arith, refl)
 
 -- ---- counts that stay
 
@@ -94,6 +98,10 @@ of_rows : (job : Written) → IsOfBytes (RefusesRows job)
 of_rows job (fault.Payments code) bytes refused = tt
 of_rows job _ bytes refused = absurd refused
 
+of_save : (setup : Outline) (rows : ℕ) → IsOfBytes (RefusesSave setup rows)
+of_save setup rows (fault.Save code) bytes refused = tt
+of_save setup rows _ bytes refused = absurd refused
+
 unread_own : (is : FileIs) (Refuses : Fault → List ℕ → Type 0) (files : Option Files) (name : List ℕ) (old new : World) (why : Fault) → IsOfBytes Refuses →
     IsSure old → IsSure new → IsUnread is Refuses files name old.shelf.faults new.shelf.faults why → IsOwn (Some why)
 unread_own is Refuses files name old new (fault.Read which) of sure later unread =
@@ -116,6 +124,14 @@ no_run_own asked files old new why sure later none =
     elim none [
       | inl unread ↦ no_setup_own asked.plan files old new why sure later unread
       | inr (job, requests, of, them, unread) ↦ unread_own file.Payments (RefusesRows job) files asked.payments old new why (of_rows job) sure later unread
+    ]
+
+no_resume_own : (asked : ResumeAsked) (files : Option Files) (old new : World) (why : Fault) → IsSure old → IsSure new →
+    IsNoResume asked files old.shelf.faults new.shelf.faults why → IsOwn (Some why)
+no_resume_own asked files old new why sure later none =
+    elim none [
+      | inl none ↦ no_run_own asked.run files old new why sure later none
+      | inr none ↦ unread_own file.Save (RefusesSave (outline none.setup) (length none.rows)) files asked.save old new why (of_save (outline none.setup) (length none.rows)) sure later none.unread
     ]
 
 no_rows_own : (asked : MakeAsked) (job : Written) (why : Fault) → MakesNoRows asked job why → IsOwn (Some why)
@@ -190,7 +206,7 @@ answers_own (First asked) old new answer a sure later =
     let before = sure_before answer.fault a.between new a.prints later in
     elim a.ends [
       | inl s ↦ stopped_own _ old a.between answer s (unread_own file.Payments (RefusesRows (asked_job asked)) old.shelf.files asked.payments old a.between s.why (of_rows (asked_job asked)) sure before s.cause)
-      | inr r ↦ run_own (files_of asked.alerts None r.done) (run_lines r.done) old a.between answer.fault sure before r.ends
+      | inr r ↦ run_own (files_of asked.alerts None None r.done) (run_lines r.done) old a.between answer.fault sure before r.ends
     ]
 answers_own (Check name) old new answer a sure later =
     let before = sure_before answer.fault a.between new a.prints later in
@@ -208,13 +224,25 @@ answers_own (Run asked) old new answer a sure later =
     let before = sure_before answer.fault a.between new a.prints later in
     elim a.ends [
       | inl s ↦ stopped_own _ old a.between answer s (no_run_own asked old.shelf.files old a.between s.why sure before s.cause)
-      | inr r ↦ run_own (files_of asked.alerts (Some asked.audit) r.done) (run_lines r.done) old a.between answer.fault sure before r.ends
+      | inr r ↦ run_own (files_of asked.alerts (Some asked.audit) None r.done) (run_lines r.done) old a.between answer.fault sure before r.ends
     ]
 answers_own (Make asked) old new answer a sure later =
     let before = sure_before answer.fault a.between new a.prints later in
     elim a.ends [
       | inl s ↦ stopped_own _ old a.between answer s (not_made_own asked old.shelf.files old a.between s.why sure before s.cause)
       | inr r ↦ prints_own (run_lines r.done) old.out a.between.out answer.fault sure.out before.out r.lines.prints
+    ]
+answers_own (Save asked) old new answer a sure later =
+    let before = sure_before answer.fault a.between new a.prints later in
+    elim a.ends [
+      | inl s ↦ stopped_own _ old a.between answer s (no_run_own asked.run old.shelf.files old a.between s.why sure before s.cause)
+      | inr r ↦ run_own (files_of asked.run.alerts (Some asked.run.audit) (Some asked.save) r.done) (run_lines r.done) old a.between answer.fault sure before r.ends
+    ]
+answers_own (Resume asked) old new answer a sure later =
+    let before = sure_before answer.fault a.between new a.prints later in
+    elim a.ends [
+      | inl s ↦ stopped_own _ old a.between answer s (no_resume_own asked old.shelf.files old a.between s.why sure before s.cause)
+      | inr (start, r) ↦ run_own (files_of asked.run.alerts (Some asked.run.audit) None r.done) (run_lines r.done) old a.between answer.fault sure before r.ends
     ]
 answers_own (Help about) old new answer a sure later = text_own (help_of about) old new answer a sure later
 answers_own Version old new answer a sure later = text_own version_line old new answer a sure later

@@ -1,6 +1,6 @@
 -- What a call of the program answers, and what it leaves.
 use Rattle.std.specs.Prelude.{◌≡◌, ◌⊎◌, Option}
-use Rattle.command_line.specs.Asked.{Asked, Check, First, Help, Make, Plan, Run, Version}
+use Rattle.command_line.specs.Asked.{Asked, Check, First, Help, Make, Plan, Resume, Run, Save, Version}
 use Rattle.command_line.specs.Help.{help_of, version_line}
 use Rattle.top_call.specs.Check.{AnswersCheck, FollowsCheck}
 use Rattle.call_steps.specs.Ends.{stopped}
@@ -10,7 +10,9 @@ use Rattle.top_call.specs.Make.{AnswersMake, FollowsMake}
 use Rattle.payments.specs.World.{World}
 use Rattle.call_steps.specs.Outside.{PrintsFault}
 use Rattle.top_call.specs.Plan.{AnswersPlan, FollowsPlan}
+use Rattle.top_call.specs.Resume.{AnswersResume, FollowsResume}
 use Rattle.top_call.specs.Run.{AnswersRun, FollowsRun}
+use Rattle.top_call.specs.Save.{AnswersSave, FollowsSave}
 use Rattle.call_steps.specs.declared.answer.Answer.{Answer}
 use Rattle.report.specs.declared.fault.Fault.{Fault}
 use Rattle.report.specs.declared.fault.Fault.TheVariants as fault
@@ -18,7 +20,7 @@ use Rattle.top_call.specs.declared.top.Outcome.{Outcome}
 
 -- what a call came to, but for its status
 abbrev pub answer_of : Outcome → Answer
-answer_of outcome = record { fault = outcome.fault; refused = outcome.refused; ran = outcome.ran }
+answer_of outcome = record { fault = outcome.fault; refused = outcome.refused; ran = outcome.ran; start = outcome.start }
 
 -- what a call answers, leaves and prints that was asked this
 abbrev pub Answers : Asked → World → World → Answer → Type 0
@@ -27,6 +29,8 @@ Answers (Check name) old new answer = AnswersCheck name old new answer
 Answers (Plan asked) old new answer = AnswersPlan asked old new answer
 Answers (Run asked) old new answer = AnswersRun asked old new answer
 Answers (Make asked) old new answer = AnswersMake asked old new answer
+Answers (Save asked) old new answer = AnswersSave asked old new answer
+Answers (Resume asked) old new answer = AnswersResume asked old new answer
 Answers (Help about) old new answer = AnswersText (help_of about) old new answer
 Answers Version old new answer = AnswersText version_line old new answer
 
@@ -42,5 +46,7 @@ Follows (Check name) old new answer = FollowsCheck name old new answer
 Follows (Plan asked) old new answer = FollowsPlan asked old new answer
 Follows (Run asked) old new answer = FollowsRun asked old new answer
 Follows (Make asked) old new answer = FollowsMake asked old new answer
+Follows (Save asked) old new answer = FollowsSave asked old new answer
+Follows (Resume asked) old new answer = FollowsResume asked old new answer
 Follows (Help about) old new answer = FollowsText old new answer
 Follows Version old new answer = FollowsText old new answer

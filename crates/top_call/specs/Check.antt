@@ -16,6 +16,7 @@ pub record PrintsSizes (name : List ℕ) (old new : World) (answer : Answer) : T
   pub lines : PrintsLines (sizes_line job) old new answer.fault
   pub refused : answer.refused ≡ []
   pub ran : answer.ran ≡ None
+  pub start : answer.start ≡ None
 
 -- how a call of `check` ends, before the line of its fault is printed
 abbrev pub EndsCheck : List ℕ → World → World → Answer → Type 0

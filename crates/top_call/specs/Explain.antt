@@ -12,6 +12,7 @@ pub record AnswersText (text : List ℕ) (old new : World) (answer : Answer) : T
   pub lines : PrintsLines text old between answer.fault
   pub refused : answer.refused ≡ []
   pub ran : answer.ran ≡ None
+  pub start : answer.start ≡ None
   pub prints : PrintsFault answer.fault between new
 
 -- the answer, seen from outside

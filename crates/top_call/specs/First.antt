@@ -55,7 +55,7 @@ pub record IsFirstRun (asked : FirstAsked) (files : Option Files) (done : Done) 
 -- how a call of `first` ends, before the line of its fault is printed
 abbrev pub EndsFirst : FirstAsked → World → World → Answer → Type 0
 EndsFirst asked old new answer =
-    Stops (AreNoRows old.shelf.files asked.payments (asked_job asked)) old new answer ⊎ Runs (IsFirstRun asked old.shelf.files) asked.alerts None old new answer
+    Stops (AreNoRows old.shelf.files asked.payments (asked_job asked)) old new answer ⊎ Runs (IsFirstRun asked old.shelf.files) asked.alerts None None None old new answer
 
 -- what a call of `first` answers, leaves and prints
 pub record AnswersFirst (asked : FirstAsked) (old new : World) (answer : Answer) : Type 0 where

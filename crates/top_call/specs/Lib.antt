@@ -2,6 +2,8 @@ pub mod First
 pub mod Check
 pub mod Plan
 pub mod Run
+pub mod Save
+pub mod Resume
 pub mod Make
 pub mod Explain
 pub mod Answers

@@ -48,6 +48,7 @@ pub record RunsMade (asked : MakeAsked) (old new : World) (answer : Answer) : Ty
   pub lines : PrintsLines (run_lines done) old new answer.fault
   pub refused : answer.refused ≡ done.refused
   pub ran : answer.ran ≡ Some done.ran
+  pub start : answer.start ≡ None
 
 -- how a call of `make` ends, before the line of its fault is printed
 abbrev pub EndsMake : MakeAsked → World → World → Answer → Type 0

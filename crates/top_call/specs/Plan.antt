@@ -45,6 +45,7 @@ pub record PrintsSetup (asked : PlanAsked) (old new : World) (answer : Answer) :
   pub lines : PrintsLines (setup_lines setup) old new answer.fault
   pub refused : answer.refused ≡ setup.judged.refused
   pub ran : answer.ran ≡ None
+  pub start : answer.start ≡ None
 
 -- how a call of `plan` ends, before the line of its fault is printed
 abbrev pub EndsPlan : PlanAsked → World → World → Answer → Type 0

@@ -38,7 +38,7 @@ IsNoRun asked files old new why =
 
 -- how a call of `run` ends, before the line of its fault is printed
 abbrev pub EndsRun : RunAsked → World → World → Answer → Type 0
-EndsRun asked old new answer = Stops (IsNoRun asked old.shelf.files) old new answer ⊎ Runs (IsRunOfFiles asked old.shelf.files) asked.alerts (Some asked.audit) old new answer
+EndsRun asked old new answer = Stops (IsNoRun asked old.shelf.files) old new answer ⊎ Runs (IsRunOfFiles asked old.shelf.files) asked.alerts (Some asked.audit) None None old new answer
 
 -- what a call of `run` answers, leaves and prints
 pub record AnswersRun (asked : RunAsked) (old new : World) (answer : Answer) : Type 0 where

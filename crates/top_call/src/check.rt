@@ -30,6 +30,7 @@ pub fn check_command<S: Shelf, O: Sink>(
             fault: print_sizes(alloc, &job, out).err(),
             refused: Refusals::new(alloc),
             ran: None,
+            start: None,
         },
         Err(fault) => Answer::stopped(alloc, fault),
     }

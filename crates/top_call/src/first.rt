@@ -28,6 +28,7 @@ pub fn first_command<S: Shelf, O: Sink>(
     let names = Outputs {
         alerts: &first.alerts,
         audit: None,
+        save: None,
     };
     match run_first(alloc, first, shelf) {
         Ok(done) => leave_run(alloc, done, names, shelf, out),

@@ -14,7 +14,9 @@ mod first;
 mod laws;
 mod make;
 mod plan;
+mod resume;
 mod run;
+mod save;
 mod top;
 
 pub use laws::sure_calls_end_well;

@@ -51,6 +51,7 @@ where
                 fault,
                 refused,
                 ran: Some(ran),
+                start: None,
             }
         }
         Err(fault) => Answer::stopped(alloc, fault),

@@ -33,6 +33,7 @@ pub fn plan_command<S: Shelf, O: Sink>(
                 fault,
                 refused: refused_of(setup),
                 ran: None,
+                start: None,
             }
         }
         Err(fault) => Answer::stopped(alloc, fault),

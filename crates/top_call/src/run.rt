@@ -38,6 +38,7 @@ where
     let names = Outputs {
         alerts: &files.alerts,
         audit: Some(&files.audit),
+        save: None,
     };
     match run_files(rt, alloc, files, shelf, gate) {
         Ok(done) => leave_run(alloc, done, names, shelf, out),

@@ -1,7 +1,7 @@
 ghost use Rattle.std.specs.Prelude.{◌≡◌, IfNone, IfSome};
 ghost use Rattle.std.specs.Result.{result_err};
 ghost use Rattle.top_call.specs.Answers.{answer_of, Answers, AnswersUsage, Follows};
-ghost use Rattle.command_line.specs.Asked.{IsSize, IsSized, IsThreads, asked_by, asked_of, first_asked, make_asked, plan_asked, run_asked};
+ghost use Rattle.command_line.specs.Asked.{IsSize, IsSized, IsThreads, asked_by, asked_of, first_asked, make_asked, plan_asked, resume_asked, run_asked, save_asked};
 ghost use Rattle.top_call.specs.Check.{AnswersCheck, FollowsCheck};
 ghost use Rattle.call_steps.specs.Ends.{stopped};
 ghost use Rattle.report.specs.FaultWords.{fault_line as fault_line_of};
@@ -12,18 +12,23 @@ ghost use Rattle.top_call.specs.Make.{AnswersMake, FollowsMake};
 ghost use Rattle.payments.specs.World.{world};
 ghost use Rattle.call_steps.specs.Outside.{Prints, PrintsReport};
 ghost use Rattle.top_call.specs.Plan.{AnswersPlan, FollowsPlan};
+ghost use Rattle.top_call.specs.Resume.{AnswersResume, FollowsResume};
 ghost use Rattle.top_call.specs.Run.{AnswersRun, FollowsRun};
+ghost use Rattle.top_call.specs.Save.{AnswersSave, FollowsSave};
 
 use crate::check::check_command;
 use crate::first::first_command;
 use crate::make::make_command;
 use crate::plan::plan_command;
+use crate::resume::resume_command;
 use crate::run::run_command;
+use crate::save::save_command;
 use call_steps::{Answer, print};
 use command_line::{
-    Command, First, Make, PlanFiles, RunFiles, WordsFault, command_of, help_text, version_text,
+    Command, First, Make, PlanFiles, ResumeFiles, RunFiles, SaveFiles, WordsFault, command_of,
+    help_text, version_text,
 };
-use flow_model::RunRecord;
+use flow_model::{RunRecord, Start};
 use job_file::{faulty_is_no_job, files_have_one_fault};
 use payments::{Shelf, Sink};
 use report::{Fault, FileIs, fault_line};
@@ -42,8 +47,10 @@ pub struct Outcome {
     pub fault: Option<Fault>,
     /// The requests that judging refused, in the order of their file; none where the call came to no judging.
     pub refused: Refusals,
-    /// What the run did, where one was completed.
+    /// What the run did, if one was completed.
     pub ran: Option<RunRecord>,
+    /// Where the run began, if the call read a savepoint and completed a run from there.
+    pub start: Option<Start>,
 }
 
 /// Does what the words ask for, and answers what it came to.
@@ -88,12 +95,14 @@ where
         fault,
         refused,
         ran,
+        start,
     } = answer;
     Outcome {
         status,
         fault,
         refused,
         ran,
+        start,
     }
 }
 
@@ -126,6 +135,8 @@ where
         Command::Plan(files) => answer_plan(alloc, files, shelf, out),
         Command::Run(files) => answer_run(rt, alloc, files, shelf, out, gate),
         Command::Make(make) => answer_make(rt, alloc, make, shelf, out, gate),
+        Command::Save(files) => answer_save(rt, alloc, files, shelf, out, gate),
+        Command::Resume(files) => answer_resume(rt, alloc, files, shelf, out, gate),
         Command::Help(topic) => answer_text(alloc, help_text(*topic), shelf, out),
         Command::Version => answer_text(alloc, version_text(), shelf, out),
     }
@@ -260,6 +271,66 @@ where
     answer
 }
 
+fn answer_save<R, S, O, G>(
+    rt: &R,
+    alloc: Global,
+    files: &SaveFiles,
+    shelf: &mut S,
+    out: &mut O,
+    gate: &G,
+) -> Answer
+where
+    R: Threads + Wait + Copy + Send + Sync + 'static,
+    S: Shelf,
+    O: Sink,
+    G: Gate + Sync,
+    requires sized { IsSize files.now.run.size }
+    ensures answers { AnswersSave (save_asked files.now)
+        (world (S.state shelf.old) (O.state out.old))
+        (world (S.state shelf.new) (O.state out.new))
+        result }
+    ensures file { FollowsSave (save_asked files.now)
+        (world (S.state shelf.old) (O.state out.old))
+        (world (S.state shelf.new) (O.state out.new))
+        result.fault }
+{
+    faulty_is_no_job();
+    files_have_one_fault();
+    let answer = save_command(rt, alloc, files, shelf, out, gate);
+    report(alloc, answer.fault, out);
+    answer
+}
+
+fn answer_resume<R, S, O, G>(
+    rt: &R,
+    alloc: Global,
+    files: &ResumeFiles,
+    shelf: &mut S,
+    out: &mut O,
+    gate: &G,
+) -> Answer
+where
+    R: Threads + Wait + Copy + Send + Sync + 'static,
+    S: Shelf,
+    O: Sink,
+    G: Gate + Sync,
+    requires sized { IsSize files.now.run.size }
+    ensures answers { AnswersResume (resume_asked files.now)
+        (world (S.state shelf.old) (O.state out.old))
+        (world (S.state shelf.new) (O.state out.new))
+        result }
+    ensures file { FollowsResume (resume_asked files.now)
+        (world (S.state shelf.old) (O.state out.old))
+        (world (S.state shelf.new) (O.state out.new))
+        result.fault }
+{
+    faulty_is_no_job();
+    files_have_one_fault();
+    let answer = resume_command(rt, alloc, files, shelf, out, gate);
+    report(alloc, answer.fault, out);
+    answer
+}
+
 fn answer_text<S: Shelf, O: Sink>(alloc: Global, text: &str, shelf: &mut S, out: &mut O) -> Answer
     ensures answers { AnswersText text.now
         (world (S.state shelf.old) (O.state out.old))
@@ -276,6 +347,7 @@ fn answer_text<S: Shelf, O: Sink>(alloc: Global, text: &str, shelf: &mut S, out:
         fault,
         refused: Refusals::new(alloc),
         ran: None,
+        start: None,
     }
 }
 

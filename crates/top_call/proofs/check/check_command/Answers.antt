@@ -12,4 +12,5 @@ returns-in-Ok g c = inr (record {
   };
   refused = c.new.ensures;
   ran = refl;
+  start = refl;
 })

@@ -8,4 +8,5 @@ returns-in-Ok g c = inr (record {
   ends = rw (← c.in-Ok.ensures.kept) c.leave_run.ensures.ends;
   refused = c.leave_run.ensures.refused;
   ran = c.leave_run.ensures.ran;
+  start = c.leave_run.ensures.start;
 })

@@ -11,4 +11,5 @@ returns-in-Ok g c = inr (record {
   };
   refused = refl;
   ran = refl;
+  start = refl;
 })

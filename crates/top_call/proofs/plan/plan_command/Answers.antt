@@ -11,4 +11,5 @@ returns-in-Ok g c = inr (record {
   };
   refused = c.refused_of.ensures;
   ran = refl;
+  start = refl;
 })

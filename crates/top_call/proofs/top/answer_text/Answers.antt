@@ -12,6 +12,7 @@ returns-clause-answers g c = record {
   };
   refused = c.new.ensures;
   ran = refl;
+  start = refl;
   prints = record { shelf = refl; line = c.report.ensures };
 }
 

@@ -1,0 +1,94 @@
+ghost use Rattle.std.specs.Prelude.{◌≡◌, IfOk, IfErr, OnOk};
+ghost use Rattle.command_line.specs.Asked.{IsSize, resume_asked};
+ghost use Rattle.payments.specs.World.{world};
+ghost use Rattle.call_steps.specs.Parts.{HasWorkers};
+ghost use Rattle.top_call.specs.Resume.{EndsResume, IsNoResume, IsResumedRun};
+
+use call_steps::{
+    Answer, Done, Outputs, job_in, leave_run, requests_in, rows_in, run_later_part, setup_of,
+    start_in,
+};
+use command_line::ResumeFiles;
+use flow_model::Start;
+use payments::{Shelf, Sink};
+use report::Fault;
+use std::alloc::Global;
+use std::sync::Wait;
+use std::thread::Threads;
+use tuple_trace::Gate;
+
+// A run from a savepoint on, and where it began.
+#[derive(Drop)]
+struct Resumed {
+    done: Done,
+    start: Start,
+}
+
+/// Reads a job, its requests and its payments, judges the requests, and then reads a savepoint. Runs
+/// the later payments from there, stores the alerts and then the audit, and prints the refused
+/// requests and the summary. The first fault ends it.
+pub fn resume_command<R, S, O, G>(
+    rt: &R,
+    alloc: Global,
+    files: &ResumeFiles,
+    shelf: &mut S,
+    out: &mut O,
+    gate: &G,
+) -> Answer
+where
+    R: Threads + Wait + Copy + Send + Sync + 'static,
+    S: Shelf,
+    O: Sink,
+    G: Gate + Sync,
+    requires { IsSize files.now.run.size }
+    ensures { EndsResume (resume_asked files.now)
+        (world (S.state shelf.old) (O.state out.old))
+        (world (S.state shelf.new) (O.state out.new))
+        result }
+{
+    let names = Outputs {
+        alerts: &files.run.alerts,
+        audit: Some(&files.run.audit),
+        save: None,
+    };
+    match run_later(rt, alloc, files, shelf, gate) {
+        Ok(Resumed { done, start }) => {
+            let mut answer = leave_run(alloc, done, names, shelf, out);
+            answer.start = Some(start);
+            answer
+        }
+        Err(fault) => Answer::stopped(alloc, fault),
+    }
+}
+
+// Reads the files and runs what they hold from the savepoint on.
+fn run_later<R, S, G>(
+    rt: &R,
+    alloc: Global,
+    files: &ResumeFiles,
+    shelf: &mut S,
+    gate: &G,
+) -> Result<Resumed, Fault>
+where
+    R: Threads + Wait + Copy + Send + Sync + 'static,
+    S: Shelf,
+    G: Gate + Sync,
+    requires { IsSize files.now.run.size }
+    ensures run { IfOk result (λ resumed.
+        IsResumedRun (resume_asked files.now) (S.state shelf.old).files resumed.start resumed.done) }
+    ensures workers { IfOk result (λ resumed. HasWorkers resumed.done) }
+    ensures kept { OnOk result (S.state shelf.new ≡ S.state shelf.old) }
+    ensures files { (S.state shelf.new).files ≡ (S.state shelf.old).files }
+    ensures target { (S.state shelf.new).target ≡ (S.state shelf.old).target }
+    ensures cause { IfErr result (IsNoResume (resume_asked files.now) (S.state shelf.old).files
+        (S.state shelf.old).faults (S.state shelf.new).faults) }
+{
+    let run = &files.run;
+    let job = job_in(alloc, &run.plan.job, shelf)?;
+    let requests = requests_in(alloc, &job, &run.plan.requests, shelf)?;
+    let rows = rows_in(alloc, &job, &run.payments, shelf)?;
+    let setup = setup_of(alloc, job, &requests, false)?;
+    let start = start_in(alloc, &setup, rows.len() as u64, &files.save, shelf)?;
+    let done = run_later_part(rt, alloc, gate, run.size, setup, &requests, &rows, &start)?;
+    Ok(Resumed { done, start })
+}

@@ -1,0 +1,76 @@
+ghost use Rattle.std.specs.Prelude.{◌≡◌, IfOk, IfErr, OnOk};
+ghost use Rattle.command_line.specs.Asked.{IsSize, save_asked};
+ghost use Rattle.payments.specs.World.{world};
+ghost use Rattle.call_steps.specs.Parts.{HasWorkers};
+ghost use Rattle.top_call.specs.Run.{IsNoRun};
+ghost use Rattle.top_call.specs.Save.{EndsSave, IsSavedRun};
+
+use call_steps::{Answer, Done, Outputs, job_in, leave_run, requests_in, rows_in, run_first_part};
+use command_line::SaveFiles;
+use payments::{Shelf, Sink};
+use report::Fault;
+use std::alloc::Global;
+use std::sync::Wait;
+use std::thread::Threads;
+use tuple_trace::Gate;
+
+/// Reads a job, its requests and its payments, and runs the first payments. Stores the alerts, the
+/// audit and then the savepoint, and prints the refused requests and the summary. The first fault
+/// ends it.
+pub fn save_command<R, S, O, G>(
+    rt: &R,
+    alloc: Global,
+    files: &SaveFiles,
+    shelf: &mut S,
+    out: &mut O,
+    gate: &G,
+) -> Answer
+where
+    R: Threads + Wait + Copy + Send + Sync + 'static,
+    S: Shelf,
+    O: Sink,
+    G: Gate + Sync,
+    requires { IsSize files.now.run.size }
+    ensures { EndsSave (save_asked files.now)
+        (world (S.state shelf.old) (O.state out.old))
+        (world (S.state shelf.new) (O.state out.new))
+        result }
+{
+    let names = Outputs {
+        alerts: &files.run.alerts,
+        audit: Some(&files.run.audit),
+        save: Some(&files.save),
+    };
+    match run_first(rt, alloc, files, shelf, gate) {
+        Ok(done) => leave_run(alloc, done, names, shelf, out),
+        Err(fault) => Answer::stopped(alloc, fault),
+    }
+}
+
+// Reads the files and runs the first part of what they hold.
+fn run_first<R, S, G>(
+    rt: &R,
+    alloc: Global,
+    files: &SaveFiles,
+    shelf: &mut S,
+    gate: &G,
+) -> Result<Done, Fault>
+where
+    R: Threads + Wait + Copy + Send + Sync + 'static,
+    S: Shelf,
+    G: Gate + Sync,
+    requires { IsSize files.now.run.size }
+    ensures run { IfOk result (IsSavedRun (save_asked files.now) (S.state shelf.old).files) }
+    ensures workers { IfOk result HasWorkers }
+    ensures kept { OnOk result (S.state shelf.new ≡ S.state shelf.old) }
+    ensures files { (S.state shelf.new).files ≡ (S.state shelf.old).files }
+    ensures target { (S.state shelf.new).target ≡ (S.state shelf.old).target }
+    ensures cause { IfErr result (IsNoRun (save_asked files.now).run (S.state shelf.old).files
+        (S.state shelf.old).faults (S.state shelf.new).faults) }
+{
+    let run = &files.run;
+    let job = job_in(alloc, &run.plan.job, shelf)?;
+    let requests = requests_in(alloc, &job, &run.plan.requests, shelf)?;
+    let rows = rows_in(alloc, &job, &run.payments, shelf)?;
+    Ok(run_first_part(rt, alloc, gate, run.size, job, &requests, &rows, files.rows)?)
+}
