@@ -1,3 +1,4 @@
+pub mod KindLemmas
 pub mod PortLemmas
 pub mod WeightLemmas
 pub mod LimitLemmas

@@ -1,5 +1,5 @@
 -- Which functions fit the columns and tables of a job.
-use Rattle.std.specs.Prelude.{ℕ, Bool, true, false, ◌&&◌, List, length, nat_lt, Option, Some, None, slice_get}
+use Rattle.std.specs.Prelude.{ℕ, Bool, true, ◌&&◌, List, length, nat_lt, Option, Some, None, slice_get}
 use Rattle.std.specs.List.{list_all}
 use Rattle.std.specs.FinMap as finite
 use Rattle.keyed_state.specs.TextMap.{TextMapOf}
@@ -14,27 +14,23 @@ use Rattle.jobs.specs.declared.func.Operand.{Operand}
 use Rattle.jobs.specs.declared.func.Operand.TheVariants as operand
 use Rattle.jobs.specs.declared.func.Step.{Step}
 use Rattle.jobs.specs.declared.func.Test.{Test}
-use Rattle.jobs.specs.declared.func.Test.TheVariants as test
 use Rattle.jobs.specs.declared.table.Table.{Table}
 use Rattle.jobs.specs.Columns.{has_column, holds, is_amount, is_text, kind_at}
+use Rattle.jobs.specs.Tests.{row_of_test}
 use Rattle.jobs.specs.Written.{Written}
 
--- the test may compare a column with the literal: a text is tested for equality alone
+-- the test may compare a column with the literal: not every test is one of texts
 abbrev pub is_tested : Test → Value → Bool
 is_tested test (value.Num number) = true
-is_tested test.Eq (value.Text text) = true
-is_tested test.Ne (value.Text text) = true
-is_tested test.Lt (value.Text text) = false
-is_tested test.Le (value.Text text) = false
-is_tested test.Gt (value.Text text) = false
-is_tested test.Ge (value.Text text) = false
+is_tested test (value.Text text) = (row_of_test test).texts
 
 -- the operand is a number, or names a column of numbers
 abbrev pub operand_fits : List Column → Operand → Bool
 operand_fits columns (operand.Number number) = true
 operand_fits columns (operand.Column column) = is_amount (kind_at columns column)
 
--- the condition names a column that may hold its literal, and tests it as a column of that kind may be
+-- the condition names a column that may hold its literal, and tests it as a column of that kind may
+-- be
 abbrev pub cond_fits : List Column → Cond → Bool
 cond_fits columns cond = holds (kind_at columns cond.column) cond.literal && is_tested cond.test cond.literal
 
@@ -51,7 +47,8 @@ abbrev pub table_fits : Option ColumnKind → Option Table → Bool
 table_fits kind None = true
 table_fits kind (Some table) = values_fit kind table.entries
 
--- the columns that the function names are there and of the right kinds, and so are its literals and the values of its table
+-- the columns that the function names are there and of the right kinds, and so are its literals and
+-- the values of its table
 abbrev pub fits_columns : List Column → List Table → Func → Bool
 fits_columns columns tables func.Source = true
 fits_columns columns tables (func.Filter conds) = list_all (cond_fits columns) conds

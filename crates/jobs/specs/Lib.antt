@@ -2,6 +2,8 @@ pub mod Written
 pub mod Places
 pub mod Columns
 pub mod Fits
+pub mod Kinds
+pub mod Tests
 pub mod Nodes
 pub mod Names
 pub mod Ports

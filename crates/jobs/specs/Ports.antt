@@ -1,9 +1,9 @@
 -- The edges of a node.
-use Rattle.std.specs.Prelude.{ℕ, Bool, true, false, ◌&&◌, ◌||◌, not, List, [], ◌∷◌, length, filter, ◌==◌, nat_le, zero, suc}
+use Rattle.std.specs.Prelude.{ℕ, Bool, true, false, ◌&&◌, ◌||◌, not, List, [], ◌∷◌, length, filter, ◌==◌, nat_le, zero, suc, if◌then◌else◌}
 use Rattle.std.specs.List.{list_any}
 use Rattle.flow_dag.specs.declared.edge.Edge.{Edge}
 use Rattle.jobs.specs.declared.func.Func.{Func}
-use Rattle.jobs.specs.declared.func.Func.TheVariants as func
+use Rattle.jobs.specs.Kinds.{row_at}
 
 -- the edge leaves the node
 abbrev pub leaves : ℕ → Edge → Bool
@@ -35,29 +35,17 @@ abbrev pub leads_twice : List Edge → ℕ → Bool
 leads_twice [] node = false
 leads_twice (edge ∷ edges) node = (leaves node edge && has_edge edges node edge.to) || leads_twice edges node
 
--- so many edges may leave a node with this function
+-- this number of edges may leave a node with this function
 abbrev pub may_leave : Func → ℕ → Bool
-may_leave func.Source n = n == 1
-may_leave (func.Filter conds) n = nat_le 1 n && nat_le n 2
-may_leave (func.Map steps) n = n == 1
-may_leave (func.Enrich lookup) n = n == 1
-may_leave (func.Count count) n = n == 1
-may_leave (func.Split split) n = n == 1
-may_leave func.Replicate n = nat_le 2 n && nat_le n 8
-may_leave (func.Sink listed) n = n == 0
+may_leave func n = nat_le (row_at func).least_outs n && nat_le n (row_at func).most_outs
 
--- a node with this function may be entered, or not: a source is never entered, and every other node is
+-- a node with this function may be entered, or not: a source is never entered, and every other node
+-- is
 abbrev pub may_enter : Func → Bool → Bool
-may_enter func.Source entered = not entered
-may_enter (func.Filter conds) entered = entered
-may_enter (func.Map steps) entered = entered
-may_enter (func.Enrich lookup) entered = entered
-may_enter (func.Count count) entered = entered
-may_enter (func.Split split) entered = entered
-may_enter func.Replicate entered = entered
-may_enter (func.Sink listed) entered = entered
+may_enter func entered = if (row_at func).entered then entered else not entered
 
--- the edges of a node with this function are those of its kind, on the ports from 0 on, each to another node
+-- the edges of a node with this function are those of its kind, on the ports from 0 on, each to
+-- another node
 unfoldable pub are_ports : List Edge → ℕ → Func → Bool
 are_ports edges node func =
     may_enter func (is_entered edges node)

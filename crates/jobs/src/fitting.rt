@@ -35,7 +35,8 @@ pub fn wrong_table(nodes: &[NodeDef], tables: &[Table]) -> Option<u32>
     None
 }
 
-/// Whether the columns that a function names are there and of the right kinds, and so are its literals and the values of its table.
+/// Whether the columns that a function names are there and of the right kinds, and so are its
+/// literals and the values of its table.
 pub fn fits_columns(columns: &[Column], tables: &[Table], func: &Func) -> bool
     ensures { result ≡ fits_columns columns.now tables.now func.now }
 {
@@ -92,10 +93,7 @@ fn is_tested(test: Test, literal: &Value) -> bool
 {
     match literal {
         Value::Num(_) => true,
-        Value::Text(_) => match test {
-            Test::Eq | Test::Ne => true,
-            Test::Lt | Test::Le | Test::Gt | Test::Ge => false,
-        },
+        Value::Text(_) => test.row().texts,
     }
 }
 

@@ -10,6 +10,7 @@ mod fault;
 mod fitting;
 mod func;
 mod job;
+mod kind;
 mod laws;
 mod limits;
 mod names;
@@ -18,6 +19,7 @@ mod ports;
 mod queries;
 mod table;
 mod tables;
+mod test_row;
 mod weights;
 
 pub use column::{Column, ColumnDefs, ColumnKind, Columns};
@@ -28,11 +30,14 @@ pub use func::{
     Steps, Test,
 };
 pub use job::Job;
+pub use kind::{Followers, Kind, KindRow, Shape, key_of};
 pub use laws::{
-    functions_fit, jobs_have_one_fault, refused_is_unlawful, roofs_hold, weights_settle,
+    functions_fit, jobs_have_one_fault, names_tell_kinds, refused_is_unlawful, roofs_hold,
+    weights_settle,
 };
 pub use limits::{TEXT_MAX, outside, size_fault};
-pub use node::{fan_out, is_free, is_replicate, is_source, is_split};
+pub use node::{fan_out, is_count, is_fixed, is_free, is_replicate, is_source, is_split};
 pub use ports::{has_port, out_count};
 pub use queries::{fits, weight, worker_count};
 pub use table::{Table, Tables};
+pub use test_row::TestRow;

@@ -1,40 +1,44 @@
-// What the kind of a node's function says of it.
+// What the kind of a node's function says of it: what is read off the kind's row.
 ghost use Rattle.std.specs.Prelude.{◌≡◌};
-ghost use Rattle.jobs.specs.Nodes.{fan_out, is_free, is_replicate, is_source, is_split, most_roof, most_workers, workers_of};
+ghost use Rattle.jobs.specs.Nodes.{fan_out, is_count, is_fixed, is_free, is_replicate, is_source, is_split, most_roof, most_workers, workers_of};
 
-use crate::{Func, NodeDef};
+use crate::{Followers, Func, NodeDef, Shape};
 
 impl NodeDef {
-    /// How many workers the node has that keep a journal: none for a source, which the feeder plays. Takes no memory.
+    /// How many workers the node has that keep a journal: none for a source, which the feeder
+    /// plays. Takes no memory.
     pub fn journals(&self) -> u32
         ensures { result ≡ workers_of self.now }
     {
-        match self.func {
-            Func::Source => 0,
-            Func::Filter(_)
-            | Func::Map(_)
-            | Func::Enrich(_)
-            | Func::Count(_)
-            | Func::Split(_)
-            | Func::Replicate
-            | Func::Sink(_) => self.workers,
+        if self.func.kind().row().entered {
+            self.workers
+        } else {
+            0
         }
     }
+}
+
+/// Whether rows enter here. Takes no memory.
+pub fn is_source(func: &Func) -> bool
+    ensures { result ≡ is_source func.now }
+{
+    !func.kind().row().entered
+}
+
+/// Whether a function keeps counts. Takes no memory.
+pub fn is_count(func: &Func) -> bool
+    ensures { result ≡ is_count func.now }
+{
+    func.kind().row().counts
 }
 
 /// Whether a function makes tuples of the pieces of a text. Takes no memory.
 pub fn is_split(func: &Func) -> bool
     ensures { result ≡ is_split func.now }
 {
-    match func {
-        Func::Split(_) => true,
-        Func::Source
-        | Func::Filter(_)
-        | Func::Map(_)
-        | Func::Enrich(_)
-        | Func::Count(_)
-        | Func::Replicate
-        | Func::Sink(_) => false,
+    match func.kind().row().shape {
+        Shape::Pieces => true,
+        Shape::Nothing | Shape::AtMostOne | Shape::Copies => false,
     }
 }
 
@@ -42,26 +46,30 @@ pub fn is_split(func: &Func) -> bool
 pub fn is_replicate(func: &Func) -> bool
     ensures { result ≡ is_replicate func.now }
 {
-    match func {
-        Func::Replicate => true,
-        Func::Source
-        | Func::Filter(_)
-        | Func::Map(_)
-        | Func::Enrich(_)
-        | Func::Count(_)
-        | Func::Split(_)
-        | Func::Sink(_) => false,
+    match func.kind().row().shape {
+        Shape::Copies => true,
+        Shape::Nothing | Shape::AtMostOne | Shape::Pieces => false,
     }
 }
 
-/// Whether requests may give a node with this function, and with one edge out, another kind: a
-/// filter, a map, an enrich or a split. Takes no memory.
+/// Whether requests leave a node with this function as it is. Takes no memory.
+pub fn is_fixed(func: &Func) -> bool
+    ensures { result ≡ is_fixed func.now }
+{
+    match func.kind().row().followers {
+        Followers::Nothing => true,
+        Followers::SameKind | Followers::FreeKinds => false,
+    }
+}
+
+/// Whether requests may give a node with this function, and with one edge out, another kind. Takes
+/// no memory.
 pub fn is_free(func: &Func) -> bool
     ensures { result ≡ is_free func.now }
 {
-    match func {
-        Func::Filter(_) | Func::Map(_) | Func::Enrich(_) | Func::Split(_) => true,
-        Func::Source | Func::Count(_) | Func::Replicate | Func::Sink(_) => false,
+    match func.kind().row().followers {
+        Followers::FreeKinds => true,
+        Followers::Nothing | Followers::SameKind => false,
     }
 }
 
@@ -86,26 +94,12 @@ pub fn fan_out(func: &Func) -> u32
 pub fn most_roof(func: &Func, outs: u32) -> u32
     ensures { result ≡ most_roof func.now outs }
 {
-    match func {
-        Func::Filter(_) => { if outs == 2 { 1 } else { 16 } }
-        Func::Map(_) | Func::Enrich(_) | Func::Split(_) => 16,
-        Func::Source | Func::Count(_) | Func::Replicate | Func::Sink(_) => 1,
-    }
-}
-
-/// Whether rows enter here. Takes no memory.
-pub fn is_source(func: &Func) -> bool
-    ensures { result ≡ is_source func.now }
-{
-    match func {
-        Func::Source => true,
-        Func::Filter(_)
-        | Func::Map(_)
-        | Func::Enrich(_)
-        | Func::Count(_)
-        | Func::Split(_)
-        | Func::Replicate
-        | Func::Sink(_) => false,
+    if !is_free(func) {
+        1
+    } else if 2 <= func.kind().row().most_outs && outs == 2 {
+        1
+    } else {
+        16
     }
 }
 
@@ -113,13 +107,5 @@ pub fn is_source(func: &Func) -> bool
 pub fn most_workers(func: &Func) -> u32
     ensures { result ≡ most_workers func.now }
 {
-    match func {
-        Func::Source | Func::Sink(_) => 1,
-        Func::Filter(_)
-        | Func::Map(_)
-        | Func::Enrich(_)
-        | Func::Count(_)
-        | Func::Split(_)
-        | Func::Replicate => 8,
-    }
+    func.kind().row().most_workers
 }

@@ -34,7 +34,8 @@ pub fn wrong_ports(nodes: &[NodeDef], edges: &[Edge]) -> Option<u32>
     None
 }
 
-// Whether the edges of a node with this function are those of its kind, on the ports from 0 on, each to another node.
+// Whether the edges of a node with this function are those of its kind, on the ports from 0 on,
+// each to another node.
 fn are_ports(edges: &[Edge], node: u32, func: &Func) -> bool
     requires { length edges.now ≤ 128 }
     ensures { result ≡ are_ports edges.now node func.now }
@@ -57,28 +58,18 @@ fn are_all(a: bool, b: bool, c: bool, d: bool) -> bool
 fn may_enter(func: &Func, entered: bool) -> bool
     ensures { result ≡ may_enter func.now entered }
 {
-    match func {
-        Func::Source => !entered,
-        Func::Filter(_)
-        | Func::Map(_)
-        | Func::Enrich(_)
-        | Func::Count(_)
-        | Func::Split(_)
-        | Func::Replicate
-        | Func::Sink(_) => entered,
+    if func.kind().row().entered {
+        entered
+    } else {
+        !entered
     }
 }
 
 fn may_leave(func: &Func, outs: u32) -> bool
     ensures { result ≡ may_leave func.now outs }
 {
-    match func {
-        Func::Source | Func::Map(_) | Func::Enrich(_) | Func::Count(_) | Func::Split(_) => outs
-            == 1,
-        Func::Filter(_) => 1 <= outs && outs <= 2,
-        Func::Replicate => 2 <= outs && outs <= 8,
-        Func::Sink(_) => outs == 0,
-    }
+    let row = func.kind().row();
+    row.least_outs <= outs && outs <= row.most_outs
 }
 
 fn is_entered(edges: &[Edge], node: u32) -> bool
