@@ -1,9 +1,8 @@
 -- The ports by which outputs leave, where the edges of a node are those of its kind.
-use Rattle.std.proofs.Common.{◌≡◌, ◌∙◌, ◌≢◌, ℕ, ◌+◌, ◌<◌, ◌≤◌, ◌==◌, ◌&&◌, ◌||◌, zero, suc, sym, ap, refl, List, [], ◌∷◌, length, map, filter, cond, Bool, true, false, eqb, nat_le, Some, inl, inr, arith}
+use Rattle.std.proofs.Common.{◌≡◌, ◌∙◌, ◌≢◌, ℕ, ◌+◌, ◌<◌, ◌≤◌, ◌==◌, ◌&&◌, ◌||◌, zero, suc, sym, ap, refl, List, [], ◌∷◌, length, map, filter, cond, Bool, true, false, eqb, Some, inl, inr, arith}
 use Rattle.std.specs.Prelude.{IsTrue, slice_get}
 use Rattle.std.specs.List.{list_any}
-use Rattle.std.proofs.lemmas.Bool.{cases_eq, eq-eqb, eqb-true}
-use Rattle.std.proofs.lemmas.Bool.Decides.{nat_tests}
+use Rattle.std.proofs.lemmas.Bool.{cases_eq, eq-eqb, eqb-true, leb-true}
 use Rattle.std.proofs.lemmas.List.{append_cancel_left, length-map}
 use Rattle.std.proofs.lemmas.Map.Steps.{le-length_from_below}
 use Rattle.flow_dag.specs.declared.edge.Edge.{Edge}
@@ -12,12 +11,15 @@ use Rattle.tuple_trace.specs.declared.tuple.Visit.{Visit}
 use Rattle.keyed_state.specs.Counts.{Counts}
 use Rattle.jobs.specs.declared.func.Func.{Func}
 use Rattle.jobs.specs.declared.func.Func.TheVariants as func
+use Rattle.jobs.specs.declared.kind.Shape.{Shape}
+use Rattle.jobs.specs.declared.kind.Shape.TheVariants as shape
+use Rattle.jobs.specs.Kinds.{row_at}
 use Rattle.jobs.specs.Places.{Each}
 use Rattle.jobs.specs.Ports.{are_ports, has_port, has_ports, leaves, may_leave, out_count}
 use Rattle.jobs.specs.Written.{Written}
 use Rattle.jobs.proofs.PortLemmas.{has_ports-lacks}
 use Rattle.operators.specs.declared.output.Output.{Output}
-use Rattle.operators.specs.Laws.{MayLeaveBy, births_of}
+use Rattle.operators.specs.Laws.{MayLeaveAs, MayLeaveBy, births_as, births_of}
 use Rattle.operators.specs.Meaning.{outputs}
 use Rattle.operators.specs.Ports.{out_ports}
 use Rattle.operators.proofs.OutputLemmas.{outputs_made}
@@ -53,11 +55,22 @@ ports_by_kind : (edges : List Edge) (node : ℕ) (f : Func) → are_ports edges 
 unfolding are_ports
 ports_by_kind edges node f all = and_right _ _ (and_left _ _ all)
 
-one_leaves : (n : ℕ) → (n == 1) ≡ true → 0 < n
-one_leaves n e = grind (arith, nat_tests)
+-- an edge leaves each node of a kind that may put something out
+least_out : (f : Func) → (row_at f).shape ≢ shape.Nothing → 1 ≤ (row_at f).least_outs
+least_out func.Source puts = absurd (puts refl)
+least_out (func.Filter conds) puts = omega arith
+least_out (func.Map steps) puts = omega arith
+least_out (func.Enrich lookup) puts = omega arith
+least_out (func.Count count) puts = omega arith
+least_out (func.Split split) puts = omega arith
+least_out func.Replicate puts = omega arith
+least_out (func.Sink listed) puts = absurd (puts refl)
 
-some_leave : (n : ℕ) → nat_le 1 n ≡ true → 0 < n
-some_leave n e = grind (arith, nat_tests)
+some_leave : (edges : List Edge) (node : ℕ) (f : Func) → are_ports edges node f ≡ true → (row_at f).shape ≢ shape.Nothing → 0 < out_count edges node
+some_leave edges node f all puts =
+    let least : (row_at f).least_outs ≤ out_count edges node =
+    leb-true (row_at f).least_outs (out_count edges node) (and_left _ _ (leaves_by_kind edges node f all)) in
+    omega (arith, least, least_out f puts)
 
 -- a node with edges has one on port 0
 port_zero : (edges : List Edge) (node : ℕ) (f : Func) (port : ℕ) → are_ports edges node f ≡ true → 0 < out_count edges node → port ≡ 0 → has_port edges node port ≡ true
@@ -77,18 +90,18 @@ out_port-has (e ∷ es) node k port found = go (leaves node e) refl (λ j later.
     go false is later j here = or_right (e.from == node && e.port == port) (has_port es node port) (later j (rw is at here))
 
 leaves_by_edge : (edges : List Edge) (node : ℕ) (f : Func) (k port : ℕ) → are_ports edges node f ≡ true → MayLeaveBy edges node f k port → has_port edges node port ≡ true
-leaves_by_edge edges node func.Source k port all may = absurd may
-leaves_by_edge edges node (func.Filter conds) k port all may =
-    elim may.1 [
-      | inl none ↦ port_zero edges node (func.Filter conds) port all (some_leave (out_count edges node) (and_left _ _ (leaves_by_kind edges node (func.Filter conds) all))) none
-      | inr one ↦ rw one.0 one.1
-    ]
-leaves_by_edge edges node (func.Map steps) k port all may = port_zero edges node (func.Map steps) port all (one_leaves (out_count edges node) (leaves_by_kind edges node (func.Map steps) all)) may.1
-leaves_by_edge edges node (func.Enrich lookup) k port all may = port_zero edges node (func.Enrich lookup) port all (one_leaves (out_count edges node) (leaves_by_kind edges node (func.Enrich lookup) all)) may.1
-leaves_by_edge edges node (func.Count count) k port all may = port_zero edges node (func.Count count) port all (one_leaves (out_count edges node) (leaves_by_kind edges node (func.Count count) all)) may.1
-leaves_by_edge edges node (func.Split split) k port all may = port_zero edges node (func.Split split) port all (one_leaves (out_count edges node) (leaves_by_kind edges node (func.Split split) all)) may.1
-leaves_by_edge edges node func.Replicate k port all may = out_port-has edges node k port may
-leaves_by_edge edges node (func.Sink listed) k port all may = absurd may
+leaves_by_edge edges node f k port all may = by_shape (row_at f).shape refl may
+  where
+    by_shape : (s : Shape) → (row_at f).shape ≡ s → MayLeaveAs s edges node f k port → has_port edges node port ≡ true
+    by_shape shape.Nothing is may = absurd may
+    by_shape shape.AtMostOne is may =
+        elim may.1 [
+          | inl none ↦ port_zero edges node f port all (some_leave edges node f all (λ no. let other : shape.AtMostOne ≡ shape.Nothing = sym is ∙ no in cc)) none
+          | inr one ↦ rw one.0 one.2
+        ]
+    by_shape shape.Pieces is may =
+        port_zero edges node f port all (some_leave edges node f all (λ no. let other : shape.Pieces ≡ shape.Nothing = sym is ∙ no in cc)) may.1
+    by_shape shape.Copies is may = out_port-has edges node k port may
 
 pub outputs_leave : (job : Written) (visit : Visit) (f : Func) (counts : Counts) (tuple : Tuple) → IsTrue (are_ports job.edges visit.node f) → Each (λ k (output : Output). IsTrue (has_port job.edges visit.node output.port)) (outputs job visit f counts tuple)
 outputs_leave job visit f counts tuple all = λ k o is. leaves_by_edge job.edges visit.node f k o.port all (outputs_made job visit f counts tuple k o is).port
@@ -163,20 +176,19 @@ ports_differ edges node f k l port all at_k at_l other =
     port-member edges node q (has_ports-has edges node q (out_count edges node) (ports_by_kind edges node f all) within)) at_k at_l other
 
 births_differ : (edges : List Edge) (node : ℕ) (f : Func) (birth : List ℕ) (k l p q : ℕ) → are_ports edges node f ≡ true → MayLeaveBy edges node f k p → MayLeaveBy edges node f l q → k ≢ l → births_of f birth k p ≢ births_of f birth l q
-births_differ edges node func.Source birth k l p q all at_k at_l other = absurd at_k
-births_differ edges node (func.Filter conds) birth k l p q all at_k at_l other = absurd (other (at_k.0 ∙ sym at_l.0))
-births_differ edges node (func.Map steps) birth k l p q all at_k at_l other = absurd (other (at_k.0 ∙ sym at_l.0))
-births_differ edges node (func.Enrich lookup) birth k l p q all at_k at_l other = absurd (other (at_k.0 ∙ sym at_l.0))
-births_differ edges node (func.Count count) birth k l p q all at_k at_l other = absurd (other (at_k.0 ∙ sym at_l.0))
-births_differ edges node (func.Split split) birth k l p q all at_k at_l other = λ e.
-    let last : k ∷ [] ≡ l ∷ [] = append_cancel_left birth (k ∷ []) (l ∷ []) e in
-    let same : k ≡ l = cc in
-    other same
-births_differ edges node func.Replicate birth k l p q all at_k at_l other = λ e.
-    let last : p ∷ [] ≡ q ∷ [] = append_cancel_left birth (p ∷ []) (q ∷ []) e in
-    let same : q ≡ p = cc in
-    ports_differ edges node func.Replicate k l p all at_k (at_l ∙ ap (λ r. Some r) same) other
-births_differ edges node (func.Sink listed) birth k l p q all at_k at_l other = absurd at_k
+births_differ edges node f birth k l p q all at_k at_l other = by_shape (row_at f).shape at_k at_l
+  where
+    by_shape : (s : Shape) → MayLeaveAs s edges node f k p → MayLeaveAs s edges node f l q → births_as s birth k p ≢ births_as s birth l q
+    by_shape shape.Nothing at_k at_l = absurd at_k
+    by_shape shape.AtMostOne at_k at_l = absurd (other (at_k.0 ∙ sym at_l.0))
+    by_shape shape.Pieces at_k at_l = λ e.
+        let last : k ∷ [] ≡ l ∷ [] = append_cancel_left birth (k ∷ []) (l ∷ []) e in
+        let same : k ≡ l = cc in
+        other same
+    by_shape shape.Copies at_k at_l = λ e.
+        let last : p ∷ [] ≡ q ∷ [] = append_cancel_left birth (p ∷ []) (q ∷ []) e in
+        let same : q ≡ p = cc in
+        ports_differ edges node f k l p all at_k (at_l ∙ ap (λ r. Some r) same) other
 
 pub outputs_differ : (job : Written) (visit : Visit) (f : Func) (counts : Counts) (tuple : Tuple) (k l : ℕ) (a b : Output) → IsTrue (are_ports job.edges visit.node f) → slice_get (outputs job visit f counts tuple) k ≡ Some a → slice_get (outputs job visit f counts tuple) l ≡ Some b → k ≢ l → a.tuple.birth ≢ b.tuple.birth
 outputs_differ job visit f counts tuple k l a b all at_k at_l other = λ e.

@@ -49,18 +49,18 @@ filter_made : (edges : List Edge) (visit : Visit) (conds : List Cond) (tuple : T
 filter_made edges visit conds tuple true q has =
     each_one (IsMadeOf edges visit (func.Filter conds) tuple) (sent visit 0 tuple) (record { row = refl; issued = refl; trace = refl; birth = refl; port = (refl, inl refl) })
 filter_made edges visit conds tuple false true has =
-    each_one (IsMadeOf edges visit (func.Filter conds) tuple) (sent visit 1 tuple) (record { row = refl; issued = refl; trace = refl; birth = refl; port = (refl, inr (refl, has)) })
+    each_one (IsMadeOf edges visit (func.Filter conds) tuple) (sent visit 1 tuple) (record { row = refl; issued = refl; trace = refl; birth = refl; port = (refl, inr (refl, refl, has)) })
 filter_made edges visit conds tuple false false has = λ k o is. cc
 
 pub outputs_made : (job : Written) (visit : Visit) (f : Func) (counts : Counts) (tuple : Tuple) → Each (IsMadeOf job.edges visit f tuple) (outputs job visit f counts tuple)
 outputs_made job visit func.Source counts tuple = λ k o is. cc
 outputs_made job visit (func.Filter conds) counts tuple = filter_made job.edges visit conds tuple (list_all (meets job.columns tuple.fields) conds) (has_port job.edges visit.node 1) refl
 outputs_made job visit (func.Map steps) counts tuple =
-    each_one (IsMadeOf job.edges visit (func.Map steps) tuple) _ (record { row = refl; issued = refl; trace = refl; birth = refl; port = (refl, refl) })
+    each_one (IsMadeOf job.edges visit (func.Map steps) tuple) _ (record { row = refl; issued = refl; trace = refl; birth = refl; port = (refl, inl refl) })
 outputs_made job visit (func.Enrich lookup) counts tuple =
-    each_one (IsMadeOf job.edges visit (func.Enrich lookup) tuple) _ (record { row = refl; issued = refl; trace = refl; birth = refl; port = (refl, refl) })
+    each_one (IsMadeOf job.edges visit (func.Enrich lookup) tuple) _ (record { row = refl; issued = refl; trace = refl; birth = refl; port = (refl, inl refl) })
 outputs_made job visit (func.Count count) counts tuple =
-    each_one (IsMadeOf job.edges visit (func.Count count) tuple) _ (record { row = refl; issued = refl; trace = refl; birth = refl; port = (refl, refl) })
+    each_one (IsMadeOf job.edges visit (func.Count count) tuple) _ (record { row = refl; issued = refl; trace = refl; birth = refl; port = (refl, inl refl) })
 outputs_made job visit (func.Split split) counts tuple =
     let all = pieces split.by (text_at job.columns tuple.fields split.on) in
     each_map (IsMadeOf job.edges visit (func.Split split) tuple) (piece_sent job.columns visit split.on tuple) (enumerate_from 0 (take split.most all)) (λ k piece is.

@@ -15,7 +15,6 @@ use Rattle.jobs.specs.declared.func.Func.{Func}
 use Rattle.jobs.specs.declared.func.Func.TheVariants as func
 use Rattle.jobs.specs.Ports.{has_port, leaves}
 use Rattle.jobs.specs.Written.{Written}
-use Rattle.operators.specs.declared.output.Output.{Output}
 use Rattle.operators.specs.Conditions.{meets}
 use Rattle.operators.specs.Fields.{text_at}
 use Rattle.operators.specs.Meaning.{born, filtered, outputs, piece_sent, replicated, sent}

@@ -1,5 +1,5 @@
 -- The conditions of a filter.
-use Rattle.std.specs.Prelude.{Bool, true, false, not, List, Option, Some, None, slice_get, nat_eq}
+use Rattle.std.specs.Prelude.{Bool, false, not, List, Option, Some, None, slice_get, nat_eq, if◌then◌else◌}
 use Rattle.std.specs.Ordering.{int_cmp}
 use Rattle.std.specs.Cmp.Lexicographic.{pointwise}
 use Rattle.std.specs.declared.cmp.Ordering.{Ordering}
@@ -11,40 +11,22 @@ use Rattle.jobs.specs.declared.column.ColumnKind.{ColumnKind}
 use Rattle.jobs.specs.declared.column.ColumnKind.TheVariants as kind
 use Rattle.jobs.specs.declared.func.Cond.{Cond}
 use Rattle.jobs.specs.declared.func.Test.{Test}
-use Rattle.jobs.specs.declared.func.Test.TheVariants as test
 use Rattle.jobs.specs.Columns.{kind_at}
+use Rattle.jobs.specs.Tests.{row_of_test}
 
 -- whether a test admits two numbers that compare so
 abbrev pub admits : Test → Ordering → Bool
-admits test.Eq o.Equal = true
-admits test.Eq o.Less = false
-admits test.Eq o.Greater = false
-admits test.Ne o.Equal = false
-admits test.Ne o.Less = true
-admits test.Ne o.Greater = true
-admits test.Lt o.Less = true
-admits test.Lt o.Equal = false
-admits test.Lt o.Greater = false
-admits test.Le o.Less = true
-admits test.Le o.Equal = true
-admits test.Le o.Greater = false
-admits test.Gt o.Greater = true
-admits test.Gt o.Equal = false
-admits test.Gt o.Less = false
-admits test.Ge o.Greater = true
-admits test.Ge o.Equal = true
-admits test.Ge o.Less = false
+admits test o.Less = (row_of_test test).less
+admits test o.Equal = (row_of_test test).equal
+admits test o.Greater = (row_of_test test).greater
 
 -- whether a test admits two texts that are the same or not: an order of texts is no test
 abbrev pub admits_text : Test → Bool → Bool
-admits_text test.Eq same = same
-admits_text test.Ne same = not same
-admits_text test.Lt same = false
-admits_text test.Le same = false
-admits_text test.Gt same = false
-admits_text test.Ge same = false
+admits_text test same =
+    if (row_of_test test).texts then (if same then (row_of_test test).equal else not (row_of_test test).equal) else false
 
--- whether a field of a column of this kind meets a test against a literal; both are read by the kind
+-- whether a field of a column of this kind meets a test against a literal; both are read by the
+-- kind
 abbrev pub compares : Option ColumnKind → Test → Option Value → Value → Bool
 compares None test field literal = false
 compares (Some kind.Text) test field literal = admits_text test (pointwise nat_eq (as_text field) (as_text (Some literal)))

@@ -5,21 +5,20 @@ use Rattle.tuple_trace.specs.declared.tuple.Tuple.{Tuple}
 use Rattle.tuple_trace.specs.Spread.{spread_of}
 use Rattle.jobs.specs.declared.column.Column.{Column}
 use Rattle.jobs.specs.declared.func.Func.{Func}
-use Rattle.jobs.specs.declared.func.Func.TheVariants as func
 use Rattle.jobs.specs.declared.func.NodeDef.{NodeDef}
+use Rattle.jobs.specs.Kinds.{key_of}
 use Rattle.jobs.specs.Written.{Written}
 use Rattle.operators.specs.Fields.{text_at}
 
--- among so many workers of a node with this function: a count spreads its keys, and every other node its rows
+-- among this number of workers, by the column of the key, if the node counts by one
+abbrev pub worker_by : List Column → Option ℕ → ℕ → Tuple → ℕ
+worker_by columns None workers tuple = tuple.row % workers
+worker_by columns (Some key) workers tuple = spread_of (text_at columns tuple.fields key) workers
+
+-- among this number of workers of a node with this function: a count spreads its keys, and every
+-- other node its rows
 abbrev pub worker_among : List Column → Func → ℕ → Tuple → ℕ
-worker_among columns (func.Count count) workers tuple = spread_of (text_at columns tuple.fields count.key) workers
-worker_among columns func.Source workers tuple = tuple.row % workers
-worker_among columns (func.Filter conds) workers tuple = tuple.row % workers
-worker_among columns (func.Map steps) workers tuple = tuple.row % workers
-worker_among columns (func.Enrich lookup) workers tuple = tuple.row % workers
-worker_among columns (func.Split split) workers tuple = tuple.row % workers
-worker_among columns func.Replicate workers tuple = tuple.row % workers
-worker_among columns (func.Sink listed) workers tuple = tuple.row % workers
+worker_among columns func workers tuple = worker_by columns (key_of func) workers tuple
 
 -- the worker of a node that a tuple reaches
 abbrev pub worker_at : List Column → Option NodeDef → Tuple → ℕ

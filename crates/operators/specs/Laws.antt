@@ -1,12 +1,14 @@
 -- What is true of all outputs.
-use Rattle.std.specs.Prelude.{◌≡◌, ◌≢◌, ℕ, ◌<◌, ◌≤◌, ◌⊎◌, false, IsTrue, List, [], ◌∷◌, ◌++◌, length, map, Some, slice_get}
+use Rattle.std.specs.Prelude.{◌≡◌, ◌≢◌, ℕ, ◌<◌, ◌≤◌, ◌⊎◌, false, IsTrue, List, [], ◌∷◌, ◌++◌, length, map, nat_le, Some, slice_get}
 use Rattle.flow_dag.specs.declared.edge.Edge.{Edge}
 use Rattle.tuple_trace.specs.declared.tuple.Tuple.{Tuple}
 use Rattle.tuple_trace.specs.declared.tuple.Visit.{Visit}
 use Rattle.keyed_state.specs.Counts.{Counts}
 use Rattle.jobs.specs.declared.func.Func.{Func}
-use Rattle.jobs.specs.declared.func.Func.TheVariants as func
-use Rattle.jobs.specs.Nodes.{is_count}
+use Rattle.jobs.specs.declared.kind.Shape.{Shape}
+use Rattle.jobs.specs.declared.kind.Shape.TheVariants as shape
+use Rattle.jobs.specs.Kinds.{row_at}
+use Rattle.jobs.specs.Nodes.{fan_out, is_count}
 use Rattle.jobs.specs.Places.{Each}
 use Rattle.jobs.specs.Ports.{are_ports, has_port}
 use Rattle.jobs.specs.Written.{Written}
@@ -14,29 +16,33 @@ use Rattle.operators.specs.declared.output.Output.{Output}
 use Rattle.operators.specs.Meaning.{step}
 use Rattle.operators.specs.Ports.{most_outputs, out_ports}
 
--- the births of the output with number k, which leaves by the port: a split adds the number, a replicate the port, and no other function
--- adds anything
-abbrev pub births_of : Func → List ℕ → ℕ → ℕ → List ℕ
-births_of func.Source birth k port = birth
-births_of (func.Filter conds) birth k port = birth
-births_of (func.Map steps) birth k port = birth
-births_of (func.Enrich lookup) birth k port = birth
-births_of (func.Count count) birth k port = birth
-births_of (func.Split split) birth k port = birth ++ k ∷ []
-births_of func.Replicate birth k port = birth ++ port ∷ []
-births_of (func.Sink listed) birth k port = birth
+-- the births of the output with number k, which leaves by the port: pieces add the number, copies
+-- the port, and no other output adds anything
+abbrev pub births_as : Shape → List ℕ → ℕ → ℕ → List ℕ
+births_as shape.Nothing birth k port = birth
+births_as shape.AtMostOne birth k port = birth
+births_as shape.Pieces birth k port = birth ++ k ∷ []
+births_as shape.Copies birth k port = birth ++ port ∷ []
 
--- the output with number k may leave the node by the port: at most one leaves a filter, by port 0 or 1; one leaves a map, an enrich and a
--- count, by port 0; up to `most` leave a split, by port 0; one leaves a replicate by each of its edges
+-- the births of an output of the function
+abbrev pub births_of : Func → List ℕ → ℕ → ℕ → List ℕ
+births_of func birth k port = births_as (row_at func).shape birth k port
+
+-- the output with number k may leave the node by the port: at most one leaves by port 0, or by port
+-- 1 if the kind may have two edges and the node has one there; pieces leave by port 0, up to the
+-- function's number; a copy leaves by each edge
+abbrev pub MayLeaveAs : Shape → List Edge → ℕ → Func → ℕ → ℕ → Type 0
+MayLeaveAs shape.Nothing edges node func k port = ⊥
+MayLeaveAs shape.AtMostOne edges node func k port =
+    (k ≡ 0)
+    × ((port ≡ 0)
+    ⊎ ((port ≡ 1) × IsTrue (nat_le 2 (row_at func).most_outs) × IsTrue (has_port edges node 1)))
+MayLeaveAs shape.Pieces edges node func k port = (k < fan_out func) × (port ≡ 0)
+MayLeaveAs shape.Copies edges node func k port = slice_get (out_ports edges node) k ≡ Some port
+
+-- the output of the function may leave by the port
 abbrev pub MayLeaveBy : List Edge → ℕ → Func → ℕ → ℕ → Type 0
-MayLeaveBy edges node func.Source k port = ⊥
-MayLeaveBy edges node (func.Filter conds) k port = (k ≡ 0) × ((port ≡ 0) ⊎ ((port ≡ 1) × IsTrue (has_port edges node 1)))
-MayLeaveBy edges node (func.Map steps) k port = (k ≡ 0) × (port ≡ 0)
-MayLeaveBy edges node (func.Enrich lookup) k port = (k ≡ 0) × (port ≡ 0)
-MayLeaveBy edges node (func.Count count) k port = (k ≡ 0) × (port ≡ 0)
-MayLeaveBy edges node (func.Split split) k port = (k < split.most) × (port ≡ 0)
-MayLeaveBy edges node func.Replicate k port = slice_get (out_ports edges node) k ≡ Some port
-MayLeaveBy edges node (func.Sink listed) k port = ⊥
+MayLeaveBy edges node func k port = MayLeaveAs (row_at func).shape edges node func k port
 
 -- what every output has of the tuple that it was made of
 pub record IsMadeOf (edges : List Edge) (visit : Visit) (func : Func) (tuple : Tuple) (k : ℕ) (output : Output) : Type 0 where
@@ -59,7 +65,8 @@ CountsServeCounts =
     → is_count func ≡ false
     → ((step job visit func counts tuple).0 ≡ counts) × ((step job visit func counts tuple).1 ≡ (step job visit func other tuple).1)
 
--- a tuple and an output without what a flow writes on them: the trace, and how many requests had been issued
+-- a tuple and an output without what a flow writes on them: the trace, and how many requests had
+-- been issued
 abbrev pub bare_tuple : Tuple → Tuple
 bare_tuple tuple = record tuple { issued = 0; trace = [] }
 
@@ -70,13 +77,15 @@ bare output = record output { tuple = bare_tuple output.tuple }
 abbrev pub bare_visit : Visit → Visit
 bare_visit visit = record visit { worker = 0; last = 0 }
 
--- ports, rows, births and fields of what is put out depend neither on the worker and the requests, nor on the trace and `issued`
+-- ports, rows, births and fields of what is put out depend neither on the worker and the requests,
+-- nor on the trace and `issued`
 abbrev pub OutputsAreBlind : Type 0
 OutputsAreBlind =
     (job : Written) (visit : Visit) (func : Func) (counts : Counts) (tuple : Tuple)
     → map bare (step job visit func counts tuple).1 ≡ map bare (step job (bare_visit visit) func counts (bare_tuple tuple)).1
 
--- where the edges of the node are those of the function's kind, each output leaves by the port of one of them
+-- where the edges of the node are those of the function's kind, each output leaves by the port of
+-- one of them
 abbrev pub PortsHaveEdges : Type 0
 PortsHaveEdges =
     (job : Written) (visit : Visit) (func : Func) (counts : Counts) (tuple : Tuple)

@@ -2,6 +2,13 @@ pub mod Fields
 pub mod Conditions
 pub mod Arithmetic
 pub mod Pieces
+pub mod Sent
+pub mod Filter
+pub mod Map
+pub mod Enrich
+pub mod Count
+pub mod Split
+pub mod Replicate
 pub mod Meaning
 pub mod Lanes
 pub mod Ports

@@ -1,7 +1,7 @@
 // The conditions of a filter.
 ghost use Rattle.std.specs.Prelude.{◌≡◌, slice_get, option_copied};
 ghost use Rattle.std.specs.List.{list_all};
-ghost use Rattle.operators.specs.Conditions.{admits as admits_of, compares as compares_of, meets as meets_of};
+ghost use Rattle.operators.specs.Conditions.{admits as admits_of, admits_text as admits_text_of, compares as compares_of, meets as meets_of};
 
 use jobs::{Column, ColumnKind, Cond, Test, kind_at};
 use std::cmp::Ordering;
@@ -30,14 +30,7 @@ fn compares(kind: Option<ColumnKind>, test: Test, field: Option<&Value>, literal
     ensures { result ≡ compares_of kind test (option_copied field.entry) literal.now }
 {
     match kind {
-        Some(ColumnKind::Text) => {
-            let same = text_in(field) == text_in(Some(literal));
-            match test {
-                Test::Eq => same,
-                Test::Ne => !same,
-                Test::Lt | Test::Le | Test::Gt | Test::Ge => false,
-            }
-        }
+        Some(ColumnKind::Text) => admits_text(test, text_in(field) == text_in(Some(literal))),
         Some(ColumnKind::Number | ColumnKind::Cents) => {
             admits(test, number_in(field).cmp(&number_in(Some(literal))))
         }
@@ -48,12 +41,23 @@ fn compares(kind: Option<ColumnKind>, test: Test, field: Option<&Value>, literal
 fn admits(test: Test, order: Ordering) -> bool
     ensures { result ≡ admits_of test order }
 {
-    match test {
-        Test::Eq => order == Ordering::Equal,
-        Test::Ne => order != Ordering::Equal,
-        Test::Lt => order == Ordering::Less,
-        Test::Le => order != Ordering::Greater,
-        Test::Gt => order == Ordering::Greater,
-        Test::Ge => order != Ordering::Less,
+    let row = test.row();
+    match order {
+        Ordering::Less => row.less,
+        Ordering::Equal => row.equal,
+        Ordering::Greater => row.greater,
+    }
+}
+
+fn admits_text(test: Test, same: bool) -> bool
+    ensures { result ≡ admits_text_of test same }
+{
+    let row = test.row();
+    if !row.texts {
+        false
+    } else if same {
+        row.equal
+    } else {
+        !row.equal
     }
 }

@@ -4,20 +4,27 @@ ghost use Rattle.operators.specs.Meaning.{step};
 ghost use Rattle.operators.specs.Ports.{out_ports};
 
 use crate::Outs;
-use crate::kinds::{count, enrich, filter, map};
-use crate::several::{replicate, split};
+use crate::count::count;
+use crate::enrich::enrich;
+use crate::filter::filter;
+use crate::map::map;
+use crate::replicate::replicate;
+use crate::split::split;
 use jobs::{Func, Job};
 use keyed_state::Keyed;
 use std::alloc::Global;
 use tuple_trace::{NoMemory, Tuple, Visit};
 
-/// Appends to `out` what a function makes of a tuple at this visit, and changes the counts of the node as it says.
+/// Appends to `out` what a function makes of a tuple at this visit, and changes the counts of the
+/// node as it says.
 ///
-/// An output has the tuple's row and `issued`, its trace with the visit behind it, and its fields but for the columns that the function
-/// writes. The tuple itself stays. A column that the tuple doesn't have, or has with another kind than the job gives it, is read as 0 or
-/// as the empty text, and isn't written. After [`NoMemory`] `out` and the counts are as before.
+/// An output has the tuple's row and `issued`, its trace followed by the visit, and its fields
+/// except for the columns that the function writes. The tuple itself stays. A column that the tuple
+/// doesn't have, or has with another kind than the job gives it, is read as 0 or as the empty text,
+/// and isn't written. Sources and sinks put out nothing. After [`NoMemory`] `out` and the counts
+/// are as before.
 ///
-/// `ports` are those of the visited node, as [`out_ports`](crate::out_ports) answers them.
+/// `ports` are those of the visited node, as [`out_ports`](crate::out_ports) returns them.
 pub fn apply(
     alloc: Global,
     job: &Job,

@@ -4,10 +4,11 @@ ghost use Rattle.jobs.specs.Job.{written};
 ghost use Rattle.operators.specs.Lanes.{worker_along, worker_among};
 
 use crate::fields::text_at;
-use jobs::{Column, Func, Job};
+use jobs::{Column, Func, Job, key_of};
 use tuple_trace::{Tuple, spread};
 
-/// The worker that a tuple reaches along the edge with this number, counted from 0 among the workers of the node where the edge ends.
+/// The worker that a tuple reaches along the edge with this number, counted from 0 among the
+/// workers of the node where the edge ends.
 ///
 /// A count is reached by key and every other node by row. Takes no memory.
 pub fn lane_of(job: &Job, edge: u32, tuple: &Tuple) -> u32
@@ -24,17 +25,8 @@ fn worker_among(columns: &[Column], func: &Func, workers: u32, tuple: &Tuple) ->
     requires few { workers ≤ 8 }
     ensures { result ≡ worker_among columns.now func.now workers tuple.now }
 {
-    match func {
-        Func::Count(count) => spread(
-            text_at(columns, tuple.fields.as_slice(), count.key),
-            workers,
-        ),
-        Func::Source
-        | Func::Filter(_)
-        | Func::Map(_)
-        | Func::Enrich(_)
-        | Func::Split(_)
-        | Func::Replicate
-        | Func::Sink(_) => (tuple.row % u64::from(workers)) as u32,
+    match key_of(func) {
+        Some(key) => spread(text_at(columns, tuple.fields.as_slice(), key), workers),
+        None => (tuple.row % u64::from(workers)) as u32,
     }
 }

@@ -6,15 +6,19 @@
 
 mod arithmetic;
 mod conditions;
+mod count;
 mod effect;
+mod enrich;
 mod fields;
-mod kinds;
+mod filter;
 mod lanes;
 mod laws;
+mod map;
 mod output;
 mod pieces;
 mod ports;
-mod several;
+mod replicate;
+mod split;
 
 pub use effect::apply;
 pub use jobs::{

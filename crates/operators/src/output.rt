@@ -1,6 +1,7 @@
-ghost use Rattle.std.specs.Prelude.{◌≡◌, IfOk};
-ghost use Rattle.operators.specs.Meaning.{visited};
+ghost use Rattle.std.specs.Prelude.{◌≡◌, ◌++◌, ◌∷◌, [], IfOk};
+ghost use Rattle.operators.specs.Sent.{visited};
 
+use std::alloc::Global;
 use tuple_trace::{Births, Fields, Items, NoMemory, Tuple, Visit};
 
 /// A tuple that a node puts out, and the port by which it leaves.
@@ -30,4 +31,14 @@ pub(crate) fn remade(
         fields,
         trace: tuple.trace.with(visit)?,
     })
+}
+
+/// The births with one more behind them.
+pub(crate) fn born(alloc: Global, birth: &[u32], index: u32) -> Result<Births, NoMemory>
+    ensures { IfOk result (λ born. born ≡ birth.now ++ index ∷ []) }
+{
+    let mut births = Vec::with_capacity(alloc, birth.len() + 1)?;
+    births.extend_from_slice(birth)?;
+    births.push(index)?;
+    Ok(Births::from_vec(births))
 }

@@ -4,7 +4,7 @@ ghost use Rattle.std.specs.List.{list_any};
 ghost use Rattle.jobs.specs.Job.{written};
 ghost use Rattle.operators.specs.Ports.{most_outputs, out_ports};
 
-use jobs::{Func, Job};
+use jobs::{Func, Job, Shape, fan_out};
 use std::alloc::Global;
 use tuple_trace::{Items, NoMemory};
 
@@ -33,11 +33,11 @@ pub fn out_ports(alloc: Global, job: &Job, node: u32) -> Result<Ports, NoMemory>
 pub fn most_outputs(func: &Func, ports: &[u32]) -> usize
     ensures { result ≡ most_outputs func.now ports.now }
 {
-    match func {
-        Func::Source | Func::Sink(_) => 0,
-        Func::Filter(_) | Func::Map(_) | Func::Enrich(_) | Func::Count(_) => 1,
-        Func::Split(split) => split.most as usize,
-        Func::Replicate => ports.len(),
+    match func.kind().row().shape {
+        Shape::Nothing => 0,
+        Shape::AtMostOne => 1,
+        Shape::Pieces => fan_out(func) as usize,
+        Shape::Copies => ports.len(),
     }
 }
 

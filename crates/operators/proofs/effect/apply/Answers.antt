@@ -1,4 +1,4 @@
-use Rattle.std.proofs.Common.{◌≡◌, ◌∙◌, ℕ, ◌++◌, ap, map}
+use Rattle.std.proofs.Common.{◌∙◌, ℕ, ◌++◌, ap, map}
 use Rattle.std.proofs.lemmas.Result.{on_ok_weaker}
 use Rattle.operators.specs.declared.output.Output.{Output}
 use Rattle.operators.specs.Meaning.{born, sent}

@@ -5,7 +5,7 @@ use Rattle.tuple_trace.specs.declared.tuple.Tuple.{Tuple}
 use Rattle.operators.specs.declared.output.Output.{Output}
 use Rattle.operators.specs.Conditions.{meets}
 use Rattle.operators.proofs.PortLemmas.{filtered-none, filtered-out}
-use Rattle.operators.proofs.kinds.filter.Goals as goal
+use Rattle.operators.proofs.filter.filter.Goals as goal
 
 pub returns-then-has_port-clause-ok : goal.returns-then-has_port-clause-ok
 returns-then-has_port-clause-ok c =

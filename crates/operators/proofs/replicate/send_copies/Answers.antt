@@ -1,9 +1,9 @@
-use Rattle.std.proofs.Common.{◌≡◌, ◌∙◌, ℕ, ◌<◌, ◌++◌, [], ◌∷◌, ap, sym, length, map, take, append_assoc, arith, get_or}
+use Rattle.std.proofs.Common.{◌∙◌, ℕ, ◌<◌, ◌++◌, [], ◌∷◌, ap, sym, length, map, take, append_assoc, arith, get_or}
 use Rattle.std.proofs.lemmas.List.{map_more}
 use Rattle.tuple_trace.specs.declared.tuple.Tuple.{Tuple}
 use Rattle.operators.specs.declared.output.Output.{Output}
 use Rattle.operators.specs.Meaning.{born, sent}
-use Rattle.operators.proofs.several.send_copies.Goals as goal
+use Rattle.operators.proofs.replicate.send_copies.Goals as goal
 
 pub loop-port-preserved : goal.loop-port-preserved
 loop-port-preserved c =

@@ -1,6 +1,6 @@
 use Rattle.std.proofs.Common.{◌≡◌, ◌++◌, map, take}
 use Rattle.operators.specs.Meaning.{born, sent}
-use Rattle.operators.proofs.several.send_copies.Given as goal
+use Rattle.operators.proofs.replicate.send_copies.Given as goal
 
 abbrev pub invariant-loop-port : goal.invariant-loop-port
 invariant-loop-port l =

@@ -6,7 +6,7 @@ use Rattle.operators.specs.declared.output.Output.{Output}
 use Rattle.operators.specs.Meaning.{piece_sent}
 use Rattle.operators.specs.Pieces.{pieces_left}
 use Rattle.operators.proofs.PieceLemmas.{numbered-next}
-use Rattle.operators.proofs.several.send_pieces.Goals as goal
+use Rattle.operators.proofs.split.send_pieces.Goals as goal
 
 pub loop-number-preserved : goal.loop-number-preserved
 loop-number-preserved c =

@@ -4,7 +4,7 @@ use Rattle.std.specs.Option.{option_copied}
 use Rattle.operators.specs.declared.output.Output.{Output}
 use Rattle.operators.specs.Meaning.{piece_sent, split_up}
 use Rattle.operators.specs.Pieces.{pieces_left}
-use Rattle.operators.proofs.several.send_pieces.Given as goal
+use Rattle.operators.proofs.split.send_pieces.Given as goal
 
 abbrev pub invariant-loop-number : goal.invariant-loop-number
 invariant-loop-number l = record {
