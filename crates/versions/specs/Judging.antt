@@ -5,12 +5,14 @@ use Rattle.keyed_state.specs.declared.carry.Carry.{Carry}
 use Rattle.keyed_state.specs.declared.carry.Carry.TheVariants as carry
 use Rattle.jobs.specs.Fits.{fits}
 use Rattle.flow_dag.specs.declared.edge.Edge.{Edge}
-use Rattle.jobs.specs.Nodes.{fan_out, is_count, is_free}
+use Rattle.jobs.specs.Kinds.{key_of, kind_of}
+use Rattle.jobs.specs.Nodes.{fan_out, is_count, is_fixed, is_free}
 use Rattle.jobs.specs.Ports.{out_count}
 use Rattle.jobs.specs.Written.{Written}
 use Rattle.jobs.specs.declared.func.Func.{Func}
-use Rattle.jobs.specs.declared.func.Func.TheVariants as func
 use Rattle.jobs.specs.declared.func.NodeDef.{NodeDef}
+use Rattle.jobs.specs.declared.kind.Kind.{Kind}
+use Rattle.jobs.specs.declared.kind.Kind.TheVariants as kind
 use Rattle.versions.specs.Book.{current_version, is_named}
 use Rattle.versions.specs.declared.book.Current.{Current}
 use Rattle.versions.specs.declared.judging.Code.{Code}
@@ -22,17 +24,7 @@ use Rattle.versions.specs.declared.fault.QFault.TheVariants as fault
 
 -- ---- one change
 
--- requests leave sources, replicates and sinks as they are
-abbrev pub is_fixed : Func → Bool
-is_fixed func.Source = true
-is_fixed (func.Filter conds) = false
-is_fixed (func.Map steps) = false
-is_fixed (func.Enrich lookup) = false
-is_fixed (func.Count count) = false
-is_fixed (func.Split split) = false
-is_fixed func.Replicate = true
-is_fixed (func.Sink listed) = true
-
+-- a source, a replicate or a sink: requests leave it as it is
 abbrev pub is_fixed_at : Option NodeDef → Bool
 is_fixed_at None = false
 is_fixed_at (Some node) = is_fixed node.func
@@ -50,22 +42,36 @@ roof_at (Some node) = node.roof
 abbrev pub leaves_once : List Edge → ℕ → Bool
 leaves_once edges node = out_count edges node == 1
 
+-- the two kinds are one
+abbrev pub is_kind : Kind → Kind → Bool
+is_kind kind.Source kind.Source = true
+is_kind kind.Filter kind.Filter = true
+is_kind kind.Map kind.Map = true
+is_kind kind.Enrich kind.Enrich = true
+is_kind kind.Count kind.Count = true
+is_kind kind.Split kind.Split = true
+is_kind kind.Replicate kind.Replicate = true
+is_kind kind.Sink kind.Sink = true
+is_kind _ _ = false
+
+-- both count by one column, or neither counts
+abbrev pub is_key : Option ℕ → Option ℕ → Bool
+is_key None None = true
+is_key (Some a) (Some b) = a == b
+is_key _ _ = false
+
 -- both functions are of one kind that requests change, and count by the same key
 abbrev pub is_like : Func → Func → Bool
-is_like (func.Filter a) (func.Filter b) = true
-is_like (func.Map a) (func.Map b) = true
-is_like (func.Enrich a) (func.Enrich b) = true
-is_like (func.Count a) (func.Count b) = a.key == b.key
-is_like (func.Split a) (func.Split b) = true
-is_like _ _ = false
+is_like current new =
+    not (is_fixed current) && (is_kind (kind_of current) (kind_of new) && is_key (key_of current) (key_of new))
 
 -- the change was written for another version
 abbrev pub is_stale_at : Option Current → ℕ → Bool
 is_stale_at None from = false
 is_stale_at (Some current) from = not (current.version == from)
 
--- a new function may follow the current one: it is of its kind and counts by the same key, or both are
--- of free kinds and one edge leaves the node; and its fan-out is at most the node's roof
+-- a new function may follow the current one: it is of its kind and counts by the same key, or both
+-- are of free kinds and one edge leaves the node; and its fan-out is at most the node's roof
 abbrev pub may_replace : Func → Func → ℕ → Bool → Bool
 may_replace current new roof once = (is_like current new || (is_free current && is_free new && once)) && nat_le (fan_out new) roof
 

@@ -1,13 +1,16 @@
 ghost use Rattle.std.specs.Prelude.{◌≡◌, ◌≤◌, ◌<◌, [], None, Some, IfErr, IfSome, OnOk, length, slice_get};
 ghost use Rattle.jobs.specs.Job.{written};
 ghost use Rattle.versions.specs.Book.{is_named as is_named_in};
-ghost use Rattle.versions.specs.Judging.{fault_of, first_with as first_with_in, has_fault as has_fault_in, is_bad_carry as is_bad_carry_of, is_count_at as is_count_node, is_fixed as is_fixed_func, is_fixed_at as is_fixed_node, is_stale_at as is_stale_node, may_replace as may_replace_func, may_replace_at as may_replace_current, is_like as is_like_func, roof_at as roof_of_node, version_of as version_of_change, whole_fault as whole_fault_of};
+ghost use Rattle.versions.specs.Judging.{fault_of, first_with as first_with_in, has_fault as has_fault_in, is_bad_carry as is_bad_carry_of, is_count_at as is_count_node, is_fixed_at as is_fixed_node, is_stale_at as is_stale_node, may_replace as may_replace_func, may_replace_at as may_replace_current, is_key as is_key_of, is_kind as is_kind_of, is_like as is_like_func, roof_at as roof_of_node, version_of as version_of_change, whole_fault as whole_fault_of};
 
 use crate::{Book, Change, Current, QFault, Request};
-use jobs::{Func, Job, NodeDef, fan_out, fits, is_free, out_count};
+use jobs::{
+    Func, Job, Kind, NodeDef, fan_out, fits, is_count, is_fixed, is_free, key_of, out_count,
+};
 use keyed_state::Carry;
 
-/// Whether a request is accepted by a book, and else its first fault in the order of [`QFault`], with the first change that has it.
+/// Whether a request is accepted by a book, and else its first fault in the order of [`QFault`],
+/// with the first change that has it.
 ///
 /// `last_after` is the row of the latest accepted request, 0 before the first. Takes no memory.
 pub fn judge(book: &Book, job: &Job, request: &Request, last_after: u64) -> Result<(), QFault>
@@ -107,15 +110,6 @@ fn is_fixed_at(nodes: &[NodeDef], node: u32) -> bool
     }
 }
 
-fn is_fixed(func: &Func) -> bool
-    ensures { result ≡ is_fixed_func func.now }
-{
-    match func {
-        Func::Source | Func::Sink(_) | Func::Replicate => true,
-        Func::Filter(_) | Func::Map(_) | Func::Enrich(_) | Func::Count(_) | Func::Split(_) => false,
-    }
-}
-
 fn is_named(changes: &[Change], node: u32) -> bool
     ensures { result ≡ is_named_in changes.now node }
 {
@@ -149,14 +143,21 @@ fn may_replace(current: &Func, new: &Func, roof: u32, once: bool) -> bool
 fn is_like(current: &Func, new: &Func) -> bool
     ensures { result ≡ is_like_func current.now new.now }
 {
-    match (current, new) {
-        (Func::Filter(_), Func::Filter(_))
-        | (Func::Map(_), Func::Map(_))
-        | (Func::Enrich(_), Func::Enrich(_))
-        | (Func::Split(_), Func::Split(_)) => true,
-        (Func::Count(old), Func::Count(new)) => old.key == new.key,
-        _ => false,
-    }
+    !is_fixed(current)
+        && is_kind(current.kind(), new.kind())
+        && is_key(key_of(current), key_of(new))
+}
+
+fn is_kind(current: Kind, new: Kind) -> bool
+    ensures { result ≡ is_kind_of current new }
+{
+    current == new
+}
+
+fn is_key(current: Option<u32>, new: Option<u32>) -> bool
+    ensures { result ≡ is_key_of current new }
+{
+    current == new
 }
 
 /// The roof of a node, and 1 if there is none.
@@ -173,7 +174,7 @@ fn is_count_at(nodes: &[NodeDef], node: u32) -> bool
     ensures { result ≡ is_count_node (slice_get nodes.now node) }
 {
     match nodes.get(node as usize) {
-        Some(found) => matches!(&found.func, Func::Count(_)),
+        Some(found) => is_count(&found.func),
         None => false,
     }
 }
