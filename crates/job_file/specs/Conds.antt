@@ -1,12 +1,11 @@
 -- The conditions of a filter.
-use Rattle.std.specs.Prelude.{ℕ, List, codes, Result, Ok, Err, if◌then◌else◌}
-use Rattle.std.specs.Str.{bytes_eq}
+use Rattle.std.specs.Prelude.{ℕ, List, ok_or, Result, Ok, Err}
 use Rattle.toml.specs.Data.{Data, Items, no_items, item}
 use Rattle.tuple_trace.specs.declared.value.Value.{Value}
 use Rattle.jobs.specs.declared.column.Column.{Column}
 use Rattle.jobs.specs.declared.func.Cond.{Cond}
 use Rattle.jobs.specs.declared.func.Test.{Test}
-use Rattle.jobs.specs.declared.func.Test.TheVariants as test
+use Rattle.jobs.specs.Tests.{test_named}
 use Rattle.job_file.specs.declared.fault.FormFault.{FormFault}
 use Rattle.job_file.specs.declared.fault.FormFault.TheVariants as fault
 use Rattle.job_file.specs.declared.fault.Part.TheVariants as part
@@ -14,18 +13,9 @@ use Rattle.job_file.specs.Document.{and_then, items_of, text_of}
 use Rattle.job_file.specs.Literals.{literal_of}
 use Rattle.job_file.specs.Names.{column_named}
 
--- the test of a word
-abbrev pub test_named : List ℕ → Result Test FormFault
-test_named word =
-    if bytes_eq word (codes "=") then Ok test.Eq else
-    if bytes_eq word (codes "!=") then Ok test.Ne else
-    if bytes_eq word (codes "<") then Ok test.Lt else
-    if bytes_eq word (codes "<=") then Ok test.Le else
-    if bytes_eq word (codes ">") then Ok test.Gt else
-    if bytes_eq word (codes ">=") then Ok test.Ge else Err (fault.Shape part.When)
-
+-- the test of a text
 abbrev pub test_of : Data → Result Test FormFault
-test_of d = and_then (text_of part.When d) test_named
+test_of d = and_then (text_of part.When d) (λ word. ok_or (test_named word) (fault.Shape part.When))
 
 abbrev pub cond_with : List Column → List ℕ → Test → Value → Result Cond FormFault
 cond_with columns name t literal = Ok (record { column = column_named columns name; test = t; literal = literal })

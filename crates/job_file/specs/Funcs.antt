@@ -7,21 +7,22 @@ use Rattle.jobs.specs.declared.func.Func.{Func}
 use Rattle.jobs.specs.declared.func.Func.TheVariants as func
 use Rattle.jobs.specs.declared.func.Operand.{Operand}
 use Rattle.jobs.specs.declared.table.Table.{Table}
+use Rattle.jobs.specs.Kinds.{row_of}
 use Rattle.job_file.specs.declared.fault.FormFault.{FormFault}
 use Rattle.job_file.specs.declared.fault.FormFault.TheVariants as fault
 use Rattle.job_file.specs.declared.fault.Part.{Part}
 use Rattle.job_file.specs.declared.fault.Part.TheVariants as part
-use Rattle.job_file.specs.declared.kinds.Kind.{Kind}
-use Rattle.job_file.specs.declared.kinds.Kind.TheVariants as kind
+use Rattle.jobs.specs.declared.kind.Kind.{Kind}
+use Rattle.jobs.specs.declared.kind.Kind.TheVariants as kind
 use Rattle.job_file.specs.Conds.{cond_of}
 use Rattle.job_file.specs.Document.{all_of, and_then, has_only, items_at, text_at, text_of, value_at, whole_at}
-use Rattle.job_file.specs.Kinds.{keys_of}
 use Rattle.job_file.specs.Literals.{literal_of, operand_of}
 use Rattle.job_file.specs.Names.{column_named, table_named}
 use Rattle.job_file.specs.Numbers.{nearest}
 use Rattle.job_file.specs.Steps.{step_of}
 
--- what stands at a key: the name of a column or a table, as its number, a literal, an operand, and a byte
+-- what stands at a key: the name of a column or a table, as its number, a literal, an operand, and
+-- a byte
 abbrev pub column_at : List Column → List ℕ → Part → Members → Result ℕ FormFault
 column_at columns key place ms = and_then (text_at key place ms) (λ name. Ok (column_named columns name))
 
@@ -105,6 +106,7 @@ func_by columns tables kind.Split ms = split_in columns ms
 func_by columns tables kind.Replicate ms = Ok func.Replicate
 func_by columns tables kind.Sink ms = sink_in columns ms
 
--- the function of a table that may have these keys beside those of its kind: first its keys, then what stands at each
+-- the function of a table that may have these keys beside those of its kind: first its keys, then
+-- what stands at each
 abbrev pub func_in : List Column → List Table → List (List ℕ) → Kind → Members → Result Func FormFault
-func_in columns tables beside k ms = if has_only beside (keys_of k) ms then func_by columns tables k ms else Err (fault.Shape part.Unknown)
+func_in columns tables beside k ms = if has_only beside (row_of k).keys ms then func_by columns tables k ms else Err (fault.Shape part.Unknown)

@@ -1,29 +1,29 @@
 -- The nodes of a job.
-use Rattle.std.specs.Prelude.{ℕ, ℤ, pos, List, [], ◌∷◌, codes, Result, Ok, Err, if◌then◌else◌}
+use Rattle.std.specs.Prelude.{ℕ, ℤ, pos, List, [], ◌∷◌, codes, nat_lt, Result, Ok, Err, if◌then◌else◌}
 use Rattle.toml.specs.Data.{Data, Members}
 use Rattle.jobs.specs.Nodes.{fan_out}
 use Rattle.jobs.specs.declared.column.Column.{Column}
 use Rattle.jobs.specs.declared.func.Func.{Func}
 use Rattle.jobs.specs.declared.func.NodeDef.{NodeDef}
+use Rattle.jobs.specs.declared.kind.Kind.{Kind}
 use Rattle.jobs.specs.declared.table.Table.{Table}
+use Rattle.jobs.specs.Kinds.{are_free, row_of}
 use Rattle.job_file.specs.declared.fault.FormFault.{FormFault}
 use Rattle.job_file.specs.declared.fault.FormFault.TheVariants as fault
 use Rattle.job_file.specs.declared.fault.Part.TheVariants as part
-use Rattle.job_file.specs.declared.kinds.Kind.{Kind}
-use Rattle.job_file.specs.declared.kinds.Kind.TheVariants as kind
 use Rattle.job_file.specs.Document.{and_then, optional_whole_at, table_of, text_at}
 use Rattle.job_file.specs.Funcs.{func_in}
 use Rattle.job_file.specs.Kinds.{kind_in}
 use Rattle.job_file.specs.Names.{is_name}
 use Rattle.job_file.specs.Numbers.{nearest}
 
--- the keys of a node beside those of its function
+-- the keys of a node beside those of its function: workers if it may have several, and a roof if
+-- its kind is free
 abbrev pub beside_of : Kind → List (List ℕ)
-beside_of kind.Source = codes "name" ∷ codes "kind" ∷ []
-beside_of kind.Sink = codes "name" ∷ codes "kind" ∷ []
-beside_of kind.Count = codes "name" ∷ codes "kind" ∷ codes "workers" ∷ []
-beside_of kind.Replicate = codes "name" ∷ codes "kind" ∷ codes "workers" ∷ []
-beside_of _ = codes "name" ∷ codes "kind" ∷ codes "workers" ∷ codes "roof" ∷ []
+beside_of kind =
+    if are_free (row_of kind).followers then codes "name" ∷ codes "kind" ∷ codes "workers" ∷ codes "roof" ∷ []
+    else if nat_lt 1 (row_of kind).most_workers then codes "name" ∷ codes "kind" ∷ codes "workers" ∷ []
+    else codes "name" ∷ codes "kind" ∷ []
 
 -- the name of a node
 abbrev pub name_in : Members → Result (List ℕ) FormFault

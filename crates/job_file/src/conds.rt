@@ -68,13 +68,8 @@ fn read_test(item: &Toml) -> Result<Test, FormFault>
     ensures ok { IfOk result (λ test. test_of (view item.now) ≡ Ok test) }
     ensures fault { IfErr result (λ fault. test_of (view item.now) ≡ Err fault) }
 {
-    match text(item, Part::When)? {
-        "=" => Ok(Test::Eq),
-        "!=" => Ok(Test::Ne),
-        "<" => Ok(Test::Lt),
-        "<=" => Ok(Test::Le),
-        ">" => Ok(Test::Gt),
-        ">=" => Ok(Test::Ge),
-        _ => Err(FormFault::Shape(Part::When)),
+    match Test::named(text(item, Part::When)?) {
+        Some(test) => Ok(test),
+        None => Err(FormFault::Shape(Part::When)),
     }
 }

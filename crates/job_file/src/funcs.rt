@@ -6,17 +6,17 @@ ghost use Rattle.job_file.specs.Funcs.{byte_at, column_at, count_in, enrich_in, 
 use crate::conds::read_conds;
 use crate::document::{has_only, items_at, member, text, text_at, whole_at};
 use crate::fault::{FormFault, Part};
-use crate::kinds::{Kind, keys_of};
 use crate::literals::{read_literal, read_operand};
 use crate::names::{column_named, table_named};
 use crate::numbers::nearest;
 use crate::steps::read_steps;
-use jobs::{Column, Columns, CountBy, Func, Lookup, Operand, SplitBy, Table};
+use jobs::{Column, Columns, CountBy, Func, Kind, Lookup, Operand, SplitBy, Table};
 use std::alloc::Global;
 use toml::{Table as Members, Value as Toml};
 use tuple_trace::Value;
 
-/// The function of this kind that a table has, which may have these keys `beside` those of the kind.
+/// The function of this kind that a table has, which may have these keys `beside` those of the
+/// kind.
 pub(crate) fn read_func(
     alloc: Global,
     columns: &[Column],
@@ -28,7 +28,7 @@ pub(crate) fn read_func(
     ensures ok { IfOk result (λ func. func_in columns.now tables.now (map (λ key. key.now) beside.now) kind (table_view members.now) ≡ Ok func) }
     ensures fault { IfErr result (λ fault. fault ≢ FormFault.NoMemory → func_in columns.now tables.now (map (λ key. key.now) beside.now) kind (table_view members.now) ≡ Err fault) }
 {
-    if !has_only(members, beside, keys_of(kind)) {
+    if !has_only(members, beside, kind.row().keys) {
         return Err(FormFault::Shape(Part::Unknown));
     }
     func_of(alloc, columns, tables, kind, members)

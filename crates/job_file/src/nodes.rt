@@ -6,10 +6,10 @@ ghost use Rattle.job_file.specs.Nodes.{beside_of, name_in, node_in, node_of, roo
 use crate::document::{table, text_at, whole_or};
 use crate::fault::{FormFault, Part};
 use crate::funcs::read_func;
-use crate::kinds::{Kind, read_kind};
+use crate::kinds::read_kind;
 use crate::names::is_name;
 use crate::numbers::nearest;
-use jobs::{Column, Func, NodeDef, NodeDefs, Table, fan_out};
+use jobs::{Column, Followers, Func, Kind, NodeDef, NodeDefs, Table, fan_out};
 use std::alloc::Global;
 use toml::{Table as Members, Value as Toml};
 use tuple_trace::Txt;
@@ -88,11 +88,15 @@ fn read_name(alloc: Global, members: &Members) -> Result<Txt, FormFault>
 fn beside_of(kind: Kind) -> &'static [&'static str]
     ensures { map (λ key. key.now) result.now ≡ beside_of kind }
 {
-    match kind {
-        Kind::Source | Kind::Sink => &["name", "kind"],
-        Kind::Count | Kind::Replicate => &["name", "kind", "workers"],
-        Kind::Filter | Kind::Map | Kind::Enrich | Kind::Split => {
-            &["name", "kind", "workers", "roof"]
+    let row = kind.row();
+    match row.followers {
+        Followers::FreeKinds => &["name", "kind", "workers", "roof"],
+        Followers::Nothing | Followers::SameKind => {
+            if 1 < row.most_workers {
+                &["name", "kind", "workers"]
+            } else {
+                &["name", "kind"]
+            }
         }
     }
 }
