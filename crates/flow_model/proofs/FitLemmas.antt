@@ -1,7 +1,7 @@
 -- Every port that a function puts out on has an edge, and every tuple a lane there.
-use Rattle.std.proofs.Common.{◌≡◌, ◌∙◌, ◌<◌, ◌+◌, ◌==◌, ◌&&◌, ◌||◌, ℕ, suc, List, [], ◌∷◌, refl, sym, subst, ap, arith, true, false, Bool, length, Some, Option, slice_get, option_map}
+use Rattle.std.proofs.Common.{◌≡◌, ◌∙◌, ◌<◌, ◌+◌, ◌==◌, ◌&&◌, ◌||◌, ℕ, suc, List, [], ◌∷◌, refl, sym, subst, ap, arith, true, false, Bool, length, Some, Option, slice_get, option_map, nat_le}
 use Rattle.std.specs.List.{enumerate_from}
-use Rattle.std.proofs.lemmas.Bool.{and_parts, eqb-true}
+use Rattle.std.proofs.lemmas.Bool.{and_parts, eqb-true, leb-true}
 use Rattle.flow_dag.specs.declared.edge.Edge.{Edge}
 use Rattle.jobs.specs.Nodes.{is_source, is_source_node, workers_of}
 use Rattle.jobs.specs.Ports.{are_ports, has_port, has_ports, out_count}
@@ -51,7 +51,8 @@ port_edge (e ∷ more) node port first h = go (e.from == node && e.port == port)
 pub source_port : (edges : List Edge) (node : ℕ) (f : Func) → is_source f ≡ true → are_ports edges node f ≡ true → has_port edges node 0 ≡ true
 source_port edges node f s all =
     let k = ports_by_kind edges node func.Source (subst (λ (g : Func). are_ports edges node g ≡ true) (source_is f s) all) in
-    go (has_port edges node 0) refl (omega (arith, eqb-true (out_count edges node) 1 k.1)) k.2
+    let leave = and_parts (nat_le 1 (out_count edges node)) (nat_le (out_count edges node) 1) k.1 in
+    go (has_port edges node 0) refl (omega (arith, leb-true 1 (out_count edges node) leave.0)) k.2
   where
     go : (b : Bool) → has_port edges node 0 ≡ b → 0 < out_count edges node → has_ports edges node (out_count edges node) ≡ true → has_port edges node 0 ≡ true
     go true e lt p = e

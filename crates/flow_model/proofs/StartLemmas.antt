@@ -1,5 +1,5 @@
 -- The counts of workers that have counted nothing.
-use Rattle.std.proofs.Common.{◌≡◌, ◌∙◌, ◌<◌, ◌≤◌, ◌+◌, ◌++◌, ℕ, List, [], ◌∷◌, ap, sym, refl, length, map, take}
+use Rattle.std.proofs.Common.{◌≡◌, ◌∙◌, ◌<◌, ◌≤◌, ◌+◌, ◌++◌, ℕ, List, [], ◌∷◌, ap, refl, length, map, take}
 use Rattle.std.proofs.lemmas.List.{map_more, take_all}
 use Rattle.std.specs.FinMap.{empty}
 use Rattle.jobs.specs.Written.{Written}
