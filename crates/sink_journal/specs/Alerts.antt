@@ -9,6 +9,7 @@ use Rattle.jobs.specs.declared.func.Func.{Func}
 use Rattle.jobs.specs.declared.func.Func.TheVariants as func
 use Rattle.jobs.specs.declared.func.NodeDef.{NodeDef}
 use Rattle.tuple_trace.specs.declared.tuple.Tuple.{Tuple}
+use Rattle.tuple_trace.specs.declared.value.Value.{Value}
 use Rattle.sink_journal.specs.Records.{records_text}
 use Rattle.sink_journal.specs.Printed.{cell}
 use Rattle.sink_journal.specs.declared.journal.Entry.{Entry}
@@ -22,9 +23,13 @@ header columns = codes "sink" ∷ codes "row" ∷ map (λ column. column.name) c
 abbrev pub layout : List Column → List ℕ → List (Option ColumnKind)
 layout columns listed = map (λ (number, column). if list_any (λ n. nat_eq n number) listed then Some column.kind else None) (enumerate_from 0 columns)
 
+-- what a sink with this layout shows in the columns for these fields of a tuple
+abbrev pub cells : List (Option ColumnKind) → List Value → List (List ℕ)
+cells layout fields = map (λ (number, kind). cell kind (slice_get fields number)) (enumerate_from 0 layout)
+
 -- the fields that a sink of this name shows for a tuple
 abbrev pub alert : List ℕ → List (Option ColumnKind) → Tuple → List (List ℕ)
-alert name layout tuple = name ∷ decimal tuple.row ∷ map (λ (number, kind). cell kind (slice_get tuple.fields number)) (enumerate_from 0 layout)
+alert name layout tuple = name ∷ decimal tuple.row ∷ cells layout tuple.fields
 
 -- the tuple that an entry met
 abbrev pub met : Entry → Option Tuple

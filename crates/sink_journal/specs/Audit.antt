@@ -1,5 +1,5 @@
 -- The text of what a run was asked and did: the refused requests, the feed, and each worker's journal and counts.
-use Rattle.std.specs.Prelude.{◌+◌, ℕ, ℤ, List, [], ◌∷◌, ◌++◌, take, drop, map, decimal, codes}
+use Rattle.std.specs.Prelude.{◌+◌, ℕ, ℤ, List, [], ◌∷◌, ◌++◌, Option, None, Some, take, drop, map, decimal, codes}
 use Rattle.std.specs.FinMap.{entries}
 use Rattle.std.specs.Fmt.{signed_decimal}
 use Rattle.std.specs.List.{join_with_byte}
@@ -25,6 +25,11 @@ code_word code = codes "Q" ++ decimal code
 -- numbers with dots between them
 abbrev pub dotted : List ℕ → List ℕ
 dotted numbers = join_with_byte 46 (map decimal numbers)
+
+-- a number, where there is one
+abbrev pub shown : Option ℕ → List ℕ
+shown None = []
+shown (Some number) = decimal number
 
 -- a refused request: its place in the file and its code
 abbrev pub refused_fields : Noted → List (List ℕ)

@@ -1,16 +1,17 @@
-ghost use Rattle.std.specs.Prelude.{◌≡◌, ◌++◌, IfOk, OnOk, length, nat_eq};
+ghost use Rattle.std.specs.Prelude.{◌≡◌, ◌++◌, ◌∷◌, [], IfOk, OnOk, length, nat_eq, slice_get};
 ghost use Rattle.std.specs.List.{list_any};
+ghost use Rattle.csv.specs.Writing.{default_writer, field_text, fields_text};
 ghost use Rattle.jobs.specs.Job.{written};
 ghost use Rattle.jobs.specs.Nodes.{worker_count};
-ghost use Rattle.sink_journal.specs.Alerts.{alert, alerts, header, layout as layout_of, node_alerts, sink_alerts};
+ghost use Rattle.sink_journal.specs.Alerts.{alert, alerts, cells, header, layout as layout_of, node_alerts, sink_alerts};
+ghost use Rattle.sink_journal.specs.Printed.{cell};
 ghost use Rattle.sink_journal.specs.Records.{record_text, records_text};
 
-use crate::cells::Cells;
-use crate::sheet::Sheet;
+use crate::lines::Lines;
 use crate::{Entry, Journal, Journals};
 use jobs::{Column, ColumnKind, Func, Job, NodeDef};
 use std::alloc::Global;
-use tuple_trace::{Bytes, NoMemory, Tuple};
+use tuple_trace::{Bytes, NoMemory, Tuple, Value, number_in, text_in};
 
 /// The text of what reached the sinks: a header, and one record for each tuple that a sink met.
 ///
@@ -22,50 +23,45 @@ pub fn alerts_text(alloc: Global, job: &Job, journals: &Journals) -> Result<Byte
     ensures { IfOk result (λ text. text ≡ alerts (written job.now) journals.now) }
 {
     let columns = job.columns.as_slice();
-    let mut sheet = Sheet::with_room(alloc, 0);
-    let mut cells = Cells::new(alloc);
-    write_header(&mut sheet, &mut cells, columns)?;
+    let mut lines = Lines::with_room(alloc, 0);
+    write_header(&mut lines, columns)?;
     let mut rest = journals.as_slice();
     for node in job.nodes.as_slice() {
         let (own, later) = rest.split_at(node.journals() as usize);
-        write_node(alloc, &mut sheet, &mut cells, columns, node, own)?;
+        write_node(alloc, &mut lines, columns, node, own)?;
         rest = later;
     }
-    sheet.finish()
+    Ok(lines.into_text())
 }
 
-fn write_header(sheet: &mut Sheet, cells: &mut Cells, columns: &[Column]) -> Result<(), NoMemory>
-    ensures { OnOk result (sheet.new ≡ sheet.old ++ record_text (header columns.now)) }
+fn write_header(lines: &mut Lines, columns: &[Column]) -> Result<(), NoMemory>
+    ensures { OnOk result (lines.new ≡ lines.old ++ record_text (header columns.now)) }
 {
-    cells.clear();
-    cells.push(b"sink")?;
-    cells.push(b"row")?;
+    lines.add(b"sink,row")?;
     for column in columns {
-        cells.push(column.name.as_slice())?;
+        lines.add_text(column.name.as_slice())?;
     }
-    sheet.write_cells(cells)
+    lines.add(b"\n")
 }
 
 fn write_node(
     alloc: Global,
-    sheet: &mut Sheet,
-    cells: &mut Cells,
+    lines: &mut Lines,
     columns: &[Column],
     node: &NodeDef,
     journals: &[Journal],
 ) -> Result<(), NoMemory>
-    ensures { OnOk result (sheet.new ≡ sheet.old ++ records_text (node_alerts columns.now node.now journals.now)) }
+    ensures { OnOk result (lines.new ≡
+        lines.old ++ records_text (node_alerts columns.now node.now journals.now)) }
 {
     if let Func::Sink(listed) = &node.func {
         let layout = layout(alloc, columns, listed.as_slice())?;
+        let name = node.name.as_slice();
+        let mut front = Lines::with_room(alloc, 0);
+        front.add_first(name)?;
+        let front = front.into_text();
         for journal in journals {
-            write_sink(
-                sheet,
-                cells,
-                node.name.as_slice(),
-                layout.as_slice(),
-                journal,
-            )?;
+            write_sink(lines, name, front.as_slice(), layout.as_slice(), journal)?;
         }
     }
     Ok(())
@@ -92,37 +88,74 @@ fn lists(listed: &[u32], number: usize) -> bool
     listed.iter().any(|n| *n as usize == number)
 }
 
+// `front` is the sink's name as a field.
 fn write_sink(
-    sheet: &mut Sheet,
-    cells: &mut Cells,
+    lines: &mut Lines,
     name: &[u8],
+    front: &[u8],
     layout: &[Option<ColumnKind>],
     journal: &Journal,
 ) -> Result<(), NoMemory>
-    ensures { OnOk result (sheet.new ≡ sheet.old ++ records_text (sink_alerts name.now layout.now journal.now)) }
+    requires { front.now ≡ field_text default_writer name.now }
+    ensures { OnOk result (lines.new ≡
+        lines.old ++ records_text (sink_alerts name.now layout.now journal.now)) }
 {
     for entry in journal.as_slice() {
         if let Entry::Met { tuple, .. } = entry {
-            fill(cells, name, layout, tuple)?;
-            sheet.write_cells(cells)?;
+            write_alert(lines, name, front, layout, tuple)?;
         }
     }
     Ok(())
 }
 
-fn fill(
-    cells: &mut Cells,
+// `front` is the sink's name as a field.
+fn write_alert(
+    lines: &mut Lines,
     name: &[u8],
+    front: &[u8],
     layout: &[Option<ColumnKind>],
     tuple: &Tuple,
 ) -> Result<(), NoMemory>
-    ensures { OnOk result (cells.new ≡ alert name.now layout.now tuple.now) }
+    requires { front.now ≡ field_text default_writer name.now }
+    ensures { OnOk result (lines.new ≡
+        lines.old ++ record_text (alert name.now layout.now tuple.now)) }
 {
-    cells.clear();
-    cells.push(name)?;
-    cells.push_row(tuple.row)?;
+    lines.add(front)?;
+    lines.add_number(tuple.row)?;
+    add_cells(lines, layout, tuple.fields.as_slice())?;
+    lines.add(b"\n")
+}
+
+fn add_cells(
+    lines: &mut Lines,
+    layout: &[Option<ColumnKind>],
+    fields: &[Value],
+) -> Result<(), NoMemory>
+    ensures { OnOk result (lines.new ≡
+        lines.old ++ fields_text default_writer (cells layout.now fields.now)) }
+{
     for (number, kind) in layout.iter().enumerate() {
-        cells.push_field(*kind, tuple.fields.as_slice(), number)?;
+        add_cell(lines, *kind, fields, number)?;
     }
     Ok(())
+}
+
+// Appends the field at a place as a column of this kind shows it, or an empty one if the column
+// isn't shown.
+fn add_cell(
+    lines: &mut Lines,
+    kind: Option<ColumnKind>,
+    fields: &[Value],
+    place: usize,
+) -> Result<(), NoMemory>
+    ensures { OnOk result (lines.new ≡
+        lines.old ++ fields_text default_writer (cell kind (slice_get fields.now place) ∷ [])) }
+{
+    let field = fields.get(place);
+    match kind {
+        Some(ColumnKind::Text) => lines.add_text(text_in(field)),
+        Some(ColumnKind::Number) => lines.add_signed(number_in(field)),
+        Some(ColumnKind::Cents) => lines.add_cents(number_in(field)),
+        None => lines.add(b","),
+    }
 }

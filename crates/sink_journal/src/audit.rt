@@ -1,16 +1,15 @@
-ghost use Rattle.std.specs.Prelude.{◌≡◌, ◌++◌, ◌∷◌, [], Some, IfOk, OnOk, decimal, length, map};
+ghost use Rattle.std.specs.Prelude.{◌≡◌, ◌++◌, ◌∷◌, [], false, Some, IfOk, OnOk, decimal, length, map};
 ghost use Rattle.std.specs.FinMap as finite;
+ghost use Rattle.csv.specs.Writing.{default_writer, fields_text, needs_quotes};
 ghost use Rattle.jobs.specs.Job.{written};
 ghost use Rattle.jobs.specs.Nodes.{worker_count};
-ghost use Rattle.sink_journal.specs.Audit.{audit as audit_of, audit_header, code_word};
+ghost use Rattle.sink_journal.specs.Audit.{audit as audit_of, audit_header, code_word, dotted, shown};
 ghost use Rattle.sink_journal.specs.Audit.{entry_fields, feed_fields, refused_fields, state_fields};
 ghost use Rattle.sink_journal.specs.Audit.{worker_records, workers_records};
 ghost use Rattle.sink_journal.specs.Records.{record_text, records_text};
 
-use crate::cells::spell_dotted;
-use crate::sheet::Sheet;
+use crate::lines::Lines;
 use crate::{Entry, Feed, Feeds, Journal, Journals, States};
-use itoa::Buffer;
 use jobs::Job;
 use keyed_state::Keyed;
 use std::alloc::Global;
@@ -76,15 +75,14 @@ pub fn audit_text(
         journals = later_journals;
         states = later_states;
     }
-    audit.sheet.finish()
+    Ok(audit.lines.into_text())
 }
 
-/// An audit that grows. Contracts see the text of the records that were written.
+/// An audit that grows. Contracts see its text.
 #[derive(Drop)]
 struct Audit {
-    sheet: Sheet,
-    // Memory in which a cell is spelled. The next cell uses it again.
-    spelled: Vec<u8>,
+    alloc: Global,
+    lines: Lines,
 }
 
 impl Model for Audit {
@@ -92,7 +90,7 @@ impl Model for Audit {
 
     ghost Value = { List ℕ };
 
-    ghost view = { λ a. a.sheet };
+    ghost view = { λ a. a.lines };
 }
 
 impl Audit {
@@ -101,16 +99,15 @@ impl Audit {
         ensures { result ≡ [] }
     {
         Audit {
-            sheet: Sheet::with_room(alloc, records.saturating_mul(RECORD_BYTES)),
-            spelled: Vec::new(alloc),
+            alloc,
+            lines: Lines::with_room(alloc, records.saturating_mul(RECORD_BYTES)),
         }
     }
 
     fn write_header(&mut self) -> Result<(), NoMemory>
         ensures { OnOk result (self.new ≡ self.old ++ record_text audit_header) }
     {
-        self.sheet
-            .write_six(b"entry", b"node", b"worker", b"lane", b"number", b"extra")
+        self.lines.add(b"entry,node,worker,lane,number,extra\n")
     }
 
     fn write_refused(&mut self, refused: &[Noted]) -> Result<(), NoMemory>
@@ -126,14 +123,10 @@ impl Audit {
     fn write_noted(&mut self, noted: Noted) -> Result<(), NoMemory>
         ensures { OnOk result (self.new ≡ self.old ++ record_text (refused_fields noted)) }
     {
-        let (mut place, mut code) = (Buffer::new(), Buffer::new());
-        let place = place.format(noted.place).as_bytes();
-        self.spelled.clear();
-        self.spelled.push(b'Q')?;
-        self.spelled
-            .extend_from_slice(code.format(noted.code).as_bytes())?;
-        let code = self.spelled.as_slice();
-        self.sheet.write_six(b"refused", b"", b"", b"", place, code)
+        self.lines.add(b"refused,,,")?;
+        self.lines.add_number(noted.place.into())?;
+        self.lines.add_code(noted.code)?;
+        self.lines.add(b"\n")
     }
 
     fn write_feeds(&mut self, feeds: &[Feed]) -> Result<(), NoMemory>
@@ -148,13 +141,23 @@ impl Audit {
     fn write_feed(&mut self, feed: Feed) -> Result<(), NoMemory>
         ensures { OnOk result (self.new ≡ self.old ++ record_text (feed_fields feed)) }
     {
-        let mut digits = Buffer::new();
-        let (entry, number) = match feed {
-            Feed::Fed(row) => (b"fed".as_slice(), digits.format(row).as_bytes()),
-            Feed::Issued(request) => (b"issued".as_slice(), digits.format(request).as_bytes()),
-            Feed::Stopped => (b"stopped".as_slice(), b"".as_slice()),
-        };
-        self.sheet.write_six(entry, b"", b"", b"", number, b"")
+        match feed {
+            Feed::Fed(row) => self.write_fed(b"fed", row),
+            Feed::Issued(request) => self.write_fed(b"issued", request),
+            Feed::Stopped => self.lines.add(b"stopped,,,,,\n"),
+        }
+    }
+
+    // A step of the feeder with this number.
+    fn write_fed(&mut self, entry: &[u8], number: u64) -> Result<(), NoMemory>
+        requires { needs_quotes default_writer entry.now ≡ false }
+        ensures { OnOk result (self.new ≡ self.old
+            ++ record_text (entry.now ∷ [] ∷ [] ∷ [] ∷ decimal number ∷ [] ∷ [])) }
+    {
+        self.lines.add(entry)?;
+        self.lines.add(b",,,")?;
+        self.lines.add_number(number)?;
+        self.lines.add(b",\n")
     }
 
     // The workers of a node, given what each of them leaves.
@@ -184,13 +187,12 @@ impl Audit {
         ensures { OnOk result (self.new ≡
             self.old ++ records_text (worker_records node.now place journal.now state.now)) }
     {
-        let mut digits = Buffer::new();
-        let worker = digits.format(place).as_bytes();
-        self.write_journal(node, place, worker, journal.as_slice())?;
-        self.write_state(node, place, worker, state)
+        let worker = worker_fields(self.alloc, node, place)?;
+        self.write_journal(node, place, worker.as_slice(), journal.as_slice())?;
+        self.write_state(node, place, worker.as_slice(), state)
     }
 
-    // `worker` is the place in digits.
+    // `worker` has the fields of the node and of the place, as each record of the worker has them.
     fn write_journal(
         &mut self,
         node: &[u8],
@@ -198,7 +200,7 @@ impl Audit {
         worker: &[u8],
         journal: &[Entry],
     ) -> Result<(), NoMemory>
-        requires { worker.now ≡ decimal place }
+        requires { worker.now ≡ fields_text default_writer (node.now ∷ decimal place ∷ []) }
         ensures { OnOk result (self.new ≡
             self.old ++ records_text (map (entry_fields node.now place) journal.now)) }
     {
@@ -215,48 +217,59 @@ impl Audit {
         worker: &[u8],
         entry: &Entry,
     ) -> Result<(), NoMemory>
-        requires { worker.now ≡ decimal place }
+        requires { worker.now ≡ fields_text default_writer (node.now ∷ decimal place ∷ []) }
         ensures { OnOk result (self.new ≡
             self.old ++ record_text (entry_fields node.now place entry.now)) }
     {
         match entry {
             Entry::Met { lane, tuple } => {
-                let birth = tuple.birth.as_slice();
-                spell_dotted(&mut self.spelled, birth)?;
-                let birth = self.spelled.as_slice();
-                write_taken(
-                    &mut self.sheet,
-                    b"met",
-                    node,
-                    worker,
-                    *lane,
-                    tuple.row,
-                    birth,
-                )
+                let (lane, birth) = (Some(u64::from(*lane)), tuple.birth.as_slice());
+                self.write_step(node, place, worker, b"met", lane, Some(tuple.row), birth)
             }
             Entry::Marked { lane, request } => {
-                write_taken(
-                    &mut self.sheet,
-                    b"marked",
-                    node,
-                    worker,
-                    *lane,
-                    *request,
-                    b"",
-                )
+                let lane = Some(u64::from(*lane));
+                self.write_step(node, place, worker, b"marked", lane, Some(*request), &[])
             }
             Entry::Turned { request } => {
-                let mut requests = Buffer::new();
-                let request = requests.format(*request).as_bytes();
-                self.sheet
-                    .write_six(b"turned", node, worker, b"", request, b"")
+                self.write_step(node, place, worker, b"turned", None, Some(*request), &[])
             }
             Entry::Ended { lane } => {
-                let mut lanes = Buffer::new();
-                let lane = lanes.format(*lane).as_bytes();
-                self.sheet.write_six(b"ended", node, worker, lane, b"", b"")
+                let lane = Some(u64::from(*lane));
+                self.write_step(node, place, worker, b"ended", lane, None, &[])
             }
         }
+    }
+
+    // A step of the worker, with what there is of a lane, a number and a birth.
+    #[inline]
+    fn write_step(
+        &mut self,
+        node: &[u8],
+        place: usize,
+        worker: &[u8],
+        entry: &[u8],
+        lane: Option<u64>,
+        number: Option<u64>,
+        birth: &[u32],
+    ) -> Result<(), NoMemory>
+        requires fields { worker.now ≡ fields_text default_writer (node.now ∷ decimal place ∷ []) }
+        requires plain { needs_quotes default_writer entry.now ≡ false }
+        ensures { OnOk result (self.new ≡ self.old ++ record_text (entry.now ∷ node.now
+            ∷ decimal place ∷ shown lane ∷ shown number ∷ dotted birth.now ∷ [])) }
+    {
+        self.begin(entry, worker)?;
+        self.lines.add_shown(lane)?;
+        self.lines.add_shown(number)?;
+        self.lines.add_dotted(birth)?;
+        self.lines.add(b"\n")
+    }
+
+    // The first three fields of a record of the worker.
+    fn begin(&mut self, entry: &[u8], worker: &[u8]) -> Result<(), NoMemory>
+        ensures { OnOk result (self.new ≡ self.old ++ (entry.now ++ worker.now)) }
+    {
+        self.lines.add(entry)?;
+        self.lines.add(worker)
     }
 
     fn write_state(
@@ -266,37 +279,45 @@ impl Audit {
         worker: &[u8],
         state: &Keyed,
     ) -> Result<(), NoMemory>
-        requires { worker.now ≡ decimal place }
+        requires { worker.now ≡ fields_text default_writer (node.now ∷ decimal place ∷ []) }
         ensures { OnOk result (self.new ≡ self.old
             ++ records_text (map (state_fields node.now place) (finite.entries state.now))) }
     {
         for (key, count) in state.iter() {
-            let mut digits = Buffer::new();
-            let count = digits.format(*count).as_bytes();
-            self.sheet
-                .write_six(b"state", node, worker, b"", count, key)?;
+            self.write_count(node, place, worker, key, *count)?;
         }
         Ok(())
     }
+
+    fn write_count(
+        &mut self,
+        node: &[u8],
+        place: usize,
+        worker: &[u8],
+        key: &[u8],
+        count: i64,
+    ) -> Result<(), NoMemory>
+        requires { worker.now ≡ fields_text default_writer (node.now ∷ decimal place ∷ []) }
+        ensures { OnOk result (self.new ≡
+            self.old ++ record_text (state_fields node.now place (key.now, count))) }
+    {
+        self.begin(b"state", worker)?;
+        self.lines.add(b",")?;
+        self.lines.add_signed(count)?;
+        self.lines.add_text(key)?;
+        self.lines.add(b"\n")
+    }
 }
 
-// The record of what a worker took from a lane: a tuple of this row, or the marker of this request.
-fn write_taken(
-    sheet: &mut Sheet,
-    entry: &[u8],
-    node: &[u8],
-    worker: &[u8],
-    lane: u32,
-    number: u64,
-    extra: &[u8],
-) -> Result<(), NoMemory>
-    ensures { OnOk result (sheet.new ≡ sheet.old ++ record_text
-        (entry.now ∷ node.now ∷ worker.now ∷ decimal lane ∷ decimal number ∷ extra.now ∷ [])) }
+// The fields that name a worker: its node and its place.
+fn worker_fields(alloc: Global, node: &[u8], place: usize) -> Result<Bytes, NoMemory>
+    ensures { IfOk result (λ fields. fields ≡
+        fields_text default_writer (node.now ∷ decimal place ∷ [])) }
 {
-    let (mut lanes, mut numbers) = (Buffer::new(), Buffer::new());
-    let lane = lanes.format(lane).as_bytes();
-    let number = numbers.format(number).as_bytes();
-    sheet.write_six(entry, node, worker, lane, number, extra)
+    let mut lines = Lines::with_room(alloc, 0);
+    lines.add_text(node)?;
+    lines.add_number(place as u64)?;
+    Ok(lines.into_text())
 }
 
 // How many records the audit of this feed and these journals has, counts and refusals left out.

@@ -5,9 +5,8 @@
 
 mod alerts;
 mod audit;
-mod cells;
 mod journal;
-mod sheet;
+mod lines;
 
 pub use alerts::alerts_text;
 pub use audit::{Noted, RefusalCode, audit_text};

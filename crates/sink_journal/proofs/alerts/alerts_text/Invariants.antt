@@ -7,6 +7,6 @@ use Rattle.sink_journal.proofs.alerts.alerts_text.Given as goal
 
 abbrev pub invariant-loop-node : goal.invariant-loop-node
 invariant-loop-node l = record {
-  text : l.sheet ++ records_text (all_alerts l.columns (drop l.node-index l.fn.job.nodes) l.rest) ≡ alerts (written l.fn.job) l.fn.journals;
+  text : l.lines ++ records_text (all_alerts l.columns (drop l.node-index l.fn.job.nodes) l.rest) ≡ alerts (written l.fn.job) l.fn.journals;
   journals : length l.rest ≡ worker_count (drop l.node-index l.fn.job.nodes);
 }

@@ -6,5 +6,5 @@ use Rattle.sink_journal.proofs.alerts.write_node.Given as goal
 
 abbrev pub invariant-loop-journal : goal.invariant-loop-journal
 invariant-loop-journal l =
-    l.sheet ++ records_text (flat_map (sink_alerts l.node.name l.layout.items) (drop l.journal-index l.journals))
-    ≡ l.fn.sheet ++ records_text (flat_map (sink_alerts l.node.name l.layout.items) l.journals)
+    l.lines ++ records_text (flat_map (sink_alerts l.node.name l.layout.items) (drop l.journal-index l.journals))
+    ≡ l.fn.lines ++ records_text (flat_map (sink_alerts l.node.name l.layout.items) l.journals)

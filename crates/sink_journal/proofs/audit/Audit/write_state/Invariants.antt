@@ -6,5 +6,5 @@ use Rattle.sink_journal.proofs.audit.Audit.write_state.Given as goal
 
 abbrev pub invariant-loop-key : goal.invariant-loop-key
 invariant-loop-key l =
-    l.self-inside.sheet ++ records_text (map (state_fields l.node l.place) l.key-iterator)
+    l.self ++ records_text (map (state_fields l.node l.place) l.key-iterator)
     ≡ l.fn.self ++ records_text (map (state_fields l.node l.place) (entries l.state))
