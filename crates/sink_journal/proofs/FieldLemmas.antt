@@ -190,13 +190,12 @@ noted-record old s t u v place code first second third fourth =
     (four-parts old s t u v (codes "refused,,,") (fields_text default_writer (place ∷ [])) (fields_text default_writer (code ∷ [])) (10 ∷ []) first second third fourth)
 
 -- the record of a step of the feeder
-pub fed-record : (old s t u v entry number : List ℕ) → needs_quotes default_writer entry ≡ false → s ≡ old ++ entry → t ≡ s ++ 44 ∷ 44 ∷ 44 ∷ []
-    → u ≡ t ++ fields_text default_writer (number ∷ []) → v ≡ u ++ 44 ∷ 10 ∷ []
-    → v ≡ old ++ record_text (entry ∷ [] ∷ [] ∷ [] ∷ number ∷ [] ∷ [])
-fed-record old s t u v entry number plain first second third fourth =
-    let F : List ℕ = fields_text default_writer (number ∷ []) in
-    rw (six-text entry [] [] [] number [] plain, two-empty, one-empty, append_assoc entry (44 ∷ 44 ∷ []) (44 ∷ (F ++ 44 ∷ 10 ∷ [])))
-    (four-parts old s t u v entry (44 ∷ 44 ∷ 44 ∷ []) F (44 ∷ 10 ∷ []) first second third fourth)
+pub fed-text : (entry number : List ℕ) → needs_quotes default_writer entry ≡ false
+    → record_text (entry ∷ [] ∷ [] ∷ [] ∷ number ∷ [] ∷ []) ≡ (entry ++ 44 ∷ 44 ∷ 44 ∷ []) ++ (fields_text default_writer (number ∷ []) ++ 44 ∷ 10 ∷ [])
+fed-text entry number plain =
+    let rest = fields_text default_writer (number ∷ []) ++ 44 ∷ 10 ∷ [] in
+    rw (six-text entry [] [] [] number [] plain, two-empty, one-empty)
+    (append_assoc entry (44 ∷ 44 ∷ []) (44 ∷ rest) ∙ sym (append_assoc entry (44 ∷ 44 ∷ 44 ∷ []) rest))
 
 -- the record of a step or of a count of a worker
 pub step-record : (old s t u v w entry worker node place lane number extra : List ℕ) → needs_quotes default_writer entry ≡ false

@@ -41,7 +41,7 @@ fn write_header(lines: &mut Lines, columns: &[Column]) -> Result<(), NoMemory>
     for column in columns {
         lines.add_text(column.name.as_slice())?;
     }
-    lines.add(b"\n")
+    lines.end()
 }
 
 fn write_node(
@@ -123,7 +123,7 @@ fn write_alert(
     lines.add(front)?;
     lines.add_number(tuple.row)?;
     add_cells(lines, layout, tuple.fields.as_slice())?;
-    lines.add(b"\n")
+    lines.end()
 }
 
 fn add_cells(

@@ -126,7 +126,7 @@ impl Audit {
         self.lines.add(b"refused,,,")?;
         self.lines.add_number(noted.place.into())?;
         self.lines.add_code(noted.code)?;
-        self.lines.add(b"\n")
+        self.lines.end()
     }
 
     fn write_feeds(&mut self, feeds: &[Feed]) -> Result<(), NoMemory>
@@ -142,20 +142,18 @@ impl Audit {
         ensures { OnOk result (self.new ≡ self.old ++ record_text (feed_fields feed)) }
     {
         match feed {
-            Feed::Fed(row) => self.write_fed(b"fed", row),
-            Feed::Issued(request) => self.write_fed(b"issued", request),
+            Feed::Fed(row) => self.write_fed(b"fed,,,", row),
+            Feed::Issued(request) => self.write_fed(b"issued,,,", request),
             Feed::Stopped => self.lines.add(b"stopped,,,,,\n"),
         }
     }
 
-    // A step of the feeder with this number.
-    fn write_fed(&mut self, entry: &[u8], number: u64) -> Result<(), NoMemory>
-        requires { needs_quotes default_writer entry.now ≡ false }
-        ensures { OnOk result (self.new ≡ self.old
-            ++ record_text (entry.now ∷ [] ∷ [] ∷ [] ∷ decimal number ∷ [] ∷ [])) }
+    // The rest of a step of the feeder, after its first four fields.
+    fn write_fed(&mut self, front: &[u8], number: u64) -> Result<(), NoMemory>
+        ensures { OnOk result (self.new ≡ self.old ++ (front.now
+            ++ (fields_text default_writer (decimal number ∷ []) ++ 44 ∷ 10 ∷ []))) }
     {
-        self.lines.add(entry)?;
-        self.lines.add(b",,,")?;
+        self.lines.add(front)?;
         self.lines.add_number(number)?;
         self.lines.add(b",\n")
     }
@@ -261,7 +259,7 @@ impl Audit {
         self.lines.add_shown(lane)?;
         self.lines.add_shown(number)?;
         self.lines.add_dotted(birth)?;
-        self.lines.add(b"\n")
+        self.lines.end()
     }
 
     // The first three fields of a record of the worker.
@@ -305,7 +303,7 @@ impl Audit {
         self.lines.add(b",")?;
         self.lines.add_signed(count)?;
         self.lines.add_text(key)?;
-        self.lines.add(b"\n")
+        self.lines.end()
     }
 }
 

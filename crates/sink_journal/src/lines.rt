@@ -53,6 +53,13 @@ impl Lines {
         self.text.extend_from_slice(bytes)
     }
 
+    /// Ends a record.
+    pub(crate) fn end(&mut self) -> Result<(), NoMemory>
+        ensures { OnOk result (self.new ≡ self.old ++ 10 ∷ []) }
+    {
+        self.text.push(b'\n')
+    }
+
     /// Appends a comma, and a field of any text.
     pub(crate) fn add_text(&mut self, field: &[u8]) -> Result<(), NoMemory>
         ensures { OnOk result (self.new ≡

@@ -23,4 +23,4 @@ returns c =
     let end = c.add.new.self ++ fields_text default_writer names in
     let second = c.in_ok-add.ensures ∙ sym (append_assoc old (codes "sink") (codes ",row")) ∙ ap (λ (x : List ℕ). start ++ x) (sym (any-field (codes "row"))) in
     let third = fields-none c.loop-column.lines end (rw (drop_all c.loop-column.column-index columns c.loop-column-test.false) at c.loop-column.invariant) in
-    on-ok c.add-2.result (λ last. parts-record old start c.add.new.self c.loop-column.lines c.add-2.new.self (codes "sink") (codes "row") names refl second third last) c.add-2.ensures
+    on-ok c.end.result (λ last. parts-record old start c.add.new.self c.loop-column.lines c.end.new.self (codes "sink") (codes "row") names refl second third last) c.end.ensures

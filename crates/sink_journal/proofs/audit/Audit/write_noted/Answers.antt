@@ -8,4 +8,4 @@ returns c =
     let place = decimal c.args.noted.place in
     let first = c.in_ok-add.ensures ∙ ap (λ (x : List ℕ). x ++ codes "refused,,,") c.self.view_is in
     let second = rw c.into.ensures at c.in_ok-add_number.ensures in
-    on-ok c.add-2.result (λ last. noted-record c.args.self.now c.add.new.self c.add_number.new.self c.add_code.new.self c.add-2.new.self place (code_word c.args.noted.code) first second c.in_ok-add_code.ensures last) c.add-2.ensures
+    on-ok c.end.result (λ last. noted-record c.args.self.now c.add.new.self c.add_number.new.self c.add_code.new.self c.end.new.self place (code_word c.args.noted.code) first second c.in_ok-add_code.ensures last) c.end.ensures
