@@ -1,5 +1,5 @@
 -- The text of fields and of records, part by part.
-use Rattle.std.proofs.Common.{rules, ◌≡◌, ◌==◌, ◌++◌, ◌∷◌, ◌∙◌, ◌<◌, ◌^◌, [], ℕ, ℤ, pos, negsuc, List, Bool, refl, sym, ap, true, false, append_assoc, arith, slice_index_or, drop, length, ◌≤◌, suc, Fits, w32, w64}
+use Rattle.std.proofs.Common.{rules, ◌≡◌, ◌==◌, ◌++◌, ◌∷◌, ◌∙◌, ◌<◌, ◌^◌, [], ℕ, ℤ, pos, negsuc, List, Bool, refl, sym, ap, true, false, append_assoc, arith, slice_index_or, drop, length, ◌≤◌, suc, Fits, w32, w64, true≢false}
 use Rattle.std.specs.Prelude.{◌/◌, ◌%◌, unsigned_abs, Result, Ok, Err, OnOk, FitsSigned, codes, decimal, if◌then◌else◌}
 use Rattle.std.specs.Fmt.{signed_decimal}
 use Rattle.std.specs.Int.{IsInRange, is_negative}
@@ -235,3 +235,18 @@ parts-record old s t u v first second rest begun more others ended =
     let F : List (List ℕ) → List ℕ = fields_text default_writer in
     rw (record-parts first second rest, fields-cons second rest, append_assoc (F (second ∷ [])) (F rest) (10 ∷ []))
     (four-parts old s t u v (field_text default_writer first) (F (second ∷ [])) (F rest) (10 ∷ []) begun more others ended)
+
+-- no numbers
+none-dotted : (birth : List ℕ) → (length birth == 0) ≡ true → dotted birth ≡ []
+none-dotted [] none = refl
+none-dotted (n ∷ ns) none = absurd (true≢false (sym none ∙ ne_eqb (length (n ∷ ns)) 0 (λ e. omega arith)))
+
+-- the record of a tuple that a worker met, if it has no birth
+pub met-record : (old inside new node worker met place lane number birth : List ℕ) → inside ≡ old → met ≡ codes "met" ++ worker
+    → worker ≡ fields_text default_writer (node ∷ place ∷ []) → (length birth == 0) ≡ true
+    → new ≡ inside ++ (met ++ (fields_text default_writer (lane ∷ []) ++ (fields_text default_writer (number ∷ []) ++ 44 ∷ 10 ∷ [])))
+    → new ≡ old ++ record_text (codes "met" ∷ node ∷ place ∷ lane ∷ number ∷ dotted birth ∷ [])
+met-record old inside new node worker met place lane number birth view front who none text =
+    let rest = fields_text default_writer (lane ∷ []) ++ (fields_text default_writer (number ∷ []) ++ 44 ∷ 10 ∷ []) in
+    let begun = ap (λ (x : List ℕ). x ++ (met ++ rest)) view ∙ ap (λ (x : List ℕ). old ++ (x ++ rest)) (front ∙ ap (λ (x : List ℕ). codes "met" ++ x) who) in
+    rw (none-dotted birth none, six-text (codes "met") node place lane number [] refl, one-empty) (text ∙ begun)

@@ -3,7 +3,8 @@ ghost use Rattle.std.specs.List.{list_any};
 ghost use Rattle.csv.specs.Writing.{default_writer, field_text, fields_text};
 ghost use Rattle.jobs.specs.Job.{written};
 ghost use Rattle.jobs.specs.Nodes.{worker_count};
-ghost use Rattle.sink_journal.specs.Alerts.{alert, alerts, cells, header, layout as layout_of, node_alerts, sink_alerts};
+ghost use Rattle.sink_journal.specs.Alerts.{alert, alerts, cells, header, layout as layout_of};
+ghost use Rattle.sink_journal.specs.Alerts.{node_alerts, sink_alerts};
 ghost use Rattle.sink_journal.specs.Printed.{cell};
 ghost use Rattle.sink_journal.specs.Records.{record_text, records_text};
 
@@ -15,9 +16,10 @@ use tuple_trace::{Bytes, NoMemory, Tuple, Value, number_in, text_in};
 
 /// The text of what reached the sinks: a header, and one record for each tuple that a sink met.
 ///
-/// The header is `sink`, `row` and the names of the job's columns. The records stand sink by sink in the order of the nodes, and those of
-/// a sink in the order of its journal. A record has the sink's name, the number of the row, and the tuple's columns; a column that the
-/// sink doesn't list is empty. Fields are quoted where they need it, and a line feed ends each record.
+/// The header is `sink`, `row` and the names of the job's columns. The records stand sink by sink
+/// in the order of the nodes, and those of a sink in the order of its journal. A record has the
+/// sink's name, the number of the row, and the tuple's columns; a column that the sink doesn't list
+/// is empty. Fields are quoted where they need it, and a line feed ends each record.
 pub fn alerts_text(alloc: Global, job: &Job, journals: &Journals) -> Result<Bytes, NoMemory>
     requires { length journals.now ≡ worker_count job.now.nodes }
     ensures { IfOk result (λ text. text ≡ alerts (written job.now) journals.now) }
@@ -120,8 +122,7 @@ fn write_alert(
     ensures { OnOk result (lines.new ≡
         lines.old ++ record_text (alert name.now layout.now tuple.now)) }
 {
-    lines.add(front)?;
-    lines.add_number(tuple.row)?;
+    lines.begin_numbered(front, tuple.row)?;
     add_cells(lines, layout, tuple.fields.as_slice())?;
     lines.end()
 }

@@ -1,9 +1,11 @@
-ghost use Rattle.std.specs.Prelude.{◌≡◌, ◌++◌, ◌∷◌, [], false, Some, IfOk, OnOk, decimal, length, map};
+ghost use Rattle.std.specs.Prelude.{◌≡◌, ◌++◌, ◌∷◌, [], false, Some, IfOk, OnOk};
+ghost use Rattle.std.specs.Prelude.{codes, decimal, length, map};
 ghost use Rattle.std.specs.FinMap as finite;
 ghost use Rattle.csv.specs.Writing.{default_writer, fields_text, needs_quotes};
 ghost use Rattle.jobs.specs.Job.{written};
 ghost use Rattle.jobs.specs.Nodes.{worker_count};
-ghost use Rattle.sink_journal.specs.Audit.{audit as audit_of, audit_header, code_word, dotted, shown};
+ghost use Rattle.sink_journal.specs.Audit.{audit as audit_of, audit_header};
+ghost use Rattle.sink_journal.specs.Audit.{code_word, dotted, shown};
 ghost use Rattle.sink_journal.specs.Audit.{entry_fields, feed_fields, refused_fields, state_fields};
 ghost use Rattle.sink_journal.specs.Audit.{worker_records, workers_records};
 ghost use Rattle.sink_journal.specs.Records.{record_text, records_text};
@@ -153,9 +155,7 @@ impl Audit {
         ensures { OnOk result (self.new ≡ self.old ++ (front.now
             ++ (fields_text default_writer (decimal number ∷ []) ++ 44 ∷ 10 ∷ []))) }
     {
-        self.lines.add(front)?;
-        self.lines.add_number(number)?;
-        self.lines.add(b",\n")
+        self.lines.end_numbered(front, number)
     }
 
     // The workers of a node, given what each of them leaves.
@@ -186,24 +186,29 @@ impl Audit {
             self.old ++ records_text (worker_records node.now place journal.now state.now)) }
     {
         let worker = worker_fields(self.alloc, node, place)?;
-        self.write_journal(node, place, worker.as_slice(), journal.as_slice())?;
+        let met = met_fields(self.alloc, worker.as_slice())?;
+        let journal = journal.as_slice();
+        self.write_journal(node, place, worker.as_slice(), met.as_slice(), journal)?;
         self.write_state(node, place, worker.as_slice(), state)
     }
 
-    // `worker` has the fields of the node and of the place, as each record of the worker has them.
+    // `worker` has the fields of the node and of the place, as each record of the worker has them,
+    // and `met` the first three fields of a tuple that it met.
     fn write_journal(
         &mut self,
         node: &[u8],
         place: usize,
         worker: &[u8],
+        met: &[u8],
         journal: &[Entry],
     ) -> Result<(), NoMemory>
-        requires { worker.now ≡ fields_text default_writer (node.now ∷ decimal place ∷ []) }
+        requires fields { worker.now ≡ fields_text default_writer (node.now ∷ decimal place ∷ []) }
+        requires front { met.now ≡ codes "met" ++ worker.now }
         ensures { OnOk result (self.new ≡
             self.old ++ records_text (map (entry_fields node.now place) journal.now)) }
     {
         for entry in journal {
-            self.write_entry(node, place, worker, entry)?;
+            self.write_entry(node, place, worker, met, entry)?;
         }
         Ok(())
     }
@@ -213,16 +218,18 @@ impl Audit {
         node: &[u8],
         place: usize,
         worker: &[u8],
+        met: &[u8],
         entry: &Entry,
     ) -> Result<(), NoMemory>
-        requires { worker.now ≡ fields_text default_writer (node.now ∷ decimal place ∷ []) }
+        requires fields { worker.now ≡ fields_text default_writer (node.now ∷ decimal place ∷ []) }
+        requires front { met.now ≡ codes "met" ++ worker.now }
         ensures { OnOk result (self.new ≡
             self.old ++ record_text (entry_fields node.now place entry.now)) }
     {
         match entry {
             Entry::Met { lane, tuple } => {
-                let (lane, birth) = (Some(u64::from(*lane)), tuple.birth.as_slice());
-                self.write_step(node, place, worker, b"met", lane, Some(tuple.row), birth)
+                let (lane, birth) = (u64::from(*lane), tuple.birth.as_slice());
+                self.write_met(node, place, worker, met, lane, tuple.row, birth)
             }
             Entry::Marked { lane, request } => {
                 let lane = Some(u64::from(*lane));
@@ -236,6 +243,29 @@ impl Audit {
                 self.write_step(node, place, worker, b"ended", lane, None, &[])
             }
         }
+    }
+
+    // A tuple that the worker met. One without a birth is appended as one text.
+    #[inline]
+    fn write_met(
+        &mut self,
+        node: &[u8],
+        place: usize,
+        worker: &[u8],
+        met: &[u8],
+        lane: u64,
+        row: u64,
+        birth: &[u32],
+    ) -> Result<(), NoMemory>
+        requires fields { worker.now ≡ fields_text default_writer (node.now ∷ decimal place ∷ []) }
+        requires front { met.now ≡ codes "met" ++ worker.now }
+        ensures { OnOk result (self.new ≡ self.old ++ record_text (codes "met" ∷ node.now
+            ∷ decimal place ∷ decimal lane ∷ decimal row ∷ dotted birth.now ∷ [])) }
+    {
+        if birth.is_empty() {
+            return self.lines.end_laned(met, lane, row);
+        }
+        self.write_step(node, place, worker, b"met", Some(lane), Some(row), birth)
     }
 
     // A step of the worker, with what there is of a lane, a number and a birth.
@@ -315,6 +345,16 @@ fn worker_fields(alloc: Global, node: &[u8], place: usize) -> Result<Bytes, NoMe
     let mut lines = Lines::with_room(alloc, 0);
     lines.add_text(node)?;
     lines.add_number(place as u64)?;
+    Ok(lines.into_text())
+}
+
+// The first three fields of a tuple that a worker met, given the fields that name the worker.
+fn met_fields(alloc: Global, worker: &[u8]) -> Result<Bytes, NoMemory>
+    ensures { IfOk result (λ front. front ≡ codes "met" ++ worker.now) }
+{
+    let mut lines = Lines::with_room(alloc, 0);
+    lines.add(b"met")?;
+    lines.add(worker)?;
     Ok(lines.into_text())
 }
 

@@ -8,7 +8,8 @@ pub enum Entry {
     Met { lane: u32, tuple: Tuple },
     /// It took the marker of a request from this lane.
     Marked { lane: u32, request: u64 },
-    /// It put the request's change of its node in force, or passed the request on where its node is not asked.
+    /// It put the request's change of its node in force, or passed the request on where its node is
+    /// not asked.
     Turned { request: u64 },
     /// It took the end of this lane.
     Ended { lane: u32 },
@@ -17,7 +18,8 @@ pub enum Entry {
 /// What one worker did, in order.
 pub type Journal = Items<Entry>;
 
-/// The journals of all workers: node by node in the order of the nodes, and the workers of a node by their places. Sources have none.
+/// The journals of all workers: node by node in the order of the nodes, and the workers of a node
+/// by their places. Sources have none.
 pub type Journals = Items<Journal>;
 
 /// The counts that the workers hold at the end, in the order of [`Journals`].

@@ -1,6 +1,7 @@
 //! What the workers and the feeder of a run did, and the texts that are written of it.
 //!
-//! A journal is the list of steps of one worker. The texts are CSV, as the default writer of `csv` writes it.
+//! A journal is the list of steps of one worker. The texts are CSV, as the default writer of `csv`
+//! writes it.
 #![tactic(auto)]
 
 mod alerts;

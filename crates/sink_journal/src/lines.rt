@@ -1,16 +1,21 @@
-ghost use Rattle.std.specs.Prelude.{◌≡◌, ◌<◌, ◌++◌, ◌∷◌, [], false, OnOk, decimal};
+ghost use Rattle.std.specs.Prelude.{◌≡◌, ◌+◌, ◌<◌, ◌≤◌, ◌++◌, ◌∷◌, [], false, OnOk, decimal, drop};
 ghost use Rattle.std.specs.Fmt.{signed_decimal};
-ghost use Rattle.csv.specs.Writing.{default_writer, escaped, field_text, fields_text, needs_quotes, quoted};
+ghost use Rattle.csv.specs.Writing.{default_writer, escaped, field_text, fields_text};
+ghost use Rattle.csv.specs.Writing.{needs_quotes, quoted};
 ghost use Rattle.sink_journal.specs.Audit.{code_word, dotted, shown};
 ghost use Rattle.sink_journal.specs.Printed.{cents_of};
 
-use itoa::Buffer;
+use itoa::{Buffer, write_digits};
 use std::alloc::Global;
 use std::marker::Model;
 use tuple_trace::{Bytes, NoMemory};
 
-/// What stands between the whole part of an amount and its cents, and between the numbers of a birth.
+/// What stands between the whole part of an amount and its cents, and between the numbers of a
+/// birth.
 const POINT: u8 = b'.';
+
+// How many bytes are spelled on the stack before they are appended.
+const ROOM: usize = 96;
 
 /// A text of CSV records that grows field by field, each as the default writer of `csv` writes it.
 /// Contracts see its bytes.
@@ -185,6 +190,56 @@ impl Lines {
         Ok(())
     }
 
+    /// Appends a front, a field with the digits of a number, an empty field, and the record's end.
+    pub(crate) fn end_numbered(&mut self, front: &[u8], number: u64) -> Result<(), NoMemory>
+        ensures { OnOk result (self.new ≡ self.old ++ (front.now
+            ++ (fields_text default_writer (decimal number ∷ []) ++ 44 ∷ 10 ∷ []))) }
+    {
+        let mut ending = [b'\n'; ROOM];
+        ending[ROOM - 2] = b',';
+        let at = put_number(&mut ending, ROOM - 2, number);
+        self.end_by(front, &mut ending, at)
+    }
+
+    /// The same, with a lane's number before the number.
+    pub(crate) fn end_laned(&mut self, front: &[u8], lane: u64, number: u64) -> Result<(), NoMemory>
+        ensures { OnOk result (self.new ≡ self.old ++ (front.now
+            ++ (fields_text default_writer (decimal lane ∷ [])
+            ++ (fields_text default_writer (decimal number ∷ []) ++ 44 ∷ 10 ∷ [])))) }
+    {
+        let mut ending = [b'\n'; ROOM];
+        ending[ROOM - 2] = b',';
+        let at = put_number(&mut ending, ROOM - 2, number);
+        let at = put_number(&mut ending, at, lane);
+        self.end_by(front, &mut ending, at)
+    }
+
+    /// Appends a front, which begins a record, and a field with the digits of a number.
+    pub(crate) fn begin_numbered(&mut self, front: &[u8], number: u64) -> Result<(), NoMemory>
+        ensures { OnOk result (self.new ≡
+            self.old ++ (front.now ++ fields_text default_writer (decimal number ∷ []))) }
+    {
+        let mut spelled = [0; ROOM];
+        let at = put_number(&mut spelled, ROOM, number);
+        self.end_by(front, &mut spelled, at)
+    }
+
+    // Appends a front, and then what `ending` has from a place on. A front that fits before that
+    // place is put there, so that both are appended as one.
+    #[inline]
+    fn end_by(&mut self, front: &[u8], ending: &mut [u8; ROOM], at: usize) -> Result<(), NoMemory>
+        requires { at ≤ 96 }
+        ensures { OnOk result (self.new ≡ self.old ++ (front.now ++ drop at ending.old)) }
+    {
+        if front.len() > at {
+            self.text.extend_from_slice(front)?;
+            return self.text.extend_from_slice(&ending[at..]);
+        }
+        let start = at - front.len();
+        ending[start..at].copy_from_slice(front);
+        self.text.extend_from_slice(&ending[start..])
+    }
+
     fn spell(&mut self, number: u64) -> Result<(), NoMemory>
         ensures { OnOk result (self.new ≡ self.old ++ decimal number) }
     {
@@ -204,6 +259,19 @@ fn asks_for_quotes(field: &[u8]) -> bool
     field
         .iter()
         .any(|byte| matches!(*byte, b',' | b'"' | b'\r' | b'\n'))
+}
+
+// Puts a comma and the digits of a number before the place `at`. Answers where they begin.
+#[inline]
+fn put_number(text: &mut [u8; ROOM], at: usize, number: u64) -> usize
+    requires { (21 ≤ at) × (at ≤ 96) }
+    ensures start { (result ≤ at) × (at ≤ result + 21) }
+    ensures text { drop result text.new ≡
+        fields_text default_writer (decimal number ∷ []) ++ drop at text.old }
+{
+    let start = write_digits(number, text, at);
+    text[start - 1] = b',';
+    start - 1
 }
 
 fn digit(number: u64) -> u8
