@@ -2,6 +2,8 @@ pub mod PostLemmas
 pub mod PlanLemmas
 pub mod GatheredLemmas
 pub mod JournalLemmas
+pub mod EndLemmas
+pub mod StateLemmas
 pub mod PointLemmas
 pub mod EachLemmas
 pub mod LawChecks

@@ -12,6 +12,7 @@ pub mod Points
 pub mod Station
 pub mod Replay
 pub mod InForce
+pub mod WorkerState
 pub mod Dues
 pub mod Begin
 pub mod Feeding

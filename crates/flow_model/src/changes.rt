@@ -4,7 +4,9 @@ ghost use Rattle.jobs.specs.declared.func.Func.{Func as FuncIs};
 ghost use Rattle.versions.specs.declared.request.Change.{Change as ChangeIs};
 ghost use Rattle.flow_model.specs.InForce.{change_at, counts_with, func_in as func_at};
 ghost use Rattle.flow_model.specs.Requests.{change_among, change_of, func_with, request_at};
+ghost use Rattle.flow_model.specs.Outline.{Post as PostIs};
 ghost use Rattle.flow_model.specs.Setup.{outline};
+ghost use Rattle.flow_model.specs.WorkerState.{func_at as at_view};
 
 use crate::{InForce, Setup};
 use keyed_state::Keyed;
@@ -69,6 +71,10 @@ impl Setup {
         ensures func { (func : FuncIs) → func_at (outline self.now) node at.old ≡ Some func
             → func_at (outline self.now) node at.new
             ≡ Some (func_with (change_of (outline self.now) request node) func) }
+        ensures view { (post : PostIs) → post.node ≡ node
+            → at_view (outline self.now) post at.new
+            ≡ func_with (change_of (outline self.now) request node)
+            (at_view (outline self.now) post at.old) }
         ensures counts { counts.new
             ≡ counts_with (change_of (outline self.now) request node) counts.old }
     {

@@ -1,6 +1,8 @@
-//! What a run is: the setup that it goes by, the record that it leaves, and the definitions of both.
+//! What a run is: the setup that it goes by, the record that it leaves, and the definitions of
+//! both.
 //!
-//! Nothing here runs anything. Contracts of whatever does cite these definitions, which know no queue, no capacity and no thread.
+//! No run is made here. Contracts of whatever makes one cite these definitions, which know no
+//! queue, no capacity and no thread. [`WorkerState`] is what one worker has in force.
 #![tactic(auto)]
 
 mod changes;
@@ -21,6 +23,7 @@ mod setup;
 mod start;
 mod tables;
 mod topology;
+mod worker_state;
 mod workers;
 
 pub use consistent::runs_are_consistent;
@@ -46,3 +49,4 @@ pub use setup::{Plans, Setup};
 pub use sink_journal::States;
 pub use start::Start;
 pub use topology::{Lane, LaneNumbers, OutEdge, OutEdges, Topology, WorkerAt};
+pub use worker_state::WorkerState;

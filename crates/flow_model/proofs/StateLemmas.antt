@@ -1,0 +1,65 @@
+-- What a worker's state makes of a tuple, in the words of the replay.
+use Rattle.std.proofs.Common.{◌≡◌, ◌∙◌, ◌++◌, ℕ, List, sym, ap}
+use Rattle.std.specs.Prelude.{Some, slice_get}
+use Rattle.jobs.specs.declared.func.Func.{Func}
+use Rattle.jobs.specs.declared.func.NodeDef.{NodeDef}
+use Rattle.keyed_state.specs.Counts.{Counts}
+use Rattle.operators.specs.Meaning.{step}
+use Rattle.operators.specs.declared.output.Output.{Output}
+use Rattle.sink_journal.specs.declared.journal.Entry.TheVariants.{Met}
+use Rattle.tuple_trace.specs.declared.tuple.Tuple.{Tuple}
+use Rattle.tuple_trace.specs.declared.tuple.Visit.{Visit}
+use Rattle.flow_model.specs.Outline.{Outline, Post}
+use Rattle.flow_model.specs.Replay.{visit_at}
+use Rattle.flow_model.specs.WorkerState.{IsAfter, IsWorkerAt, func_at, made, state_view}
+use Rattle.flow_model.specs.declared.topology.WorkerAt.{WorkerAt}
+use Rattle.flow_model.specs.declared.worker_state.WorkerState.{WorkerState}
+use Rattle.flow_model.proofs.WorkerLemmas.{worker_with}
+
+abbrev pub visit_by : WorkerAt → ℕ → Visit
+visit_by at last = record { node = at.node; worker = at.index; last = last }
+
+-- what is known of the function that the code looks up
+abbrev pub IsFuncOf : Outline → WorkerAt → WorkerState → Func → Type 0
+IsFuncOf setup at state f =
+    (post : Post) (def : NodeDef) → slice_get setup.job.nodes at.node ≡ Some def →
+    post.node ≡ at.node → post.func ≡ def.func → f ≡ func_at setup post state.func
+
+its_func : (setup : Outline) (at : WorkerAt) (post : Post) (state : WorkerState) (f : Func) →
+    IsWorkerAt setup.job at post → IsFuncOf setup at state f → f ≡ func_at setup post state.func
+its_func setup at post state f is known =
+    let (number, worker) = worker_with setup.job post.number post is.there in
+    let node : at.node ≡ post.node = ap (λ (a : WorkerAt). a.node) is.at_is in
+    known post worker.def (ap (slice_get setup.job.nodes) node ∙ worker.node_is) (sym node)
+    worker.func_is
+
+-- what the step makes with the visit and the function that the code hands in
+same_step : (setup : Outline) (at : WorkerAt) (post : Post) (state : WorkerState) (f : Func)
+    (tuple : Tuple) → IsWorkerAt setup.job at post → IsFuncOf setup at state f →
+    step setup.job (visit_by at state.last) f state.counts tuple
+    ≡ step setup.job (visit_at post (state_view setup post state)) (func_at setup post state.func)
+    state.counts tuple
+same_step setup at post state f tuple is known =
+    ap (λ (a : WorkerAt). step setup.job (visit_by a state.last) f state.counts tuple) is.at_is
+    ∙ ap (λ (g : Func).
+    step setup.job (visit_at post (state_view setup post state)) g state.counts tuple)
+    (its_func setup at post state f is known)
+
+pub processed : (setup : Outline) (at : WorkerAt) (state : WorkerState) (f : Func) (tuple : Tuple)
+    (counts : Counts) → IsFuncOf setup at state f →
+    counts ≡ (step setup.job (visit_by at state.last) f state.counts tuple).0 →
+    (post : Post) → IsWorkerAt setup.job at post → (lane : ℕ) →
+    IsAfter setup post (Met lane tuple) state (record state { counts = counts })
+processed setup at state f tuple counts known are post is lane =
+    ap (λ (c : Counts). record (state_view setup post state) { counts = c })
+    (are ∙ ap (λ (s : Counts × List Output). s.0)
+    (same_step setup at post state f tuple is known))
+
+pub came_out : (setup : Outline) (at : WorkerAt) (state : WorkerState) (f : Func) (tuple : Tuple)
+    (old new : List Output) → IsFuncOf setup at state f →
+    new ≡ old ++ (step setup.job (visit_by at state.last) f state.counts tuple).1 →
+    (post : Post) → IsWorkerAt setup.job at post →
+    new ≡ old ++ made setup post (state_view setup post state) tuple
+came_out setup at state f tuple old new known are post is =
+    are ∙ ap (λ (s : Counts × List Output). old ++ s.1)
+    (same_step setup at post state f tuple is known)

@@ -1,0 +1,109 @@
+// What is in force at a worker.
+ghost use Rattle.std.specs.Prelude.{◌≡◌, ◌<◌, ◌+◌, ◌-◌, ◌^◌, OnErr, OnOk, Some, length, slice_get};
+ghost use Rattle.jobs.specs.declared.func.NodeDef.{NodeDef as NodeDefIs};
+ghost use Rattle.flow_model.specs.Outline.{Post as PostIs};
+ghost use Rattle.flow_model.specs.Setup.{outline};
+ghost use Rattle.flow_model.specs.WorkerState.{AreMade, HasEndedLane, IsProcessed, IsTurned};
+ghost use Rattle.flow_model.specs.WorkerState.{first_state, func_at};
+
+use crate::{InForce, Setup, WorkerAt};
+use keyed_state::Keyed;
+use operators::{Func, Outs, apply};
+use std::alloc::Global;
+use tuple_trace::{NoMemory, Tuple, Visit};
+
+/// What a worker has in force. An executor, a replay and a running worker hold it alike.
+#[derive(Debug, Drop)]
+pub struct WorkerState {
+    /// Where the worker's function stands.
+    pub func: InForce,
+    pub counts: Keyed,
+    /// The latest request turned, 0 before the first.
+    pub last: u64,
+    /// How many lanes in have ended.
+    pub ended: u64,
+}
+
+impl WorkerState {
+    /// Makes the state of a worker that has done nothing. Takes no memory.
+    pub fn new(alloc: Global) -> WorkerState
+        ensures { result ≡ first_state }
+    {
+        WorkerState {
+            func: InForce::Own,
+            counts: Keyed::new(alloc),
+            last: 0,
+            ended: 0,
+        }
+    }
+
+    /// Processes a tuple at the worker that stands at `at`: counts it, and adds to `outs` what the
+    /// function in force makes of it. After an error state and `outs` are as before.
+    #[inline]
+    pub fn process(
+        &mut self,
+        alloc: Global,
+        setup: &Setup,
+        at: WorkerAt,
+        tuple: &Tuple,
+        outs: &mut Outs,
+    ) -> Result<(), NoMemory>
+        requires { at.node < length (outline setup.now).job.nodes }
+        ensures state { OnOk result (IsProcessed (outline setup.now) at tuple.now self.old
+            self.new) }
+        ensures outs { OnOk result (AreMade (outline setup.now) at tuple.now self.old outs.old
+            outs.new) }
+        ensures err { OnErr result (self.new ≡ self.old) }
+        ensures err_outs { OnErr result (outs.new ≡ outs.old) }
+    {
+        let visit = Visit {
+            node: at.node,
+            worker: at.index,
+            last: self.last,
+        };
+        apply(
+            alloc,
+            &setup.job,
+            setup.ports(at.node),
+            visit,
+            func_of(setup, at.node, self.func),
+            &mut self.counts,
+            tuple,
+            outs,
+        )
+    }
+
+    /// Turns for a request at a node: its change of the node, if there is one, comes into force.
+    /// Takes no memory.
+    #[inline]
+    pub fn turn(&mut self, setup: &Setup, node: u32, request: u64)
+        ensures { IsTurned (outline setup.now) node request self.old self.new }
+    {
+        setup.put_in_force(node, request, &mut self.func, &mut self.counts);
+        self.last = request;
+    }
+
+    /// Notes that one more lane in has ended.
+    pub fn end_lane(&mut self)
+        requires { self.old.ended < 2 ^ 64 - 1 }
+        ensures is { self.new ≡ record self.old { ended = self.old.ended + 1 } }
+        ensures view { HasEndedLane self.old self.new }
+    {
+        self.ended += 1;
+    }
+}
+
+// The function that stands there, or the job's own of the node if none does.
+#[inline]
+fn func_of(setup: &Setup, node: u32, at: InForce) -> &Func
+    requires { node < length (outline setup.now).job.nodes }
+    ensures { (post : PostIs) (def : NodeDefIs)
+        → slice_get (outline setup.now).job.nodes node ≡ Some def
+        → post.node ≡ node → post.func ≡ def.func
+        → result.now ≡ func_at (outline setup.now) post at }
+{
+    match setup.func_in(node, at) {
+        Some(func) => func,
+        None => &setup.job.nodes.as_slice()[node as usize].func,
+    }
+}
