@@ -13,12 +13,13 @@ use Rattle.flow_model.specs.Outline.{Outline}
 use Rattle.flow_model.specs.Requests.{afters}
 use Rattle.flow_model.proofs.FreshLemmas.{order_rises}
 use Rattle.flow_model.proofs.PlaceLemmas.{map_place}
-use Rattle.flow_replay.specs.Rest.{AreIssuedBefore, issues}
+use Rattle.flow_replay.specs.inner.SoFar.{AreIssuedBefore, issues}
 use Rattle.flow_model.proofs.TopologyLemmas.{drop-at}
 
 -- ---- the order of requests
 
-pub waits-rise : (row : ℕ) (requests : List Request) (i j a b : ℕ) → AreInOrder row requests → i ≤ j → slice_get (afters requests) i ≡ Some a → slice_get (afters requests) j ≡ Some b → a ≤ b
+pub waits-rise : (row : ℕ) (requests : List Request) (i j a b : ℕ) → AreInOrder row requests →
+    i ≤ j → slice_get (afters requests) i ≡ Some a → slice_get (afters requests) j ≡ Some b → a ≤ b
 waits-rise row requests i j a b order le ea eb =
     let p = map_place (λ (request : Request). request.after) requests i a ea in
     let q = map_place (λ (request : Request). request.after) requests j b eb in
@@ -27,30 +28,42 @@ waits-rise row requests i j a b order le ea eb =
 
 -- ---- what is issued
 
-pub issued-none : (test : ℕ → Bool) (rows r : ℕ) (waits : List ℕ) → ((i a : ℕ) → slice_get waits i ≡ Some a → test (min a rows) ≡ false) → issued_where test rows r waits ≡ []
+pub issued-none : (test : ℕ → Bool) (rows r : ℕ) (waits : List ℕ) → ((i a : ℕ) →
+    slice_get waits i ≡ Some a → test (min a rows) ≡ false) → issued_where test rows r waits ≡ []
 issued-none test rows r [] h = refl
-issued-none test rows r (a ∷ more) h = rw (h 0 a refl) (issued-none test rows (r + 1) more (λ i b e. h (suc i) b e))
+issued-none test rows r (a ∷ more) h = rw (h 0 a refl) (issued-none test rows (r + 1) more (λ i b e.
+    h (suc i) b e))
 
 -- the first ones fail the test
-issued-skip : (test : ℕ → Bool) (rows r n : ℕ) (waits : List ℕ) → n ≤ length waits → ((i a : ℕ) → slice_get waits i ≡ Some a → i < n → test (min a rows) ≡ false)
+issued-skip : (test : ℕ → Bool) (rows r n : ℕ) (waits : List ℕ) → n ≤ length waits → ((i a : ℕ) →
+    slice_get waits i ≡ Some a → i < n → test (min a rows) ≡ false)
     → issued_where test rows r waits ≡ issued_where test rows (r + n) (drop n waits)
-issued-skip test rows r zero waits le h = let z : r ≡ r + 0 = omega arith in ap (λ (k : ℕ). issued_where test rows k waits) z
+issued-skip test rows r zero waits le h = let z : r
+    ≡ r + 0 = omega arith in ap (λ (k : ℕ). issued_where test rows k waits) z
 issued-skip test rows r (suc n) [] le h = absurd (omega (arith, le))
 issued-skip test rows r (suc n) (a ∷ more) le h =
     let z : r + 1 + n ≡ r + suc n = omega arith in
-    rw (h 0 a refl (omega arith)) (issued-skip test rows (r + 1) n more (omega (arith, le)) (λ i b e lt. h (suc i) b e (omega (arith, lt))) ∙ ap (λ (k : ℕ). issued_where test rows k (drop n more)) z)
+    rw (h 0 a refl (omega arith)) (issued-skip test rows (r + 1) n more (omega (arith, le)) (λ i b e
+    lt. h (suc i) b e (omega (arith, lt))) ∙ ap (λ (k : ℕ). issued_where test rows k (drop n
+    more)) z)
 
 -- two tests that agree
-issued-agree : (t u : ℕ → Bool) (rows r : ℕ) (waits : List ℕ) → ((i a : ℕ) → slice_get waits i ≡ Some a → t (min a rows) ≡ u (min a rows)) → issued_where t rows r waits ≡ issued_where u rows r waits
+issued-agree : (t u : ℕ → Bool) (rows r : ℕ) (waits : List ℕ) → ((i a : ℕ) → slice_get waits i
+    ≡ Some a → t (min a rows) ≡ u (min a rows)) → issued_where t rows r waits
+    ≡ issued_where u rows r waits
 issued-agree t u rows r [] h = refl
 issued-agree t u rows r (a ∷ more) h =
-    ap (λ (b : Bool). cond b (feed.Issued r ∷ issued_where t rows (r + 1) more) (issued_where t rows (r + 1) more)) (h 0 a refl)
-    ∙ ap (λ (l : List Feed). cond (u (min a rows)) (feed.Issued r ∷ l) l) (issued-agree t u rows (r + 1) more (λ i b e. h (suc i) b e))
+    ap (λ (b : Bool). cond b (feed.Issued r ∷ issued_where t rows (r + 1) more) (issued_where t rows
+    (r + 1) more)) (h 0 a refl)
+    ∙ ap (λ (l : List Feed). cond (u (min a rows)) (feed.Issued r ∷ l) l) (issued-agree t u rows (r
+    + 1) more (λ i b e. h (suc i) b e))
 
-pub get-drop : (n i a : ℕ) (waits : List ℕ) → slice_get (drop n waits) i ≡ Some a → slice_get waits (n + i) ≡ Some a
+pub get-drop : (n i a : ℕ) (waits : List ℕ) → slice_get (drop n waits) i ≡ Some a →
+    slice_get waits (n + i) ≡ Some a
 get-drop zero i a waits e = let z : i ≡ 0 + i = omega arith in ap (slice_get waits) (sym z) ∙ e
 get-drop (suc n) i a [] e = absurd (cc)
-get-drop (suc n) i a (x ∷ xs) e = let z : suc n + i ≡ suc (n + i) = omega arith in ap (slice_get (x ∷ xs)) z ∙ get-drop n i a xs e
+get-drop (suc n) i a (x ∷ xs) e = let z : suc n + i
+    ≡ suc (n + i) = omega arith in ap (slice_get (x ∷ xs)) z ∙ get-drop n i a xs e
 
 eqb_le : (a row : ℕ) → row ≤ a → (a == row) ≡ nat_le a row
 eqb_le a row h = elim (cases_lt row a) [
@@ -59,12 +72,18 @@ eqb_le a row h = elim (cases_lt row a) [
 ]
 
 -- the requests that wait for a row are the next ones
-pub issued_after-issues : (setup : Outline) (rows row issued : ℕ) → AreIssuedBefore (afters setup.requests) rows row issued → issued_after row rows 1 (afters setup.requests) ≡ issues setup rows row issued
+pub issued_after-issues : (setup : Outline) (rows row issued : ℕ) →
+    AreIssuedBefore (afters setup.requests) rows row issued →
+    issued_after row rows 1 (afters setup.requests) ≡ issues setup rows row issued
 issued_after-issues setup rows row issued is =
-    issued-skip (λ (a : ℕ). a == row) rows 1 issued (afters setup.requests) is.few (λ i a e lt. ne_eqb (min a rows) row (let h = is.past i a e lt in λ q. absurd (omega (arith, h, q))))
-    ∙ (issued-agree (λ (a : ℕ). a == row) (λ (a : ℕ). nat_le a row) rows (1 + issued) (drop issued (afters setup.requests))
-    (λ i a e. eqb_le (min a rows) row (is.left (issued + i) a (get-drop issued i a (afters setup.requests) e) (omega arith)))
-    ∙ (let z : 1 + issued ≡ issued + 1 = omega arith in ap (λ (k : ℕ). issued_where (λ (a : ℕ). nat_le a row) rows k (drop issued (afters setup.requests))) z))
+    issued-skip (λ (a : ℕ). a == row) rows 1 issued (afters setup.requests) is.few (λ i a e lt.
+    ne_eqb (min a rows) row (let h = is.past i a e lt in λ q. absurd (omega (arith, h, q))))
+    ∙ (issued-agree (λ (a : ℕ). a == row) (λ (a : ℕ). nat_le a row) rows (1 + issued) (drop issued
+    (afters setup.requests))
+    (λ i a e. eqb_le (min a rows) row (is.left (issued + i) a (get-drop issued i a (afters
+    setup.requests) e) (omega arith)))
+    ∙ (let z : 1 + issued ≡ issued + 1 = omega arith in ap (λ (k : ℕ). issued_where (λ (a : ℕ).
+    nat_le a row) rows k (drop issued (afters setup.requests))) z))
 
 -- ---- one request after another
 
@@ -74,7 +93,8 @@ pub record AreDueUpTo (waits : List ℕ) (rows row place : ℕ) : Type 0 where
   pub past : (i after : ℕ) → slice_get waits i ≡ Some after → i < place → min after rows ≤ row
   pub left : (i after : ℕ) → slice_get waits i ≡ Some after → place ≤ i → row ≤ min after rows
 
-pub due_next : (waits : List ℕ) (rows row place after : ℕ) → slice_get waits place ≡ Some after → min after rows ≤ row → AreDueUpTo waits rows row place → AreDueUpTo waits rows row (place + 1)
+pub due_next : (waits : List ℕ) (rows row place after : ℕ) → slice_get waits place ≡ Some after →
+    min after rows ≤ row → AreDueUpTo waits rows row place → AreDueUpTo waits rows row (place + 1)
 due_next waits rows row place after e le is = record {
   few = let w = slice_get_within waits place after e in omega (arith, w);
   past = λ i a g lt. elim (cases_lt i place) [
@@ -88,15 +108,22 @@ due_next waits rows row place after e le is = record {
 }
 
 -- the first request that waits for a later row ends the issuing
-pub due_stops : (requests : List Request) (rows row place after : ℕ) → AreInOrder 0 requests → slice_get (afters requests) place ≡ Some after → row < min after rows → AreDueUpTo (afters requests) rows row place
+pub due_stops : (requests : List Request) (rows row place after : ℕ) → AreInOrder 0 requests →
+    slice_get (afters requests) place ≡ Some after → row < min after rows →
+    AreDueUpTo (afters requests) rows row place
     → AreIssuedBefore (afters requests) rows (row + 1) place
 due_stops requests rows row place after order e lt is = record {
   few = is.few;
   past = λ i a g below. let h = is.past i a g below in omega (arith, h);
-  left = λ i a g ge. let h = waits-rise 0 requests place i after a order ge e g in omega (arith, h, lt);
+  left = λ i a g ge. let h = waits-rise 0 requests place i after a order ge e g in omega (
+    arith,
+    h,
+    lt,
+  );
 }
 
-pub due_ends : (waits : List ℕ) (rows row place : ℕ) → length waits ≤ place → AreDueUpTo waits rows row place → AreIssuedBefore waits rows (row + 1) place
+pub due_ends : (waits : List ℕ) (rows row place : ℕ) → length waits ≤ place →
+    AreDueUpTo waits rows row place → AreIssuedBefore waits rows (row + 1) place
 due_ends waits rows row place end is = record {
   few = is.few;
   past = λ i a g below. let h = is.past i a g below in omega (arith, h);
@@ -104,52 +131,79 @@ due_ends waits rows row place end is = record {
 }
 
 -- the steps of the feeder
-pub issues-next : (setup : Outline) (rows row place after : ℕ) (done more all : List Feed) → slice_get (afters setup.requests) place ≡ Some after → min after rows ≤ row → more ≡ done ++ feed.Issued (place + 1) ∷ []
+pub issues-next : (setup : Outline) (rows row place after : ℕ) (done more all : List Feed) →
+    slice_get (afters setup.requests) place ≡ Some after → min after rows ≤ row → more
+    ≡ done ++ feed.Issued (place + 1) ∷ []
     → done ++ issues setup rows row place ≡ all → more ++ issues setup rows row (place + 1) ≡ all
 issues-next setup rows row place after done more all e le grown h =
     ap (λ (l : List Feed). l ++ issues setup rows row (place + 1)) grown
     ∙ (append_assoc done (feed.Issued (place + 1) ∷ []) (issues setup rows row (place + 1))
-    ∙ (ap (λ (b : Bool). done ++ cond b (feed.Issued (place + 1) ∷ issues setup rows row (place + 1)) (issues setup rows row (place + 1))) (sym (le-leb (min after rows) row le))
-    ∙ (ap (λ (l : List ℕ). done ++ issued_where (λ (a : ℕ). nat_le a row) rows (place + 1) l) (sym (drop-at (afters setup.requests) place after e)) ∙ h)))
+    ∙ (ap (λ (b : Bool). done ++ cond b (feed.Issued (place + 1) ∷ issues setup rows row (place +
+    1)) (issues setup rows row (place + 1))) (sym (le-leb (min after rows) row le))
+    ∙ (ap (λ (l : List ℕ). done ++ issued_where (λ (a : ℕ). nat_le a row) rows (place + 1) l) (sym
+    (drop-at (afters setup.requests) place after e)) ∙ h)))
 
-pub issues-stop : (setup : Outline) (rows row place after : ℕ) (done all : List Feed) → AreInOrder 0 setup.requests → slice_get (afters setup.requests) place ≡ Some after → row < min after rows
+pub issues-stop : (setup : Outline) (rows row place after : ℕ) (done all : List Feed) →
+    AreInOrder 0 setup.requests → slice_get (afters setup.requests) place ≡ Some after →
+    row < min after rows
     → done ++ issues setup rows row place ≡ all → done ≡ all
 issues-stop setup rows row place after done all order e lt h =
     sym (append-nil done)
     ∙ (ap (λ (l : List Feed). done ++ l)
-    (sym (issued-none (λ (a : ℕ). nat_le a row) rows (place + 1) (drop place (afters setup.requests))
-    (λ i a g. lt-leb (min a rows) row (let q = waits-rise 0 setup.requests place (place + i) after a order (omega arith) e (get-drop place i a (afters setup.requests) g) in omega (arith, q, lt)))))
+    (sym (issued-none (λ (a : ℕ). nat_le a row) rows (place + 1) (drop place (afters
+    setup.requests))
+    (λ i a g. lt-leb (min a rows) row (let q = waits-rise 0 setup.requests place (place + i) after a
+    order (omega arith) e (get-drop place i a (afters setup.requests) g) in omega (
+      arith,
+      q,
+      lt,
+    )))))
     ∙ h)
 
-pub issues-end : (setup : Outline) (rows row place : ℕ) (done all : List Feed) → length (afters setup.requests) ≤ place → done ++ issues setup rows row place ≡ all → done ≡ all
+pub issues-end : (setup : Outline) (rows row place : ℕ) (done all : List Feed) →
+    length (afters setup.requests) ≤ place → done ++ issues setup rows row place ≡ all → done ≡ all
 issues-end setup rows row place done all end h =
-    sym (append-nil done) ∙ (ap (λ (l : List ℕ). done ++ issued_where (λ (a : ℕ). nat_le a row) rows (place + 1) l) (sym (drop_all place (afters setup.requests) end)) ∙ h)
+    sym (append-nil done) ∙ (ap (λ (l : List ℕ). done ++ issued_where (λ (a : ℕ). nat_le a row) rows
+    (place + 1) l) (sym (drop_all place (afters setup.requests) end)) ∙ h)
 
 -- ---- the whole feed
 
--- behind the last row all are issued
-pub all_issued : (waits : List ℕ) (rows issued : ℕ) → AreIssuedBefore waits rows (rows + 1) issued → issued ≡ length waits
+-- after the last row all are issued
+pub all_issued : (waits : List ℕ) (rows issued : ℕ) →
+    AreIssuedBefore waits rows (rows + 1) issued → issued ≡ length waits
 all_issued waits rows issued is = elim (cases_lt issued (length waits)) [
-  | inl lt ↦ let h = is.left issued _ (slice_get-get_or waits issued 0 lt) (omega arith) in absurd (omega (arith, h))
+  | inl lt ↦ let h = is.left issued _ (slice_get-get_or waits issued 0 lt) (omega arith) in absurd
+      (omega (arith, h))
   | inr ge ↦ let f = is.few in omega (arith, f, ge)
 ]
 
 -- the feed so far and still to come
-pub feed_first : (setup : Outline) (rows : ℕ) (old new : List Feed) → old ≡ [] → new ≡ old ++ issues setup rows 0 0 → new ++ feed_after (afters setup.requests) 1 0 rows (rows - 0) ≡ feed_from 0 0 (afters setup.requests) rows
-feed_first setup rows old new none grown = ap (λ (l : List Feed). l ++ feed_after (afters setup.requests) 1 0 rows (rows - 0)) (grown ∙ ap (λ (l : List Feed). l ++ issues setup rows 0 0) none)
+pub feed_first : (setup : Outline) (rows : ℕ) (old new : List Feed) → old ≡ [] → new
+    ≡ old ++ issues setup rows 0 0 → new ++ feed_after (afters setup.requests) 1 0 rows (rows - 0) ≡
+    feed_from 0 0 (afters setup.requests) rows
+feed_first setup rows old new none grown = ap (λ (l : List Feed). l ++ feed_after (afters
+    setup.requests) 1 0 rows (rows - 0)) (grown ∙ ap (λ (l : List Feed). l ++ issues setup rows 0 0)
+    none)
 
-pub feed_next : (setup : Outline) (rows k issued : ℕ) (old mid new all : List Feed) → k < rows → AreIssuedBefore (afters setup.requests) rows (k + 1) issued → mid ≡ old ++ feed.Fed (k + 1) ∷ []
-    → new ≡ mid ++ issues setup rows (k + 1) issued → old ++ feed_after (afters setup.requests) 1 k rows (rows - k) ≡ all → new ++ feed_after (afters setup.requests) 1 (k + 1) rows (rows - (k + 1)) ≡ all
+pub feed_next : (setup : Outline) (rows k issued : ℕ) (old mid new all : List Feed) → k < rows →
+    AreIssuedBefore (afters setup.requests) rows (k + 1) issued → mid ≡ old ++ feed.Fed (k + 1) ∷ []
+    → new ≡ mid ++ issues setup rows (k + 1) issued →
+    old ++ feed_after (afters setup.requests) 1 k rows (rows - k) ≡ all →
+    new ++ feed_after (afters setup.requests) 1 (k + 1) rows (rows - (k + 1)) ≡ all
 feed_next setup rows k issued old mid new all lt is m n h =
     let left : rows - k ≡ suc (rows - (k + 1)) = omega (arith, lt) in
     let rest : List Feed = feed_after (afters setup.requests) 1 (k + 1) rows (rows - (k + 1)) in
-    ap (λ (l : List Feed). l ++ rest) (n ∙ ap (λ (l : List Feed). l ++ issues setup rows (k + 1) issued) m)
+    ap (λ (l : List Feed). l ++ rest) (n ∙ ap (λ (l : List Feed). l ++ issues setup rows (k + 1)
+    issued) m)
     ∙ (append_assoc (old ++ feed.Fed (k + 1) ∷ []) (issues setup rows (k + 1) issued) rest
     ∙ (append_assoc old (feed.Fed (k + 1) ∷ []) (issues setup rows (k + 1) issued ++ rest)
-    ∙ (ap (λ (l : List Feed). old ++ (feed.Fed (k + 1) ∷ (l ++ rest))) (sym (issued_after-issues setup rows (k + 1) issued is))
+    ∙ (ap (λ (l : List Feed). old ++ (feed.Fed (k + 1) ∷ (l ++ rest))) (sym (issued_after-issues
+    setup rows (k + 1) issued is))
     ∙ (ap (λ (x : ℕ). old ++ feed_after (afters setup.requests) 1 k rows x) (sym left) ∙ h))))
 
-pub feed_last : (setup : Outline) (rows k : ℕ) (old new all : List Feed) → rows ≤ k → new ≡ old ++ feed.Stopped ∷ [] → old ++ feed_after (afters setup.requests) 1 k rows (rows - k) ≡ all → new ≡ all
+pub feed_last : (setup : Outline) (rows k : ℕ) (old new all : List Feed) → rows ≤ k → new
+    ≡ old ++ feed.Stopped ∷ [] → old ++ feed_after (afters setup.requests) 1 k rows (rows - k)
+    ≡ all → new ≡ all
 feed_last setup rows k old new all end n h =
     let z : rows - k ≡ 0 = omega (arith, end) in
     n ∙ (ap (λ (x : ℕ). old ++ feed_after (afters setup.requests) 1 k rows x) (sym z) ∙ h)

@@ -11,19 +11,25 @@ use Rattle.flow_dag.proofs.PlaceLemmas.{place_of-below, place_of-forward}
 use Rattle.jobs.specs.Written.{Written}
 use Rattle.flow_model.specs.declared.topology.Lane.{Lane}
 use Rattle.flow_model.proofs.ElementLemmas.{at_of_all, in_of_place}
-use Rattle.flow_replay.specs.Desks.{from_node}
+use Rattle.flow_replay.specs.inner.Runs.{from_node}
 
 -- ---- ranks
 
-pub rank-forward : (dag : DagView) (i : ℕ) (edge : Edge) → slice_get dag.edges i ≡ Some edge → place_of dag.order edge.from < place_of dag.order edge.to
+pub rank-forward : (dag : DagView) (i : ℕ) (edge : Edge) → slice_get dag.edges i ≡ Some edge →
+    place_of dag.order edge.from < place_of dag.order edge.to
 rank-forward dag i edge e =
-    let inside = at_of_all (IsInside dag.nodes) edge dag.edges dag.lawful.inside (in_of_place edge dag.edges i e) in
-    place_of-forward _ dag.nodes dag.order dag.lawful.ordered edge.from edge.to inside.0 inside.1 (HasEdge-at dag.edges i edge e)
+    let inside = at_of_all (IsInside dag.nodes) edge dag.edges dag.lawful.inside (in_of_place edge
+    dag.edges i e) in
+    place_of-forward _ dag.nodes dag.order dag.lawful.ordered edge.from edge.to inside.0 inside.1
+    (HasEdge-at dag.edges i edge e)
 
 pub rank-below : (dag : DagView) (node : ℕ) → node < dag.nodes → place_of dag.order node < 64
-rank-below dag node lt = let b = place_of-below _ dag.nodes dag.order dag.lawful.ordered node lt in let s = dag.lawful.size in omega (arith, b, s)
+rank-below dag node lt = let b = place_of-below _ dag.nodes dag.order dag.lawful.ordered node lt in
+    let s = dag.lawful.size in omega (arith, b, s)
 
 -- ---- lanes
 
-pub from_node-is : (job : Written) (lane : Lane) (edge : Edge) → slice_get job.edges lane.edge ≡ Some edge → from_node job lane ≡ edge.from
-from_node-is job lane edge e = ap (λ (d : Edge). d.from) (get_or_from_slice_get job.edges lane.edge edge (record { from = 0; port = 0; to = 0 }) e)
+pub from_node-is : (job : Written) (lane : Lane) (edge : Edge) → slice_get job.edges lane.edge
+    ≡ Some edge → from_node job lane ≡ edge.from
+from_node-is job lane edge e = ap (λ (d : Edge). d.from) (get_or_from_slice_get job.edges lane.edge
+    edge (record { from = 0; port = 0; to = 0 }) e)

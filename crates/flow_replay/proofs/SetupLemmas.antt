@@ -2,8 +2,8 @@
 use Rattle.std.proofs.Common.{arith}
 use Rattle.jobs.specs.Job.{written}
 use Rattle.flow_model.specs.declared.setup.Setup.{Setup}
-use Rattle.flow_replay.specs.Ways.{rank_in}
-use Rattle.flow_replay.proofs.WayLemmas.{IsRanked}
+use Rattle.flow_replay.specs.inner.Delivery.{rank_in}
+use Rattle.flow_replay.proofs.DeliveryLemmas.{IsRanked}
 use Rattle.flow_model.proofs.CoverLemmas.{AreCovering, covering}
 use Rattle.flow_model.specs.Setup.{outline}
 use Rattle.versions.specs.Kept.{AreInOrder}

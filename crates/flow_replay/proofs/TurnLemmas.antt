@@ -21,49 +21,63 @@ use Rattle.flow_model.specs.Workers.{post_at, posts}
 use Rattle.flow_model.proofs.ElementLemmas.{AreDistinct, IsIn, distinct_filter, filter_in, in_filter}
 use Rattle.flow_model.proofs.JournalLemmas.{sent-append, shown-append}
 use Rattle.flow_model.proofs.LaneLemmas.{LaneIs, in_lanes_that, lane_is, lanes_that_in, sender_source, sender_worker}
-use Rattle.flow_replay.specs.declared.worker.Desk.{Desk}
-use Rattle.flow_replay.specs.Desks.{AllGain, AreTied, end_block, first_local, journal_at, marks, nothing, put_so_far, turn_block, turn_entries}
+use Rattle.flow_replay.specs.declared.worker_run.WorkerRun.{WorkerRun}
+use Rattle.flow_replay.specs.Sent.{first_view}
+use Rattle.flow_replay.specs.inner.Runs.{AllGain, IsConserved, end_block, journal_at, marks, nothing, put_so_far, turn_block, turn_entries}
 use Rattle.flow_model.proofs.CoverLemmas.{AreCovering}
 use Rattle.flow_replay.proofs.FollowLemmas.{ended_all, lanes_that-distinct}
 use Rattle.flow_model.proofs.LaneNumbers.{receiver_node}
 use Rattle.flow_model.proofs.PostPlaces.{post_at-get}
 use Rattle.flow_model.proofs.OutLanes.{goes_out, none_on, one_on, out_distinct}
-use Rattle.flow_replay.proofs.TieLemmas.{sent_by}
-use Rattle.flow_replay.proofs.WayLemmas.{receiver_below}
+use Rattle.flow_replay.proofs.ConservationLemmas.{sent_by}
+use Rattle.flow_replay.proofs.DeliveryLemmas.{receiver_below}
 
 -- ---- items on each of several lanes
 
-all_on : (xs : List Item) (l : Lane) (ls : List Lane) → AreDistinct ls → IsIn l ls → items_on l (flat_map (λ (x : Item). put_on_each x ls) xs) ≡ xs
+all_on : (xs : List Item) (l : Lane) (ls : List Lane) → AreDistinct ls → IsIn l ls →
+    items_on l (flat_map (λ (x : Item). put_on_each x ls) xs) ≡ xs
 all_on [] l ls d h = refl
 all_on (x ∷ xs) l ls d h =
     filter_map-append (item_on l) (put_on_each x ls) (flat_map (λ (x : Item). put_on_each x ls) xs)
-    ∙ (ap (λ (ys : List Item). ys ++ items_on l (flat_map (λ (x : Item). put_on_each x ls) xs)) (one_on x l ls d h) ∙ ap (λ (ys : List Item). x ∷ ys) (all_on xs l ls d h))
+    ∙ (ap (λ (ys : List Item). ys ++ items_on l (flat_map (λ (x : Item). put_on_each x ls) xs))
+    (one_on x l ls d h) ∙ ap (λ (ys : List Item). x ∷ ys) (all_on xs l ls d h))
 
-all_off : (xs : List Item) (l : Lane) (ls : List Lane) → ¬ IsIn l ls → items_on l (flat_map (λ (x : Item). put_on_each x ls) xs) ≡ []
+all_off : (xs : List Item) (l : Lane) (ls : List Lane) → ¬ IsIn l ls →
+    items_on l (flat_map (λ (x : Item). put_on_each x ls) xs) ≡ []
 all_off [] l ls h = refl
 all_off (x ∷ xs) l ls h =
     filter_map-append (item_on l) (put_on_each x ls) (flat_map (λ (x : Item). put_on_each x ls) xs)
-    ∙ (ap (λ (ys : List Item). ys ++ items_on l (flat_map (λ (x : Item). put_on_each x ls) xs)) (none_on x l ls h) ∙ all_off xs l ls h)
+    ∙ (ap (λ (ys : List Item). ys ++ items_on l (flat_map (λ (x : Item). put_on_each x ls) xs))
+    (none_on x l ls h) ∙ all_off xs l ls h)
 
 -- ---- entries of several lanes
 
-shown_none : (setup : Outline) (n : ℕ) (x : List Item) (f : ℕ → Entry) → ((k : ℕ) → came_in setup n (f k) ≡ cond (k == n) x []) → (ns : List ℕ) → ¬ IsIn n ns → shown setup n (map f ns) ≡ []
+shown_none : (setup : Outline) (n : ℕ) (x : List Item) (f : ℕ → Entry) → ((k : ℕ) →
+    came_in setup n (f k) ≡ cond (k == n) x []) → (ns : List ℕ) → ¬ IsIn n ns →
+    shown setup n (map f ns) ≡ []
 shown_none setup n x f is [] h = refl
 shown_none setup n x f is (k ∷ ns) h =
     let other : (k == n) ≡ false = ne_eqb k n (λ e. h (inl (sym e))) in
-    ap (λ (xs : List Item). xs ++ shown setup n (map f ns)) (is k ∙ ap (λ (b : Bool). cond b x []) other) ∙ shown_none setup n x f is ns (λ i. h (inr i))
+    ap (λ (xs : List Item). xs ++ shown setup n (map f ns)) (is k
+    ∙ ap (λ (b : Bool). cond b x []) other) ∙ shown_none setup n x f is ns (λ i. h (inr i))
 
-shown_one : (setup : Outline) (n : ℕ) (x : List Item) (f : ℕ → Entry) → ((k : ℕ) → came_in setup n (f k) ≡ cond (k == n) x []) → (ns : List ℕ) → AreDistinct ns → IsIn n ns → shown setup n (map f ns) ≡ x
+shown_one : (setup : Outline) (n : ℕ) (x : List Item) (f : ℕ → Entry) → ((k : ℕ) →
+    came_in setup n (f k) ≡ cond (k == n) x []) → (ns : List ℕ) → AreDistinct ns → IsIn n ns →
+    shown setup n (map f ns) ≡ x
 shown_one setup n x f is [] d h = absurd h
 shown_one setup n x f is (k ∷ ns) d (inl e) =
     let same : (k == n) ≡ true = eq-eqb k n (sym e) in
-    ap (λ (xs : List Item). xs ++ shown setup n (map f ns)) (is k ∙ ap (λ (b : Bool). cond b x []) same)
-    ∙ (ap (λ (xs : List Item). x ++ xs) (shown_none setup n x f is ns (subst (λ (z : ℕ). ¬ IsIn z ns) (sym e) d.0)) ∙ append-nil x)
+    ap (λ (xs : List Item). xs ++ shown setup n (map f ns)) (is k
+    ∙ ap (λ (b : Bool). cond b x []) same)
+    ∙ (ap (λ (xs : List Item). x ++ xs) (shown_none setup n x f is ns (subst (λ (z : ℕ). ¬ IsIn z
+    ns) (sym e) d.0)) ∙ append-nil x)
 shown_one setup n x f is (k ∷ ns) d (inr i) =
     let other : (k == n) ≡ false = ne_eqb k n (λ e. d.0 (subst (λ (z : ℕ). IsIn z ns) (sym e) i)) in
-    ap (λ (xs : List Item). xs ++ shown setup n (map f ns)) (is k ∙ ap (λ (b : Bool). cond b x []) other) ∙ shown_one setup n x f is ns d.1 i
+    ap (λ (xs : List Item). xs ++ shown setup n (map f ns)) (is k
+    ∙ ap (λ (b : Bool). cond b x []) other) ∙ shown_one setup n x f is ns d.1 i
 
-not_that : (test : Lane → Bool) (job : Written) (n : ℕ) (l : Lane) → slice_get (lanes job) n ≡ Some l → test l ≡ false → ¬ IsIn n (lanes_that test job)
+not_that : (test : Lane → Bool) (job : Written) (n : ℕ) (l : Lane) → slice_get (lanes job) n
+    ≡ Some l → test l ≡ false → ¬ IsIn n (lanes_that test job)
 not_that test job n l g t h =
     let (x, there, pass) = in_lanes_that test job n h in
     let same : x ≡ l = same_Some x l (sym there ∙ g) in
@@ -72,44 +86,62 @@ not_that test job n l g t h =
 
 -- ---- what a turn puts and shows
 
-turn_sent : (setup : Outline) (post : Post) (local : Local) (l : Lane) (r : ℕ) (ns : List ℕ) → sent setup post local l (marks r ns ++ entry.Turned r ∷ []) ≡ items_on l (puts setup post local (entry.Turned r))
+turn_sent : (setup : Outline) (post : Post) (local : Local) (l : Lane) (r : ℕ) (ns : List ℕ) →
+    sent setup post local l (marks r ns ++ entry.Turned r ∷ [])
+    ≡ items_on l (puts setup post local (entry.Turned r))
 turn_sent setup post local l r [] = append-nil (items_on l (puts setup post local (entry.Turned r)))
 turn_sent setup post local l r (n ∷ ns) = turn_sent setup post local l r ns
 
 abbrev mark_on : Outline → ℕ → Lane → List Item
 mark_on setup r l = cond (covers_edge setup r l.edge) (marker setup r) []
 
-turn_items : (setup : Outline) (n : ℕ) (l : Lane) (r s : ℕ) (post : Post) (local : Local) → slice_get (lanes setup.job) n ≡ Some l → l.sender ≡ Some s → post.number ≡ s
+turn_items : (setup : Outline) (n : ℕ) (l : Lane) (r s : ℕ) (post : Post) (local : Local) →
+    slice_get (lanes setup.job) n ≡ Some l → l.sender ≡ Some s → post.number ≡ s
     → items_on l (puts setup post local (entry.Turned r)) ≡ mark_on setup r l
 turn_items setup n l r s post local g e num = go (covers_edge setup r l.edge) refl
   where
     out : IsIn l (lanes_out setup.job post.number)
     out = subst (λ (v : ℕ). IsIn l (lanes_out setup.job v)) (sym num) (goes_out setup.job n l s g e)
 
-    go : (b : Bool) → covers_edge setup r l.edge ≡ b → items_on l (puts setup post local (entry.Turned r)) ≡ cond b (marker setup r) []
+    go : (b : Bool) → covers_edge setup r l.edge ≡ b →
+        items_on l (puts setup post local (entry.Turned r)) ≡ cond b (marker setup r) []
     go true t =
-        all_on (marker setup r) l (filter (λ (lane : Lane). covers_edge setup r lane.edge) (lanes_out setup.job post.number))
-        (distinct_filter (λ (lane : Lane). covers_edge setup r lane.edge) (lanes_out setup.job post.number) (out_distinct setup.job post.number))
-        (filter_in (λ (lane : Lane). covers_edge setup r lane.edge) l (lanes_out setup.job post.number) out t)
+        all_on (marker setup r) l (filter (λ (lane : Lane). covers_edge setup r lane.edge)
+        (lanes_out setup.job post.number))
+        (distinct_filter (λ (lane : Lane). covers_edge setup r lane.edge) (lanes_out setup.job
+        post.number) (out_distinct setup.job post.number))
+        (filter_in (λ (lane : Lane). covers_edge setup r lane.edge) l (lanes_out setup.job
+        post.number) out t)
     go false t =
-        all_off (marker setup r) l (filter (λ (lane : Lane). covers_edge setup r lane.edge) (lanes_out setup.job post.number))
-        (λ i. let k = in_filter (λ (lane : Lane). covers_edge setup r lane.edge) l (lanes_out setup.job post.number) i in let q = k.1 in absurd (cc))
+        all_off (marker setup r) l (filter (λ (lane : Lane). covers_edge setup r lane.edge)
+        (lanes_out setup.job post.number))
+        (λ i. let k = in_filter (λ (lane : Lane). covers_edge setup r lane.edge) l (lanes_out
+        setup.job post.number) i in let q = k.1 in absurd (cc))
 
-turn_shown : (setup : Outline) (n : ℕ) (l : Lane) (r : ℕ) → slice_get (lanes setup.job) n ≡ Some l → shown setup n (turn_entries setup r l.receiver) ≡ mark_on setup r l
+turn_shown : (setup : Outline) (n : ℕ) (l : Lane) (r : ℕ) → slice_get (lanes setup.job) n
+    ≡ Some l → shown setup n (turn_entries setup r l.receiver) ≡ mark_on setup r l
 turn_shown setup n l r g =
-    shown-append setup n (map (λ (k : ℕ). entry.Marked k r) (lanes_that test setup.job)) (entry.Turned r ∷ [])
-    ∙ (append-nil (shown setup n (map (λ (k : ℕ). entry.Marked k r) (lanes_that test setup.job))) ∙ go (covers_edge setup r l.edge) refl)
+    shown-append setup n (map (λ (k : ℕ). entry.Marked k r) (lanes_that test setup.job))
+    (entry.Turned r ∷ [])
+    ∙ (append-nil (shown setup n (map (λ (k : ℕ). entry.Marked k r) (lanes_that test setup.job))) ∙
+    go (covers_edge setup r l.edge) refl)
   where
     test : Lane → Bool
     test lane = (lane.receiver == l.receiver) && covers_edge setup r lane.edge
 
-    go : (b : Bool) → covers_edge setup r l.edge ≡ b → shown setup n (map (λ (k : ℕ). entry.Marked k r) (lanes_that test setup.job)) ≡ cond b (marker setup r) []
+    go : (b : Bool) → covers_edge setup r l.edge ≡ b →
+        shown setup n (map (λ (k : ℕ). entry.Marked k r) (lanes_that test setup.job))
+        ≡ cond b (marker setup r) []
     go true t =
-        shown_one setup n (marker setup r) (λ (k : ℕ). entry.Marked k r) (λ k. refl) (lanes_that test setup.job) (lanes_that-distinct test setup.job)
-        (lanes_that_in test setup.job n l g (ap (λ (b : Bool). b && covers_edge setup r l.edge) (eq-eqb l.receiver l.receiver refl) ∙ t))
+        shown_one setup n (marker setup r) (λ (k : ℕ). entry.Marked k r) (λ k. refl) (lanes_that
+        test setup.job) (lanes_that-distinct test setup.job)
+        (lanes_that_in test setup.job n l g (ap (λ (b : Bool). b && covers_edge setup r l.edge)
+        (eq-eqb l.receiver l.receiver refl) ∙ t))
     go false t =
-        shown_none setup n (marker setup r) (λ (k : ℕ). entry.Marked k r) (λ k. refl) (lanes_that test setup.job)
-        (not_that test setup.job n l g (ap (λ (b : Bool). (l.receiver == l.receiver) && b) t ∙ ap (λ (b : Bool). b && false) (eq-eqb l.receiver l.receiver refl)))
+        shown_none setup n (marker setup r) (λ (k : ℕ). entry.Marked k r) (λ k. refl) (lanes_that
+        test setup.job)
+        (not_that test setup.job n l g (ap (λ (b : Bool). (l.receiver == l.receiver) && b) t
+        ∙ ap (λ (b : Bool). b && false) (eq-eqb l.receiver l.receiver refl)))
 
 -- ---- all turn
 
@@ -121,10 +153,12 @@ pub record IsSending (job : Written) (l : Lane) (s : ℕ) : Type 0 where
   pub number_is : (post_at job s).number ≡ s
   pub node_is : (post_at job s).node ≡ edge.from
 
-pub is_sending : (job : Written) (n : ℕ) (l : Lane) (s : ℕ) → slice_get (lanes job) n ≡ Some l → l.sender ≡ Some s → IsSending job l s
+pub is_sending : (job : Written) (n : ℕ) (l : Lane) (s : ℕ) → slice_get (lanes job) n ≡ Some l →
+    l.sender ≡ Some s → IsSending job l s
 is_sending job n l s g e =
     let is = lane_is job n l g in
-    let (post, there, number, node) = sender_worker job is.edge.from s (subst (λ (o : Option ℕ). IsIn o (senders job is.edge.from)) e is.sends) in
+    let (post, there, number, node) = sender_worker job is.edge.from s (subst (λ (o : Option ℕ).
+    IsIn o (senders job is.edge.from)) e is.sends) in
     let same = post_at-get job s post there in
     record {
       edge = is.edge;
@@ -134,30 +168,39 @@ is_sending job n l s g e =
       node_is = ap (λ (p : Post). p.node) same ∙ node;
     }
 
-pub turns_tie : (setup : Outline) (fed : List Put) (r : ℕ) (old new : List Desk) → AreCovering setup → length old ≡ length (posts setup.job) → AllGain setup (turn_block setup r) old new
-    → AreTied setup fed old nothing → AreTied setup fed new nothing
-turns_tie setup fed r old new covering long gain tied n l g =
+pub turns_conserve : (setup : Outline) (fed : List Put) (r : ℕ) (old new : List WorkerRun) →
+    AreCovering setup → length old ≡ length (posts setup.job) →
+    AllGain setup (turn_block setup r) old new
+    → IsConserved setup fed old nothing → IsConserved setup fed new nothing
+turns_conserve setup fed r old new covering long gain conserved n l g =
     put_gain l.sender refl
-    ∙ (ap (λ (xs : List Item). xs ++ mark_on setup r l) (tied n l g ∙ append-nil (shown setup n (journal_at old l.receiver)))
+    ∙ (ap (λ (xs : List Item). xs ++ mark_on setup r l) (conserved n l g
+    ∙ append-nil (shown setup n (journal_at old l.receiver)))
     ∙ (sym shown_gain ∙ sym (append-nil (shown setup n (journal_at new l.receiver)))))
   where
     is : LaneIs setup.job l
     is = lane_is setup.job n l g
 
     -- a node that isn't covered has no covered edge
-    no_mark : (v : ℕ) → (covers_edge setup r l.edge ≡ true → covers setup r v ≡ true) → covers setup r v ≡ false → mark_on setup r l ≡ []
+    no_mark : (v : ℕ) → (covers_edge setup r l.edge ≡ true → covers setup r v ≡ true) →
+        covers setup r v ≡ false → mark_on setup r l ≡ []
     no_mark v h z = go (covers_edge setup r l.edge) refl
       where
         go : (b : Bool) → covers_edge setup r l.edge ≡ b → cond b (marker setup r) [] ≡ []
         go true e = absurd (let q = h e in cc)
         go false e = refl
 
-    put_gain : (o : Option ℕ) → l.sender ≡ o → put_so_far setup fed new l o ≡ put_so_far setup fed old l o ++ mark_on setup r l
+    put_gain : (o : Option ℕ) → l.sender ≡ o → put_so_far setup fed new l o
+        ≡ put_so_far setup fed old l o ++ mark_on setup r l
     put_gain None e =
-        let source = sender_source setup.job is.edge.from (subst (λ (o : Option ℕ). IsIn o (senders setup.job is.edge.from)) e is.sends) in
-        let none : covers_edge setup r l.edge ≡ false = covering.no_source r l.edge is.edge is.edge_is source in
-        sym (append-nil (items_on l fed)) ∙ ap (λ (b : Bool). items_on l fed ++ cond b (marker setup r) []) (sym none)
-    put_gain (Some s) e = ap (sent_by setup l s) (gain.each s below).journal ∙ of_worker (covers setup r (post_at setup.job s).node) refl
+        let source = sender_source setup.job is.edge.from (subst (λ (o : Option ℕ). IsIn o (senders
+        setup.job is.edge.from)) e is.sends) in
+        let none : covers_edge setup r l.edge ≡ false = covering.no_source r l.edge is.edge
+        is.edge_is source in
+        sym (append-nil (items_on l fed)) ∙ ap (λ (b : Bool). items_on l fed ++ cond b (marker setup
+        r) []) (sym none)
+    put_gain (Some s) e = ap (sent_by setup l s) (gain.each s below).journal
+        ∙ of_worker (covers setup r (post_at setup.job s).node) refl
       where
         by : IsSending setup.job l s
         by = is_sending setup.job n l s g e
@@ -165,73 +208,115 @@ turns_tie setup fed r old new covering long gain tied n l g =
         below : s < length old
         below = omega (arith, by.below, long)
 
-        covered : covers_edge setup r l.edge ≡ true → covers setup r (post_at setup.job s).node ≡ true
+        covered : covers_edge setup r l.edge ≡ true → covers setup r (post_at setup.job s).node
+            ≡ true
         covered t = ap (covers setup r) by.node_is ∙ covering.from r l.edge by.edge by.edge_is t
 
         here : Local
-        here = after_all setup (post_at setup.job s) (first_local setup (post_at setup.job s)) (journal_at old s)
+        here = after_all setup (post_at setup.job s) (first_view setup (post_at setup.job s))
+            (journal_at old s)
 
         of_worker : (b : Bool) → covers setup r (post_at setup.job s).node ≡ b
-            → sent_by setup l s (journal_at old s ++ cond (covers setup r (post_at setup.job s).node) (turn_entries setup r s) []) ≡ sent_by setup l s (journal_at old s) ++ mark_on setup r l
+            → sent_by setup l s (journal_at old s ++ cond (covers setup r (post_at setup.job
+            s).node) (turn_entries setup r s) []) ≡ sent_by setup l s (journal_at old s) ++ mark_on
+            setup r l
         of_worker true z =
-            ap (λ (b : Bool). sent_by setup l s (journal_at old s ++ cond b (turn_entries setup r s) [])) z
-            ∙ (sent-append setup (post_at setup.job s) (first_local setup (post_at setup.job s)) l (journal_at old s) (turn_entries setup r s)
+            ap (λ (b : Bool). sent_by setup l s (journal_at old s ++ cond b (turn_entries setup r s)
+            [])) z
+            ∙ (sent-append setup (post_at setup.job s) (first_view setup (post_at setup.job s)) l
+            (journal_at old s) (turn_entries setup r s)
             ∙ ap (λ (xs : List Item). sent_by setup l s (journal_at old s) ++ xs)
-            (turn_sent setup (post_at setup.job s) here l r (marked_lanes setup s r) ∙ turn_items setup n l r s (post_at setup.job s) here g e by.number_is))
+            (turn_sent setup (post_at setup.job s) here l r (marked_lanes setup s r)
+            ∙ turn_items setup n l r s (post_at setup.job s) here g e by.number_is))
         of_worker false z =
-            ap (λ (b : Bool). sent_by setup l s (journal_at old s ++ cond b (turn_entries setup r s) [])) z
+            ap (λ (b : Bool). sent_by setup l s (journal_at old s ++ cond b (turn_entries setup r s)
+            [])) z
             ∙ (ap (sent_by setup l s) (append-nil (journal_at old s))
             ∙ (sym (append-nil (sent_by setup l s (journal_at old s)))
-            ∙ ap (λ (xs : List Item). sent_by setup l s (journal_at old s) ++ xs) (sym (no_mark (post_at setup.job s).node covered z))))
+            ∙ ap (λ (xs : List Item). sent_by setup l s (journal_at old s) ++ xs) (sym (no_mark
+            (post_at setup.job s).node covered z))))
 
-    shown_gain : shown setup n (journal_at new l.receiver) ≡ shown setup n (journal_at old l.receiver) ++ mark_on setup r l
-    shown_gain = ap (shown setup n) (gain.each l.receiver below).journal ∙ of_worker (covers setup r (post_at setup.job l.receiver).node) refl
+    shown_gain : shown setup n (journal_at new l.receiver)
+        ≡ shown setup n (journal_at old l.receiver) ++ mark_on setup r l
+    shown_gain = ap (shown setup n) (gain.each l.receiver below).journal
+        ∙ of_worker (covers setup r (post_at setup.job l.receiver).node) refl
       where
         below : l.receiver < length old
         below = let b = receiver_below setup.job n l g in omega (arith, b, long)
 
-        covered : covers_edge setup r l.edge ≡ true → covers setup r (post_at setup.job l.receiver).node ≡ true
-        covered t = ap (covers setup r) (receiver_node setup.job l is) ∙ covering.to r l.edge is.edge is.edge_is t
+        covered : covers_edge setup r l.edge ≡ true →
+            covers setup r (post_at setup.job l.receiver).node ≡ true
+        covered t = ap (covers setup r) (receiver_node setup.job l is)
+            ∙ covering.to r l.edge is.edge is.edge_is t
 
         of_worker : (b : Bool) → covers setup r (post_at setup.job l.receiver).node ≡ b
-            → shown setup n (journal_at old l.receiver ++ cond (covers setup r (post_at setup.job l.receiver).node) (turn_entries setup r l.receiver) []) ≡ shown setup n (journal_at old l.receiver) ++ mark_on setup r l
+            → shown setup n (journal_at old l.receiver ++ cond (covers setup r (post_at setup.job
+            l.receiver).node) (turn_entries setup r l.receiver) [])
+            ≡ shown setup n (journal_at old l.receiver) ++ mark_on setup r l
         of_worker true z =
-            ap (λ (b : Bool). shown setup n (journal_at old l.receiver ++ cond b (turn_entries setup r l.receiver) [])) z
-            ∙ (shown-append setup n (journal_at old l.receiver) (turn_entries setup r l.receiver) ∙ ap (λ (xs : List Item). shown setup n (journal_at old l.receiver) ++ xs) (turn_shown setup n l r g))
+            ap (λ (b : Bool). shown setup n (journal_at old l.receiver ++ cond b (turn_entries setup
+            r l.receiver) [])) z
+            ∙ (shown-append setup n (journal_at old l.receiver) (turn_entries setup r l.receiver) ∙
+            ap (λ (xs : List Item). shown setup n (journal_at old l.receiver) ++ xs) (turn_shown
+            setup n l r g))
         of_worker false z =
-            ap (λ (b : Bool). shown setup n (journal_at old l.receiver ++ cond b (turn_entries setup r l.receiver) [])) z
+            ap (λ (b : Bool). shown setup n (journal_at old l.receiver ++ cond b (turn_entries setup
+            r l.receiver) [])) z
             ∙ (ap (shown setup n) (append-nil (journal_at old l.receiver))
             ∙ (sym (append-nil (shown setup n (journal_at old l.receiver)))
-            ∙ ap (λ (xs : List Item). shown setup n (journal_at old l.receiver) ++ xs) (sym (no_mark (post_at setup.job l.receiver).node covered z))))
+            ∙ ap (λ (xs : List Item). shown setup n (journal_at old l.receiver) ++ xs) (sym (no_mark
+            (post_at setup.job l.receiver).node covered z))))
 
 -- ---- all end
 
 -- the last of the ends puts what all put
-ends_sent : (setup : Outline) (post : Post) (l : Lane) (local : Local) (n : ℕ) (ns : List ℕ) → local.ended + length (n ∷ ns) ≡ length (lanes_in setup.job post.number)
-    → sent setup post local l (ended_all (n ∷ ns)) ≡ items_on l (put_on_each item.Last (lanes_out setup.job post.number))
+ends_sent : (setup : Outline) (post : Post) (l : Lane) (local : Local) (n : ℕ) (ns : List ℕ) →
+    local.ended + length (n ∷ ns) ≡ length (lanes_in setup.job post.number)
+    → sent setup post local l (ended_all (n ∷ ns))
+    ≡ items_on l (put_on_each item.Last (lanes_out setup.job post.number))
 ends_sent setup post l local n [] h =
-    let q : (local.ended + 1 == length (lanes_in setup.job post.number)) ≡ true = eq-eqb (local.ended + 1) (length (lanes_in setup.job post.number)) (omega (arith, h)) in
-    append-nil (items_on l (puts setup post local (entry.Ended n))) ∙ ap (λ (b : Bool). items_on l (cond b (put_on_each item.Last (lanes_out setup.job post.number)) [])) q
+    let q : (local.ended + 1 == length (lanes_in setup.job post.number))
+    ≡ true = eq-eqb (local.ended + 1) (length (lanes_in setup.job post.number)) (omega (
+      arith,
+      h,
+    )) in
+    append-nil (items_on l (puts setup post local (entry.Ended n)))
+    ∙ ap (λ (b : Bool). items_on l (cond b (put_on_each item.Last (lanes_out setup.job
+    post.number)) [])) q
 ends_sent setup post l local n (m ∷ ns) h =
-    let q : (local.ended + 1 == length (lanes_in setup.job post.number)) ≡ false = ne_eqb (local.ended + 1) (length (lanes_in setup.job post.number)) (λ e. absurd (omega (arith, h, e))) in
-    ap (λ (b : Bool). items_on l (cond b (put_on_each item.Last (lanes_out setup.job post.number)) []) ++ sent setup post (after setup post local (entry.Ended n)) l (ended_all (m ∷ ns))) q
+    let q : (local.ended + 1 == length (lanes_in setup.job post.number))
+    ≡ false = ne_eqb (local.ended + 1) (length (lanes_in setup.job post.number)) (λ e. absurd
+    (omega (arith, h, e))) in
+    ap (λ (b : Bool). items_on l (cond b (put_on_each item.Last (lanes_out setup.job post.number))
+    []) ++ sent setup post (after setup post local (entry.Ended n)) l (ended_all (m ∷ ns))) q
     ∙ ends_sent setup post l (after setup post local (entry.Ended n)) m ns (omega (arith, h))
 
-end_shown : (setup : Outline) (n : ℕ) (l : Lane) → slice_get (lanes setup.job) n ≡ Some l → shown setup n (end_block setup.job l.receiver) ≡ item.Last ∷ []
+end_shown : (setup : Outline) (n : ℕ) (l : Lane) → slice_get (lanes setup.job) n ≡ Some l →
+    shown setup n (end_block setup.job l.receiver) ≡ item.Last ∷ []
 end_shown setup n l g =
-    shown_one setup n (item.Last ∷ []) (λ (k : ℕ). entry.Ended k) (λ k. refl) (lanes_in setup.job l.receiver) (lanes_that-distinct (λ (lane : Lane). lane.receiver == l.receiver) setup.job)
-    (lanes_that_in (λ (lane : Lane). lane.receiver == l.receiver) setup.job n l g (eq-eqb l.receiver l.receiver refl))
+    shown_one setup n (item.Last ∷ []) (λ (k : ℕ). entry.Ended k) (λ k. refl) (lanes_in setup.job
+    l.receiver) (lanes_that-distinct (λ (lane : Lane). lane.receiver == l.receiver) setup.job)
+    (lanes_that_in (λ (lane : Lane). lane.receiver == l.receiver) setup.job n l g (eq-eqb l.receiver
+    l.receiver refl))
 
-pub shown_ended : (setup : Outline) (n : ℕ) (l : Lane) (old new : List Entry) → slice_get (lanes setup.job) n ≡ Some l → new ≡ old ++ end_block setup.job l.receiver → shown setup n new ≡ shown setup n old ++ item.Last ∷ []
+pub shown_ended : (setup : Outline) (n : ℕ) (l : Lane) (old new : List Entry) →
+    slice_get (lanes setup.job) n ≡ Some l → new ≡ old ++ end_block setup.job l.receiver →
+    shown setup n new ≡ shown setup n old ++ item.Last ∷ []
 shown_ended setup n l old new g e =
-    ap (shown setup n) e ∙ (shown-append setup n old (end_block setup.job l.receiver) ∙ ap (λ (xs : List Item). shown setup n old ++ xs) (end_shown setup n l g))
+    ap (shown setup n) e ∙ (shown-append setup n old (end_block setup.job l.receiver)
+    ∙ ap (λ (xs : List Item). shown setup n old ++ xs) (end_shown setup n l g))
 
-pub sent_ended : (setup : Outline) (n : ℕ) (l : Lane) (s : ℕ) (old new : List Entry) → AreCovering setup → slice_get (lanes setup.job) n ≡ Some l → l.sender ≡ Some s
-    → (after_all setup (post_at setup.job s) (first_local setup (post_at setup.job s)) old).ended ≡ 0 → new ≡ old ++ end_block setup.job s → sent_by setup l s new ≡ sent_by setup l s old ++ item.Last ∷ []
+pub sent_ended : (setup : Outline) (n : ℕ) (l : Lane) (s : ℕ) (old new : List Entry) →
+    AreCovering setup → slice_get (lanes setup.job) n ≡ Some l → l.sender ≡ Some s
+    → (after_all setup (post_at setup.job s) (first_view setup (post_at setup.job s)) old).ended ≡ 0
+    → new ≡ old ++ end_block setup.job s → sent_by setup l s new
+    ≡ sent_by setup l s old ++ item.Last ∷ []
 sent_ended setup n l s old new covering g e zero_ended grown =
     ap (sent_by setup l s) grown
-    ∙ (sent-append setup (post_at setup.job s) (first_local setup (post_at setup.job s)) l old (end_block setup.job s)
-    ∙ ap (λ (xs : List Item). sent_by setup l s old ++ xs) (some (lanes_in setup.job s) refl (covering.reached s by.below).0 (covering.reached s by.below).1 ∙ last))
+    ∙ (sent-append setup (post_at setup.job s) (first_view setup (post_at setup.job s)) l old
+    (end_block setup.job s)
+    ∙ ap (λ (xs : List Item). sent_by setup l s old ++ xs) (some (lanes_in setup.job s) refl
+    (covering.reached s by.below).0 (covering.reached s by.below).1 ∙ last))
   where
     by : IsSending setup.job l s
     by = is_sending setup.job n l s g e
@@ -240,14 +325,19 @@ sent_ended setup n l s old new covering g e zero_ended grown =
     post = post_at setup.job s
 
     here : Local
-    here = after_all setup post (first_local setup post) old
+    here = after_all setup post (first_view setup post) old
 
-    some : (ns : List ℕ) → ns ≡ lanes_in setup.job s → (k : ℕ) → IsIn k ns → sent setup post here l (ended_all ns) ≡ items_on l (put_on_each item.Last (lanes_out setup.job post.number))
+    some : (ns : List ℕ) → ns ≡ lanes_in setup.job s → (k : ℕ) → IsIn k ns →
+        sent setup post here l (ended_all ns) ≡ items_on l (put_on_each item.Last (lanes_out
+        setup.job post.number))
     some [] q k i = absurd i
     some (m ∷ ns) q k i =
-        ends_sent setup post l here m ns (let a = ap (length {A = ℕ}) q in let b : length (lanes_in setup.job post.number) ≡ length (lanes_in setup.job s) = ap (λ (v : ℕ). length (lanes_in setup.job v)) by.number_is in omega (arith, zero_ended, a, b))
+        ends_sent setup post l here m ns (let a = ap (length {A = ℕ}) q in let b : length (lanes_in
+        setup.job post.number) ≡ length (lanes_in setup.job s) = ap (λ (v : ℕ). length (lanes_in
+        setup.job v)) by.number_is in omega (arith, zero_ended, a, b))
 
     last : items_on l (put_on_each item.Last (lanes_out setup.job post.number)) ≡ item.Last ∷ []
     last =
         one_on item.Last l (lanes_out setup.job post.number) (out_distinct setup.job post.number)
-        (subst (λ (v : ℕ). IsIn l (lanes_out setup.job v)) (sym by.number_is) (goes_out setup.job n l s g e))
+        (subst (λ (v : ℕ). IsIn l (lanes_out setup.job v)) (sym by.number_is) (goes_out setup.job n
+        l s g e))

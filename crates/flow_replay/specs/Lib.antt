@@ -1,5 +1,3 @@
 pub mod Order
-pub mod Desks
-pub mod Ways
-pub mod Rest
-pub mod Folds
+pub mod Sent
+pub mod inner

@@ -10,17 +10,22 @@ use Rattle.flow_model.specs.Run.{Ran}
 use Rattle.flow_model.specs.Whole.{after_turn, before_turn, met_tuples}
 use Rattle.flow_model.specs.Workers.{posts}
 
--- of so many rows, the tuple is of one up to the one after which the request is issued
+-- among `rows` rows, the tuple is of one up to the one after which the request is issued
 abbrev pub IsOfEarlierRow : Outline → ℕ → ℕ → Tuple → Type 0
 IsOfEarlierRow setup rows request tuple = IsUpTo rows (request_at setup request) tuple.row
 
--- the journal turns the request after every tuple of a row up to the one after which it is issued, and before every tuple of a later row
+-- the journal turns the request after every tuple of a row up to the one after which it is issued,
+-- and before every tuple of a later row
 pub record TurnsInOrder (setup : Outline) (rows request : ℕ) (journal : List Entry) : Type 0 where
   pub before : All (IsOfEarlierRow setup rows request) (met_tuples (before_turn request journal))
-  pub after : All (λ (tuple : Tuple). IsOfEarlierRow setup rows request tuple → ⊥) (met_tuples (after_turn request journal))
+  pub after :
+      All (λ (tuple : Tuple). IsOfEarlierRow setup rows request tuple → ⊥)
+      (met_tuples (after_turn request journal))
 
--- so it is at each worker, with each request that covers it
+-- each worker turns each request that covers it in this order
 abbrev pub IsInOrder : ℕ → Ran → Type 0
 IsInOrder rows ran =
-    (w : ℕ) (post : Post) (journal : List Entry) → slice_get (posts ran.setup.job) w ≡ Some post → slice_get ran.journals w ≡ Some journal →
-    (request : ℕ) → IsTrue (covers ran.setup request post.node) → TurnsInOrder ran.setup rows request journal
+    (w : ℕ) (post : Post) (journal : List Entry) →
+    slice_get (posts ran.setup.job) w ≡ Some post → slice_get ran.journals w ≡ Some journal →
+    (request : ℕ) → IsTrue (covers ran.setup request post.node) →
+    TurnsInOrder ran.setup rows request journal

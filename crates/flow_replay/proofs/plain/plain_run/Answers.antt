@@ -1,34 +1,105 @@
-use Rattle.std.proofs.Common.{◌≡◌, ◌∙◌, ◌++◌, ℕ, List, ap, arith, drop, length, subst, sym, take}
-use Rattle.std.proofs.lemmas.Grind.{common_steps}
+use Rattle.std.proofs.Common.{◌≡◌, ◌∙◌, Some, List, ap, arith, length, subst, sym}
+use Rattle.std.proofs.lemmas.Option.{slice_get-get_or}
 use Rattle.std.proofs.lemmas.Result.{IfOk-weaker}
+use Rattle.jobs.specs.Job.{written}
+use Rattle.jobs.specs.Nodes.{AreFromSources, IsSourceOf}
 use Rattle.tuple_trace.specs.declared.row.Row.{Row}
-use Rattle.flow_model.specs.Record.{told}
 use Rattle.flow_model.specs.Consistent.{IsConsistent}
-use Rattle.flow_model.specs.Run.{IsRun, Ran}
+use Rattle.flow_model.specs.Record.{told}
+use Rattle.flow_model.specs.Run.{IsRun}
 use Rattle.flow_model.specs.Setup.{outline}
 use Rattle.flow_model.specs.declared.record.RunRecord.{RunRecord}
-use Rattle.flow_replay.specs.declared.worker.Desk.{Desk}
+use Rattle.flow_model.specs.declared.setup.Setup.{Setup}
 use Rattle.flow_replay.specs.Order.{IsInOrder}
-use Rattle.flow_replay.specs.Rest.{told_by}
+use Rattle.flow_replay.specs.inner.Executor.{HasLeft}
+use Rattle.flow_replay.proofs.PlainLemmas.{begins, goes_on, is_in_order, is_run, may_begin, may_issue, opens}
 use Rattle.flow_replay.proofs.plain.plain_run.Goals as goal
 
-written_back : (n : ℕ) (new rest : List Desk) → length new ≡ n → take n (new ++ rest) ≡ new
-written_back n new rest e = grind (arith, common_steps, e)
+pub issue_up_to-requires : goal.issue_up_to-requires
+issue_up_to-requires c =
+    may_begin c.args.setup (length c.as_slice-list.result.now) c.in_ok-executor.executor
+    c.in_ok-executor.ensures
+
+pub loop-place-init : goal.loop-place-init
+loop-place-init c =
+    begins c.args.setup c.as_slice-list.result.now c.in_ok-executor.executor
+    c.issue_up_to.new.self c.in_ok-executor.ensures c.in_ok-issue_up_to.ensures.issued
+    c.in_ok-issue_up_to.ensures.same
+
+pub feed-requires : goal.feed-requires
+feed-requires c =
+    let rows = c.as_slice-list.result.now in
+    let i = c.loop-place.place in
+    let row = c.index-list-place.result in
+    let sources =
+    subst (λ (rs : List Row). AreFromSources (written c.args.setup.job) rs)
+    (sym c.as_slice-list.ensures.value) c.requires in
+    subst (λ (s : Setup). IsSourceOf (written s.job) row.source)
+    (sym c.loop-place.invariant.same)
+    (subst (λ (r : Row). IsSourceOf (written c.args.setup.job) r.source)
+    (sym c.index-list-place.is) (sources i row c.loop-place-test.true))
+
+pub issue_up_to-requires-in-loop-place : goal.issue_up_to-requires-in-loop-place
+issue_up_to-requires-in-loop-place c =
+    may_issue c.args.setup c.as_slice-list.result.now c.loop-place.place c.loop-place.executor
+    c.feed.new.self c.loop-place.invariant c.in_ok-feed.ensures.same
+    c.in_ok-feed.ensures.issued
+
+pub loop-place-preserved : goal.loop-place-preserved
+loop-place-preserved c =
+    let rows = c.as_slice-list.result.now in
+    let place = c.loop-place.place in
+    let row = c.index-list-place.result in
+    let there =
+    slice_get-get_or rows place row c.loop-place-test.true
+    ∙ ap Some (sym c.index-list-place.is) in
+    let number = (c.as_slice-list.ensures.rows place row there).numbered in
+    goes_on c.args.setup rows place row c.loop-place.executor c.feed.new.self
+    c.issue_up_to-in-loop-place.new.self there c.loop-place-test.true number
+    c.in_ok-feed.ensures.fed c.in_ok-feed.ensures.feeds c.in_ok-feed.ensures.issued
+    c.in_ok-feed.ensures.same c.in_ok-issue_up_to-2.ensures.issued
+    c.in_ok-issue_up_to-2.ensures.same c.loop-place.invariant
+
+pub finish-requires : goal.finish-requires
+finish-requires c =
+    opens c.args.setup c.as_slice-list.result.now c.loop-place.place c.loop-place.executor
+    c.loop-place.invariant
+
+pub returns-clause-run : goal.returns-clause-run
+returns-clause-run c =
+    let rows = c.as_slice-list.result.now in
+    let end : c.loop-place.place ≡ length rows =
+    omega (arith, c.loop-place-test.false, c.loop-place.auto.place-end) in
+    IfOk-weaker c.finish.result (λ (ran : RunRecord). HasLeft c.loop-place.executor (told ran))
+    (λ (ran : RunRecord). IsRun (outline c.args.setup) c.args.rows.now (told ran))
+    (λ (ran : RunRecord) left.
+    subst (λ (rs : List Row). IsRun (outline c.args.setup) rs (told ran))
+    c.as_slice-list.ensures.value
+    (is_run c.args.setup rows c.loop-place.place c.loop-place.executor (told ran) end
+    c.loop-place.invariant left)) c.finish.ensures.left
 
 pub returns-clause-order : goal.returns-clause-order
 returns-clause-order c =
-    let order = subst (λ (rows : List Row). IsInOrder (length rows) (told_by (outline c.args.setup) c.run_rows.new.feeds c.run_rows.new.desks)) c.as_slice.ensures.value c.in_ok-run_rows.ensures.order in
-    let back = written_back c.in_ok-desks.desks.len c.run_rows.new.desks (drop (length c.run_rows.new.desks) c.in_ok-desks.desks.items) (omega (arith, c.run_rows.auto.desks, c.as_mut_slice.ensures.len, ap (length {A = Desk}) c.as_mut_slice.ensures.value, c.in_ok-desks.desks.ok.0)) in
-    IfOk-weaker c.record.result (λ (ran : RunRecord). told ran ≡ told_by (outline c.args.setup) c.run_rows.new.feeds (take c.in_ok-desks.desks.len (c.run_rows.new.desks ++ drop (length c.run_rows.new.desks) c.in_ok-desks.desks.items)))
+    let rows = c.as_slice-list.result.now in
+    let end : c.loop-place.place ≡ length rows =
+    omega (arith, c.loop-place-test.false, c.loop-place.auto.place-end) in
+    IfOk-weaker c.finish.result (λ (ran : RunRecord). HasLeft c.loop-place.executor (told ran))
     (λ (ran : RunRecord). IsInOrder (length c.args.rows.now) (told ran))
-    (λ (ran : RunRecord) is. subst (λ (x : Ran). IsInOrder (length c.args.rows.now) x) (sym (is ∙ ap (told_by (outline c.args.setup) c.run_rows.new.feeds) back)) order) c.record.ensures.told
+    (λ (ran : RunRecord) left.
+    subst (λ (rs : List Row). IsInOrder (length rs) (told ran)) c.as_slice-list.ensures.value
+    (is_in_order c.args.setup rows c.loop-place.place c.loop-place.executor (told ran) end
+    c.loop-place.invariant left)) c.finish.ensures.left
 
 pub returns-clause-consistent : goal.returns-clause-consistent
 returns-clause-consistent c =
-    let left : Ran = told_by (outline c.args.setup) c.run_rows.new.feeds c.run_rows.new.desks in
-    let run = subst (λ (rows : List Row). IsRun (outline c.args.setup) rows left) c.as_slice.ensures.value c.in_ok-run_rows.ensures.run in
-    let consistent = c.runs_are_consistent.ensures left run c.requires in
-    let back = written_back c.in_ok-desks.desks.len c.run_rows.new.desks (drop (length c.run_rows.new.desks) c.in_ok-desks.desks.items) (omega (arith, c.run_rows.auto.desks, c.as_mut_slice.ensures.len, ap (length {A = Desk}) c.as_mut_slice.ensures.value, c.in_ok-desks.desks.ok.0)) in
-    IfOk-weaker c.record.result (λ (ran : RunRecord). told ran ≡ told_by (outline c.args.setup) c.run_rows.new.feeds (take c.in_ok-desks.desks.len (c.run_rows.new.desks ++ drop (length c.run_rows.new.desks) c.in_ok-desks.desks.items)))
+    let rows = c.as_slice-list.result.now in
+    let end : c.loop-place.place ≡ length rows =
+    omega (arith, c.loop-place-test.false, c.loop-place.auto.place-end) in
+    IfOk-weaker c.finish.result (λ (ran : RunRecord). HasLeft c.loop-place.executor (told ran))
     (λ (ran : RunRecord). IsConsistent c.args.rows.now (told ran))
-    (λ (ran : RunRecord) is. subst (λ (x : Ran). IsConsistent c.args.rows.now x) (sym (is ∙ ap (told_by (outline c.args.setup) c.run_rows.new.feeds) back)) consistent) c.record.ensures.told
+    (λ (ran : RunRecord) left.
+    c.runs_are_consistent.ensures (told ran)
+    (subst (λ (rs : List Row). IsRun (outline c.args.setup) rs (told ran))
+    c.as_slice-list.ensures.value
+    (is_run c.args.setup rows c.loop-place.place c.loop-place.executor (told ran) end
+    c.loop-place.invariant left)) c.requires) c.finish.ensures.left

@@ -1,0 +1,214 @@
+-- A plain run, row by row.
+use Rattle.std.proofs.Common.{◌≡◌, ◌<◌, ◌+◌, ◌-◌, ◌++◌, ◌∷◌, ◌∙◌, ℕ, [], List, Some, arith, ap, length, refl, replicate, subst, sym}
+use Rattle.std.specs.Prelude.{slice_get}
+use Rattle.std.proofs.lemmas.List.{get_or-replicate, length-map, length-replicate}
+use Rattle.sink_journal.specs.declared.journal.Feed.{Feed}
+use Rattle.sink_journal.specs.declared.journal.Feed.TheVariants.{Fed, Stopped}
+use Rattle.tuple_trace.specs.declared.row.Row.{Row}
+use Rattle.versions.specs.declared.request.Request.{Request}
+use Rattle.flow_model.specs.Feeding.{feed_after, feed_from}
+use Rattle.flow_model.specs.Outline.{Outline}
+use Rattle.flow_model.specs.Requests.{afters}
+use Rattle.flow_model.specs.Run.{IsRun, Ran}
+use Rattle.flow_model.specs.Setup.{outline}
+use Rattle.flow_model.specs.Workers.{posts}
+use Rattle.flow_model.specs.declared.setup.Setup.{Setup}
+use Rattle.flow_replay.specs.Order.{IsInOrder}
+use Rattle.flow_replay.specs.declared.executor.Executor.{Executor}
+use Rattle.flow_replay.specs.declared.worker_run.WorkerRun.{WorkerRun}
+use Rattle.flow_replay.specs.inner.Delivery.{IsFed, rank_in}
+use Rattle.flow_replay.specs.inner.Executor.{HasLeft, IsNew}
+use Rattle.flow_replay.specs.inner.Runs.{AllGain, AreOpen, empty_run, end_block}
+use Rattle.flow_replay.specs.inner.SoFar.{AreEmpty, AreIssued, AreIssuedBefore, AreSorted, IsSoFar, left_by}
+use Rattle.flow_replay.proofs.IssueLemmas.{all_issued, feed_first, feed_last, feed_next}
+use Rattle.flow_replay.proofs.RunLemmas.{feed_step, first_far}
+use Rattle.flow_replay.proofs.StopLemmas.{are_open, stop_step}
+use Rattle.flow_replay.proofs.SetupLemmas.{covered}
+use Rattle.flow_replay.proofs.SortLemmas.{ends_sorted, fed_sorted, first_sorted}
+
+-- the rows up to this one are fed, and the requests that wait for them issued
+pub record HasFed (kept : Setup) (rows : List Row) (row : ℕ) (e : Executor) : Type 0 where
+  pub same : e.setup ≡ kept
+  pub waits : AreIssuedBefore (afters (outline kept).requests) (length rows) (row + 1) e.issued
+  pub far : IsSoFar (outline kept) rows e.feeds e.issued e.runs.items
+  pub sorted : AreSorted (outline kept) (length rows) row e.issued e.runs.items
+  pub feeds :
+      e.feeds
+      ++ feed_after (afters (outline kept).requests) 1 row (length rows) (length rows - row)
+      ≡ feed_from 0 0 (afters (outline kept).requests) (length rows)
+
+-- ---- at first
+
+none_before : (waits : List ℕ) (rows : ℕ) → AreIssuedBefore waits rows 0 0
+none_before waits rows = record {
+  few = omega arith;
+  past = λ i after e lt. absurd (omega (arith, lt));
+  left = λ i after e le. omega arith;
+}
+
+pub may_begin : (kept : Setup) (rows : ℕ) (e : Executor) → IsNew kept e →
+    AreIssuedBefore (afters (outline e.setup).requests) rows 0 e.issued
+may_begin kept rows e new =
+    subst (AreIssuedBefore (afters (outline e.setup).requests) rows 0) (sym new.issued_is)
+    (none_before (afters (outline e.setup).requests) rows)
+
+empty : (setup : Outline) (runs : List WorkerRun) →
+    runs ≡ replicate (length (posts setup.job)) empty_run → AreEmpty setup runs
+empty setup runs are = subst (AreEmpty setup) (sym are) (record {
+  long = length-replicate (length (posts setup.job)) empty_run;
+  each = λ w lt.
+      get_or-replicate (length (posts setup.job)) w empty_run empty_run
+      (omega (arith, lt, length-replicate (length (posts setup.job)) empty_run));
+})
+
+pub begins : (kept : Setup) (rows : List Row) (old new : Executor) → IsNew kept old →
+    AreIssued (outline old.setup) (length rows) 0 old.issued new.issued old.feeds new.feeds
+    old.runs.items new.runs.items → new.setup ≡ old.setup → HasFed kept rows 0 new
+begins kept rows old new none issued same = record {
+  same = same ∙ none.setup_is;
+  waits = first.waits;
+  far = first.far rows (first_far (outline kept) rows old.runs.items blank);
+  sorted = first.sorted (first_sorted (outline kept) (length rows) old.runs.items blank);
+  feeds = feed_first (outline kept) (length rows) [] new.feeds refl first.feeds;
+}
+  where
+    blank : AreEmpty (outline kept) old.runs.items
+    blank = empty (outline kept) old.runs.items none.runs_are
+
+    first : AreIssued (outline kept) (length rows) 0 0 new.issued [] new.feeds old.runs.items
+        new.runs.items
+    first =
+        subst (λ (fs : List Feed). AreIssued (outline kept) (length rows) 0 0 new.issued fs
+        new.feeds old.runs.items new.runs.items) none.feeds_are
+        (subst (λ (n : ℕ). AreIssued (outline kept) (length rows) 0 n new.issued old.feeds
+        new.feeds old.runs.items new.runs.items) none.issued_is
+        (subst (λ (s : Setup). AreIssued (outline s) (length rows) 0 old.issued new.issued
+        old.feeds new.feeds old.runs.items new.runs.items) none.setup_is issued))
+
+-- ---- a row more
+
+pub may_issue : (kept : Setup) (rows : List Row) (row : ℕ) (old mid : Executor) →
+    HasFed kept rows row old → mid.setup ≡ old.setup → mid.issued ≡ old.issued →
+    AreIssuedBefore (afters (outline mid.setup).requests) (length rows) (row + 1) mid.issued
+may_issue kept rows row old mid h same issued =
+    subst (λ (s : Setup).
+    AreIssuedBefore (afters (outline s).requests) (length rows) (row + 1) mid.issued)
+    (sym (same ∙ h.same))
+    (subst (AreIssuedBefore (afters (outline kept).requests) (length rows) (row + 1))
+    (sym issued) h.waits)
+
+pub goes_on : (kept : Setup) (rows : List Row) (place : ℕ) (row : Row)
+    (old mid new : Executor) → slice_get rows place ≡ Some row → place < length rows →
+    row.tuple.row ≡ place + 1 →
+    IsFed (outline old.setup) (rank_in old.setup) row old.issued old.runs.items
+    mid.runs.items →
+    mid.feeds ≡ old.feeds ++ Fed row.tuple.row ∷ [] → mid.issued ≡ old.issued →
+    mid.setup ≡ old.setup →
+    AreIssued (outline mid.setup) (length rows) (place + 1) mid.issued new.issued mid.feeds
+    new.feeds mid.runs.items new.runs.items → new.setup ≡ mid.setup →
+    HasFed kept rows place old → HasFed kept rows (place + 1) new
+goes_on kept rows place row old mid new there lt number fed feeds issued same next same' h =
+    record {
+      same = same' ∙ (same ∙ h.same);
+      waits = now.waits;
+      far = now.far rows (subst (λ (fs : List Feed).
+          IsSoFar setup rows fs old.issued mid.runs.items) (sym feeds)
+          (feed_step setup (rank_in kept) rows old.feeds old.issued place row old.runs.items
+          mid.runs.items there number h.far its));
+      sorted = now.sorted (fed_sorted setup (rank_in kept) (length rows) place old.issued row
+          old.runs.items mid.runs.items number its h.sorted);
+      feeds = feed_next setup (length rows) place old.issued old.feeds mid.feeds new.feeds
+          (feed_from 0 0 (afters setup.requests) (length rows)) lt h.waits
+          (feeds ∙ ap (λ (n : ℕ). old.feeds ++ Fed n ∷ []) number) now.feeds h.feeds;
+    }
+  where
+    setup : Outline
+    setup = outline kept
+
+    its : IsFed setup (rank_in kept) row old.issued old.runs.items mid.runs.items
+    its = subst (λ (s : Setup). IsFed (outline s) (rank_in s) row old.issued old.runs.items
+        mid.runs.items) h.same fed
+
+    now : AreIssued setup (length rows) (place + 1) old.issued new.issued mid.feeds new.feeds
+        mid.runs.items new.runs.items
+    now =
+        subst (λ (n : ℕ). AreIssued setup (length rows) (place + 1) n new.issued mid.feeds
+        new.feeds mid.runs.items new.runs.items) issued
+        (subst (λ (s : Setup). AreIssued (outline s) (length rows) (place + 1) mid.issued
+        new.issued mid.feeds new.feeds mid.runs.items new.runs.items) (same ∙ h.same) next)
+
+-- ---- the end
+
+pub opens : (kept : Setup) (rows : List Row) (row : ℕ) (e : Executor) →
+    HasFed kept rows row e → AreOpen e.runs.items
+opens kept rows row e h =
+    are_open (outline kept) rows e.feeds e.issued e.runs.items h.far
+
+-- what was left, by an equal setup
+record HasEndedAs (kept : Setup) (e : Executor) (ran : Ran) : Type 0 where
+  pub runs : List WorkerRun
+  pub ended :
+      AllGain (outline kept) (end_block (outline kept).job) e.runs.items runs
+  pub ran_is : ran ≡ left_by (outline kept) (e.feeds ++ Stopped ∷ []) runs
+
+ended_as : (kept : Setup) (e : Executor) (ran : Ran) → e.setup ≡ kept → HasLeft e ran →
+    HasEndedAs kept e ran
+ended_as kept e ran same left = record {
+  runs = left.runs;
+  ended = subst (λ (s : Setup).
+      AllGain (outline s) (end_block (outline s).job) e.runs.items left.runs) same left.ended;
+  ran_is = left.ran_is ∙ ap (λ (s : Setup).
+      left_by (outline s) (e.feeds ++ Stopped ∷ []) left.runs) same;
+}
+
+-- after the last row all requests are issued
+all : (kept : Setup) (rows : List Row) (e : Executor) → HasFed kept rows (length rows) e →
+    e.issued ≡ length (outline kept).plans
+all kept rows e h =
+    all_issued (afters (outline kept).requests) (length rows) e.issued h.waits
+    ∙ (length-map (outline kept).requests (λ (request : Request). request.after)
+    ∙ sym (covered kept).plan_each)
+
+pub is_run : (kept : Setup) (rows : List Row) (place : ℕ) (e : Executor) (ran : Ran) →
+    place ≡ length rows → HasFed kept rows place e → HasLeft e ran →
+    IsRun (outline kept) rows ran
+is_run kept rows place e ran end so_far left =
+    subst (IsRun (outline kept) rows) (sym is)
+    (stop_step (outline kept) rows e.feeds e.runs.items its.runs (covered kept) far its.ended
+    (feed_last (outline kept) (length rows) (length rows) e.feeds (e.feeds ++ Stopped ∷ [])
+    (feed_from 0 0 (afters (outline kept).requests) (length rows)) (omega arith) refl h.feeds))
+  where
+    h : HasFed kept rows (length rows) e
+    h = subst (λ (n : ℕ). HasFed kept rows n e) end so_far
+
+    its : HasEndedAs kept e ran
+    its = ended_as kept e ran h.same left
+
+    is : ran ≡ left_by (outline kept) (e.feeds ++ Stopped ∷ []) its.runs
+    is = its.ran_is
+
+    far : IsSoFar (outline kept) rows e.feeds (length (outline kept).plans) e.runs.items
+    far =
+        subst (λ (n : ℕ). IsSoFar (outline kept) rows e.feeds n e.runs.items)
+        (all kept rows e h) h.far
+
+pub is_in_order : (kept : Setup) (rows : List Row) (place : ℕ) (e : Executor) (ran : Ran) →
+    place ≡ length rows → HasFed kept rows place e → HasLeft e ran →
+    IsInOrder (length rows) ran
+is_in_order kept rows place e ran end so_far left =
+    subst (IsInOrder (length rows)) (sym its.ran_is)
+    (ends_sorted (outline kept) (length rows) (e.feeds ++ Stopped ∷ []) e.runs.items its.runs
+    h.far.quiescent.long its.ended sorted)
+  where
+    h : HasFed kept rows (length rows) e
+    h = subst (λ (n : ℕ). HasFed kept rows n e) end so_far
+
+    its : HasEndedAs kept e ran
+    its = ended_as kept e ran h.same left
+
+    sorted : AreSorted (outline kept) (length rows) (length rows)
+        (length (outline kept).plans) e.runs.items
+    sorted =
+        subst (λ (n : ℕ).
+        AreSorted (outline kept) (length rows) (length rows) n e.runs.items)
+        (all kept rows e h) h.sorted

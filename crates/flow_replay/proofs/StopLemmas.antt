@@ -1,0 +1,197 @@
+-- The end of a run.
+use Rattle.std.proofs.Common.{◌≡◌, ◌<◌, ◌+◌, ℕ, List, [], ◌∷◌, ◌++◌, length, map, Option, Some, None, refl, sym, ap, subst, ◌∙◌, arith}
+use Rattle.std.specs.Prelude.{option_map, slice_get}
+use Rattle.std.specs.FinMap.{empty}
+use Rattle.std.proofs.lemmas.List.{append-nil, length-map}
+use Rattle.std.proofs.lemmas.Option.{get_or_from_slice_get, slice_get-get_or, slice_get-map, slice_get_within}
+use Rattle.keyed_state.specs.Counts.{Counts}
+use Rattle.sink_journal.specs.declared.journal.Entry.{Entry}
+use Rattle.sink_journal.specs.declared.journal.Feed.{Feed}
+use Rattle.sink_journal.specs.declared.journal.Feed.TheVariants as feed
+use Rattle.tuple_trace.specs.declared.row.Row.{Row}
+use Rattle.tuple_trace.specs.declared.tuple.Item.{Item}
+use Rattle.tuple_trace.specs.declared.tuple.Item.TheVariants as item
+use Rattle.flow_model.specs.Begin.{at_first}
+use Rattle.flow_model.specs.Feeding.{fed_puts, feed_from}
+use Rattle.flow_model.specs.Lanes.{lanes}
+use Rattle.flow_model.specs.Law.{IsFinished, Progress, initial, progress_after}
+use Rattle.flow_model.specs.declared.topology.Lane.{Lane}
+use Rattle.flow_model.specs.Outline.{Outline, Post}
+use Rattle.flow_model.specs.Replay.{Local, Put, after_all, items_on, shown}
+use Rattle.flow_model.specs.Requests.{afters}
+use Rattle.flow_model.specs.Run.{IsRun, IsWorked, put_by, sent_by as sent_from}
+use Rattle.flow_model.specs.Station.{station}
+use Rattle.flow_model.specs.Workers.{nobody, post_at, posts}
+use Rattle.flow_model.proofs.EndLemmas.{ended_counts}
+use Rattle.flow_model.proofs.JournalLemmas.{after_all-append}
+use Rattle.flow_model.proofs.PlaceLemmas.{map_place}
+use Rattle.flow_replay.specs.declared.worker_run.WorkerRun.{WorkerRun}
+use Rattle.flow_replay.specs.Sent.{first_view}
+use Rattle.flow_replay.specs.inner.Runs.{AllGain, AreOpen, run_at, empty_run, end_block, journal_at, put_so_far}
+use Rattle.flow_replay.specs.inner.SoFar.{IsSoFar, count_issued, left_by}
+use Rattle.flow_model.proofs.CoverLemmas.{AreCovering}
+use Rattle.flow_replay.proofs.FollowLemmas.{finishes}
+use Rattle.flow_model.proofs.PostPlaces.{get-post_at, post_at-get, worker_at}
+use Rattle.flow_replay.proofs.ConservationLemmas.{sent_by}
+use Rattle.flow_replay.proofs.TurnLemmas.{IsSending, is_sending, sent_ended, shown_ended}
+use Rattle.flow_replay.proofs.DeliveryLemmas.{receiver_below}
+use Rattle.flow_replay.proofs.RunLemmas.{fed_puts-append}
+
+pub at_run : {A : Type 0} (f : WorkerRun → A) (runs : List WorkerRun) (w : ℕ) (x : A) →
+    slice_get (map f runs) w ≡ Some x → f (run_at runs w) ≡ x
+at_run f runs w x e = let r = map_place f runs w x e in ap f (get_or_from_slice_get runs w r.0
+    empty_run r.1) ∙ sym r.2
+
+get_run : {A : Type 0} (f : WorkerRun → A) (runs : List WorkerRun) (w : ℕ) → w < length runs →
+    slice_get (map f runs) w ≡ Some (f (run_at runs w))
+get_run f runs w lt = slice_get-map f runs w ∙ ap (option_map f) (slice_get-get_or runs w empty_run
+    lt)
+
+-- no lane has ended by the replay where none has by the law
+unended : (setup : Outline) (w : ℕ) (rows : List Row) (feeds : List Feed) (m : ℕ) (runs : List
+    WorkerRun) → w < length runs → IsSoFar setup rows feeds m runs
+    → (after_all setup (post_at setup.job w) (first_view setup (post_at setup.job w)) (journal_at
+    runs w)).ended ≡ 0
+unended setup w rows feeds m runs b far =
+    let post : Post = post_at setup.job w in
+    let start : Progress = initial (station setup 0 post) in
+    let same = ended_counts setup post (first_view setup post) start (journal_at runs w) in
+    let none : length (progress_after start (journal_at runs w)).ended
+    ≡ 0 = ap (λ (p : Progress). length p.ended) (far.quiescent.waits w b) in
+    omega (arith, same, none)
+
+pub are_open : (setup : Outline) (rows : List Row) (feeds : List Feed) (m : ℕ) (runs : List
+    WorkerRun) → IsSoFar setup rows feeds m runs → AreOpen runs
+are_open setup rows feeds m runs far w b = ap (λ (x : Local). x.ended) (far.quiescent.in_force w b)
+    ∙ unended setup w rows feeds m runs b far
+
+abbrev starts : List Post → List Counts
+starts ps = map (λ (post : Post). empty) ps
+
+at_start : (ps : List Post) (w : ℕ) (counts : Counts) → slice_get (starts ps) w ≡ Some counts →
+    empty ≡ counts
+at_start ps w counts e = sym (map_place (λ (post : Post). empty) ps w counts e).2
+
+get_start : (ps : List Post) (w : ℕ) → w < length ps → slice_get (starts ps) w ≡ Some empty
+get_start ps w lt = slice_get-map (λ (post : Post). empty) ps w
+    ∙ ap (option_map (λ (post : Post). empty)) (slice_get-get_or ps w nobody lt)
+
+pub stop_step : (setup : Outline) (rows : List Row) (feeds : List Feed) (old new : List WorkerRun) →
+    AreCovering setup → IsSoFar setup rows feeds (length setup.plans) old
+    → AllGain setup (end_block setup.job) old new → feeds ++ feed.Stopped ∷ []
+    ≡ feed_from 0 0 (afters setup.requests) (length rows) →
+    IsRun setup rows (left_by setup (feeds ++ feed.Stopped ∷ []) new)
+stop_step setup rows feeds old new covering far gain fed_is = record {
+  setup_is = refl;
+  run = record {
+    feed = fed_is;
+    one_start_each = length-map (posts setup.job) (λ (post : Post). empty);
+    one_journal_each = length-map new (λ (run : WorkerRun). run.journal) ∙ (gain.long
+        ∙ far.quiescent.long);
+    one_state_each = length-map new (λ (run : WorkerRun). run.state.counts) ∙ (gain.long
+        ∙ far.quiescent.long);
+    worked = λ w post counts journal state ep ec ej es. worked w post counts journal state ep ec ej
+        es;
+    tied = λ n l journal g ej. tie n l journal g ej l.sender refl;
+  };
+}
+  where
+    below : (w : ℕ) → w < length (posts setup.job) → w < length old
+    below w b = let l = far.quiescent.long in omega (arith, b, l)
+
+    ended : (w : ℕ) → w < length (posts setup.job) → journal_at new w
+        ≡ journal_at old w ++ end_block setup.job w
+    ended w b = (gain.each w (below w b)).journal
+
+    counted : (w : ℕ) → w < length (posts setup.job) → (run_at new w).state.counts
+        ≡ (after_all setup (post_at setup.job w) (first_view setup (post_at setup.job w))
+        (journal_at new w)).counts
+    counted w b =
+        ap (λ (x : Local). x.counts)
+        ((gain.each w (below w b)).local
+        ∙ (ap (λ (x : Local). after_all setup (post_at setup.job w) x (end_block setup.job w))
+        (far.quiescent.in_force w (below w b))
+        ∙ (sym (after_all-append setup (post_at setup.job w) (first_view setup (post_at setup.job
+        w)) (journal_at old w) (end_block setup.job w))
+        ∙ ap (after_all setup (post_at setup.job w) (first_view setup (post_at setup.job w))) (sym
+        (ended w b)))))
+
+    done : (w : ℕ) → w < length (posts setup.job) →
+        IsWorked setup (at_first setup) (post_at setup.job w) empty (journal_at new w) (run_at new
+        w).state.counts
+    done w b = record {
+      finished = subst (IsFinished (station setup 0 (post_at setup.job w))) (sym (ended w b))
+          (finishes setup w (journal_at old w) (worker_at setup.job w b).0 (far.quiescent.lawful w
+          (below w b)) (far.quiescent.waits w (below w b)));
+      state_is = counted w b;
+    }
+
+    worked : (w : ℕ) (post : Post) (counts : Counts) (journal : List Entry) (state : Counts) →
+        slice_get (posts setup.job) w ≡ Some post → slice_get (at_first setup).states w
+        ≡ Some counts
+        → slice_get (map (λ (run : WorkerRun). run.journal) new) w ≡ Some journal →
+        slice_get (map (λ (run : WorkerRun). run.state.counts) new) w ≡ Some state →
+        IsWorked setup (at_first setup) post counts journal state
+    worked w post counts journal state ep ec ej es =
+        subst (λ (p : Post). IsWorked setup (at_first setup) p counts journal state) (post_at-get
+        setup.job w post ep)
+        (subst (λ (c : Counts). IsWorked setup (at_first setup) (post_at setup.job w) c journal
+        state) (at_start (posts setup.job) w counts ec)
+        (subst (λ (j : List Entry). IsWorked setup (at_first setup) (post_at setup.job w) empty j
+        state) (at_run (λ (run : WorkerRun). run.journal) new w journal ej)
+        (subst (λ (s : Counts). IsWorked setup (at_first setup) (post_at setup.job w) empty
+        (journal_at new w) s) (at_run (λ (run : WorkerRun). run.state.counts) new w state es)
+        (done w (slice_get_within (posts setup.job) w post ep)))))
+
+    fed_all : fed_puts setup.job rows 0 (feeds ++ feed.Stopped ∷ [])
+        ≡ fed_puts setup.job rows 0 feeds
+    fed_all = fed_puts-append setup.job rows 0 (count_issued feeds) feeds (feed.Stopped ∷ []) (omega
+        arith) ∙ append-nil (fed_puts setup.job rows 0 feeds)
+
+    tie : (n : ℕ) (l : Lane) (journal : List Entry) → slice_get (lanes setup.job) n ≡ Some l →
+        slice_get (map (λ (run : WorkerRun). run.journal) new) l.receiver ≡ Some journal →
+        (o : Option ℕ) → l.sender ≡ o
+        → put_by (at_first setup) rows (left_by setup (feeds ++ feed.Stopped ∷ []) new) l o
+        ≡ Some (shown setup n journal)
+    tie n l journal g ej None e =
+        ap Some (ap (λ (ps : List Put). items_on l ps ++ item.Last ∷ []) fed_all
+        ∙ (ap (λ (xs : List Item). xs ++ item.Last ∷ []) was
+        ∙ (sym (shown_ended setup n l (journal_at old l.receiver) (journal_at new l.receiver) g
+        (ended l.receiver (receiver_below setup.job n l g)))
+        ∙ ap (shown setup n) (at_run (λ (run : WorkerRun). run.journal) new l.receiver journal
+        ej))))
+      where
+        was : items_on l (fed_puts setup.job rows 0 feeds)
+            ≡ shown setup n (journal_at old l.receiver)
+        was = ap (put_so_far setup (fed_puts setup.job rows 0 feeds) old l) (sym e)
+            ∙ (far.quiescent.conserved n l g ∙ append-nil (shown setup n (journal_at old
+            l.receiver)))
+    tie n l journal g ej (Some s) e =
+        ap (λ (o : Option Post). sent_from setup (at_first setup) l o (slice_get (at_first
+        setup).states s) (slice_get (map (λ (run : WorkerRun). run.journal) new) s))
+        (get-post_at setup.job s by.below)
+        ∙ (ap (λ (o : Option Counts). sent_from setup (at_first setup) l (Some (post_at setup.job
+        s)) o (slice_get (map (λ (run : WorkerRun). run.journal) new) s)) (get_start (posts
+        setup.job) s by.below)
+        ∙ (ap (λ (o : Option (List Entry)). sent_from setup (at_first setup) l (Some (post_at
+        setup.job s)) (Some empty) o) (get_run (λ (run : WorkerRun). run.journal) new s (let b =
+        below s by.below in let q = gain.long in omega (arith, b, q)))
+        ∙ ap Some (sent_ended setup n l s (journal_at old s) (journal_at new s) covering g e
+        zero_ended (ended s by.below)
+        ∙ (ap (λ (xs : List Item). xs ++ item.Last ∷ []) was
+        ∙ (sym (shown_ended setup n l (journal_at old l.receiver) (journal_at new l.receiver) g
+        (ended l.receiver (receiver_below setup.job n l g)))
+        ∙ ap (shown setup n) (at_run (λ (run : WorkerRun). run.journal) new l.receiver journal
+        ej))))))
+      where
+        by : IsSending setup.job l s
+        by = is_sending setup.job n l s g e
+
+        was : sent_by setup l s (journal_at old s) ≡ shown setup n (journal_at old l.receiver)
+        was = ap (put_so_far setup (fed_puts setup.job rows 0 feeds) old l) (sym e)
+            ∙ (far.quiescent.conserved n l g ∙ append-nil (shown setup n (journal_at old
+            l.receiver)))
+
+        zero_ended : (after_all setup (post_at setup.job s) (first_view setup (post_at setup.job s))
+            (journal_at old s)).ended ≡ 0
+        zero_ended = unended setup s rows feeds (length setup.plans) old (below s by.below) far

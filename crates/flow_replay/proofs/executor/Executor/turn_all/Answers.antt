@@ -1,0 +1,14 @@
+use Rattle.std.proofs.Common.{arith}
+use Rattle.jobs.specs.Job.{written}
+use Rattle.flow_model.proofs.SizeLemmas.{posts-few}
+use Rattle.flow_replay.proofs.executor.Executor.turn_all.Goals as goal
+
+pub overflow_cast-worker : goal.overflow_cast-worker
+overflow_cast-worker c =
+    let job = c.args.self.now.setup.job in
+    omega (
+      arith,
+      c.loop-worker-test.true,
+      c.args.self.now.one_each,
+      posts-few (written job) job.lawful,
+    )

@@ -1,0 +1,20 @@
+use Rattle.jobs.specs.Job.{written}
+use Rattle.flow_model.specs.Setup.{outline}
+use Rattle.flow_model.specs.Workers.{post_at}
+use Rattle.flow_replay.specs.declared.worker_run.WorkerRun.{WorkerRun}
+use Rattle.flow_replay.proofs.WorkerRunLemmas.{ends-end, ends-next}
+use Rattle.flow_replay.proofs.worker_run.WorkerRun.end.Goals as goal
+
+pub loop-number-preserved : goal.loop-number-preserved
+loop-number-preserved c =
+    let new : WorkerRun = record { journal = c.push.new.self; state = c.end_lane.new.self } in
+    ends-next c.loop-number.number-index c.lanes_in-number-items.result.now c.args.self.now
+    c.loop-number.self new c.loop-number-test.true c.in_ok-push.ensures.ok
+    c.end_lane.ensures.is c.loop-number.invariant
+
+pub returns : goal.returns
+returns c =
+    ends-end (outline c.args.setup.now) (post_at (written c.args.setup.now.job) c.args.worker)
+    c.args.worker c.loop-number.number-index c.lanes_in-number-items.result.now c.args.self.now
+    c.loop-number.self c.lanes_in-number-items.ensures c.loop-number-test.false
+    c.loop-number.invariant

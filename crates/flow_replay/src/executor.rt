@@ -1,0 +1,223 @@
+// An executor on one thread.
+ghost use Rattle.std.specs.Prelude.{◌≡◌, ◌<◌, ◌++◌, ◌∷◌, [], IfOk, OnOk, length, replicate};
+ghost use Rattle.jobs.specs.Job.{written};
+ghost use Rattle.jobs.specs.Nodes.{IsSourceOf};
+ghost use Rattle.flow_model.specs.Lanes.{lane_at, lanes};
+ghost use Rattle.flow_model.specs.Record.{told};
+ghost use Rattle.flow_model.specs.Requests.{afters};
+ghost use Rattle.flow_model.specs.Setup.{outline};
+ghost use Rattle.flow_model.specs.Workers.{post_at, posts};
+ghost use Rattle.flow_replay.specs.inner.Runs.{AllGain, AreOpen, IsStep, empty_run};
+ghost use Rattle.flow_replay.specs.inner.Runs.{end_block, made_at, run_at, turn_block};
+ghost use Rattle.flow_replay.specs.inner.Delivery.{IsDelivered, IsFed, rank_in};
+ghost use Rattle.flow_replay.specs.inner.SoFar.{AreIssued, AreIssuedBefore, left_by};
+
+use crate::worker_run::WorkerRun;
+use flow_model::{RunRecord, Setup, States, WorkerAt, WorkerState};
+use operators::Outs;
+use sink_journal::{Entry, Feed, Feeds, Journals};
+use std::alloc::Global;
+use tuple_trace::{NoMemory, Row, Tuple};
+
+/// Runs the rows of a job on one thread. Between two calls no lane has an item in flight, and
+/// every request that is issued has turned at all workers that it covers.
+///
+/// After [`NoMemory`] it is given up.
+#[derive(Drop)]
+pub struct Executor {
+    alloc: Global,
+    pub setup: Setup,
+    /// The workers, by their numbers.
+    pub runs: Vec<WorkerRun>,
+    pub feeds: Feeds,
+    /// How many requests are issued.
+    pub issued: usize,
+    ghost one_each: { length runs.items ≡ length (posts (written setup.job)) },
+}
+
+impl Executor {
+    ghost use Rattle.flow_replay.specs.inner.Executor.{HasLeft, IsNew, SameBesideRuns};
+
+    /// An executor that has done nothing.
+    pub fn new(alloc: Global, setup: Setup) -> Result<Executor, NoMemory>
+        ensures { IfOk result (IsNew setup) }
+    {
+        let runs = empty_runs(alloc, setup.workers() as usize)?;
+        Ok(Executor {
+            alloc,
+            setup,
+            runs,
+            feeds: Feeds::new(alloc),
+            issued: 0,
+        })
+    }
+
+    /// Issues the requests that wait for a row up to this one, of `rows` rows.
+    pub fn issue_up_to(&mut self, row: u64, rows: u64) -> Result<(), NoMemory>
+        requires { AreIssuedBefore (afters (outline self.old.setup).requests) rows row
+            self.old.issued }
+        ensures issued { OnOk result (AreIssued (outline self.old.setup) rows row
+            self.old.issued self.new.issued self.old.feeds self.new.feeds
+            self.old.runs.items self.new.runs.items) }
+        ensures same { OnOk result (self.new.setup ≡ self.old.setup) }
+    {
+        for place in self.issued..self.setup.requests() {
+            if self.setup.after(place).min(rows) > row {
+                return Ok(());
+            }
+            let request = place as u64 + 1;
+            self.feeds.push(Feed::Issued(request))?;
+            self.turn_all(request)?;
+            self.issued = place + 1;
+        }
+        Ok(())
+    }
+
+    /// Feeds a row, and delivers it.
+    pub fn feed(&mut self, row: &Row) -> Result<(), NoMemory>
+        requires { IsSourceOf (outline self.old.setup).job row.now.source }
+        ensures fed { OnOk result (IsFed (outline self.old.setup) (rank_in self.old.setup) row.now
+            self.old.issued self.old.runs.items self.new.runs.items) }
+        ensures feeds { OnOk result (self.new.feeds
+            ≡ self.old.feeds ++ Feed.Fed row.now.tuple.row ∷ []) }
+        ensures issued { OnOk result (self.new.issued ≡ self.old.issued) }
+        ensures same { OnOk result (self.new.setup ≡ self.old.setup) }
+    {
+        self.feeds.push(Feed::Fed(row.tuple.row))?;
+        let mut tuple = row.tuple.copy()?;
+        tuple.issued = self.issued as u64;
+        let feeder = WorkerAt {
+            node: row.source,
+            index: 0,
+        };
+        match self.setup.route(feeder, 0, &row.tuple) {
+            Some(lane) => self.deliver(lane, tuple)?,
+            None => {}
+        }
+        Ok(())
+    }
+
+    /// Delivers a tuple on a lane: the worker at the lane's end processes it, and then each of its
+    /// outputs is delivered.
+    fn deliver(&mut self, lane: u32, tuple: Tuple) -> Result<(), NoMemory>
+        requires { lane < length (lanes (outline self.old.setup).job) }
+        ensures delivered { OnOk result (IsDelivered (outline self.old.setup)
+            (rank_in self.old.setup) lane tuple self.old.runs.items self.new.runs.items) }
+        ensures same { OnOk result (SameBesideRuns self.old self.new) }
+    {
+        let worker = self.setup.lane(lane).receiver;
+        let at = self.setup.worker_at(worker);
+        let outs = self.process(lane, tuple)?;
+        for out in outs.into_vec() {
+            match self.setup.route(at, out.port, &out.tuple) {
+                Some(next) => self.deliver(next, out.tuple)?,
+                None => {}
+            }
+        }
+        Ok(())
+    }
+
+    // The worker at the end of a lane processes a tuple. Returns its outputs.
+    fn process(&mut self, lane: u32, tuple: Tuple) -> Result<Outs, NoMemory>
+        requires { lane < length (lanes (outline self.old.setup).job) }
+        ensures step { OnOk result (IsStep (outline self.old.setup)
+            (lane_at (outline self.old.setup).job lane).receiver (Entry.Met lane tuple)
+            self.old.runs.items self.new.runs.items) }
+        ensures outs { IfOk result (λ outs. outs ≡ made_at (outline self.old.setup)
+            (post_at (outline self.old.setup).job
+            (lane_at (outline self.old.setup).job lane).receiver)
+            (run_at self.old.runs.items (lane_at (outline self.old.setup).job lane).receiver)
+            tuple) }
+        ensures same { OnOk result (SameBesideRuns self.old self.new) }
+    {
+        let worker = self.setup.lane(lane).receiver;
+        let at = self.setup.worker_at(worker);
+        let run = &mut self.runs[worker as usize];
+        let mut outs = Outs::new(self.alloc);
+        run.state
+            .process(self.alloc, &self.setup, at, &tuple, &mut outs)?;
+        run.journal.push(Entry::Met { lane, tuple })?;
+        Ok(outs)
+    }
+
+    // Every worker that a request covers turns.
+    fn turn_all(&mut self, request: u64) -> Result<(), NoMemory>
+        ensures turned { OnOk result (AllGain (outline self.old.setup)
+            (turn_block (outline self.old.setup) request)
+            self.old.runs.items self.new.runs.items) }
+        ensures same { OnOk result (SameBesideRuns self.old self.new) }
+    {
+        for worker in 0..self.runs.len() {
+            let run = &mut self.runs[worker];
+            run.turn_if_covered(&self.setup, worker as u32, request)?;
+        }
+        Ok(())
+    }
+
+    // Every worker ends.
+    fn end_all(&mut self) -> Result<(), NoMemory>
+        requires { AreOpen self.old.runs.items }
+        ensures ended { OnOk result (AllGain (outline self.old.setup)
+            (end_block (outline self.old.setup).job) self.old.runs.items self.new.runs.items) }
+        ensures same { OnOk result (SameBesideRuns self.old self.new) }
+    {
+        for worker in 0..self.runs.len() {
+            let run = &mut self.runs[worker];
+            run.end(&self.setup, worker as u32)?;
+        }
+        Ok(())
+    }
+
+    /// Ends all workers and the feeder. Returns the record of the run.
+    pub fn finish(mut self) -> Result<RunRecord, NoMemory>
+        requires { AreOpen self.runs.items }
+        ensures left { IfOk result (λ ran. HasLeft self (told ran)) }
+        ensures same { IfOk result (λ ran. ran.setup ≡ self.setup) }
+    {
+        self.end_all()?;
+        self.feeds.push(Feed::Stopped)?;
+        let Executor {
+            alloc,
+            setup,
+            runs,
+            feeds,
+            ..
+        } = self;
+        record(alloc, setup, feeds, runs)
+    }
+}
+
+fn empty_runs(alloc: Global, workers: usize) -> Result<Vec<WorkerRun>, NoMemory>
+    ensures { IfOk result (λ runs. runs.items ≡ replicate workers empty_run) }
+{
+    let mut runs = Vec::new(alloc);
+    for _worker in 0..workers {
+        runs.push(WorkerRun::new(alloc))?;
+    }
+    Ok(runs)
+}
+
+fn record(
+    alloc: Global,
+    setup: Setup,
+    feeds: Feeds,
+    runs: Vec<WorkerRun>,
+) -> Result<RunRecord, NoMemory>
+    ensures told { IfOk result (λ ran. told ran ≡ left_by (outline setup) feeds runs.items) }
+    ensures same { IfOk result (λ ran. ran.setup ≡ setup) }
+{
+    let mut journals = Journals::new(alloc);
+    let mut states = States::new(alloc);
+    for run in runs {
+        let WorkerRun { journal, state } = run;
+        let WorkerState { counts, .. } = state;
+        journals.push(journal)?;
+        states.push(counts)?;
+    }
+    Ok(RunRecord {
+        setup,
+        feeds,
+        journals,
+        states,
+    })
+}
