@@ -1,25 +1,23 @@
 -- The end of all lanes keeps the law.
-use Rattle.std.proofs.Common.{◌≡◌, ◌∙◌, ◌==◌, ℕ, suc, ◌+◌, ◌<◌, List, [], ◌∷◌, ◌++◌, inl, inr, Bool, true, false, cond, map, length, refl, sym, ap, subst, arith, Some, None, Option, slice_get, append_assoc, append-nil}
+use Rattle.std.proofs.Common.{◌≡◌, ◌∙◌, ◌==◌, ℕ, ◌+◌, ◌<◌, List, [], ◌∷◌, ◌++◌, inl, inr, Bool, true, false, cond, map, length, refl, sym, ap, subst, arith, Some, None, slice_get, append_assoc, append-nil}
 use Rattle.std.specs.Prelude.{Contains}
 use Rattle.std.proofs.lemmas.Bool.{eq-eqb, eqb-true}
 use Rattle.std.proofs.lemmas.Bool.Decides.{nat_tests}
 use Rattle.marker_align.specs.declared.held.Hand.TheVariants.{Empty, Holds}
 use Rattle.sink_journal.specs.declared.journal.Entry.{Entry}
-use Rattle.sink_journal.specs.declared.journal.Entry.TheVariants.{Met, Marked, Turned, Ended}
 use Rattle.tuple_trace.specs.declared.tuple.Item.{Item}
 use Rattle.tuple_trace.specs.declared.tuple.Item.TheVariants.{Last}
-use Rattle.versions.specs.declared.request.Change.{Change}
 use Rattle.flow_model.specs.Begin.{Begin, local_at}
 use Rattle.flow_model.specs.Lanes.{lanes, lanes_in, lanes_out}
-use Rattle.flow_model.specs.Law.{IsExecution, Progress, Station, after_entry, initial, progress_after}
+use Rattle.flow_model.specs.Law.{IsExecution, Progress, Station, initial, progress_after}
 use Rattle.flow_model.specs.declared.topology.Lane.{Lane}
 use Rattle.flow_model.specs.Outline.{Outline, Post}
 use Rattle.flow_model.specs.Points.{turned}
-use Rattle.flow_model.specs.Replay.{Local, after, after_all, items_on, put_on_each, sent, shown, with_change}
-use Rattle.flow_model.specs.Requests.{change_of}
+use Rattle.flow_model.specs.Replay.{Local, after_all, items_on, put_on_each, sent, shown}
 use Rattle.flow_model.specs.Run.{IsFinishedFrom, IsLawfulFrom}
 use Rattle.flow_model.specs.Station.{station}
 use Rattle.flow_model.proofs.ElementLemmas.{AreDistinct, IsIn, all_of_at, contains_of_in, in_of_contains, map_in}
+use Rattle.flow_model.proofs.EndLemmas.{ended_counts}
 use Rattle.flow_model.proofs.JournalLemmas.{IsExecution-append, after_all-append, progress_after-append, sent-append, shown-append}
 use Rattle.flow_worker.specs.Pairs.{Each}
 use Rattle.flow_worker.specs.Endpoints.{Gains, LaneInIs, IsSteadyIn, LaneOutIs, in_hand, planned}
@@ -66,26 +64,6 @@ comes_onto n (a ∷ more) m (inr h) = comes_onto n more (a.number ∷ m) h
 local_ends : (setup : Outline) (post : Post) (local : Local) (ins : List LaneInIs) → after_all setup post local (ended_entries ins) ≡ record local { ended = local.ended + length ins }
 local_ends setup post local [] = ap (λ n. record local { ended = n }) (omega arith)
 local_ends setup post local (a ∷ more) = local_ends setup post (record local { ended = local.ended + 1 }) more ∙ ap (λ n. record local { ended = n }) (omega arith)
-
-ended_with : (o : Option Change) (local : Local) → (with_change o local).ended ≡ local.ended
-ended_with None local = refl
-ended_with (Some change) local = refl
-
--- how many lanes have ended by the replay, and by the law
-ended_counts : (setup : Outline) (post : Post) (local : Local) (p : Progress) (journal : List Entry)
-    → (after_all setup post local journal).ended + length p.ended ≡ local.ended + length (progress_after p journal).ended
-ended_counts setup post local p [] = refl
-ended_counts setup post local p (Met l t ∷ more) = ended_counts setup post (after setup post local (Met l t)) p more
-ended_counts setup post local p (Marked l r ∷ more) = ended_counts setup post local (after_entry p (Marked l r)) more
-ended_counts setup post local p (Turned r ∷ more) =
-    ended_counts setup post (after setup post local (Turned r)) (after_entry p (Turned r)) more
-    ∙ ap (λ n. n + length (progress_after (after_entry p (Turned r)) more).ended) (ended_with (change_of setup r post.node) local)
-ended_counts setup post local p (Ended l ∷ more) =
-    shift (after_all setup post (record local { ended = local.ended + 1 }) more).ended (length p.ended) local.ended (length (progress_after (after_entry p (Ended l)) more).ended)
-    (ended_counts setup post (record local { ended = local.ended + 1 }) (after_entry p (Ended l)) more)
-  where
-    shift : (a b c d : ℕ) → a + suc b ≡ (c + 1) + d → a + b ≡ c + d
-    shift a b c d h = omega arith
 
 -- the last of the ends puts an end on each lane out, the others put nothing
 sent_ends : (setup : Outline) (post : Post) (lane : Lane) (local : Local) (ins : List LaneInIs) → IsIn lane (lanes_out setup.job post.number) → 0 < length ins

@@ -17,7 +17,7 @@ use Rattle.flow_model.specs.Workers.{post_at}
 use Rattle.flow_model.specs.declared.topology.Lane.{Lane}
 use Rattle.flow_worker.specs.Pairs.{Each}
 use Rattle.flow_worker.specs.Endpoints.{LaneInIs, LaneOutIs}
-use Rattle.flow_worker.specs.declared.worker.WorkerState.{WorkerState}
+use Rattle.flow_worker.specs.declared.worker.Beginning.{Beginning}
 
 -- What contracts see of a lane's endpoint: the lane, its number, its origin, and the items that
 -- were sent or taken by it.
@@ -67,7 +67,7 @@ pub record AreNewEndpoints (job : Written) (worker : ℕ) (ins outs : List Endpo
   pub new_out : Each (IsNewEndpoint job graph) outs
 
 -- the state of the worker with a number where a beginning is
-pub record IsStateAt (setup : Outline) (begin : Begin) (number : ℕ) (state : WorkerState) : Type 0 where
+pub record IsStateAt (setup : Outline) (begin : Begin) (number : ℕ) (state : Beginning) : Type 0 where
   pub begun_is : slice_get begin.states number ≡ Some state.counts
   pub turned_is : state.turned ≡ begin.turned
   pub func_is :

@@ -109,7 +109,7 @@ impl<L: Lanes> Model for Worker<L> {
 
 // What a worker begins with: how many requests were turned before it, and what they left in force.
 #[derive(Drop)]
-pub(crate) struct WorkerState {
+pub(crate) struct Beginning {
     turned: u64,
     in_force: InForce,
     counts: Keyed,
@@ -142,7 +142,7 @@ impl<L: Lanes> Worker<L> {
             ≡ endpoints L.Tx.lane L.Tx.number L.Tx.origin L.Tx.sent outs.items) }
         ensures owner { IfOk result (λ w. w.owner ≡ owner) }
     {
-        let state = WorkerState {
+        let state = Beginning {
             turned: 0,
             in_force: InForce::Own,
             counts: Keyed::new(alloc),
@@ -180,7 +180,7 @@ impl<L: Lanes> Worker<L> {
         ensures owner { IfOk result (λ w. w.owner ≡ owner) }
     {
         let turned = start.turned;
-        let state = WorkerState {
+        let state = Beginning {
             turned,
             in_force: setup.in_force_after(setup.node_of(number), turned),
             counts: start.states.as_slice()[number as usize].copy()?,
@@ -197,7 +197,7 @@ impl<L: Lanes> Worker<L> {
         ins: Vec<L::Rx>,
         outs: Vec<L::Tx>,
         owner: Owner,
-        state: WorkerState,
+        state: Beginning,
     ) -> Result<Worker<L>, NoMemory>
         requires there { number < length (posts (outline setup.now).job) }
         requires ends { AreNewEndpoints (outline setup.now).job number
@@ -220,7 +220,7 @@ impl<L: Lanes> Worker<L> {
         let spare_outs = Vec::with_capacity(alloc, outs.len())?;
         let ins = new_ins(setup, ins, setup.lanes_in(number), room_in);
         let outs = new_outs(alloc, setup, outs, setup.lanes_out(number), room_out);
-        let WorkerState {
+        let Beginning {
             turned,
             in_force,
             counts,
