@@ -229,7 +229,7 @@ fn is_entry(entry: &Entry, wanted: (char, u64)) -> bool {
     }
 }
 
-fn is_journal(journal: &Journal, wanted: &[(char, u64)]) -> bool {
+pub fn is_journal(journal: &Journal, wanted: &[(char, u64)]) -> bool {
     let entries = journal.as_slice();
     let mut same = entries.len() == wanted.len();
     for (entry, wanted) in entries.iter().zip(wanted) {
