@@ -36,7 +36,13 @@ fn shelf(alloc: Global, input: Input<'_>) -> Result<MemoryShelf, NoMemory> {
 
 /// How many lines of a text are this one.
 fn times(text: &str, line: &str) -> usize {
-    text.lines().filter(|other| *other == line).count()
+    let mut found = 0usize;
+    for other in text.lines() {
+        if other == line {
+            found = found.saturating_add(1);
+        }
+    }
+    found
 }
 
 // What follows the first line.
@@ -57,10 +63,15 @@ fn are_parts(whole: &str, first: &str, second: &str) -> bool {
     same
 }
 
-/// Whether two audits have the same counts.
-fn same_counts(some: &str, others: &str) -> bool {
-    let counts = some.lines().filter(|line| line.starts_with("state,"));
-    counts.eq(others.lines().filter(|line| line.starts_with("state,")))
+/// Whether each count of an audit stands in another one.
+fn has_counts(audit: &str, other: &str) -> bool {
+    let mut well = true;
+    for line in audit.lines() {
+        if line.starts_with("state,") {
+            well &= times(other, line) == 1;
+        }
+    }
+    well
 }
 
 fn are_of(plain: &Texts, parts: [&str; 2], audit: &str) -> bool {
@@ -69,7 +80,9 @@ fn are_of(plain: &Texts, parts: [&str; 2], audit: &str) -> bool {
         str::from_utf8(plain.audit.as_slice()),
     ) {
         (Ok(alerts), Ok(counts)) => {
-            are_parts(alerts, parts[0], parts[1]) && same_counts(counts, audit)
+            are_parts(alerts, parts[0], parts[1])
+                && has_counts(counts, audit)
+                && has_counts(audit, counts)
         }
         _ => false,
     }
