@@ -61,7 +61,7 @@ when = [["amount", ">=", 60]]
 "#;
 
 /// What the driver does, and what it has to see.
-#[derive(Clone, Copy, Debug, PartialEq, Eq)]
+#[derive(Clone, Copy)]
 enum Step {
     /// Feeds a row with this amount: whether the lane has room.
     Feed(u64, i64, bool),
@@ -238,7 +238,23 @@ pub fn is_journal(journal: &Journal, wanted: &[(char, u64)]) -> bool {
     same
 }
 
-// Whether the workers are done and leave these journals.
+// Whether a worker is done and leaves this journal.
+fn leaves_journal<L: Lanes, G: Gate>(
+    worker: Worker<L>,
+    need: &mut L::Need,
+    setup: &Setup,
+    gate: &G,
+    wanted: &[(char, u64)],
+) -> bool
+    requires { IsWorker (outline setup.now) (at_first (outline setup.now)) worker }
+{
+    match finish_one(worker, need, setup, gate) {
+        Some(opened) => is_journal(&opened.journal, wanted),
+        None => false,
+    }
+}
+
+// Whether the workers are done and leave their journals.
 fn leave_journals<L: Lanes, G: Gate>(
     workers: Vec<Worker<L>>,
     need: &mut L::Need,
@@ -247,43 +263,26 @@ fn leave_journals<L: Lanes, G: Gate>(
 ) -> bool
     requires { AreWorkers (outline setup.now) workers.items }
 {
-    let mut seen = 0;
+    let mut seen = 0usize;
+    let mut same = true;
     for worker in workers {
-        match (finish_one(worker, need, setup, gate), JOURNALS.get(seen)) {
-            (Some(opened), Some(wanted)) => {
-                if !is_journal(&opened.journal, wanted) {
-                    return false;
-                }
-            }
-            _ => return false,
-        }
-        seen += 1;
+        let wanted = JOURNALS.get(seen).copied().unwrap_or(&[]);
+        same &= leaves_journal(worker, need, setup, gate, wanted);
+        seen = seen.saturating_add(1);
     }
-    seen == JOURNALS.len()
+    same && seen == JOURNALS.len()
 }
 
-/// How a run by hand went.
-#[derive(Clone, Copy, Debug, PartialEq, Eq)]
-enum Went {
-    NoSetup,
-    WrongStep(usize),
-    WrongJournals,
-    WrongGate,
-    Well,
-}
-
-fn drive<L: Lanes>(alloc: Global, form: &L) -> Result<Went, NoMemory> {
-    let Some(setup) = setup_of(alloc, JOB, REQUESTS) else {
-        return Ok(Went::NoSetup);
-    };
+// Whether each step goes as it has to, and leaves the right journals and calls of the gate.
+fn goes_well<L: Lanes>(alloc: Global, form: &L, setup: &Setup) -> Result<bool, NoMemory> {
     let Crew {
         workers,
         posters,
         outs,
-    } = Crew::make(alloc, form, &setup, 1)?;
+    } = Crew::make(alloc, form, setup, 1)?;
     let controls = controls_of(alloc, posters)?;
     let Some(fed) = FedLane::last_of(&setup.job, outs) else {
-        return Ok(Went::NoSetup);
+        return Ok(false);
     };
     let mut driven = Driven {
         workers,
@@ -292,25 +291,24 @@ fn drive<L: Lanes>(alloc: Global, form: &L) -> Result<Went, NoMemory> {
         need: form.need(),
     };
     let gate = Watch::new();
-    if let Some(place) = first_wrong(alloc, &mut driven, &setup, &gate, &SCRIPT)? {
-        return Ok(Went::WrongStep(place));
-    }
+    let wrong = first_wrong(alloc, &mut driven, setup, &gate, &SCRIPT)?;
     let Driven {
         workers,
         mut need,
         ..
     } = driven;
-    if !leave_journals(workers, &mut need, &setup, &gate) {
-        return Ok(Went::WrongJournals);
+    let left = leave_journals(workers, &mut need, setup, &gate);
+    Ok(wrong.is_none() && left && gate.saw(PASSED))
+}
+
+fn is_driven<L: Lanes>(alloc: Global, form: &L) -> bool {
+    match setup_of(alloc, JOB, REQUESTS) {
+        Some(setup) => matches!(goes_well(alloc, form, &setup), Ok(true)),
+        None => false,
     }
-    if !gate.saw(PASSED) {
-        return Ok(Went::WrongGate);
-    }
-    Ok(Went::Well)
 }
 
 #[test]
 fn full_lanes_a_post_a_marker_and_the_end(rt: HostRuntime) {
-    let went = drive(rt.alloc(), &QueueLanes::new(rt)).ok();
-    assert_eq!(rt; went, Some(Went::Well));
+    assert!(rt; is_driven(rt.alloc(), &QueueLanes::new(rt)));
 }
