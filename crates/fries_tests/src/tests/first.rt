@@ -167,15 +167,16 @@ fn refusals_of_the_outside(rt: HostRuntime) {
         };
         assert!(rt; leaves(&rt, rt.alloc(), &around, FIRST, &left), "{call}");
     }
-    let unprinted = Around {
+}
+
+#[test]
+fn unprinted_summary(rt: HostRuntime) {
+    let around = Around {
         refusing: &[0],
         ..Around::of(&FILES)
     };
     let left = Left::alerts(6, THREE_ALERTS, "");
-    assert!(rt;
-        leaves(&rt, rt.alloc(), &unprinted, FIRST, &left),
-        "unprinted"
-    );
+    assert!(rt; leaves(&rt, rt.alloc(), &around, FIRST, &left));
 }
 
 #[test]

@@ -44,24 +44,34 @@ const FILES: [(&str, &str); 3] = [
     ("payments", PAYMENTS),
 ];
 
-/// A run that printed these lines, and wrote no file.
-fn made(lines: &str) -> Left<'_> {
+/// A run that printed these lines and wrote no file, or a fault without a run.
+fn made(status: u8, lines: &str) -> Left<'_> {
     Left {
-        ran: Ran::Something,
-        ..Left::lines(0, lines)
+        ran: if status == 0 {
+            Ran::Something
+        } else {
+            Ran::Nothing
+        },
+        ..Left::lines(status, lines)
     }
 }
 
-const TOO_MANY: [&str; 2] = ["make maps 7 262145", "make maps 7 4294967295"];
+/// The most rows that a job of weight 4 may have, and more.
+const LARGEST: [(&str, u8, &str); 3] = [
+    (
+        "make maps 7 262144",
+        0,
+        "rows 262144 alerts 262144 requests 0 refused 0\n",
+    ),
+    ("make maps 7 262145", 4, "fault 4 P7 row 262145\n"),
+    ("make maps 7 4294967295", 4, "fault 4 P7 row 262145\n"),
+];
 
 #[test]
 fn largest_make(rt: HostRuntime) {
-    let around = Around::of(&FILES);
-    let largest = made("rows 262144 alerts 262144 requests 0 refused 0\n");
-    assert!(rt; leaves(&rt, rt.alloc(), &around, "make maps 7 262144", &largest));
-    let left = Left::lines(4, "fault 4 P7 row 262145\n");
-    for line in TOO_MANY {
-        assert!(rt; leaves(&rt, rt.alloc(), &around, line, &left));
+    for (line, status, lines) in LARGEST {
+        let left = made(status, lines);
+        assert!(rt; leaves(&rt, rt.alloc(), &Around::of(&FILES), line, &left));
     }
 }
 
@@ -97,7 +107,7 @@ const MADE: [(&str, &str); 7] = [
 #[test]
 fn makes_print_the_same(rt: HostRuntime) {
     for (line, lines) in MADE {
-        assert!(rt; leaves(&rt, rt.alloc(), &Around::of(&FILES), line, &made(lines)));
+        assert!(rt; leaves(&rt, rt.alloc(), &Around::of(&FILES), line, &made(0, lines)));
     }
 }
 
