@@ -1,0 +1,6 @@
+use Rattle.std.proofs.Common.{rules, arith}
+use Rattle.live_control.proofs.Steps.{store_released}
+use Rattle.live_control.proofs.endpoints.Teller.tell.Goals as goal
+
+pub store-requires : goal.store-requires
+store-requires c = (search rules, search rules, store_released _ _ _ _ c.self.invariant.3 (search rules))

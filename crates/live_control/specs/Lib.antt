@@ -1,0 +1,4 @@
+pub mod Asking
+pub mod Rule
+pub mod Line
+pub mod Hearing

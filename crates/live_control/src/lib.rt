@@ -1,0 +1,20 @@
+//! Live requests: an operator releases the requests of a run, one by one, while rows flow.
+//!
+//! Each line feed that [`hear`] takes from an input releases the next request. It tells so over a
+//! line, whose two endpoints are a [`Teller`] and an [`Inbox`]. No call over a line waits.
+#![tactic(auto)]
+
+mod asks;
+mod endpoints;
+mod hearing;
+mod host;
+mod memory;
+mod rule;
+#[cfg(test)]
+mod tests;
+
+pub use asks::{Asks, Failed};
+pub use endpoints::{Inbox, Teller, line, meet};
+pub use hearing::{Heard, hear};
+pub use host::StdIn;
+pub use memory::MemoryAsks;
