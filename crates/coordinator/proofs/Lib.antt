@@ -9,5 +9,7 @@ pub mod Laying
 pub mod Keeping
 pub mod Starting
 pub mod Telling
+pub mod LiveLemmas
+pub mod Living
 pub mod Meaning
 pub mod Tying

@@ -35,7 +35,7 @@ abbrev pub AreLater : ℕ → ℕ → List ℕ → Type 0
 AreLater row rows [] = ⊤
 AreLater row rows (after ∷ later) = (row < min after rows) × AreLater row rows later
 
-later_rising : (row rows from : ℕ) (xs : List ℕ) → AreRising from xs → row < min from rows → AreLater row rows xs
+pub later_rising : (row rows from : ℕ) (xs : List ℕ) → AreRising from xs → row < min from rows → AreLater row rows xs
 later_rising row rows from [] o lt = tt
 later_rising row rows from (a ∷ xs) o lt = let le = o.0 in (omega (arith, le, lt), later_rising row rows a xs o.1 (omega (arith, le, lt)))
 

@@ -4,6 +4,7 @@ pub mod Boxes
 pub mod Feeding
 pub mod Due
 pub mod Turning
+pub mod Live
 pub mod Steps
 pub mod Starts
 pub mod Meaning

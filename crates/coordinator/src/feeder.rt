@@ -6,7 +6,7 @@ ghost use Rattle.coordinator.specs.Feeding.{IsFeeder};
 ghost use Rattle.coordinator.specs.Starts.{AreNewOuts, AreUnused};
 ghost use Rattle.coordinator.specs.Views.{FeederIs, outs_of};
 
-use crate::state::State;
+use crate::state::FeederState;
 use crate::{FeedParts, FeedTurn, Feeding};
 use control_box::Poster;
 use flow_model::{Setup, Start};
@@ -18,7 +18,7 @@ use tuple_trace::{Gate, NoMemory, Rows};
 /// The feeder that issues each request directly after the row that the request names.
 #[derive(Drop)]
 pub struct Feeder<L: Lanes> {
-    state: State<L::Need, L::Tx>,
+    state: FeederState<L::Need, L::Tx>,
 }
 
 impl<L: Lanes> Model for Feeder<L> {
@@ -54,7 +54,7 @@ impl<L: Lanes> Feeder<L> {
         ensures boxes { IfOk result (λ (f : FeederIs). f.boxes.posters ≡ posters.items) }
     {
         let (row, turned) = (start.row as usize, start.turned as usize);
-        let state = State::make(alloc, setup, outs, posters, row, turned)?;
+        let state = FeederState::make(alloc, setup, outs, posters, row, turned)?;
         Ok(Feeder { state })
     }
 }
@@ -91,7 +91,7 @@ impl<L: Lanes> Feeding<L> for Feeder<L> {
             L.Tx.origin L.Tx.capacity L.Tx.sent L.Tx.full outs.items) }
         ensures boxes { IfOk result (λ (f : FeederIs). f.boxes.posters ≡ posters.items) }
     {
-        let state = State::make(alloc, setup, outs, posters, 0, 0)?;
+        let state = FeederState::make(alloc, setup, outs, posters, 0, 0)?;
         Ok(Feeder { state })
     }
 

@@ -17,4 +17,5 @@ mod tie;
 pub use feeder::Feeder;
 pub use feeding::{FeedParts, FeedTurn, Feeding};
 pub use laws::feeders_follow_the_feed;
+pub use state::FeederState;
 pub use tie::finished_lanes_are_tied;

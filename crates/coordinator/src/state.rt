@@ -1,12 +1,13 @@
-ghost use Rattle.std.specs.Prelude.{◌≡◌, ◌<◌, ◌≤◌, ℕ, IfOk, IsTrue, List, None, OnErr, Some, false, length, true};
+ghost use Rattle.std.specs.Prelude.{◌≡◌, ◌<◌, ◌≤◌, ℕ, IfOk, IsTrue, List, None, [], OnErr, Some, false, length, slice_get, true};
 ghost use Rattle.std.specs.Option.{ForSome};
 ghost use Rattle.jobs.specs.Nodes.{AreFromSources};
 ghost use Rattle.tuple_trace.specs.declared.row.Row.{Row as RowIs};
-ghost use Rattle.flow_model.specs.Begin.{Begin};
+ghost use Rattle.flow_model.specs.Begin.{Begin, at_first};
 ghost use Rattle.flow_model.specs.Feeding.{fed_tuple};
 ghost use Rattle.flow_model.specs.Requests.{afters};
 ghost use Rattle.flow_model.specs.Setup.{outline};
 ghost use Rattle.coordinator.specs.Feeding.{IsFeeder, IsFeeding};
+ghost use Rattle.coordinator.specs.Live.{AreHeard, Hears, IsFromFirst, released_rows};
 ghost use Rattle.coordinator.specs.Starts.{AreNewOuts, AreUnused};
 ghost use Rattle.coordinator.specs.Steps.{Feeds, IsAhead, IsReached, Issues, Steps, Stops};
 ghost use Rattle.coordinator.specs.Turning.{IsTurn};
@@ -27,7 +28,7 @@ use versions::accepted_requests_are_in_order;
 
 /// What a feeder has done and holds. `N` is what the calls of its lanes take from the toolchain.
 #[derive(Drop)]
-pub struct State<N, T: Tx<N>> {
+pub struct FeederState<N, T: Tx<N>> {
     feeds: Vec<Feed>,
     outs: Outs<N, T>,
     boxes: Boxes,
@@ -45,7 +46,7 @@ pub struct State<N, T: Tx<N>> {
     places: Vec<usize>,
 }
 
-impl<N, T: Tx<N>> Model for State<N, T> {
+impl<N, T: Tx<N>> Model for FeederState<N, T> {
     ghost use Rattle.std.specs.Prelude.{[]};
     ghost use Rattle.coordinator.specs.Views.{FeederIs};
 
@@ -67,7 +68,7 @@ impl<N, T: Tx<N>> Model for State<N, T> {
     } };
 }
 
-impl<N, T: Tx<N> + Drop> State<N, T> {
+impl<N, T: Tx<N> + Drop> FeederState<N, T> {
     /// The state of a feeder from a beginning on. A refusal gives endpoints and boxes up.
     pub fn make(
         alloc: Global,
@@ -76,7 +77,7 @@ impl<N, T: Tx<N> + Drop> State<N, T> {
         posters: Vec<Poster>,
         row: usize,
         turned: usize,
-    ) -> Result<State<N, T>, NoMemory>
+    ) -> Result<FeederState<N, T>, NoMemory>
         requires turned { turned ≤ length (outline setup.now).requests }
         requires outs { AreNewOuts (outline setup.now).job (outs_of T.lane T.number T.origin
             T.capacity T.sent T.full outs.items) }
@@ -84,6 +85,10 @@ impl<N, T: Tx<N> + Drop> State<N, T> {
         ensures law { IfOk result (λ (f : FeederIs). (begin : Begin) (rows : List RowIs)
             → begin.row ≡ row → begin.turned ≡ turned
             → IsFeeder false (outline setup.now) begin rows f) }
+        ensures fresh { IfOk result (λ (f : FeederIs). f.feeds ≡ []) }
+        ensures live { row ≡ 0 → turned ≡ 0 → IfOk result (λ (f : FeederIs). IsFromFirst f
+            × ((loads : List ℕ) (rows : List RowIs) → IsFeeder true (outline setup.now)
+            (at_first (outline setup.now)) rows (record f { loads = loads }))) }
         ensures outs { IfOk result (λ (f : FeederIs). f.outs ≡ outs_of T.lane T.number T.origin
             T.capacity T.sent T.full outs.items) }
         ensures boxes { IfOk result (λ (f : FeederIs). f.boxes.posters ≡ posters.items) }
@@ -92,7 +97,7 @@ impl<N, T: Tx<N> + Drop> State<N, T> {
         accepted_requests_are_in_order();
         let boxes = Boxes::of(alloc, posters)?;
         let places = places_of(alloc, setup.topology.lanes.as_slice())?;
-        Ok(State {
+        Ok(FeederState {
             feeds: Vec::new(alloc),
             outs: Outs::of(outs),
             boxes,
@@ -114,7 +119,34 @@ impl<N, T: Tx<N> + Drop> State<N, T> {
         requires rows { AreFromSources (outline setup.now).job rows.now }
         ensures { IsTurn false (outline setup.now) rows.now result self.old self.new }
     {
-        self.step(need, setup, rows, gate)
+        let _requests = setup.requests();
+        self.step(need, setup, rows, gate, u64::MAX)
+    }
+
+    /// One turn of a live feeder that began at the first row, if so many requests are released.
+    pub fn live_turn<G: Gate>(
+        &mut self,
+        need: &mut N,
+        setup: &Setup,
+        rows: &Rows,
+        gate: &G,
+        released: u64,
+    ) -> FeedTurn
+        requires first { IsFromFirst self.old }
+        requires law { (begin : Begin) × (loads : List ℕ) × IsFeeder true (outline setup.now) begin
+            rows.now (record self.old { loads = loads }) }
+        requires rows { AreFromSources (outline setup.now).job rows.now }
+        ensures first { IsFromFirst self.new }
+        ensures turn { (old new : List ℕ)
+            → Hears (length (outline setup.now).requests) released old new
+            → IsTurn true (outline setup.now) rows.now result (record self.old { loads = old })
+            (record self.new { loads = new }) }
+        ensures heard { (begin : Begin) (old new : List ℕ)
+            → Hears (length (outline setup.now).requests) released old new
+            → IsFeeder true (outline setup.now) begin rows.now (record self.old { loads = old })
+            → AreHeard old self.old.feeds → AreHeard new self.new.feeds }
+    {
+        self.step(need, setup, rows, gate, released)
     }
 
     /// The feed and the endpoints.
@@ -123,21 +155,28 @@ impl<N, T: Tx<N> + Drop> State<N, T> {
         ensures outs { self.outs ≡ outs_of T.lane T.number T.origin T.capacity T.sent T.full
             result.1.items }
     {
-        let State { feeds, outs, .. } = self;
+        let FeederState { feeds, outs, .. } = self;
         (Feeds::from_vec(feeds), outs.open())
     }
 
-    fn step<G: Gate>(&mut self, need: &mut N, setup: &Setup, rows: &Rows, gate: &G) -> FeedTurn
-        requires law { (begin : Begin) × IsFeeding (outline setup.now) begin
-            (afters (outline setup.now).requests) rows.now self.old }
+    fn step<G: Gate>(
+        &mut self,
+        need: &mut N,
+        setup: &Setup,
+        rows: &Rows,
+        gate: &G,
+        released: u64,
+    ) -> FeedTurn
+        requires law { (begin : Begin) × (waits : List ℕ)
+            × IsFeeding (outline setup.now) begin waits rows.now self.old }
         requires rows { AreFromSources (outline setup.now).job rows.now }
-        ensures { Steps (outline setup.now) (afters (outline setup.now).requests) rows.now self.old
-            self.new result }
+        ensures { Steps (outline setup.now) (released_rows released (length rows.now)
+            (afters (outline setup.now).requests)) rows.now self.old self.new result }
     {
         if self.stopped {
             return FeedTurn::Done;
         }
-        if self.is_due(setup, rows.len()) {
+        if self.is_due(setup, rows.len(), released) {
             return self.issue_next(setup, rows, gate);
         }
         if self.row < rows.len() {
@@ -146,25 +185,38 @@ impl<N, T: Tx<N> + Drop> State<N, T> {
         self.stop_next(need, setup, rows)
     }
 
-    // Whether the row of the next request is fed.
-    fn is_due(&self, setup: &Setup, rows: usize) -> bool
-        ensures due { IsTrue result → IsReached (afters (outline setup.now).requests) rows
-            self.now.row self.now.issued }
-        ensures undue { result ≡ false → IsAhead (afters (outline setup.now).requests) rows
-            self.now.row self.now.issued }
+    // Whether the next request is released and its row is fed, or all rows are fed.
+    fn is_due(&self, setup: &Setup, rows: usize, released: u64) -> bool
+        ensures due { IsTrue result → IsReached (released_rows released rows
+            (afters (outline setup.now).requests)) rows self.now.row self.now.issued }
+        ensures undue { result ≡ false → IsAhead (released_rows released rows
+            (afters (outline setup.now).requests)) rows self.now.row self.now.issued }
     {
         if self.issued >= setup.requests() {
             return false;
         }
-        setup.after(self.issued).min(rows as u64) <= self.row as u64
+        self.row_waited_for(setup, rows as u64, released)
+            .min(rows as u64)
+            <= self.row as u64
+    }
+
+    // The row that the next request waits for: the last one, if it isn't released.
+    fn row_waited_for(&self, setup: &Setup, rows: u64, released: u64) -> u64
+        requires left { self.now.issued < length (outline setup.now).requests }
+        ensures { slice_get (released_rows released rows (afters (outline setup.now).requests))
+            self.now.issued ≡ Some result }
+    {
+        if self.issued as u64 >= released {
+            return rows;
+        }
+        setup.after(self.issued)
     }
 
     // Issues the next request, once each worker has turned all earlier ones that cover it.
     fn issue_next<G: Gate>(&mut self, setup: &Setup, rows: &Rows, gate: &G) -> FeedTurn
-        requires law { (begin : Begin) × IsFeeding (outline setup.now) begin
-            (afters (outline setup.now).requests) rows.now self.old }
-        requires due { IsReached (afters (outline setup.now).requests) (length rows.now)
-            self.old.row self.old.issued }
+        requires law { (begin : Begin) × (waits : List ℕ)
+            × IsFeeding (outline setup.now) begin waits rows.now self.old }
+        requires left { self.old.issued < length (outline setup.now).requests }
         ensures { Issues (outline setup.now) self.old self.new result }
     {
         if self.feeds.reserve(1).is_err() {
@@ -184,8 +236,8 @@ impl<N, T: Tx<N> + Drop> State<N, T> {
 
     // Feeds the next row.
     fn feed_next(&mut self, need: &mut N, setup: &Setup, rows: &Rows) -> FeedTurn
-        requires law { (begin : Begin) × IsFeeding (outline setup.now) begin
-            (afters (outline setup.now).requests) rows.now self.old }
+        requires law { (begin : Begin) × (waits : List ℕ)
+            × IsFeeding (outline setup.now) begin waits rows.now self.old }
         requires rows { AreFromSources (outline setup.now).job rows.now }
         requires left { self.old.row < length rows.now }
         ensures { Feeds (outline setup.now).job rows.now self.old self.new result }
@@ -214,8 +266,8 @@ impl<N, T: Tx<N> + Drop> State<N, T> {
 
     // Ends the next lane, or stops if each is ended.
     fn stop_next(&mut self, need: &mut N, setup: &Setup, rows: &Rows) -> FeedTurn
-        requires law { (begin : Begin) × IsFeeding (outline setup.now) begin
-            (afters (outline setup.now).requests) rows.now self.old }
+        requires law { (begin : Begin) × (waits : List ℕ)
+            × IsFeeding (outline setup.now) begin waits rows.now self.old }
         ensures { Stops self.old self.new result }
     {
         if self.ended < self.outs.len() {

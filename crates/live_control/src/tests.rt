@@ -3,7 +3,7 @@ use payments::Calls;
 use std::alloc::Global;
 use tuple_trace::{Bytes, NoMemory};
 
-// What is heard of these bytes if these calls fail: the releases, whether the input failed, how many
+// What is heard of these bytes if these calls fail: releases, whether the input failed, how many
 // bytes are left, and what meets.
 fn heard_of(
     alloc: Global,

@@ -4,11 +4,10 @@ use Rattle.sink_journal.specs.declared.journal.Feed.{Feed}
 use Rattle.sink_journal.specs.declared.journal.Feed.TheVariants.{Fed}
 use Rattle.tuple_trace.specs.declared.row.Row.{Row}
 use Rattle.tuple_trace.specs.declared.tuple.Tuple.{Tuple}
-use Rattle.flow_model.specs.Requests.{afters}
 use Rattle.flow_model.specs.Setup.{outline}
 use Rattle.coordinator.specs.Feeding.{IsFeeding}
 use Rattle.coordinator.proofs.Laying.{feed_idle, feed_moved, may_feed}
-use Rattle.coordinator.proofs.state.State.feed_next.Goals as goal
+use Rattle.coordinator.proofs.state.FeederState.feed_next.Goals as goal
 
 pub take_tuple-requires : goal.take_tuple-requires
 take_tuple-requires g c = λ t h.
@@ -18,7 +17,7 @@ take_tuple-requires g c = λ t h.
     let lt : c.self.inside.row < length c.as_slice.result.now = omega (arith, same, c.requires.left, ap (λ (l : List Row). length l) c.as_slice.ensures.value) in
     let at : slice_get c.args.rows.now c.self.inside.row ≡ Some row =
     ap (λ (l : List Row). slice_get l c.self.inside.row) (sym c.as_slice.ensures.value) ∙ slice_get-get_or c.as_slice.result.now c.self.inside.row c.index-as_slice-self.result lt ∙ ap Some (sym c.index-as_slice-self.is) in
-    let law = subst (IsFeeding setup c.requires.law.0 (afters setup.requests) c.args.rows.now) (sym c.self.view_is) c.requires.law.1 in
+    let law = subst (IsFeeding setup c.requires.law.0 c.requires.law.1 c.args.rows.now) (sym c.self.view_is) c.requires.law.2 in
     law.held t row h at
 
 pub feed-requires-clause-steady : goal.feed-requires-clause-steady
@@ -28,7 +27,7 @@ feed-requires-clause-steady g c = λ o h.
     let same : c.self.inside.row ≡ c.args.self.now.row = ap (λ f. f.row) c.self.view_is in
     let lt : c.self.inside.row < length c.as_slice.result.now = omega (arith, same, c.requires.left, ap (λ (l : List Row). length l) c.as_slice.ensures.value) in
     let at : slice_get c.as_slice.result.now c.self.inside.row ≡ Some row = slice_get-get_or c.as_slice.result.now c.self.inside.row c.index-as_slice-self.result lt ∙ ap Some (sym c.index-as_slice-self.is) in
-    let law = subst (IsFeeding setup c.requires.law.0 (afters setup.requests) c.args.rows.now) (sym c.self.view_is) c.requires.law.1 in
+    let law = subst (IsFeeding setup c.requires.law.0 c.requires.law.1 c.args.rows.now) (sym c.self.view_is) c.requires.law.2 in
     let (lane, found, there) = c.place_of-place.ensures in
     may_feed setup c.requires.law.0 c.args.rows.now law.graph c.self.inside.feeds.items c.self.inside.ended c.place_of-place.result lane o _ c.args.setup.now.job.lawful law.graph_is there
     (law.outs c.place_of-place.result lane o there h)
