@@ -2,3 +2,4 @@ pub mod Asking
 pub mod Rule
 pub mod Line
 pub mod Hearing
+pub mod Kept

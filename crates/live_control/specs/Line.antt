@@ -13,10 +13,10 @@ pub record InboxIs : Type 0 where
   pub loads : List ℕ
 
 -- the last of the numbers, or this one if there is none
-abbrev pub last_after : ℕ → List ℕ → ℕ
-last_after n [] = n
-last_after n (load ∷ later) = last_after load later
+abbrev pub last_from : ℕ → List ℕ → ℕ
+last_from n [] = n
+last_from n (load ∷ later) = last_from load later
 
 -- the last load, 0 for none
 abbrev pub last_load : List ℕ → ℕ
-last_load loads = last_after 0 loads
+last_load loads = last_from 0 loads

@@ -8,6 +8,7 @@ mod asks;
 mod endpoints;
 mod hearing;
 mod host;
+mod live_feeder;
 mod memory;
 mod rule;
 #[cfg(test)]
@@ -17,4 +18,5 @@ pub use asks::{Asks, Failed};
 pub use endpoints::{Inbox, Teller, line, meet};
 pub use hearing::{Heard, hear};
 pub use host::StdIn;
+pub use live_feeder::LiveFeeder;
 pub use memory::MemoryAsks;

@@ -15,7 +15,7 @@ fn heard_of(
     let failing = Calls::from_slice(alloc, failing)?;
     let mut asks = MemoryAsks::new(bytes, failing);
     let (mut teller, inbox) = line(alloc)?;
-    let heard = hear(&mut asks, &mut teller, most);
+    let heard = hear(&mut asks, &mut teller, most.min(64));
     let left = asks.left().len();
     Ok((heard.releases, heard.failed, left, meet(teller, inbox)))
 }
