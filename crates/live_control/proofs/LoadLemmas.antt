@@ -1,5 +1,5 @@
 -- The last of the loads of an inbox.
-use Rattle.std.proofs.Common.{◌≡◌, ℕ, suc, ◌+◌, ◌≤◌, ◌<◌, List, [], ◌∷◌, ◌++◌, sym, refl, ap, subst, ◌∙◌, arith, length}
+use Rattle.std.proofs.Common.{◌≡◌, ℕ, suc, ◌≤◌, ◌<◌, List, [], ◌∷◌, ◌++◌, sym, refl, ap, subst, ◌∙◌, arith, length}
 use Rattle.std.specs.Prelude.{All}
 use Rattle.atomic_table.specs.Table.{Me}
 use Rattle.std.proofs.lemmas.List.{length-append}

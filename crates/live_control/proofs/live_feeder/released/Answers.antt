@@ -1,5 +1,4 @@
 use Rattle.std.proofs.Common.{◌≤◌, inl, refl, subst}
-use Rattle.live_control.specs.Line.{last_load}
 use Rattle.live_control.proofs.LoadLemmas.{last_shows}
 use Rattle.live_control.proofs.live_feeder.released.Goals as goal
 

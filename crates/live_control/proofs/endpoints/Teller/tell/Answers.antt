@@ -1,4 +1,4 @@
-use Rattle.std.proofs.Common.{rules, arith}
+use Rattle.std.proofs.Common.{rules}
 use Rattle.live_control.proofs.Steps.{store_released}
 use Rattle.live_control.proofs.endpoints.Teller.tell.Goals as goal
 

@@ -1,4 +1,4 @@
-use Rattle.std.proofs.Common.{◌∙◌, ap, subst, sym, true}
+use Rattle.std.proofs.Common.{◌∙◌, subst, sym, true}
 use Rattle.flow_model.specs.Setup.{outline}
 use Rattle.coordinator.specs.Feeding.{IsFeeder}
 use Rattle.coordinator.specs.Live.{Hears}
