@@ -6,3 +6,4 @@ pub mod Settling
 pub mod Ending
 pub mod Having
 pub mod Matching
+pub mod Recording

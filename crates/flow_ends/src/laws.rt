@@ -1,7 +1,12 @@
-// What turns leave as it is. The function proves its clause, and does nothing.
+// What turns, and other rows for requests, leave as it is. Each function proves its clause, and does
+// nothing.
 ghost use Rattle.std.specs.Prelude.{◌≡◌, List, map};
+ghost use Rattle.versions.specs.declared.request.Request.{Request as RequestIs};
+ghost use Rattle.flow_model.specs.Begin.{Begin};
+ghost use Rattle.flow_model.specs.Outline.{Outline};
 ghost use Rattle.flow_worker.specs.Worker.{WorkerIs};
 ghost use Rattle.coordinator.specs.Views.{OutIs, end_of};
+ghost use Rattle.flow_ends.specs.Crews.{IsCrew};
 ghost use Rattle.flow_ends.specs.Ended.{fed_end};
 ghost use Rattle.flow_ends.specs.Sides.{AreMatched, lane_ids, worker_side};
 
@@ -11,4 +16,15 @@ pub fn endpoints_stay_matched()
         → map lane_ids later ≡ map lane_ids workers → map end_of left ≡ map end_of outs
         → AreMatched (map worker_side workers) (map fed_end outs)
         → AreMatched (map worker_side later) (map fed_end left) }
+{}
+
+/// The law of a worker doesn't read the rows that the requests wait for: a crew of a setup is a crew
+/// of any setup that differs in these rows alone.
+pub fn workers_read_no_rows()
+    ensures { (setup : Outline) (begin : Begin) (requests : List RequestIs)
+        (workers : List WorkerIs)
+        → map (λ (request : RequestIs). request.changes) requests
+        ≡ map (λ (request : RequestIs). request.changes) setup.requests
+        → IsCrew setup begin workers
+        → IsCrew (record setup { requests = requests }) begin workers }
 {}

@@ -24,6 +24,6 @@ mod side;
 pub use all_endpoints::AllEndpoints;
 pub use crew::Crew;
 pub use ended::{Ended, end_run};
-pub use laws::endpoints_stay_matched;
+pub use laws::{endpoints_stay_matched, workers_read_no_rows};
 pub use settle::settle_all;
 pub use side::Side;
