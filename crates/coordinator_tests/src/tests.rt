@@ -7,7 +7,6 @@ ghost use Rattle.jobs.specs.Nodes.{AreFromSources};
 ghost use Rattle.flow_model.specs.Begin.{Begin};
 ghost use Rattle.flow_model.specs.Setup.{outline};
 ghost use Rattle.coordinator.specs.Feeding.{IsFeeder};
-ghost use Rattle.std.specs.Prelude.{false};
 
 use control_box::{Owner, Poster, make_box};
 use coordinator::{FeedTurn, Feeder, Feeding};
@@ -16,6 +15,7 @@ use flow_model::Setup;
 use job_file::{read_job, read_requests};
 use jobs::Job;
 use lane_core::{Lanes, QueueLanes};
+use live_control::{LiveFeeder, line};
 use payments::read_rows;
 use sink_journal::{Feed, Feeds};
 use std::alloc::Global;
@@ -51,6 +51,12 @@ after = 3
 change = [{ node = "big", from = 1, kind = "filter", when = [["amount", ">=", 5000]] }]
 "#;
 
+/// The filter's threshold falls after row 2.
+const ONCE_AFTER_2: &str = r#"[[request]]
+after = 2
+change = [{ node = "big", from = 0, kind = "filter", when = [["amount", ">=", 5000]] }]
+"#;
+
 type Boxes = (Vec<Poster>, Vec<Owner>);
 
 /// New boxes for so many workers.
@@ -80,21 +86,24 @@ fn acknowledge(owner: &mut Owner) {
 
 /// The feed of a feeder that stops within so many turns. After each turn each owner turns what is
 /// posted to it.
-fn feed_of<L: Lanes>(
-    mut feeder: Feeder<L>,
+fn feed_of<L: Lanes, F: Feeding<L> + Drop>(
+    mut feeder: F,
     need: &mut L::Need,
     setup: &Setup,
     rows: &Rows,
     owners: &mut [Owner],
     turns: u32,
 ) -> Option<Feeds>
-    requires law { (begin : Begin) × IsFeeder false (outline setup.now) begin rows.now feeder }
+where
+    F::Rest: Drop,
+    requires law { (begin : Begin) × IsFeeder F.LIVE (outline setup.now) begin rows.now
+        (F.feeder feeder) }
     requires rows { AreFromSources (outline setup.now).job rows.now }
 {
     for _turn in 0..turns {
         match feeder.turn(need, setup, rows, &OpenGate) {
             FeedTurn::Done => {
-                let (parts, ()) = feeder.finish();
+                let (parts, _rest) = feeder.finish();
                 return Some(parts.feeds);
             }
             FeedTurn::Moved | FeedTurn::Idle | FeedTurn::NoMemory => {}
@@ -106,21 +115,25 @@ fn feed_of<L: Lanes>(
     None
 }
 
-/// The feed of the rows, over lanes of this form.
-fn fed<L: Lanes>(
+/// The feed of the rows, over lanes of this form, by a feeder that is made of a seed.
+fn fed<L: Lanes, F: Feeding<L> + Drop>(
     alloc: Global,
     form: &L,
     setup: &Setup,
     rows: &Rows,
+    seed: F::Seed,
 ) -> Result<Option<Feeds>, NoMemory>
+where
+    F::Rest: Drop,
+    F::Seed: Drop,
     requires { AreFromSources (outline setup.now).job rows.now }
 {
     let (posters, mut owners) = make_boxes(alloc, setup.workers())?;
     let AllEndpoints { feeder, .. } = AllEndpoints::make(alloc, form, setup, 64)?;
-    let feeder: Feeder<L> = Feeder::make(alloc, setup, feeder, posters, ())?;
+    let feeder = F::make(alloc, setup, feeder, posters, seed)?;
     let mut need = form.need();
     let owners = owners.as_mut_slice();
-    Ok(feed_of(feeder, &mut need, setup, rows, owners, 100))
+    Ok(feed_of::<L, F>(feeder, &mut need, setup, rows, owners, 100))
 }
 
 /// The setup of a job with the requests of a text.
@@ -140,18 +153,28 @@ fn setup_of(alloc: Global, job: Job, requests: &str) -> Option<Setup>
     }
 }
 
-/// Whether the four payments and the two requests are fed so.
-fn has_feed<L: Lanes>(alloc: Global, form: &L, feed: &[Feed]) -> bool {
+/// Whether the four payments and these requests are fed so, by a feeder that is made of a seed.
+fn has_feed<L: Lanes, F: Feeding<L> + Drop>(
+    alloc: Global,
+    form: &L,
+    requests: &str,
+    seed: F::Seed,
+    feed: &[Feed],
+) -> bool
+where
+    F::Rest: Drop,
+    F::Seed: Drop,
+{
     let Ok(job) = read_job(alloc, CHAIN.as_bytes()) else {
         return false;
     };
     let Ok(rows) = read_rows(alloc, &job, FOUR_PAYMENTS.as_bytes()) else {
         return false;
     };
-    let Some(setup) = setup_of(alloc, job, TWICE_AFTER_3) else {
+    let Some(setup) = setup_of(alloc, job, requests) else {
         return false;
     };
-    match fed(alloc, form, &setup, &rows) {
+    match fed::<L, F>(alloc, form, &setup, &rows, seed) {
         Ok(Some(feeds)) => feeds.as_slice() == feed,
         Ok(None) | Err(_) => false,
     }
@@ -168,5 +191,43 @@ fn two_requests_after_one_row(rt: HostRuntime) {
         Feed::Fed(4),
         Feed::Stopped,
     ];
-    assert!(rt; has_feed(rt.alloc(), &QueueLanes::new(rt), &feed));
+    let form = QueueLanes::new(rt);
+    assert!(rt; has_feed::<_, Feeder<_>>(rt.alloc(), &form, TWICE_AFTER_3, (), &feed));
+}
+
+/// Whether a live feeder feeds so. A release is told before its first turn, or none ever is.
+fn has_live_feed<L: Lanes>(alloc: Global, form: &L, released: bool, feed: &[Feed]) -> bool {
+    let Ok((mut teller, inbox)) = line(alloc) else {
+        return false;
+    };
+    if released {
+        teller.tell();
+    }
+    has_feed::<L, LiveFeeder<L>>(alloc, form, ONCE_AFTER_2, inbox, feed)
+}
+
+#[test]
+fn release_before_the_start(rt: HostRuntime) {
+    let feed = [
+        Feed::Fed(1),
+        Feed::Fed(2),
+        Feed::Issued(1),
+        Feed::Fed(3),
+        Feed::Fed(4),
+        Feed::Stopped,
+    ];
+    assert!(rt; has_live_feed(rt.alloc(), &QueueLanes::new(rt), true, &feed));
+}
+
+#[test]
+fn no_release(rt: HostRuntime) {
+    let feed = [
+        Feed::Fed(1),
+        Feed::Fed(2),
+        Feed::Fed(3),
+        Feed::Fed(4),
+        Feed::Issued(1),
+        Feed::Stopped,
+    ];
+    assert!(rt; has_live_feed(rt.alloc(), &QueueLanes::new(rt), false, &feed));
 }

@@ -1,4 +1,3 @@
-use Rattle.std.proofs.Common.{false}
 use Rattle.flow_model.specs.Begin.{Begin}
 use Rattle.flow_model.specs.Setup.{outline}
 use Rattle.coordinator.specs.Feeding.{IsFeeder}
@@ -6,4 +5,4 @@ use Rattle.coordinator_tests.proofs.tests.feed_of.Given as goal
 
 -- the feeder has its law
 abbrev pub invariant-loop-turn : goal.invariant-loop-turn
-invariant-loop-turn g l = (begin : Begin) × IsFeeder false (outline l.setup) begin l.rows l.feeder
+invariant-loop-turn g l = (begin : Begin) × IsFeeder g.F.Feeding.LIVE (outline l.setup) begin l.rows (g.F.Feeding.feeder l.feeder)
