@@ -5,3 +5,4 @@ pub mod JudgedLemmas
 pub mod KeptLemmas
 pub mod CarryLemmas
 pub mod YoungLemmas
+pub mod WaitingLemmas
