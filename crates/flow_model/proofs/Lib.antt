@@ -52,3 +52,4 @@ pub mod LandingLemmas
 pub mod OneTableLemmas
 pub mod SerialLemmas
 pub mod PremiseLemmas
+pub mod WaitingLemmas

@@ -6,6 +6,7 @@ pub mod Lanes
 pub mod Topology
 pub mod Covers
 pub mod Requests
+pub mod Waiting
 pub mod Least
 pub mod Law
 pub mod Points

@@ -1,9 +1,11 @@
-ghost use Rattle.std.specs.Prelude.{◌≡◌, ◌<◌, ◌+◌, true, false, Some, IfOk, length, slice_get};
+ghost use Rattle.std.specs.Prelude.{◌≡◌, ◌<◌, ◌≤◌, ◌+◌, true, false, Some, IfOk, length, slice_get};
 ghost use Rattle.jobs.specs.Job.{written};
 ghost use Rattle.flow_model.specs.Outline.{outline_of};
 ghost use Rattle.versions.specs.Judged.{AreAccepted};
 ghost use Rattle.flow_model.specs.Planned.{IsExact, IsPlanned};
 ghost use Rattle.flow_model.specs.Topology.{topology_of};
+ghost use Rattle.flow_model.specs.Waiting.{waiting_for, with_afters};
+ghost use Rattle.versions.specs.Kept.{AreInOrder};
 
 use crate::topology::Topology;
 use crate::{masks, plans};
@@ -11,7 +13,7 @@ use cover_planner::Plan;
 use operators::Job;
 use std::alloc::Global;
 use tuple_trace::{Items, NoMemory};
-use versions::{Judged, accepted_requests_keep_kinds, accepted_requests_name_nodes};
+use versions::{Judged, Requests, accepted_requests_keep_kinds, accepted_requests_name_nodes};
 
 /// The plans of the accepted requests, in their order.
 pub type Plans = Items<Plan>;
@@ -85,6 +87,33 @@ impl Setup {
         })
     }
 
+    /// The setup with its requests, in their order, waiting for these rows. Its plans stay. Takes no
+    /// memory.
+    pub fn waiting_for(self, afters: &[u64]) -> Setup
+        requires one_each { length afters.now ≡ length (outline self).requests }
+        requires in_order { AreInOrder 0 (with_afters afters.now (outline self).requests) }
+        ensures { outline result ≡ waiting_for afters.now (outline self) }
+    {
+        let Setup {
+            job,
+            topology,
+            judged,
+            plans,
+            splits,
+            ordered,
+        } = self;
+        let Judged { accepted, refused } = judged;
+        let accepted = with_afters(accepted, afters);
+        Setup {
+            job,
+            topology,
+            judged: Judged { accepted, refused },
+            plans,
+            splits,
+            ordered,
+        }
+    }
+
     /// How many requests were accepted. Takes no memory.
     pub fn requests(&self) -> usize
         ensures { result ≡ length (outline self.now).requests }
@@ -99,4 +128,16 @@ impl Setup {
     {
         self.judged.accepted.as_slice()[place].after
     }
+}
+
+// The requests, waiting for these rows.
+fn with_afters(requests: Requests, afters: &[u64]) -> Requests
+    requires { length afters.now ≤ length requests }
+    ensures { result ≡ with_afters afters.now requests }
+{
+    let mut requests = requests.into_vec();
+    for place in 0..afters.len() {
+        requests[place].after = afters[place];
+    }
+    Requests::from_vec(requests)
 }

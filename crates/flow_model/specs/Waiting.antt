@@ -1,0 +1,20 @@
+-- Requests that wait for other rows.
+use Rattle.std.specs.Prelude.{ℕ, List, [], ◌∷◌, map}
+use Rattle.versions.specs.declared.request.Change.{Change}
+use Rattle.versions.specs.declared.request.Request.{Request}
+use Rattle.flow_model.specs.Outline.{Outline}
+
+-- the changes of each request
+abbrev pub changes_of : List Request → List (List Change)
+changes_of requests = map (λ (request : Request). request.changes) requests
+
+-- the first requests wait for these rows
+abbrev pub with_afters : List ℕ → List Request → List Request
+with_afters [] requests = requests
+with_afters (after ∷ later) [] = []
+with_afters (after ∷ later) (request ∷ more) =
+    record request { after = after } ∷ with_afters later more
+
+-- a setup whose requests wait for these rows
+abbrev pub waiting_for : List ℕ → Outline → Outline
+waiting_for afters setup = record setup { requests = with_afters afters setup.requests }
