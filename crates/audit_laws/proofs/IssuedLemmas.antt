@@ -1,0 +1,179 @@
+-- In journals that are tied to those of their senders every tuple was issued as the feed says of its row.
+use Rattle.std.proofs.Common.{◌≡◌, ◌∙◌, ◌<◌, ◌+◌, ◌++◌, ◌==◌, ℕ, zero, suc, List, [], ◌∷◌, ◌⊎◌, inl, inr, refl, sym, ap, subst, arith, cond, length, Some, None, Option, slice_get}
+use Rattle.std.specs.FinMap.{empty}
+use Rattle.std.proofs.lemmas.Bool.{eq-eqb, eqb-true, ne_eqb}
+use Rattle.std.proofs.lemmas.Option.{same_Some}
+use Rattle.jobs.specs.Written.{Written}
+use Rattle.operators.specs.Laws.{IsMadeOf}
+use Rattle.operators.specs.Meaning.{step}
+use Rattle.operators.proofs.OutputLemmas.{outputs_made}
+use Rattle.sink_journal.specs.declared.journal.Entry.{Entry}
+use Rattle.sink_journal.specs.declared.journal.Entry.TheVariants as entry
+use Rattle.sink_journal.specs.declared.journal.Feed.{Feed}
+use Rattle.sink_journal.specs.declared.journal.Feed.TheVariants as feed
+use Rattle.tuple_trace.specs.Rows.{AreRows}
+use Rattle.tuple_trace.specs.declared.row.Row.{Row}
+use Rattle.tuple_trace.specs.declared.tuple.Item.{Item}
+use Rattle.tuple_trace.specs.declared.tuple.Item.TheVariants as item
+use Rattle.tuple_trace.specs.declared.tuple.Tuple.{Tuple}
+use Rattle.flow_model.specs.Begin.{at_first, local_at}
+use Rattle.flow_model.specs.Feeding.{fed, fed_put, fed_puts, fed_tuple, row_at}
+use Rattle.flow_model.specs.Outline.{Outline, Post}
+use Rattle.flow_model.specs.declared.topology.Lane.{Lane}
+use Rattle.flow_model.specs.Replay.{Local, Put, after, came_in, items_on, put_out, puts, sent, shown, visit_at}
+use Rattle.flow_model.specs.Requests.{afters}
+use Rattle.flow_model.specs.Run.{put_by, ran_as}
+use Rattle.flow_model.specs.Workers.{posts}
+use Rattle.flow_model.proofs.AgreementLemmas.{met_shown}
+use Rattle.flow_model.proofs.ElementLemmas.{IsIn, flat_map_in, in_cases, in_map, place_of_in}
+use Rattle.flow_model.proofs.JobLemmas.{IsWired}
+use Rattle.flow_model.proofs.LaneLemmas.{LaneIn, in_lanes_that, lane_into}
+use Rattle.flow_model.proofs.RootLemmas.{FeedsRise, feed_rises}
+use Rattle.flow_model.proofs.RunLemmas.{row_is}
+use Rattle.flow_model.proofs.SendingLemmas.{in_items, puts_come}
+use Rattle.flow_model.proofs.WorkerLemmas.{worker_with}
+use Rattle.audit_laws.specs.Brought.{feed_of}
+use Rattle.audit_laws.specs.Drafted.{issued_before}
+use Rattle.audit_laws.proofs.DraftLemmas.{IssuedRight}
+use Rattle.audit_laws.proofs.OneRunLemmas.{none_counted}
+use Rattle.audit_laws.proofs.TiedLemmas.{IsTied, sender_stands}
+
+-- ---- what the feeder puts
+
+-- a put of a rising feed carries a tuple of a row above the bound, issued as the feed says of the row
+put_issued : (job : Written) (rows : List Row) (k issued : ℕ) (feeds : List Feed) (p : Put) (t : Tuple) → AreRows rows → FeedsRise k feeds
+    → IsIn p (fed_puts job rows issued feeds) → p.item ≡ item.Carry t → (k < t.row) × (t.issued ≡ issued_before t.row issued feeds)
+put_issued job rows k issued [] p t are f h e = absurd h
+put_issued job rows k issued (feed.Fed n ∷ more) p t are f h e =
+    go (row_at rows n) refl h (λ i. later (put_issued job rows n issued more p t are f.1 i e))
+  where
+    later : (n < t.row) × (t.issued ≡ issued_before t.row issued more) → (k < t.row) × (t.issued ≡ cond (n == t.row) issued (issued_before t.row issued more))
+    later r =
+        let lt : n < t.row = r.0 in
+        let up : k < n = f.0 in
+        (omega arith, rw (ne_eqb n t.row (λ same. omega arith)) r.1)
+
+    go : (o : Option Row) → row_at rows n ≡ o → IsIn p (fed_put job issued o ++ fed_puts job rows issued more)
+        → (IsIn p (fed_puts job rows issued more) → (k < t.row) × (t.issued ≡ cond (n == t.row) issued (issued_before t.row issued more)))
+        → (k < t.row) × (t.issued ≡ cond (n == t.row) issued (issued_before t.row issued more))
+    go None g i later = later i
+    go (Some row) g (inl q) later =
+        let c : item.Carry (fed_tuple issued row) ≡ item.Carry t = sym (ap (λ (p : Put). p.item) q) ∙ e in
+        let same : fed_tuple issued row ≡ t = cc in
+        let number : t.row ≡ n = sym (ap (λ (t : Tuple). t.row) same) ∙ (row_is rows n row are g).numbered in
+        let up : k < n = f.0 in
+        (omega arith, rw (eq-eqb n t.row (sym number)) (sym (ap (λ (t : Tuple). t.issued) same)))
+    go (Some row) g (inr i) later = later i
+put_issued job rows k issued (feed.Issued r ∷ more) p t are f h e = put_issued job rows k (issued + 1) more p t are f h e
+put_issued job rows k issued (feed.Stopped ∷ more) p t are f h e = put_issued job rows k issued more p t are f h e
+
+-- ---- what a worker sends
+
+-- a tuple that is sent is of a row that was met, issued like the tuple met
+pub record IsSentOf (journal : List Entry) (t : Tuple) : Type 0 where
+  pub lane : ℕ
+  pub tuple : Tuple
+  pub met : IsIn (entry.Met lane tuple) journal
+  pub row : t.row ≡ tuple.row
+  pub issued : t.issued ≡ tuple.issued
+
+carried_put : (setup : Outline) (post : Post) (local : Local) (x : Entry) (p : Put) (t : Tuple) → IsIn p (puts setup post local x) → p.item ≡ item.Carry t → IsSentOf (x ∷ []) t
+carried_put setup post local (entry.Met l u) p t i e =
+    let s = in_map (put_out setup.job post) p (step setup.job (visit_at post local) local.func local.counts u).1 i in
+    let k = place_of_in s.0 (step setup.job (visit_at post local) local.func local.counts u).1 s.1 in
+    let o : IsMadeOf setup.job.edges (visit_at post local) local.func u k.0 s.0 = outputs_made setup.job (visit_at post local) local.func local.counts u k.0 s.0 k.1 in
+    let c : item.Carry s.0.tuple ≡ item.Carry t = sym (ap (λ (p : Put). p.item) s.2) ∙ e in
+    let same : s.0.tuple ≡ t = cc in
+    record {
+      lane = l;
+      tuple = u;
+      met = inl refl;
+      row = sym (ap (λ (t : Tuple). t.row) same) ∙ o.row;
+      issued = sym (ap (λ (t : Tuple). t.issued) same) ∙ o.issued;
+    }
+carried_put setup post local (entry.Marked l r) p t i e = absurd i
+carried_put setup post local (entry.Turned r) p t i e = let m = (puts_come setup post local (entry.Turned r) p i).2 in absurd (cc)
+carried_put setup post local (entry.Ended l) p t i e = let m = puts_come setup post local (entry.Ended l) p i in absurd (cc)
+
+carried_sent : (setup : Outline) (post : Post) (local : Local) (lane : Lane) (xs : List Entry) (t : Tuple) → IsIn (item.Carry t) (sent setup post local lane xs) → IsSentOf xs t
+carried_sent setup post local lane [] t i = absurd i
+carried_sent setup post local lane (x ∷ xs) t i =
+    elim (in_cases (item.Carry t) (items_on lane (puts setup post local x)) (sent setup post (after setup post local x) lane xs) i) [
+      | inl a ↦
+          let p = in_items lane (puts setup post local x) (item.Carry t) a in
+          let r : IsSentOf (x ∷ []) t = carried_put setup post local x p.0 t p.1 (sym p.3) in
+          record { lane = r.lane; tuple = r.tuple; met = first r.met; row = r.row; issued = r.issued }
+      | inr b ↦
+          let r : IsSentOf xs t = carried_sent setup post (after setup post local x) lane xs t b in
+          record { lane = r.lane; tuple = r.tuple; met = inr r.met; row = r.row; issued = r.issued }
+    ]
+  where
+    first : {y : Entry} → IsIn y (x ∷ []) → IsIn y (x ∷ xs)
+    first (inl e) = inl e
+    first (inr n) = absurd n
+
+-- ---- all workers
+
+module _ (setup : Outline) (wired : IsWired setup.job) (rows : List Row) (are : AreRows rows) (journals : List (List Entry))
+    (tied : (w : ℕ) (post : Post) → slice_get (posts setup.job) w ≡ Some post → IsTied setup rows journals w)
+  where
+    abbrev IsRight : Tuple → Type 0
+    IsRight t = t.issued ≡ issued_before t.row 0 (feed_of setup rows)
+
+    abbrev Before : ℕ → Type 0
+    Before bound = (s : ℕ) (sender : Post) (journal : List Entry) → slice_get (posts setup.job) s ≡ Some sender → wired.rank sender.node < bound → slice_get journals s ≡ Some journal
+        → IssuedRight (feed_of setup rows) journal
+
+    right_fed : (lane : Lane) (t : Tuple) → IsIn (item.Carry t) (fed setup.job rows 0 lane (feed_of setup rows) ++ item.Last ∷ []) → IsRight t
+    right_fed lane t i =
+        elim (in_cases (item.Carry t) (fed setup.job rows 0 lane (feed_of setup rows)) (item.Last ∷ []) i) [
+          | inl a ↦
+              let p = in_items lane (fed_puts setup.job rows 0 (feed_of setup rows)) (item.Carry t) a in
+              (put_issued setup.job rows 0 0 (feed_of setup rows) p.0 t are (feed_rises 0 0 (afters setup.requests) (length rows)) p.1 (sym p.3)).1
+          | inr (inl e) ↦ absurd (cc)
+          | inr (inr n) ↦ absurd n
+        ]
+
+    by_sender : (bound from : ℕ) (lane : Lane) (items : List Item) (t : Tuple) (o : Option ℕ) → Before bound
+        → (o ≡ None) ⊎ ((post : Post) × (o ≡ Some post.number) × (slice_get (posts setup.job) post.number ≡ Some post) × (post.node ≡ from))
+        → put_by (at_first setup) rows (ran_as setup (feed_of setup rows) journals []) lane o ≡ Some items → wired.rank from < bound → IsIn (item.Carry t) items → IsRight t
+    by_sender bound from lane items t o h (inl none) e lt i =
+        let f : Some (fed setup.job rows 0 lane (feed_of setup rows) ++ item.Last ∷ []) ≡ Some items =
+        subst (λ o. put_by (at_first setup) rows (ran_as setup (feed_of setup rows) journals []) lane o ≡ Some items) none e in
+        right_fed lane t (subst (λ (l : List Item). IsIn (item.Carry t) l) (sym (same_Some (fed setup.job rows 0 lane (feed_of setup rows) ++ item.Last ∷ []) items f)) i)
+    by_sender bound from lane items t o h (inr (q, is, there, node)) e lt i =
+        let y : IsTied setup rows journals q.number = tied q.number q there in
+        let f : put_by (at_first setup) rows (ran_as setup (feed_of setup rows) journals []) lane (Some q.number) ≡ Some items =
+        subst (λ o. put_by (at_first setup) rows (ran_as setup (feed_of setup rows) journals []) lane o ≡ Some items) is e in
+        let g : Some (sent setup q (local_at setup 0 q empty) lane y.journal) ≡ Some items = rw (there, none_counted setup q.number q there, y.there) at f in
+        let k : IsSentOf y.journal t =
+        carried_sent setup q (local_at setup 0 q empty) lane y.journal t
+        (subst (λ (l : List Item). IsIn (item.Carry t) l) (sym (same_Some (sent setup q (local_at setup 0 q empty) lane y.journal) items g)) i) in
+        k.issued
+        ∙ (h q.number q y.journal there (subst (λ v. wired.rank v < bound) (sym node) lt) y.there k.lane k.tuple k.met
+        ∙ ap (λ n. issued_before n 0 (feed_of setup rows)) (sym k.row))
+
+    right_here : (bound w : ℕ) (post : Post) (x : IsTied setup rows journals w) → slice_get (posts setup.job) w ≡ Some post → wired.rank post.node < suc bound → Before bound
+        → IssuedRight (feed_of setup rows) x.journal
+    right_here bound w post x p lt h l t i =
+        let k = in_lanes_that (λ (lane : Lane). lane.receiver == w) setup.job l (x.met l t i) in
+        let r : k.0.receiver ≡ w = eqb-true k.0.receiver w k.2 in
+        let here = worker_with setup.job w post p in
+        let n : LaneIn setup.job post l = lane_into setup.job post l k.0 here.1 k.1 (r ∙ sym here.0) in
+        let one : k.0 ≡ n.lane = same_Some k.0 n.lane (sym k.1 ∙ n.numbered) in
+        let up : wired.rank n.edge.from < wired.rank n.edge.to = wired.forward n.lane.edge n.edge n.edge_is in
+        let to : wired.rank n.edge.to ≡ wired.rank post.node = ap wired.rank n.to in
+        by_sender bound n.edge.from k.0 (shown setup l x.journal) t k.0.sender h
+        (subst (λ o. (o ≡ None) ⊎ ((post : Post) × (o ≡ Some post.number) × (slice_get (posts setup.job) post.number ≡ Some post) × (post.node ≡ n.edge.from))) (sym (ap (λ (l : Lane). l.sender) one))
+        (sender_stands setup.job n.edge.from n.lane.sender n.sends))
+        (x.tied l k.0 k.1 r) (omega arith)
+        (flat_map_in (came_in setup l) (entry.Met l t) (item.Carry t) x.journal i (met_shown setup l t))
+
+    below : (bound : ℕ) → Before bound
+    below zero w post journal p lt j = absurd (omega arith)
+    below (suc bound) w post journal p lt j =
+        let x : IsTied setup rows journals w = tied w post p in
+        subst (IssuedRight (feed_of setup rows)) (same_Some x.journal journal (sym x.there ∙ j)) (right_here bound w post x p lt (below bound))
+
+    pub issued_right : (w : ℕ) (post : Post) (journal : List Entry) → slice_get (posts setup.job) w ≡ Some post → slice_get journals w ≡ Some journal → IssuedRight (feed_of setup rows) journal
+    issued_right w post journal p j = below (suc (wired.rank post.node)) w post journal p (omega arith) j

@@ -1,0 +1,82 @@
+-- What an audit keeps of the items that a lane shows is what it keeps of the entries that take them.
+use Rattle.std.proofs.Common.{◌≡◌, ◌∙◌, ◌==◌, ◌++◌, ℕ, List, [], ◌∷◌, inl, inr, refl, sym, ap, ap₂, subst, true, false, Bool, cond, map, filter, Some, None, Option}
+use Rattle.std.proofs.lemmas.Bool.{eqb-true}
+use Rattle.std.proofs.lemmas.List.{map-append}
+use Rattle.cover_planner.specs.declared.cover.Plan.{Plan}
+use Rattle.sink_journal.specs.declared.journal.Entry.{Entry}
+use Rattle.sink_journal.specs.declared.journal.Entry.TheVariants as entry
+use Rattle.tuple_trace.specs.declared.tuple.Item.TheVariants as item
+use Rattle.flow_model.specs.Covers.{covers, holds_node, plan_of}
+use Rattle.flow_model.specs.Law.{IsExecution, Progress, Station, after_entry, later_dues, next_due}
+use Rattle.flow_model.specs.Outline.{Outline}
+use Rattle.flow_model.specs.Replay.{came_in, marker, marker_by, shown}
+use Rattle.flow_model.proofs.ElementLemmas.{IsIn}
+use Rattle.flow_model.proofs.JournalLemmas.{due_first}
+use Rattle.audit_laws.specs.declared.audit.AuditEntry.{AuditEntry}
+use Rattle.audit_laws.specs.declared.audit.AuditEntry.TheVariants as kept
+use Rattle.audit_laws.specs.Faults.{comes_by, seen}
+use Rattle.audit_laws.specs.Trimmed.{trim, trimmed}
+
+-- every marker is of a request that has a plan
+abbrev pub MarksPlans : Outline → List Entry → Type 0
+MarksPlans setup xs = (l r : ℕ) → IsIn (entry.Marked l r) xs → (plan : Plan) × (plan_of setup r ≡ Some plan)
+
+-- ---- by the law a marker is of a due
+
+later_due : (r : ℕ) (dues : List ℕ) → IsIn r (later_dues dues) → IsIn r dues
+later_due r [] i = absurd i
+later_due r (due ∷ later) i = inr i
+
+pub marked_is_due : (station : Station) (progress : Progress) (xs : List Entry) (l r : ℕ) → IsExecution station progress xs → IsIn (entry.Marked l r) xs → IsIn r progress.dues
+marked_is_due station progress [] l r f i = absurd i
+marked_is_due station progress (entry.Met k t ∷ xs) l r f (inl e) = absurd (cc)
+marked_is_due station progress (entry.Met k t ∷ xs) l r f (inr i) = marked_is_due station (after_entry progress (entry.Met k t)) xs l r f.1 i
+marked_is_due station progress (entry.Marked k q ∷ xs) l r f (inl e) =
+    let same : r ≡ q = cc in
+    let due : next_due progress.dues ≡ Some q = f.0.0 in
+    subst (λ (l : List ℕ). IsIn r l) (sym (due_first progress.dues q due)) (inl same)
+marked_is_due station progress (entry.Marked k q ∷ xs) l r f (inr i) = marked_is_due station (after_entry progress (entry.Marked k q)) xs l r f.1 i
+marked_is_due station progress (entry.Turned q ∷ xs) l r f (inl e) = absurd (cc)
+marked_is_due station progress (entry.Turned q ∷ xs) l r f (inr i) = later_due r progress.dues (marked_is_due station (after_entry progress (entry.Turned q)) xs l r f.1 i)
+marked_is_due station progress (entry.Ended k ∷ xs) l r f (inl e) = absurd (cc)
+marked_is_due station progress (entry.Ended k ∷ xs) l r f (inr i) = marked_is_due station (after_entry progress (entry.Ended k)) xs l r f.1 i
+
+pub plan_there : (setup : Outline) (r node : ℕ) → covers setup r node ≡ true → (plan : Plan) × (plan_of setup r ≡ Some plan)
+plan_there setup r node c = go (plan_of setup r) refl c
+  where
+    go : (o : Option Plan) → plan_of setup r ≡ o → holds_node o node ≡ true → (plan : Plan) × (plan_of setup r ≡ Some plan)
+    go None e h = absurd (cc)
+    go (Some plan) e h = (plan, e)
+
+-- ---- lanes
+
+seen_one : (setup : Outline) (n : ℕ) (x : Entry) → ((l r : ℕ) → entry.Marked l r ≡ x → (plan : Plan) × (plan_of setup r ≡ Some plan))
+    → map (seen n) (came_in setup n x) ≡ cond (comes_by n (trim x)) (trim x ∷ []) []
+seen_one setup n (entry.Met l t) p = go (l == n) refl
+  where
+    go : (b : Bool) → (l == n) ≡ b → map (seen n) (cond b (item.Carry t ∷ []) []) ≡ cond b (kept.Met l t.row t.birth ∷ []) []
+    go true e = ap (λ (k : ℕ). kept.Met k t.row t.birth ∷ []) (sym (eqb-true l n e))
+    go false e = refl
+seen_one setup n (entry.Marked l r) p = go (l == n) refl (p l r refl)
+  where
+    go : (b : Bool) → (l == n) ≡ b → ((plan : Plan) × (plan_of setup r ≡ Some plan)) → map (seen n) (cond b (marker setup r) []) ≡ cond b (kept.Marked l r ∷ []) []
+    go true e (plan, is) =
+        ap (λ o. map (seen n) (marker_by r o)) is ∙ ap (λ (k : ℕ). kept.Marked k r ∷ []) (sym (eqb-true l n e))
+    go false e q = refl
+seen_one setup n (entry.Turned r) p = refl
+seen_one setup n (entry.Ended l) p = go (l == n) refl
+  where
+    go : (b : Bool) → (l == n) ≡ b → map (seen n) (cond b (item.Last ∷ []) []) ≡ cond b (kept.Ended l ∷ []) []
+    go true e = ap (λ (k : ℕ). kept.Ended k ∷ []) (sym (eqb-true l n e))
+    go false e = refl
+
+pub seen_shown : (setup : Outline) (n : ℕ) (xs : List Entry) → MarksPlans setup xs → map (seen n) (shown setup n xs) ≡ filter (comes_by n) (trimmed xs)
+seen_shown setup n [] p = refl
+seen_shown setup n (x ∷ xs) p =
+    map-append (seen n) (came_in setup n x) (shown setup n xs)
+    ∙ (ap₂ (λ (a b : List AuditEntry). a ++ b) (seen_one setup n x (λ l r e. p l r (inl e))) (seen_shown setup n xs (λ l r i. p l r (inr i)))
+    ∙ front (comes_by n (trim x)))
+  where
+    front : (b : Bool) → cond b (trim x ∷ []) [] ++ filter (comes_by n) (trimmed xs) ≡ cond b (trim x ∷ filter (comes_by n) (trimmed xs)) (filter (comes_by n) (trimmed xs))
+    front true = refl
+    front false = refl

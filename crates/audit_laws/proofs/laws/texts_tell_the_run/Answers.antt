@@ -1,0 +1,19 @@
+use Rattle.std.proofs.Common.{◌∙◌, ap, length, refl}
+use Rattle.jobs.specs.Job.{written}
+use Rattle.flow_model.specs.Outline.{Outline}
+use Rattle.flow_model.specs.Setup.{outline}
+use Rattle.flow_model.specs.Workers.{posts}
+use Rattle.flow_model.proofs.JobLemmas.{wired}
+use Rattle.audit_laws.specs.Fits.{records_of}
+use Rattle.audit_laws.proofs.OneRunLemmas.{one_run}
+use Rattle.audit_laws.proofs.VerdictLemmas.{in_shape, same_trims}
+use Rattle.audit_laws.proofs.laws.texts_tell_the_run.Goals as goal
+
+pub returns : goal.returns
+returns c rows refused text a b x y p q v w =
+    let job = c.args.setup.now.job in
+    let here : Outline = outline c.args.setup.now in
+    one_run here (wired (written job) job.dag job.lawful refl job.drawn) rows a b x y (
+    same_trims here job.lawful refused (records_of text) a.feeds b.feeds a.journals b.journals a.states b.states
+    (x.run.one_journal_each ∙ ap (λ (s : Outline). length (posts s.job)) x.setup_is) (x.run.one_state_each ∙ ap (λ (s : Outline). length (posts s.job)) x.setup_is)
+    (y.run.one_journal_each ∙ ap (λ (s : Outline). length (posts s.job)) y.setup_is) (y.run.one_state_each ∙ ap (λ (s : Outline). length (posts s.job)) y.setup_is) (in_shape here rows refused text a x p v) (in_shape here rows refused text b y q w))

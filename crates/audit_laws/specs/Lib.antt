@@ -1,0 +1,11 @@
+pub mod Trimmed
+pub mod Drafted
+pub mod Brought
+pub mod Checked
+pub mod Faults
+pub mod Restoring
+pub mod Names
+pub mod Lines
+pub mod Verdict
+pub mod Fits
+pub mod Examples

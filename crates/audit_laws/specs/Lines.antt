@@ -1,0 +1,140 @@
+-- The records of an audit, one by one.
+use Rattle.std.specs.Prelude.{◌≡◌, ◌<◌, ◌≤◌, ◌+◌, ◌*◌, ◌^◌, ◌==◌, ⊤, ℕ, ℤ, All, AllPairs, List}
+use Rattle.std.specs.Prelude.{[], ◌∷◌, ◌++◌, length, map, Option, Some, None, slice_get}
+use Rattle.std.specs.Prelude.{if◌then◌else◌}
+use Rattle.std.specs.Int.Signed.{mag}
+use Rattle.std.specs.List.{filter_map}
+use Rattle.jobs.specs.Written.{Written}
+use Rattle.sink_journal.specs.Audit.{entry_fields, feed_fields, refused_fields, state_fields}
+use Rattle.sink_journal.specs.declared.audit.Noted.{Noted}
+use Rattle.sink_journal.specs.declared.journal.Feed.{Feed}
+use Rattle.sink_journal.specs.declared.journal.Feed.TheVariants as feed
+use Rattle.flow_model.specs.declared.topology.Lane.{Lane}
+use Rattle.flow_model.specs.Lanes.{lanes}
+use Rattle.audit_laws.specs.declared.audit.AuditEntry.{AuditEntry}
+use Rattle.audit_laws.specs.declared.audit.AuditEntry.TheVariants as kept
+use Rattle.audit_laws.specs.declared.audit.Line.{Line}
+use Rattle.audit_laws.specs.declared.audit.Line.TheVariants as line
+use Rattle.audit_laws.specs.Drafted.{draft}
+use Rattle.audit_laws.specs.Faults.{Listed}
+use Rattle.audit_laws.specs.Names.{Named, named_workers}
+
+-- ---- their fields
+
+-- The fields of a step. They are those of each entry that an audit keeps this of.
+abbrev pub kept_fields : Named → AuditEntry → List (List ℕ)
+kept_fields worker entry = entry_fields worker.node worker.place (draft [] entry)
+
+abbrev pub count_fields : Named → List ℕ × ℤ → List (List ℕ)
+count_fields worker counted = state_fields worker.node worker.place counted
+
+-- The fields of a record of a worker. There are none if there is no such worker.
+abbrev pub fields_by : (Named → List (List ℕ)) → Option Named → List (List ℕ)
+fields_by fields None = []
+fields_by fields (Some worker) = fields worker
+
+abbrev pub line_fields : List Named → Line → List (List ℕ)
+line_fields workers (line.Refused noted) = refused_fields noted
+line_fields workers (line.Feed step) = feed_fields step
+line_fields workers (line.Step w entry) =
+    fields_by (λ worker. kept_fields worker entry) (slice_get workers w)
+line_fields workers (line.State w key count) =
+    fields_by (λ worker. count_fields worker (key, count)) (slice_get workers w)
+
+-- ---- their form
+
+-- The lane leads to this worker, and its number is in range.
+abbrev pub LeadsTo : Written → ℕ → ℕ → Type 0
+LeadsTo job w n =
+    (n < 2 ^ 32) × (lane : Lane) × (slice_get (lanes job) n ≡ Some lane) × (lane.receiver ≡ w)
+
+abbrev pub IsEntryAt : Written → ℕ → AuditEntry → Type 0
+IsEntryAt job w (kept.Met lane row birth) =
+    LeadsTo job w lane × (row < 2 ^ 64) × All (λ birth. birth < 2 ^ 32) birth
+IsEntryAt job w (kept.Marked lane request) = LeadsTo job w lane × (request < 2 ^ 64)
+IsEntryAt job w (kept.Turned request) = request < 2 ^ 64
+IsEntryAt job w (kept.Ended lane) = LeadsTo job w lane
+
+abbrev pub IsStep : Feed → Type 0
+IsStep (feed.Fed row) = row < 2 ^ 64
+IsStep (feed.Issued request) = request < 2 ^ 64
+IsStep feed.Stopped = ⊤
+
+-- A refused request is noted by its place and by one of nine codes.
+abbrev pub IsNoted : Noted → Type 0
+IsNoted noted = (noted.place < 2 ^ 32) × (1 ≤ noted.code) × (noted.code ≤ 9)
+
+-- The worker and the lane of a line are those of the job. Its numbers are in the ranges of their
+-- types.
+abbrev pub IsLine : Written → Line → Type 0
+IsLine job (line.Refused noted) = IsNoted noted
+IsLine job (line.Feed step) = IsStep step
+IsLine job (line.Step w entry) = (w < length (named_workers job.nodes)) × IsEntryAt job w entry
+IsLine job (line.State w key count) =
+    (w < length (named_workers job.nodes)) × (mag count < 2 ^ 63)
+
+-- The groups that records stand in: refused requests, the feeder's steps, and of each worker its
+-- journal and its counts.
+abbrev pub group_of : Line → ℕ
+group_of (line.Refused noted) = 0
+group_of (line.Feed step) = 1
+group_of (line.Step w entry) = 2 + 2 * w
+group_of (line.State w key count) = 3 + 2 * w
+
+abbrev pub StandInOrder : List Line → Type 0
+StandInOrder lines = AllPairs (λ a b. group_of a ≤ group_of b) lines
+
+-- ---- what they tell
+
+abbrev pub refusal_in : Line → Option Noted
+refusal_in (line.Refused noted) = Some noted
+refusal_in (line.Feed step) = None
+refusal_in (line.Step w entry) = None
+refusal_in (line.State w key count) = None
+
+abbrev pub step_in : Line → Option Feed
+step_in (line.Refused noted) = None
+step_in (line.Feed step) = Some step
+step_in (line.Step w entry) = None
+step_in (line.State w key count) = None
+
+abbrev pub entry_in : ℕ → Line → Option AuditEntry
+entry_in v (line.Refused noted) = None
+entry_in v (line.Feed step) = None
+entry_in v (line.Step w entry) = if w == v then Some entry else None
+entry_in v (line.State w key count) = None
+
+abbrev pub count_in : ℕ → Line → Option (List ℕ × ℤ)
+count_in v (line.Refused noted) = None
+count_in v (line.Feed step) = None
+count_in v (line.Step w entry) = None
+count_in v (line.State w key count) = if w == v then Some (key, count) else None
+
+abbrev pub refusals_in : List Line → List Noted
+refusals_in lines = filter_map refusal_in lines
+
+abbrev pub feeds_in : List Line → List Feed
+feeds_in lines = filter_map step_in lines
+
+abbrev pub journal_in : List Line → ℕ → List AuditEntry
+journal_in lines w = filter_map (entry_in w) lines
+
+abbrev pub counts_in : List Line → ℕ → Listed
+counts_in lines w = filter_map (count_in w) lines
+
+-- ---- the records of what was told
+
+abbrev pub worker_lines : ℕ → List AuditEntry → Listed → List Line
+worker_lines w journal counts =
+    map (line.Step w) journal ++ map (λ counted. line.State w counted.0 counted.1) counts
+
+-- The lines of the workers from this number on.
+abbrev pub lines_from : ℕ → List (List AuditEntry) → List Listed → List Line
+lines_from w (journal ∷ journals) (counts ∷ states) =
+    worker_lines w journal counts ++ lines_from (w + 1) journals states
+lines_from w [] states = []
+lines_from w (journal ∷ journals) [] = []
+
+abbrev pub lines_of : List Noted → List Feed → List (List AuditEntry) → List Listed → List Line
+lines_of refused feeds journals states =
+    map line.Refused refused ++ (map line.Feed feeds ++ lines_from 0 journals states)

@@ -1,0 +1,102 @@
+// Laws of audits. Each function proves its clauses from the definitions, and does nothing.
+ghost use Rattle.std.specs.Prelude.{◌≡◌, ◌≢◌, ◌↔◌, ◌∷◌, ℕ, List, Some, map, slice_get};
+ghost use Rattle.std.specs.FinMap.{entries};
+ghost use Rattle.keyed_state.specs.Counts.{Counts};
+ghost use Rattle.sink_journal.specs.Audit.{audit_header};
+ghost use Rattle.sink_journal.specs.declared.audit.Noted.{Noted as NotedIs};
+ghost use Rattle.sink_journal.specs.declared.journal.Entry.{Entry as EntryIs};
+ghost use Rattle.tuple_trace.specs.declared.row.Row.{Row as RowIs};
+ghost use Rattle.flow_model.specs.Outline.{Post};
+ghost use Rattle.flow_model.specs.Run.{IsRun, Ran, ran_as};
+ghost use Rattle.flow_model.specs.Setup.{outline};
+ghost use Rattle.flow_model.specs.Workers.{posts};
+ghost use Rattle.audit_laws.specs.declared.audit.AuditEntry.{AuditEntry as KeptIs};
+ghost use Rattle.audit_laws.specs.declared.fault.AuditFault.{AuditFault as FaultIs};
+ghost use Rattle.audit_laws.specs.declared.fault.AuditFault.TheVariants as TheFault;
+ghost use Rattle.audit_laws.specs.Brought.{feed_of};
+ghost use Rattle.audit_laws.specs.Checked.{IsChecked, IsFinishedDraft, ShowsBrought};
+ghost use Rattle.audit_laws.specs.Faults.{IsFaultOfWorkers, Listed};
+ghost use Rattle.audit_laws.specs.Fits.{Fits, HasForm, kept_lines, records_of};
+ghost use Rattle.audit_laws.specs.Restoring.{LanesAgree, restored_by};
+ghost use Rattle.audit_laws.specs.Trimmed.{trimmed};
+ghost use Rattle.audit_laws.specs.Verdict.{IsFaultOf, fields_of};
+
+use flow_model::Setup;
+use tuple_trace::Rows;
+
+/// Trimmed journals determine the run. Two runs of one setup and the same rows are equal if their
+/// journals are equal once trimmed.
+pub fn journals_tell_the_run(setup: &Setup)
+    ensures { (rows : List RowIs) (a b : Ran) →
+        IsRun (outline setup.now) rows a → IsRun (outline setup.now) rows b →
+        map trimmed a.journals ≡ map trimmed b.journals → a ≡ b }
+{}
+
+/// What passes the checks of an audit is a run, and every run passes them. So nothing is left
+/// unchecked, and nothing more is asked.
+pub fn checked_journals_are_a_run(setup: &Setup, rows: &Rows)
+    ensures sound { (audit : List (List KeptIs)) (journals : List (List EntryIs))
+        (states : List Counts) → IsChecked (outline setup.now) rows.now audit journals states →
+        IsRun (outline setup.now) rows.now (ran_as (outline setup.now)
+        (feed_of (outline setup.now) rows.now) journals states) }
+    ensures complete { (ran : Ran) → IsRun (outline setup.now) rows.now ran →
+        IsChecked (outline setup.now) rows.now (map trimmed ran.journals) ran.journals ran.states }
+{
+    let _numbered = rows.as_slice();
+}
+
+/// The audit of a run has no fault of its law, of a lane or of a state.
+pub fn audits_of_runs_have_no_fault(setup: &Setup, rows: &Rows)
+    ensures { (ran : Ran) (fault : FaultIs) → IsRun (outline setup.now) rows.now ran →
+        fault ≢ TheFault.NoMemory → ¬ IsFaultOfWorkers (outline setup.now) setup.now.job.dag.order
+        rows.now (map trimmed ran.journals) (map entries ran.states) fault }
+{
+    let _numbered = rows.as_slice();
+}
+
+/// If the law holds of a trimmed journal and each lane into its worker brings the journal's entries
+/// of the lane, the journal is restored: each entry takes the next item of its lane.
+pub fn journals_are_restored(setup: &Setup)
+    ensures { (rows : List RowIs) (journals : List (List EntryIs)) (w : ℕ) (post : Post)
+        (journal : List KeptIs) → slice_get (posts (outline setup.now).job) w ≡ Some post →
+        IsFinishedDraft (outline setup.now) rows post journal →
+        LanesAgree (outline setup.now) rows journals w journal →
+        (trimmed (restored_by (outline setup.now) rows journals journal) ≡ journal)
+        × ShowsBrought (outline setup.now) rows journals w
+        (restored_by (outline setup.now) rows journals journal) }
+{}
+
+/// No audit has two faults of its law, a lane or a state. So the first code that holds is the only
+/// one that holds.
+pub fn audits_have_one_fault(setup: &Setup)
+    ensures { (rows : List RowIs) (audit : List (List KeptIs)) (states : List Listed)
+        (f g : FaultIs) → f ≢ TheFault.NoMemory → g ≢ TheFault.NoMemory →
+        IsFaultOfWorkers (outline setup.now) setup.now.job.dag.order rows audit states f →
+        IsFaultOfWorkers (outline setup.now) setup.now.job.dag.order rows audit states g →
+        f ≡ g }
+{}
+
+/// A run fits a text exactly if the text's records are the lines of what an audit keeps of the run.
+pub fn runs_fit_their_lines(setup: &Setup)
+    ensures { (rows : List RowIs) (refused : List NotedIs) (text : List ℕ) (ran : Ran) →
+        IsRun (outline setup.now) rows ran →
+        records_of text ≡ audit_header ∷ fields_of (outline setup.now).job (kept_lines refused ran)
+        ↔ Fits refused text ran }
+{}
+
+/// A text that a run fits has no fault.
+pub fn texts_of_runs_have_no_fault(setup: &Setup, rows: &Rows)
+    ensures { (refused : List NotedIs) (text : List ℕ) (ran : Ran) (fault : FaultIs) →
+        IsRun (outline setup.now) rows.now ran → Fits refused text ran → HasForm refused ran →
+        fault ≢ TheFault.NoMemory → ¬ IsFaultOf (outline setup.now) setup.now.job.dag.order
+        refused rows.now (records_of text) fault }
+{
+    let _numbered = rows.as_slice();
+}
+
+/// A text determines the run: two runs that fit one text are equal.
+pub fn texts_tell_the_run(setup: &Setup)
+    ensures { (rows : List RowIs) (refused : List NotedIs) (text : List ℕ) (a b : Ran) →
+        IsRun (outline setup.now) rows a → IsRun (outline setup.now) rows b →
+        Fits refused text a → Fits refused text b → HasForm refused a → HasForm refused b → a ≡ b }
+{}

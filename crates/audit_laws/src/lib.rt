@@ -1,0 +1,20 @@
+//! What an audit keeps of a run, what is wrong with a text that is the audit of no run, and the
+//! laws of both.
+//!
+//! An audit has only the row and the births of a tuple. It determines the run all the same: no two
+//! runs of one setup and the same rows have the same audit.
+#![tactic(auto)]
+
+mod audit;
+mod examples;
+mod fault;
+mod laws;
+
+pub use audit::{AuditEntry, Line};
+pub use examples::the_audit_of_no_payments;
+pub use fault::AuditFault;
+pub use laws::{
+    audits_have_one_fault, audits_of_runs_have_no_fault, checked_journals_are_a_run,
+    journals_are_restored, journals_tell_the_run, runs_fit_their_lines,
+    texts_of_runs_have_no_fault, texts_tell_the_run,
+};
