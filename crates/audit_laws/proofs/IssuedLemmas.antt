@@ -35,8 +35,8 @@ use Rattle.flow_model.proofs.WorkerLemmas.{worker_with}
 use Rattle.audit_laws.specs.Brought.{feed_of}
 use Rattle.audit_laws.specs.Drafted.{issued_before}
 use Rattle.audit_laws.proofs.DraftLemmas.{IssuedRight}
-use Rattle.audit_laws.proofs.OneRunLemmas.{none_counted}
-use Rattle.audit_laws.proofs.TiedLemmas.{IsTied, sender_stands}
+use Rattle.audit_laws.proofs.EachTupleLemmas.{SendsEach, each_tuple}
+use Rattle.audit_laws.proofs.TiedLemmas.{IsTied}
 
 -- ---- what the feeder puts
 
@@ -120,60 +120,15 @@ module _ (setup : Outline) (wired : IsWired setup.job) (rows : List Row) (are : 
     abbrev IsRight : Tuple → Type 0
     IsRight t = t.issued ≡ issued_before t.row 0 (feed_of setup rows)
 
-    abbrev Before : ℕ → Type 0
-    Before bound = (s : ℕ) (sender : Post) (journal : List Entry) → slice_get (posts setup.job) s ≡ Some sender → wired.rank sender.node < bound → slice_get journals s ≡ Some journal
-        → IssuedRight (feed_of setup rows) journal
-
-    right_fed : (lane : Lane) (t : Tuple) → IsIn (item.Carry t) (fed setup.job rows 0 lane (feed_of setup rows) ++ item.Last ∷ []) → IsRight t
+    right_fed : (lane : Lane) (t : Tuple) → IsIn (item.Carry t) (fed setup.job rows 0 lane (feed_of setup rows)) → IsRight t
     right_fed lane t i =
-        elim (in_cases (item.Carry t) (fed setup.job rows 0 lane (feed_of setup rows)) (item.Last ∷ []) i) [
-          | inl a ↦
-              let p = in_items lane (fed_puts setup.job rows 0 (feed_of setup rows)) (item.Carry t) a in
-              (put_issued setup.job rows 0 0 (feed_of setup rows) p.0 t are (feed_rises 0 0 (afters setup.requests) (length rows)) p.1 (sym p.3)).1
-          | inr (inl e) ↦ absurd (cc)
-          | inr (inr n) ↦ absurd n
-        ]
+        let p = in_items lane (fed_puts setup.job rows 0 (feed_of setup rows)) (item.Carry t) i in
+        (put_issued setup.job rows 0 0 (feed_of setup rows) p.0 t are (feed_rises 0 0 (afters setup.requests) (length rows)) p.1 (sym p.3)).1
 
-    by_sender : (bound from : ℕ) (lane : Lane) (items : List Item) (t : Tuple) (o : Option ℕ) → Before bound
-        → (o ≡ None) ⊎ ((post : Post) × (o ≡ Some post.number) × (slice_get (posts setup.job) post.number ≡ Some post) × (post.node ≡ from))
-        → put_by (at_first setup) rows (ran_as setup (feed_of setup rows) journals []) lane o ≡ Some items → wired.rank from < bound → IsIn (item.Carry t) items → IsRight t
-    by_sender bound from lane items t o h (inl none) e lt i =
-        let f : Some (fed setup.job rows 0 lane (feed_of setup rows) ++ item.Last ∷ []) ≡ Some items =
-        subst (λ o. put_by (at_first setup) rows (ran_as setup (feed_of setup rows) journals []) lane o ≡ Some items) none e in
-        right_fed lane t (subst (λ (l : List Item). IsIn (item.Carry t) l) (sym (same_Some (fed setup.job rows 0 lane (feed_of setup rows) ++ item.Last ∷ []) items f)) i)
-    by_sender bound from lane items t o h (inr (q, is, there, node)) e lt i =
-        let y : IsTied setup rows journals q.number = tied q.number q there in
-        let f : put_by (at_first setup) rows (ran_as setup (feed_of setup rows) journals []) lane (Some q.number) ≡ Some items =
-        subst (λ o. put_by (at_first setup) rows (ran_as setup (feed_of setup rows) journals []) lane o ≡ Some items) is e in
-        let g : Some (sent setup q (local_at setup 0 q empty) lane y.journal) ≡ Some items = rw (there, none_counted setup q.number q there, y.there) at f in
-        let k : IsSentOf y.journal t =
-        carried_sent setup q (local_at setup 0 q empty) lane y.journal t
-        (subst (λ (l : List Item). IsIn (item.Carry t) l) (sym (same_Some (sent setup q (local_at setup 0 q empty) lane y.journal) items g)) i) in
-        k.issued
-        ∙ (h q.number q y.journal there (subst (λ v. wired.rank v < bound) (sym node) lt) y.there k.lane k.tuple k.met
-        ∙ ap (λ n. issued_before n 0 (feed_of setup rows)) (sym k.row))
-
-    right_here : (bound w : ℕ) (post : Post) (x : IsTied setup rows journals w) → slice_get (posts setup.job) w ≡ Some post → wired.rank post.node < suc bound → Before bound
-        → IssuedRight (feed_of setup rows) x.journal
-    right_here bound w post x p lt h l t i =
-        let k = in_lanes_that (λ (lane : Lane). lane.receiver == w) setup.job l (x.met l t i) in
-        let r : k.0.receiver ≡ w = eqb-true k.0.receiver w k.2 in
-        let here = worker_with setup.job w post p in
-        let n : LaneIn setup.job post l = lane_into setup.job post l k.0 here.1 k.1 (r ∙ sym here.0) in
-        let one : k.0 ≡ n.lane = same_Some k.0 n.lane (sym k.1 ∙ n.numbered) in
-        let up : wired.rank n.edge.from < wired.rank n.edge.to = wired.forward n.lane.edge n.edge n.edge_is in
-        let to : wired.rank n.edge.to ≡ wired.rank post.node = ap wired.rank n.to in
-        by_sender bound n.edge.from k.0 (shown setup l x.journal) t k.0.sender h
-        (subst (λ o. (o ≡ None) ⊎ ((post : Post) × (o ≡ Some post.number) × (slice_get (posts setup.job) post.number ≡ Some post) × (post.node ≡ n.edge.from))) (sym (ap (λ (l : Lane). l.sender) one))
-        (sender_stands setup.job n.edge.from n.lane.sender n.sends))
-        (x.tied l k.0 k.1 r) (omega arith)
-        (flat_map_in (came_in setup l) (entry.Met l t) (item.Carry t) x.journal i (met_shown setup l t))
-
-    below : (bound : ℕ) → Before bound
-    below zero w post journal p lt j = absurd (omega arith)
-    below (suc bound) w post journal p lt j =
-        let x : IsTied setup rows journals w = tied w post p in
-        subst (IssuedRight (feed_of setup rows)) (same_Some x.journal journal (sym x.there ∙ j)) (right_here bound w post x p lt (below bound))
+    right_sent : (post : Post) (journal : List Entry) → SendsEach setup IsRight post journal
+    right_sent post journal h lane t i =
+        let k : IsSentOf journal t = carried_sent setup post (local_at setup 0 post empty) lane journal t i in
+        k.issued ∙ (h k.lane k.tuple k.met ∙ ap (λ n. issued_before n 0 (feed_of setup rows)) (sym k.row))
 
     pub issued_right : (w : ℕ) (post : Post) (journal : List Entry) → slice_get (posts setup.job) w ≡ Some post → slice_get journals w ≡ Some journal → IssuedRight (feed_of setup rows) journal
-    issued_right w post journal p j = below (suc (wired.rank post.node)) w post journal p (omega arith) j
+    issued_right = each_tuple setup wired rows journals tied IsRight right_fed (λ w post journal p j. right_sent post journal)

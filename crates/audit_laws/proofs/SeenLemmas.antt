@@ -23,7 +23,7 @@ MarksPlans setup xs = (l r : ℕ) → IsIn (entry.Marked l r) xs → (plan : Pla
 
 -- ---- by the law a marker is of a due
 
-later_due : (r : ℕ) (dues : List ℕ) → IsIn r (later_dues dues) → IsIn r dues
+pub later_due : (r : ℕ) (dues : List ℕ) → IsIn r (later_dues dues) → IsIn r dues
 later_due r [] i = absurd i
 later_due r (due ∷ later) i = inr i
 

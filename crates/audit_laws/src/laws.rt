@@ -1,5 +1,5 @@
 // Laws of audits. Each function proves its clauses from the definitions, and does nothing.
-ghost use Rattle.std.specs.Prelude.{◌≡◌, ◌≢◌, ◌↔◌, ◌∷◌, ℕ, List, Some, map, slice_get};
+ghost use Rattle.std.specs.Prelude.{◌≡◌, ◌≢◌, ◌↔◌, ◌∷◌, ℕ, All, List, Some, map, slice_get};
 ghost use Rattle.std.specs.FinMap.{entries};
 ghost use Rattle.keyed_state.specs.Counts.{Counts};
 ghost use Rattle.sink_journal.specs.Audit.{audit_header};
@@ -17,6 +17,7 @@ ghost use Rattle.audit_laws.specs.Brought.{feed_of};
 ghost use Rattle.audit_laws.specs.Checked.{IsChecked, IsFinishedDraft, ShowsBrought};
 ghost use Rattle.audit_laws.specs.Faults.{IsFaultOfWorkers, Listed};
 ghost use Rattle.audit_laws.specs.Fits.{Fits, HasForm, kept_lines, records_of};
+ghost use Rattle.audit_laws.specs.Lines.{IsNoted};
 ghost use Rattle.audit_laws.specs.Restoring.{LanesAgree, restored_by};
 ghost use Rattle.audit_laws.specs.Trimmed.{trimmed};
 ghost use Rattle.audit_laws.specs.Verdict.{IsFaultOf, fields_of};
@@ -84,19 +85,33 @@ pub fn runs_fit_their_lines(setup: &Setup)
         ↔ Fits refused text ran }
 {}
 
+/// The lines of a run have their form, if each refused request is noted by its place and its code.
+/// So every row, request, birth and count of a run is in the range of its type.
+pub fn lines_of_runs_have_form(setup: &Setup, rows: &Rows)
+    ensures { (refused : List NotedIs) (ran : Ran) → All IsNoted refused →
+        IsRun (outline setup.now) rows.now ran → HasForm refused ran }
+{
+    let _numbered = rows.as_slice();
+    let _request_count = setup.requests();
+    let _plan_count = setup.plans.len();
+}
+
 /// A text that a run fits has no fault.
 pub fn texts_of_runs_have_no_fault(setup: &Setup, rows: &Rows)
     ensures { (refused : List NotedIs) (text : List ℕ) (ran : Ran) (fault : FaultIs) →
-        IsRun (outline setup.now) rows.now ran → Fits refused text ran → HasForm refused ran →
+        All IsNoted refused → IsRun (outline setup.now) rows.now ran → Fits refused text ran →
         fault ≢ TheFault.NoMemory → ¬ IsFaultOf (outline setup.now) setup.now.job.dag.order
         refused rows.now (records_of text) fault }
 {
     let _numbered = rows.as_slice();
+    lines_of_runs_have_form(setup, rows);
 }
 
 /// A text determines the run: two runs that fit one text are equal.
-pub fn texts_tell_the_run(setup: &Setup)
-    ensures { (rows : List RowIs) (refused : List NotedIs) (text : List ℕ) (a b : Ran) →
-        IsRun (outline setup.now) rows a → IsRun (outline setup.now) rows b →
-        Fits refused text a → Fits refused text b → HasForm refused a → HasForm refused b → a ≡ b }
-{}
+pub fn texts_tell_the_run(setup: &Setup, rows: &Rows)
+    ensures { (refused : List NotedIs) (text : List ℕ) (a b : Ran) → All IsNoted refused →
+        IsRun (outline setup.now) rows.now a → IsRun (outline setup.now) rows.now b →
+        Fits refused text a → Fits refused text b → a ≡ b }
+{
+    lines_of_runs_have_form(setup, rows);
+}

@@ -16,10 +16,11 @@ use Rattle.audit_laws.proofs.VerdictLemmas.{in_shape, no_text_fault}
 use Rattle.audit_laws.proofs.laws.texts_of_runs_have_no_fault.Goals as goal
 
 pub returns : goal.returns
-returns c refused text ran fault is fits form some stands =
+returns c refused text ran fault noted is fits some stands =
     let rows = c.args.rows.now in
     let are : AreRows rows = subst AreRows c.as_slice-numbered.ensures.value c.as_slice-numbered.ensures.rows in
     let job = c.args.setup.now.job in
+    let form = c.lines_of_runs_have_form.ensures refused ran noted is in
     let p = by_parts (outline c.args.setup.now) rows ran is in
     let shaped : AreInShape (outline c.args.setup.now).job (records_of text) (lines_of refused (feed_of (outline c.args.setup.now) rows) (map trimmed ran.journals) (map entries ran.states)) =
     subst (λ (feeds : List Feed). AreInShape (outline c.args.setup.now).job (records_of text) (lines_of refused feeds (map trimmed ran.journals) (map entries ran.states)))

@@ -10,7 +10,10 @@ use Rattle.audit_laws.proofs.VerdictLemmas.{in_shape, same_trims}
 use Rattle.audit_laws.proofs.laws.texts_tell_the_run.Goals as goal
 
 pub returns : goal.returns
-returns c rows refused text a b x y p q v w =
+returns c refused text a b noted x y p q =
+    let rows = c.args.rows.now in
+    let v = c.lines_of_runs_have_form.ensures refused a noted x in
+    let w = c.lines_of_runs_have_form.ensures refused b noted y in
     let job = c.args.setup.now.job in
     let here : Outline = outline c.args.setup.now in
     one_run here (wired (written job) job.dag job.lawful refl job.drawn) rows a b x y (

@@ -1,0 +1,130 @@
+-- The rows and births of the tuples of a run are in the ranges of their types.
+use Rattle.std.proofs.Common.{◌≡◌, ◌∙◌, ◌<◌, ◌≤◌, ℕ, zero, suc, List, [], ◌∷◌, inl, inr, refl, sym, ap, subst, arith, length, true, false, Bool, cond, ◌==◌, Some, slice_get}
+use Rattle.std.specs.FinMap.{empty}
+use Rattle.std.proofs.lemmas.Option.{slice_get_within}
+use Rattle.jobs.specs.Law.{IsLawful}
+use Rattle.jobs.specs.Nodes.{fan_out, most_roof}
+use Rattle.jobs.specs.Ports.{are_ports, out_count}
+use Rattle.jobs.specs.declared.func.Func.{Func}
+use Rattle.jobs.specs.declared.func.Func.TheVariants as func
+use Rattle.jobs.specs.declared.func.NodeDef.{NodeDef}
+use Rattle.jobs.proofs.RoofLemmas.{roof_of_node}
+use Rattle.operators.specs.Laws.{IsMadeOf}
+use Rattle.operators.specs.Meaning.{step}
+use Rattle.operators.proofs.OutputLemmas.{outputs_made}
+use Rattle.sink_journal.specs.declared.journal.Entry.{Entry}
+use Rattle.sink_journal.specs.declared.journal.Entry.TheVariants as entry
+use Rattle.tuple_trace.specs.Rows.{AreRows, IsRow}
+use Rattle.tuple_trace.specs.declared.row.Row.{Row}
+use Rattle.tuple_trace.specs.declared.tuple.Item.{Item}
+use Rattle.tuple_trace.specs.declared.tuple.Item.TheVariants as item
+use Rattle.tuple_trace.specs.declared.tuple.Tuple.{Tuple}
+use Rattle.versions.specs.Kept.{KeepKinds}
+use Rattle.flow_model.specs.declared.topology.Lane.{Lane}
+use Rattle.flow_model.specs.Begin.{local_at}
+use Rattle.flow_model.specs.Feeding.{fed, fed_puts, fed_tuple, row_at}
+use Rattle.flow_model.specs.Outline.{Outline, Post}
+use Rattle.flow_model.specs.Replay.{Local, Put, put_out, puts, sent, visit_at}
+use Rattle.flow_model.specs.Workers.{posts}
+use Rattle.flow_model.proofs.ElementLemmas.{IsIn, all_of_at, in_flat_map, in_map, place_of_in}
+use Rattle.flow_model.proofs.JobLemmas.{IsWired}
+use Rattle.flow_model.proofs.KindLemmas.{AreAlike, IsGiven, alike_given, given_roof, given_then}
+use Rattle.flow_model.proofs.RunLemmas.{in_fed_puts, row_is}
+use Rattle.flow_model.proofs.SendingLemmas.{in_items, puts_come}
+use Rattle.flow_model.proofs.StoryLemmas.{Moment, entry_in, put_then, sent-story, story}
+use Rattle.flow_model.proofs.WorkerLemmas.{IsWorker, worker_with}
+use Rattle.audit_laws.specs.Brought.{feed_of}
+use Rattle.audit_laws.proofs.EachTupleLemmas.{HasEach, SendsEach, each_tuple}
+use Rattle.audit_laws.proofs.SmallLemmas.{AreNarrow, births_narrow}
+use Rattle.audit_laws.proofs.TiedLemmas.{IsTied}
+
+-- the tuple is of one of so many rows, and its births are in range
+abbrev pub IsNarrow : ℕ → Tuple → Type 0
+IsNarrow rows t = (t.row ≤ rows) × AreNarrow t.birth
+
+-- ---- what the feeder puts
+
+row_within : (rows : List Row) (number : ℕ) (row : Row) → row_at rows number ≡ Some row → number ≤ length rows
+row_within rows zero row g = absurd (cc)
+row_within rows (suc place) row g = let lt = slice_get_within rows place row g in omega arith
+
+narrow_fed : (setup : Outline) (rows : List Row) → AreRows rows → (lane : Lane) (t : Tuple) → IsIn (item.Carry t) (fed setup.job rows 0 lane (feed_of setup rows)) → IsNarrow (length rows) t
+narrow_fed setup rows are lane t i =
+    let p = in_items lane (fed_puts setup.job rows 0 (feed_of setup rows)) (item.Carry t) i in
+    let r = in_fed_puts setup.job rows 0 (feed_of setup rows) p.0 p.1 in
+    let c : item.Carry t ≡ item.Carry (fed_tuple r.2 r.1) = p.3 ∙ ap (λ (p : Put). p.item) r.4 in
+    let same : t ≡ fed_tuple r.2 r.1 = cc in
+    let is : IsRow r.0 r.1 = row_is rows r.0 r.1 are r.3 in
+    let number : t.row ≡ r.0 = ap (λ (t : Tuple). t.row) same ∙ is.numbered in
+    let born : t.birth ≡ [] = ap (λ (t : Tuple). t.birth) same ∙ is.unborn in
+    let le = row_within rows r.0 r.1 r.3 in
+    (omega arith, subst AreNarrow (sym born) (all_of_at (λ birth. _) [] (λ x j. absurd j)))
+
+-- ---- what a worker sends
+
+few_pieces : (f : Func) (outs : ℕ) → most_roof f outs ≤ 16
+few_pieces func.Source outs = omega arith
+few_pieces (func.Filter conds) outs = go (outs == 2)
+  where
+    go : (b : Bool) → cond b 1 16 ≤ 16
+    go true = omega arith
+    go false = omega arith
+few_pieces (func.Map steps) outs = omega arith
+few_pieces (func.Enrich lookup) outs = omega arith
+few_pieces (func.Count count) outs = omega arith
+few_pieces (func.Split split) outs = omega arith
+few_pieces func.Replicate outs = omega arith
+few_pieces (func.Sink listed) outs = omega arith
+
+-- what a node may be given makes few pieces, and has the node's ports
+record Fits (setup : Outline) (node : ℕ) (f : Func) : Type 0 where
+  pieces : fan_out f ≤ 16
+  ports : are_ports setup.job.edges node f ≡ true
+
+narrow_put : (rows : ℕ) (setup : Outline) (post : Post) (local : Local) (x : Entry) (p : Put) (t : Tuple) → Fits setup post.node local.func
+    → ((l : ℕ) (u : Tuple) → entry.Met l u ≡ x → IsNarrow rows u) → IsIn p (puts setup post local x) → p.item ≡ item.Carry t → IsNarrow rows t
+narrow_put rows setup post local (entry.Met l u) p t fits h i e =
+    let s = in_map (put_out setup.job post) p (step setup.job (visit_at post local) local.func local.counts u).1 i in
+    let k = place_of_in s.0 (step setup.job (visit_at post local) local.func local.counts u).1 s.1 in
+    let o : IsMadeOf setup.job.edges (visit_at post local) local.func u k.0 s.0 = outputs_made setup.job (visit_at post local) local.func local.counts u k.0 s.0 k.1 in
+    let c : item.Carry s.0.tuple ≡ item.Carry t = sym (ap (λ (p : Put). p.item) s.2) ∙ e in
+    let same : s.0.tuple ≡ t = cc in
+    let met : IsNarrow rows u = h l u refl in
+    let row : t.row ≡ u.row = sym (ap (λ (t : Tuple). t.row) same) ∙ o.row in
+    let le = met.0 in (
+      omega arith,
+      subst AreNarrow (sym o.birth ∙ ap (λ (t : Tuple). t.birth) same)
+          (births_narrow setup.job.edges post.node local.func u.birth k.0 s.0.port fits.pieces fits.ports o.port met.1),
+    )
+narrow_put rows setup post local (entry.Marked l r) p t fits h i e = absurd i
+narrow_put rows setup post local (entry.Turned r) p t fits h i e = let m = (puts_come setup post local (entry.Turned r) p i).2 in absurd (cc)
+narrow_put rows setup post local (entry.Ended l) p t fits h i e = let m = puts_come setup post local (entry.Ended l) p i in absurd (cc)
+
+module _ (setup : Outline) (law : IsLawful setup.job) (wired : IsWired setup.job) (kinds : KeepKinds setup.job setup.requests) where
+  fits_given : (node : ℕ) (def : NodeDef) (f : Func) → slice_get setup.job.nodes node ≡ Some def → IsGiven setup node def.func f → Fits setup node f
+  fits_given node def f there given =
+      let roof = given_roof setup node def f law kinds there given in
+      let most = (roof_of_node setup.job node def law there).1 in
+      let few = few_pieces def.func (out_count setup.job.edges node) in
+      let alike : AreAlike setup.job.edges node def.func f = alike_given setup node def f kinds there given in
+      record { pieces = omega arith; ports = alike.ports (wired.ports node def there) }
+
+  narrow_sent : (rows : ℕ) (w : ℕ) (post : Post) (journal : List Entry) → slice_get (posts setup.job) w ≡ Some post → SendsEach setup (IsNarrow rows) post journal
+  narrow_sent rows w post journal p h lane t i =
+      let local : Local = local_at setup 0 post empty in
+      let is : IsWorker setup.job post = (worker_with setup.job w post p).1 in
+      let j : IsIn (item.Carry t) _ = subst (λ (l : List Item). IsIn (item.Carry t) l) (sent-story setup post local lane journal) i in
+      let m = in_flat_map (put_then setup post lane) (item.Carry t) (story setup post local journal) j in
+      let k = place_of_in m.0 (story setup post local journal) m.1 in
+      let given : IsGiven setup post.node post.func m.0.local.func = given_then setup post post.func local journal k.0 m.0 (inl refl) k.1 in
+      let q = in_items lane (puts setup post m.0.local m.0.entry) (item.Carry t) m.2 in
+      narrow_put rows setup post m.0.local m.0.entry q.0 t
+      (fits_given post.node is.def m.0.local.func is.node_is (subst (λ (f : Func). IsGiven setup post.node f m.0.local.func) is.func_is given))
+      (λ l u e. h l u (subst (λ (x : Entry). IsIn x journal) (sym e) (entry_in setup post local journal m.0 m.1))) q.1 (sym q.3)
+
+  -- in journals that are tied to their senders every tuple is of one of the rows, and its births are in range
+  pub each_narrow : (rows : List Row) → AreRows rows → (journals : List (List Entry))
+      → ((w : ℕ) (post : Post) → slice_get (posts setup.job) w ≡ Some post → IsTied setup rows journals w)
+      → (w : ℕ) (post : Post) (journal : List Entry) → slice_get (posts setup.job) w ≡ Some post → slice_get journals w ≡ Some journal → HasEach (IsNarrow (length rows)) journal
+  each_narrow rows are journals tied =
+      each_tuple setup wired rows journals tied (IsNarrow (length rows)) (narrow_fed setup rows are) (λ w post journal p j. narrow_sent (length rows) w post journal p)

@@ -1,0 +1,101 @@
+-- Counts are in the range of their type.
+use Rattle.std.proofs.Common.{◌≡◌, ◌∙◌, ◌<◌, ◌≤◌, ◌-◌, ◌^◌, ℕ, ℤ, pos, negsuc, suc, List, [], ◌∷◌, ◌⊎◌, inl, inr, refl, sym, subst, arith, true, false, Bool, map, filter, Some, None, Option, Ordering}
+use Rattle.std.proofs.Common.{length}
+use Rattle.std.specs.Prelude.{min}
+use Rattle.std.specs.Cmp.Lexicographic.{slice_cmp, nat_list_cmp_total}
+use Rattle.std.specs.FinMap.{empty, entries, entries-insert, from_entries, insert, len-empty, len-entries, put}
+use Rattle.std.specs.FinMap.Entries.{by_order}
+use Rattle.std.specs.Int.Signed.{mag}
+use Rattle.std.specs.Ordering.{nat_cmp}
+use Rattle.std.specs.declared.cmp.Ordering.TheVariants.{Less, Equal, Greater}
+use Rattle.jobs.specs.Written.{Written}
+use Rattle.jobs.specs.declared.func.Func.{Func}
+use Rattle.jobs.specs.declared.func.Func.TheVariants as func
+use Rattle.keyed_state.specs.Counts.{Counts, carried, clamp, scaled}
+use Rattle.keyed_state.specs.declared.carry.Carry.{Carry}
+use Rattle.keyed_state.specs.declared.carry.Carry.TheVariants as carry
+use Rattle.operators.specs.Fields.{text_at}
+use Rattle.operators.specs.Meaning.{count_after, counts_after}
+use Rattle.sink_journal.specs.declared.journal.Entry.{Entry}
+use Rattle.sink_journal.specs.declared.journal.Entry.TheVariants as entry
+use Rattle.tuple_trace.specs.declared.tuple.Tuple.{Tuple}
+use Rattle.versions.specs.declared.request.Change.{Change}
+use Rattle.flow_model.specs.Outline.{Outline, Post}
+use Rattle.flow_model.specs.Replay.{Local, after, after_all, with_change}
+use Rattle.flow_model.specs.Requests.{change_of}
+use Rattle.flow_model.proofs.ElementLemmas.{IsIn, in_filter, in_map}
+
+-- each count is in the range of its type
+abbrev pub AreInRange : List (List ℕ × ℤ) → Type 0
+AreInRange counted = (c : List ℕ × ℤ) → IsIn c counted → mag c.1 < 2 ^ 63
+
+clamp_range : (z : ℤ) → mag (clamp z) < 2 ^ 63
+clamp_range (pos n) = omega arith
+clamp_range (negsuc n) = omega arith
+
+no_items : {A : Type 0} (xs : List A) → length xs ≡ 0 → xs ≡ []
+no_items [] e = refl
+no_items (x ∷ xs) e = absurd (omega (arith, e))
+
+-- no text is counted at first
+pub none_listed : entries (empty {X = ℤ} {R = slice_cmp nat_cmp}) ≡ []
+none_listed = no_items (entries (empty {X = ℤ} {R = slice_cmp nat_cmp})) (sym (len-entries (empty {X = ℤ} {R = slice_cmp nat_cmp})) ∙ len-empty (slice_cmp nat_cmp) ℤ)
+
+pub empty_range : AreInRange (entries (empty {X = ℤ} {R = slice_cmp nat_cmp}))
+empty_range = subst AreInRange (sym none_listed) (λ c i. absurd i)
+
+put_range : (k : List ℕ) (v : ℤ) (es : List (List ℕ × ℤ)) → mag v < 2 ^ 63 → AreInRange es → AreInRange (put (slice_cmp nat_cmp) k v es)
+put_range k v [] small h c (inl e) = subst (λ (c : List ℕ × ℤ). mag c.1 < 2 ^ 63) (sym e) small
+put_range k v [] small h c (inr n) = absurd n
+put_range k v (e ∷ es) small h c i = go (slice_cmp nat_cmp k e.0) (put_range k v es small (λ c i. h c (inr i))) c i
+  where
+    go : (o : Ordering) → AreInRange (put (slice_cmp nat_cmp) k v es) → AreInRange (by_order o ((k, v) ∷ e ∷ es) ((e.0, v) ∷ es) (e ∷ put (slice_cmp nat_cmp) k v es))
+    go Less later c (inl p) = subst (λ (c : List ℕ × ℤ). mag c.1 < 2 ^ 63) (sym p) small
+    go Less later c (inr i) = h c i
+    go Equal later c (inl p) = subst (λ (c : List ℕ × ℤ). mag c.1 < 2 ^ 63) (sym p) small
+    go Equal later c (inr i) = h c (inr i)
+    go Greater later c (inl p) = h c (inl p)
+    go Greater later c (inr i) = later c i
+
+insert_range : (counts : Counts) (k : List ℕ) (v : ℤ) → mag v < 2 ^ 63 → AreInRange (entries counts) → AreInRange (entries (insert counts k v))
+insert_range counts k v small h = subst AreInRange (sym (entries-insert nat_list_cmp_total counts k v)) (put_range k v (entries counts) small h)
+
+list_range : (es : List (List ℕ × ℤ)) → AreInRange es → AreInRange (entries (from_entries {R = slice_cmp nat_cmp} es))
+list_range [] h = empty_range
+list_range (e ∷ es) h = insert_range (from_entries es) e.0 e.1 (h e (inl refl)) (list_range es (λ c i. h c (inr i)))
+
+carried_range : (how : Carry) (counts : Counts) → AreInRange (entries counts) → AreInRange (entries (carried how counts))
+carried_range carry.Keep counts h = h
+carried_range carry.Reset counts h = empty_range
+carried_range (carry.Scale by over) counts h =
+    list_range (map (λ e. (e.0, scaled by over e.1)) (entries counts)) (λ c i.
+    let r = in_map (λ e. (e.0, scaled by over e.1)) c (entries counts) i in
+    subst (λ (c : List ℕ × ℤ). mag c.1 < 2 ^ 63) (sym r.2) (clamp_range _))
+carried_range (carry.DropBelow least) counts h =
+    list_range (filter _ (entries counts)) (λ c i. h c (in_filter _ c (entries counts) i).0)
+
+step_range : (job : Written) (f : Func) (counts : Counts) (t : Tuple) → AreInRange (entries counts) → AreInRange (entries (counts_after job f counts t))
+step_range job func.Source counts t h = h
+step_range job (func.Filter conds) counts t h = h
+step_range job (func.Map steps) counts t h = h
+step_range job (func.Enrich lookup) counts t h = h
+step_range job (func.Count count) counts t h =
+    insert_range counts (text_at job.columns t.fields count.key) (count_after job.columns count counts t) (clamp_range _) h
+step_range job (func.Split split) counts t h = h
+step_range job func.Replicate counts t h = h
+step_range job (func.Sink listed) counts t h = h
+
+after_range : (setup : Outline) (post : Post) (local : Local) (x : Entry) → AreInRange (entries local.counts) → AreInRange (entries (after setup post local x).counts)
+after_range setup post local (entry.Met l t) h = step_range setup.job local.func local.counts t h
+after_range setup post local (entry.Marked l r) h = h
+after_range setup post local (entry.Turned r) h = go (change_of setup r post.node)
+  where
+    go : (o : Option Change) → AreInRange (entries (with_change o local).counts)
+    go None = h
+    go (Some change) = carried_range change.carry local.counts h
+after_range setup post local (entry.Ended l) h = h
+
+-- so it is at the end of a journal
+pub all_range : (setup : Outline) (post : Post) (local : Local) (xs : List Entry) → AreInRange (entries local.counts) → AreInRange (entries (after_all setup post local xs).counts)
+all_range setup post local [] h = h
+all_range setup post local (x ∷ xs) h = all_range setup post (after setup post local x) xs (after_range setup post local x h)
