@@ -2,7 +2,7 @@
 ghost use Rattle.std.specs.Prelude.{◌≡◌, ◌≢◌, ◌↔◌, ◌∷◌, ℕ, All, List, Some, map, slice_get};
 ghost use Rattle.std.specs.FinMap.{entries};
 ghost use Rattle.keyed_state.specs.Counts.{Counts};
-ghost use Rattle.sink_journal.specs.Audit.{audit_header};
+ghost use Rattle.sink_journal.specs.Audit.{audit, audit_header};
 ghost use Rattle.sink_journal.specs.declared.audit.Noted.{Noted as NotedIs};
 ghost use Rattle.sink_journal.specs.declared.journal.Entry.{Entry as EntryIs};
 ghost use Rattle.tuple_trace.specs.declared.row.Row.{Row as RowIs};
@@ -83,6 +83,12 @@ pub fn runs_fit_their_lines(setup: &Setup)
         IsRun (outline setup.now) rows ran →
         records_of text ≡ audit_header ∷ fields_of (outline setup.now).job (kept_lines refused ran)
         ↔ Fits refused text ran }
+{}
+
+/// The text that is written of a run fits the run. So what is written is read again as it was.
+pub fn written_audits_fit()
+    ensures { (refused : List NotedIs) (ran : Ran) → Fits refused
+        (audit ran.setup.job refused ran.feeds ran.journals ran.states) ran }
 {}
 
 /// The lines of a run have their form, if each refused request is noted by its place and its code.
