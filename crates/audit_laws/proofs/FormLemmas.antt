@@ -1,7 +1,6 @@
 -- The lines of a run have their form.
-use Rattle.std.proofs.Common.{◌≡◌, ◌∙◌, ◌<◌, ◌≤◌, ◌+◌, ◌^◌, ◌++◌, ℕ, zero, suc, List, [], ◌∷◌, inl, inr, refl, sym, ap, subst, arith, All, length, map, Some, slice_get, option_map}
+use Rattle.std.proofs.Common.{◌≡◌, ◌∙◌, ◌<◌, ◌+◌, ◌^◌, ◌++◌, ℕ, suc, List, [], ◌∷◌, inl, inr, refl, sym, ap, subst, arith, All, length, map, Some, slice_get, option_map}
 use Rattle.std.specs.FinMap.{empty, entries}
-use Rattle.std.specs.Int.Signed.{mag}
 use Rattle.std.proofs.lemmas.List.{length-map}
 use Rattle.std.proofs.lemmas.Option.{same_Some, slice_get-map, slice_get_within}
 use Rattle.jobs.specs.Law.{IsLawful}
@@ -13,11 +12,10 @@ use Rattle.sink_journal.specs.declared.journal.Feed.{Feed}
 use Rattle.sink_journal.specs.declared.journal.Feed.TheVariants as feed
 use Rattle.tuple_trace.specs.Rows.{AreRows}
 use Rattle.tuple_trace.specs.declared.row.Row.{Row}
-use Rattle.tuple_trace.specs.declared.tuple.Tuple.{Tuple}
 use Rattle.versions.specs.Kept.{KeepKinds}
 use Rattle.flow_model.specs.Begin.{at_first, local_at}
 use Rattle.flow_model.specs.Law.{initial}
-use Rattle.flow_model.specs.Outline.{Outline, Post}
+use Rattle.flow_model.specs.Outline.{Outline}
 use Rattle.flow_model.specs.Requests.{afters}
 use Rattle.flow_model.specs.Run.{IsRunFrom, final_counts, ran_as}
 use Rattle.flow_model.specs.Station.{station}

@@ -1,8 +1,7 @@
 -- In journals that are tied to those of their senders every tuple was issued as the feed says of its row.
-use Rattle.std.proofs.Common.{◌≡◌, ◌∙◌, ◌<◌, ◌+◌, ◌++◌, ◌==◌, ℕ, zero, suc, List, [], ◌∷◌, ◌⊎◌, inl, inr, refl, sym, ap, subst, arith, cond, length, Some, None, Option, slice_get}
+use Rattle.std.proofs.Common.{◌≡◌, ◌∙◌, ◌<◌, ◌+◌, ◌++◌, ◌==◌, ℕ, List, [], ◌∷◌, inl, inr, refl, sym, ap, arith, cond, length, Some, None, Option, slice_get}
 use Rattle.std.specs.FinMap.{empty}
-use Rattle.std.proofs.lemmas.Bool.{eq-eqb, eqb-true, ne_eqb}
-use Rattle.std.proofs.lemmas.Option.{same_Some}
+use Rattle.std.proofs.lemmas.Bool.{eq-eqb, ne_eqb}
 use Rattle.jobs.specs.Written.{Written}
 use Rattle.operators.specs.Laws.{IsMadeOf}
 use Rattle.operators.specs.Meaning.{step}
@@ -13,25 +12,20 @@ use Rattle.sink_journal.specs.declared.journal.Feed.{Feed}
 use Rattle.sink_journal.specs.declared.journal.Feed.TheVariants as feed
 use Rattle.tuple_trace.specs.Rows.{AreRows}
 use Rattle.tuple_trace.specs.declared.row.Row.{Row}
-use Rattle.tuple_trace.specs.declared.tuple.Item.{Item}
 use Rattle.tuple_trace.specs.declared.tuple.Item.TheVariants as item
 use Rattle.tuple_trace.specs.declared.tuple.Tuple.{Tuple}
-use Rattle.flow_model.specs.Begin.{at_first, local_at}
+use Rattle.flow_model.specs.Begin.{local_at}
 use Rattle.flow_model.specs.Feeding.{fed, fed_put, fed_puts, fed_tuple, row_at}
 use Rattle.flow_model.specs.Outline.{Outline, Post}
 use Rattle.flow_model.specs.declared.topology.Lane.{Lane}
-use Rattle.flow_model.specs.Replay.{Local, Put, after, came_in, items_on, put_out, puts, sent, shown, visit_at}
+use Rattle.flow_model.specs.Replay.{Local, Put, after, items_on, put_out, puts, sent, visit_at}
 use Rattle.flow_model.specs.Requests.{afters}
-use Rattle.flow_model.specs.Run.{put_by, ran_as}
 use Rattle.flow_model.specs.Workers.{posts}
-use Rattle.flow_model.proofs.AgreementLemmas.{met_shown}
-use Rattle.flow_model.proofs.ElementLemmas.{IsIn, flat_map_in, in_cases, in_map, place_of_in}
+use Rattle.flow_model.proofs.ElementLemmas.{IsIn, in_cases, in_map, place_of_in}
 use Rattle.flow_model.proofs.JobLemmas.{IsWired}
-use Rattle.flow_model.proofs.LaneLemmas.{LaneIn, in_lanes_that, lane_into}
 use Rattle.flow_model.proofs.RootLemmas.{FeedsRise, feed_rises}
 use Rattle.flow_model.proofs.RunLemmas.{row_is}
 use Rattle.flow_model.proofs.SendingLemmas.{in_items, puts_come}
-use Rattle.flow_model.proofs.WorkerLemmas.{worker_with}
 use Rattle.audit_laws.specs.Brought.{feed_of}
 use Rattle.audit_laws.specs.Drafted.{issued_before}
 use Rattle.audit_laws.proofs.DraftLemmas.{IssuedRight}

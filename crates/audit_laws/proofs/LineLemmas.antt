@@ -5,7 +5,6 @@ use Rattle.std.proofs.lemmas.Fmt.{decimal_injective, signed_decimal_injective}
 use Rattle.std.proofs.lemmas.List.{append_cancel_left}
 use Rattle.std.proofs.lemmas.List.Elements.{recursion_from_All}
 use Rattle.jobs.specs.Written.{Written}
-use Rattle.sink_journal.specs.declared.audit.Noted.{Noted}
 use Rattle.sink_journal.specs.declared.journal.Feed.TheVariants as feed
 use Rattle.flow_model.proofs.WorkerLemmas.{item_at}
 use Rattle.audit_laws.specs.declared.audit.AuditEntry.{AuditEntry}

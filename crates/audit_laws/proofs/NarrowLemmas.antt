@@ -1,5 +1,5 @@
 -- The rows and births of the tuples of a run are in the ranges of their types.
-use Rattle.std.proofs.Common.{◌≡◌, ◌∙◌, ◌<◌, ◌≤◌, ℕ, zero, suc, List, [], ◌∷◌, inl, inr, refl, sym, ap, subst, arith, length, true, false, Bool, cond, ◌==◌, Some, slice_get}
+use Rattle.std.proofs.Common.{◌≡◌, ◌∙◌, ◌≤◌, ℕ, zero, suc, List, [], inl, refl, sym, ap, subst, arith, length, true, false, Bool, cond, ◌==◌, Some, slice_get}
 use Rattle.std.specs.FinMap.{empty}
 use Rattle.std.proofs.lemmas.Option.{slice_get_within}
 use Rattle.jobs.specs.Law.{IsLawful}
@@ -24,14 +24,14 @@ use Rattle.flow_model.specs.declared.topology.Lane.{Lane}
 use Rattle.flow_model.specs.Begin.{local_at}
 use Rattle.flow_model.specs.Feeding.{fed, fed_puts, fed_tuple, row_at}
 use Rattle.flow_model.specs.Outline.{Outline, Post}
-use Rattle.flow_model.specs.Replay.{Local, Put, put_out, puts, sent, visit_at}
+use Rattle.flow_model.specs.Replay.{Local, Put, put_out, puts, visit_at}
 use Rattle.flow_model.specs.Workers.{posts}
 use Rattle.flow_model.proofs.ElementLemmas.{IsIn, all_of_at, in_flat_map, in_map, place_of_in}
 use Rattle.flow_model.proofs.JobLemmas.{IsWired}
 use Rattle.flow_model.proofs.KindLemmas.{AreAlike, IsGiven, alike_given, given_roof, given_then}
 use Rattle.flow_model.proofs.RunLemmas.{in_fed_puts, row_is}
 use Rattle.flow_model.proofs.SendingLemmas.{in_items, puts_come}
-use Rattle.flow_model.proofs.StoryLemmas.{Moment, entry_in, put_then, sent-story, story}
+use Rattle.flow_model.proofs.StoryLemmas.{entry_in, put_then, sent-story, story}
 use Rattle.flow_model.proofs.WorkerLemmas.{IsWorker, worker_with}
 use Rattle.audit_laws.specs.Brought.{feed_of}
 use Rattle.audit_laws.proofs.EachTupleLemmas.{HasEach, SendsEach, each_tuple}

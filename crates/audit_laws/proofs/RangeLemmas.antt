@@ -1,7 +1,6 @@
 -- Counts are in the range of their type.
-use Rattle.std.proofs.Common.{◌≡◌, ◌∙◌, ◌<◌, ◌≤◌, ◌-◌, ◌^◌, ℕ, ℤ, pos, negsuc, suc, List, [], ◌∷◌, ◌⊎◌, inl, inr, refl, sym, subst, arith, true, false, Bool, map, filter, Some, None, Option, Ordering}
+use Rattle.std.proofs.Common.{◌≡◌, ◌∙◌, ◌<◌, ◌^◌, ℕ, ℤ, pos, negsuc, List, [], ◌∷◌, inl, inr, refl, sym, subst, arith, map, filter, Some, None, Option, Ordering}
 use Rattle.std.proofs.Common.{length}
-use Rattle.std.specs.Prelude.{min}
 use Rattle.std.specs.Cmp.Lexicographic.{slice_cmp, nat_list_cmp_total}
 use Rattle.std.specs.FinMap.{empty, entries, entries-insert, from_entries, insert, len-empty, len-entries, put}
 use Rattle.std.specs.FinMap.Entries.{by_order}

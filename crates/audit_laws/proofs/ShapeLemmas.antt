@@ -36,7 +36,7 @@ pub same_lines : (job : Written) → AreTold job → (a b : List Line) → All (
     → map (line_fields (named_workers job.nodes)) a ≡ map (line_fields (named_workers job.nodes)) b → a ≡ b
 same_lines job told a b p q e = same_lines_of job told a b (recursion_from_All (IsLine job) a p) (recursion_from_All (IsLine job) b q) e
 
-behind : (x y : List (List ℕ)) (a b : List (List (List ℕ))) → x ∷ a ≡ y ∷ b → a ≡ b
+pub behind : (x y : List (List ℕ)) (a b : List (List (List ℕ))) → x ∷ a ≡ y ∷ b → a ≡ b
 behind x y a b e = cc
 
 pub one_reading : (job : Written) → AreTold job → (records : List (List (List ℕ))) (a b : List Line) → AreInShape job records a → AreInShape job records b → a ≡ b

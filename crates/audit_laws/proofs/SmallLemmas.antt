@@ -1,5 +1,5 @@
 -- The births that a function adds are small.
-use Rattle.std.proofs.Common.{◌≡◌, ◌∙◌, ◌<◌, ◌≤◌, ◌+◌, ◌^◌, ◌++◌, ◌==◌, ◌&&◌, ℕ, suc, List, [], ◌∷◌, inl, inr, refl, sym, subst, arith, true, false, Bool, cond, eqb}
+use Rattle.std.proofs.Common.{◌≡◌, ◌<◌, ◌≤◌, ◌^◌, ◌++◌, ◌==◌, ◌&&◌, ℕ, suc, List, [], ◌∷◌, inl, inr, refl, sym, subst, arith, true, false, Bool, cond, eqb}
 use Rattle.std.proofs.Common.{All, Some, filter, length, map, slice_get}
 use Rattle.std.specs.Prelude.{nat_le}
 use Rattle.std.specs.List.{list_any}

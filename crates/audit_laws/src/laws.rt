@@ -113,6 +113,15 @@ pub fn texts_of_runs_have_no_fault(setup: &Setup, rows: &Rows)
     lines_of_runs_have_form(setup, rows);
 }
 
+/// No text has two faults. So the contract of a checker fixes its answer, but for out of memory.
+pub fn texts_have_one_fault(setup: &Setup)
+    ensures { (rows : List RowIs) (refused : List NotedIs) (text : List ℕ) (f g : FaultIs) →
+        f ≢ TheFault.NoMemory → g ≢ TheFault.NoMemory →
+        IsFaultOf (outline setup.now) setup.now.job.dag.order refused rows (records_of text) f →
+        IsFaultOf (outline setup.now) setup.now.job.dag.order refused rows (records_of text) g →
+        f ≡ g }
+{}
+
 /// A text determines the run: two runs that fit one text are equal.
 pub fn texts_tell_the_run(setup: &Setup, rows: &Rows)
     ensures { (refused : List NotedIs) (text : List ℕ) (a b : Ran) → All IsNoted refused →

@@ -16,5 +16,5 @@ pub use fault::AuditFault;
 pub use laws::{
     audits_have_one_fault, audits_of_runs_have_no_fault, checked_journals_are_a_run,
     journals_are_restored, journals_tell_the_run, lines_of_runs_have_form, runs_fit_their_lines,
-    texts_of_runs_have_no_fault, texts_tell_the_run, written_audits_fit,
+    texts_have_one_fault, texts_of_runs_have_no_fault, texts_tell_the_run, written_audits_fit,
 };

@@ -1,0 +1,12 @@
+use Rattle.std.proofs.Common.{refl}
+use Rattle.jobs.specs.Job.{written}
+use Rattle.flow_model.specs.Setup.{outline}
+use Rattle.flow_model.proofs.JobLemmas.{wired}
+use Rattle.audit_laws.specs.Fits.{records_of}
+use Rattle.audit_laws.proofs.OneVerdictLemmas.{one_verdict}
+use Rattle.audit_laws.proofs.laws.texts_have_one_fault.Goals as goal
+
+pub returns : goal.returns
+returns c rows refused text f g a b h k =
+    let job = c.args.setup.now.job in
+    one_verdict (outline c.args.setup.now) job.dag (wired (written job) job.dag job.lawful refl job.drawn) job.lawful refl job.drawn rows refused (records_of text) f g a b h k
