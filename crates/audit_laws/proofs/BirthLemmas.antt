@@ -15,7 +15,7 @@ dotless_digits : (cs : List ℕ) → AllDigits 10 cs → Dotless cs
 dotless_digits [] h = tt
 dotless_digits (c ∷ cs) h = ((λ e. let p : digit_value 46 < 10 = subst (λ x. digit_value x < 10) e h.0 in absurd (omega arith)), dotless_digits cs h.1)
 
-dotless : (n : ℕ) → n < 2 ^ 64 → Dotless (decimal n)
+pub dotless : (n : ℕ) → n < 2 ^ 64 → Dotless (decimal n)
 dotless n lt = dotless_digits (decimal n) (decimal_is_IsNumeral n lt).0.1
 
 cut : (xs ys a b : List ℕ) → Dotless xs → Dotless ys → xs ++ 46 ∷ a ≡ ys ++ 46 ∷ b → (xs ≡ ys) × (a ≡ b)

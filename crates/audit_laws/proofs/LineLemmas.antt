@@ -16,7 +16,7 @@ use Rattle.audit_laws.specs.Names.{Named, named_workers}
 use Rattle.audit_laws.proofs.BirthLemmas.{AreSmall, same_births}
 
 -- the field at a place
-abbrev field : ℕ → List (List ℕ) → List ℕ
+abbrev pub field : ℕ → List (List ℕ) → List ℕ
 field k fields = get_or fields k []
 
 -- a worker's names tell its number
@@ -25,13 +25,13 @@ AreTold job =
     (w v : ℕ) (x y : Named) → slice_get (named_workers job.nodes) w ≡ Some x → slice_get (named_workers job.nodes) v ≡ Some y → x.node ≡ y.node → decimal x.place ≡ decimal y.place → w ≡ v
 
 -- the first field of a line
-abbrev entry_name : AuditEntry → List ℕ
+abbrev pub entry_name : AuditEntry → List ℕ
 entry_name (kept.Met l row birth) = codes "met"
 entry_name (kept.Marked l r) = codes "marked"
 entry_name (kept.Turned r) = codes "turned"
 entry_name (kept.Ended l) = codes "ended"
 
-abbrev name_of : Line → List ℕ
+abbrev pub name_of : Line → List ℕ
 name_of (line.Refused noted) = codes "refused"
 name_of (line.Feed (feed.Fed row)) = codes "fed"
 name_of (line.Feed (feed.Issued request)) = codes "issued"
@@ -49,13 +49,13 @@ small ns h = go ns (recursion_from_All (λ n. n < 2 ^ 32) ns h)
 wide : (n : ℕ) → n < 2 ^ 32 → n < 2 ^ 64
 wide n lt = omega arith
 
-entry_named : (worker : Named) (e : AuditEntry) → field 0 (kept_fields worker e) ≡ entry_name e
+pub entry_named : (worker : Named) (e : AuditEntry) → field 0 (kept_fields worker e) ≡ entry_name e
 entry_named worker (kept.Met l row birth) = refl
 entry_named worker (kept.Marked l r) = refl
 entry_named worker (kept.Turned r) = refl
 entry_named worker (kept.Ended l) = refl
 
-entry_node : (worker : Named) (e : AuditEntry) → (field 1 (kept_fields worker e) ≡ worker.node) × (field 2 (kept_fields worker e) ≡ decimal worker.place)
+pub entry_node : (worker : Named) (e : AuditEntry) → (field 1 (kept_fields worker e) ≡ worker.node) × (field 2 (kept_fields worker e) ≡ decimal worker.place)
 entry_node worker (kept.Met l row birth) = (refl, refl)
 entry_node worker (kept.Marked l r) = (refl, refl)
 entry_node worker (kept.Turned r) = (refl, refl)
@@ -77,7 +77,7 @@ same_entry job w v x y e f p q h n = absurd (omega (arith, ap sum n))
 
 -- ---- lines
 
-line_named : (job : Written) (l : Line) → IsLine job l → field 0 (line_fields (named_workers job.nodes) l) ≡ name_of l
+pub line_named : (job : Written) (l : Line) → IsLine job l → field 0 (line_fields (named_workers job.nodes) l) ≡ name_of l
 line_named job (line.Refused noted) h = refl
 line_named job (line.Feed (feed.Fed row)) h = refl
 line_named job (line.Feed (feed.Issued request)) h = refl

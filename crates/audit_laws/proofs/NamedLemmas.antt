@@ -41,7 +41,7 @@ named_get node place (suc left) (suc k) x g =
     let lt = r.2 in
     (r.0, omega arith, omega arith)
 
-name_stands : (nodes : List NodeDef) (w : ℕ) (x : Named) → slice_get (named_workers nodes) w ≡ Some x → NameStands nodes w x
+pub name_stands : (nodes : List NodeDef) (w : ℕ) (x : Named) → slice_get (named_workers nodes) w ≡ Some x → NameStands nodes w x
 name_stands [] w x g = absurd (cc)
 name_stands (def ∷ nodes) w x g =
     elim (get_append (named_at def.name 0 (workers_of def)) (named_workers nodes) w x g) [
@@ -102,7 +102,7 @@ few (func.Split split) workers le = le
 few func.Replicate workers le = le
 few (func.Sink listed) workers le = omega arith
 
-few_workers : (job : Written) → IsLawful job → (i : ℕ) (def : NodeDef) → slice_get job.nodes i ≡ Some def → workers_of def ≤ 8
+pub few_workers : (job : Written) → IsLawful job → (i : ℕ) (def : NodeDef) → slice_get job.nodes i ≡ Some def → workers_of def ≤ 8
 few_workers job is i def g =
     few def.func def.workers (at_of_all (λ (n : NodeDef). (1 ≤ n.workers) × (n.workers ≤ most_workers n.func)) def job.nodes is.limits.workers (in_of_place def job.nodes i g)).1
 

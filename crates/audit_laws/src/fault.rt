@@ -1,3 +1,8 @@
+ghost use Rattle.std.specs.Prelude.{◌≡◌};
+ghost use Rattle.audit_laws.specs.declared.fault.AuditFault.TheVariants.{NoMemory as OutOfMemory};
+
+use tuple_trace::NoMemory;
+
 /// Why a text is the audit of no run. Records are counted from 0, and the header is record 0.
 #[derive(Clone, Copy, Debug, PartialEq, Eq)]
 pub enum AuditFault {
@@ -15,4 +20,12 @@ pub enum AuditFault {
     State(u32),
     /// Out of memory.
     NoMemory,
+}
+
+impl From<NoMemory> for AuditFault {
+    ghost from_gives = { λ _ e. e ≡ OutOfMemory };
+
+    fn from(_: NoMemory) -> Self {
+        AuditFault::NoMemory
+    }
 }

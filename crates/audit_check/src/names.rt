@@ -1,0 +1,91 @@
+// Workers and lanes, as the cells of an audit name them.
+ghost use Rattle.std.specs.Prelude.{◌≡◌, ◌≢◌, ◌<◌, ◌↔◌, ℕ, IfNone, IfSome, IsTrue, Some, decimal};
+ghost use Rattle.std.specs.Prelude.{length, slice_get};
+ghost use Rattle.flow_model.specs.Setup.{outline};
+ghost use Rattle.flow_model.specs.Workers.{posts};
+ghost use Rattle.audit_laws.specs.Lines.{LeadsTo};
+ghost use Rattle.audit_laws.specs.Names.{named_workers};
+ghost use Rattle.audit_check.specs.Cells.{NamesWorker, named_as};
+
+use crate::spelling::narrow;
+use flow_model::Setup;
+
+/// The worker with this place at the node with this name. The worker `near` is tried first.
+pub(crate) fn worker_named(setup: &Setup, node: &[u8], place: &[u8], near: u32) -> Option<u32>
+    ensures some { IfSome result (λ worker.
+        NamesWorker (outline setup.now).job node.now place.now worker) }
+    ensures none { IfNone result ((worker : ℕ) →
+        ¬ NamesWorker (outline setup.now).job node.now place.now worker) }
+{
+    let Some(place) = narrow(place) else {
+        return None;
+    };
+    if is_worker(setup, near, node, place) {
+        return Some(near);
+    }
+    match search(setup, node, place) {
+        Some(worker) => Some(worker),
+        None => None,
+    }
+}
+
+fn is_worker(setup: &Setup, worker: u32, node: &[u8], place: u32) -> bool
+    ensures { IsTrue result → slice_get (named_workers (outline setup.now).job.nodes) worker
+        ≡ Some (named_as node.now place) }
+{
+    worker < setup.workers() && is_named(setup, worker, node, place)
+}
+
+fn search(setup: &Setup, node: &[u8], place: u32) -> Option<u32>
+    ensures some { IfSome result (λ worker.
+        slice_get (named_workers (outline setup.now).job.nodes) worker
+        ≡ Some (named_as node.now place)) }
+    ensures none { IfNone result ((worker : ℕ) →
+        slice_get (named_workers (outline setup.now).job.nodes) worker
+        ≢ Some (named_as node.now place)) }
+{
+    for worker in 0..setup.workers() {
+        if is_named(setup, worker, node, place) {
+            return Some(worker);
+        }
+    }
+    None
+}
+
+fn is_named(setup: &Setup, worker: u32, node: &[u8], place: u32) -> bool
+    requires { worker < length (posts (outline setup.now).job) }
+    ensures { IsTrue result ↔ (slice_get (named_workers (outline setup.now).job.nodes) worker
+        ≡ Some (named_as node.now place)) }
+{
+    let (name, index) = name_of(setup, worker);
+    index == place && name == node
+}
+
+fn name_of(setup: &Setup, worker: u32) -> (&[u8], u32)
+    requires { worker < length (posts (outline setup.now).job) }
+    ensures { slice_get (named_workers (outline setup.now).job.nodes) worker
+        ≡ Some (named_as result.0.now result.1) }
+{
+    let at = setup.worker_at(worker);
+    let node = &setup.job.nodes.as_slice()[at.node as usize];
+    (node.name.as_slice(), at.index)
+}
+
+/// The lane into a worker that a cell spells.
+pub(crate) fn lane_into(setup: &Setup, worker: u32, text: &[u8]) -> Option<u32>
+    ensures some { IfSome result (λ lane.
+        (text.now ≡ decimal lane) × LeadsTo (outline setup.now).job worker lane) }
+    ensures none { IfNone result ((lane : ℕ) → LeadsTo (outline setup.now).job worker lane →
+        text.now ≢ decimal lane) }
+{
+    match narrow(text) {
+        Some(lane) if leads_to(setup, lane, worker) => Some(lane),
+        _ => None,
+    }
+}
+
+fn leads_to(setup: &Setup, lane: u32, worker: u32) -> bool
+    ensures { IsTrue result ↔ LeadsTo (outline setup.now).job worker lane }
+{
+    (lane as usize) < setup.topology.lanes.len() && setup.lane(lane).receiver == worker
+}

@@ -1,0 +1,105 @@
+// The first pass: whether the records of an audit are in shape.
+ghost use Rattle.std.specs.Prelude.{◌≡◌, ◌↔◌, IfErr, IsTrue, List, OnOk};
+ghost use Rattle.csv.specs.Records.{fields_of};
+ghost use Rattle.sink_journal.specs.Audit.{audit_header};
+ghost use Rattle.sink_journal.specs.declared.audit.Noted.{Noted as NotedIs};
+ghost use Rattle.tuple_trace.specs.declared.row.Row.{Row as RowIs};
+ghost use Rattle.flow_model.specs.Setup.{outline};
+ghost use Rattle.audit_laws.specs.declared.audit.Line.{Line as LineIs};
+ghost use Rattle.audit_laws.specs.Fits.{records_of};
+ghost use Rattle.audit_laws.specs.Lines.{group_of as group_of_line};
+ghost use Rattle.audit_laws.specs.Verdict.{AreInShape, IsFaultOf};
+ghost use Rattle.audit_check.specs.Cells.{cells_of};
+
+use crate::lines::line_of;
+use crate::records::{Six, TextRecords, six_of};
+use audit_laws::{AuditFault, Line};
+use csv::ByteRecord;
+use flow_model::Setup;
+use std::alloc::Global;
+
+/// Whether the records of a text are in shape.
+///
+/// The first is the header. Each later one has the form of a line of this job, with its numbers as
+/// they are printed and in range, and its group doesn't come before that of a record above.
+///
+/// # Errors
+///
+/// The first record that breaks a rule, or out of memory.
+pub fn check_shape(alloc: Global, setup: &Setup, bytes: &[u8]) -> Result<(), AuditFault>
+    ensures ok { OnOk result ((lines : List LineIs) ×
+        AreInShape (outline setup.now).job (records_of bytes.now) lines) }
+    ensures fault { (refused : List NotedIs) (rows : List RowIs) → IfErr result
+        (IsFaultOf (outline setup.now) setup.now.job.dag.order refused rows
+        (records_of bytes.now)) }
+{
+    let mut records = TextRecords::of(alloc, bytes);
+    let mut cells = ByteRecord::new(alloc);
+    if !records.next(&mut cells)? {
+        return Err(AuditFault::Shape(0));
+    }
+    if !is_header(&cells) {
+        return Err(AuditFault::Shape(0));
+    }
+    let mut group = 0;
+    let mut near = 0;
+    for number in 1..u64::MAX {
+        if !records.next(&mut cells)? {
+            return Ok(());
+        }
+        let Some(line) = line_of(alloc, setup, &cells, near)? else {
+            return Err(AuditFault::Shape(number));
+        };
+        let next = group_of(&line);
+        if next < group {
+            return Err(AuditFault::Shape(number));
+        }
+        group = next;
+        near = worker_of(&line);
+    }
+    Err(AuditFault::NoMemory)
+}
+
+fn is_header(cells: &ByteRecord) -> bool
+    ensures { IsTrue result ↔ (fields_of cells.now ≡ audit_header) }
+{
+    match six_of(cells) {
+        Some(six) => are_header(six),
+        None => false,
+    }
+}
+
+fn are_header(six: Six<'_>) -> bool
+    ensures { IsTrue result ↔ (cells_of six.entry ≡ audit_header) }
+{
+    are_three(
+        six.entry, six.node, six.worker, b"entry", b"node", b"worker",
+    ) && are_three(
+        six.lane, six.number, six.extra, b"lane", b"number", b"extra",
+    )
+}
+
+fn are_three(a: &[u8], b: &[u8], c: &[u8], x: &[u8], y: &[u8], z: &[u8]) -> bool
+    ensures { IsTrue result ↔ ((a.now ≡ x.now) × (b.now ≡ y.now) × (c.now ≡ z.now)) }
+{
+    a == x && b == y && c == z
+}
+
+fn group_of(line: &Line) -> u64
+    ensures { result ≡ group_of_line line.now }
+{
+    match line {
+        Line::Refused(_) => 0,
+        Line::Feed(_) => 1,
+        Line::Step { worker, .. } => 2 + 2 * *worker as u64,
+        Line::State { worker, .. } => 3 + 2 * *worker as u64,
+    }
+}
+
+// The worker of a line, or the first worker.
+fn worker_of(line: &Line) -> u32 {
+    match line {
+        Line::Refused(_) | Line::Feed(_) => 0,
+        Line::Step { worker, .. } | Line::State { worker, .. } => *worker,
+    }
+}
