@@ -4,3 +4,6 @@ pub mod NameLemmas
 pub mod EntryLemmas
 pub mod LineLemmas
 pub mod ReadingLemmas
+pub mod PartLemmas
+pub mod RefusedLemmas
+pub mod FeedLemmas

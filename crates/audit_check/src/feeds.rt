@@ -1,5 +1,6 @@
 // Refused requests and the feeder's steps, as the records of an audit tell them.
-ghost use Rattle.std.specs.Prelude.{◌≡◌, ◌≢◌, ◌≤◌, ◌↔◌, [], ℕ, IfNone, IfSome, IsTrue, codes, decimal};
+ghost use Rattle.std.specs.Prelude.{◌≡◌, ◌≢◌, ◌≤◌, ◌↔◌, [], ℕ, IfNone, IfSome, IsTrue, codes};
+ghost use Rattle.std.specs.Prelude.{decimal};
 ghost use Rattle.sink_journal.specs.Audit.{code_word, feed_fields, refused_fields};
 ghost use Rattle.sink_journal.specs.declared.audit.Noted.{Noted as NotedIs};
 ghost use Rattle.sink_journal.specs.declared.journal.Feed.{Feed as FeedIs};

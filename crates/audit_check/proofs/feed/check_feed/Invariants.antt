@@ -1,0 +1,16 @@
+use Rattle.std.proofs.Common.{◌≡◌, ◌≤◌, List, length}
+use Rattle.jobs.specs.Job.{written}
+use Rattle.audit_laws.specs.declared.audit.Line.{Line}
+use Rattle.audit_laws.specs.Fits.{records_of}
+use Rattle.audit_laws.specs.Lines.{refusals_in}
+use Rattle.audit_laws.specs.Verdict.{AreInShape}
+use Rattle.audit_check.proofs.FeedLemmas.{AfterLines, AfterSteps}
+use Rattle.audit_check.proofs.feed.check_feed.Given as goal
+
+abbrev pub invariant-loop : goal.invariant-loop
+invariant-loop l =
+    ((lines : List Line) → AreInShape (written l.setup.job) (records_of l.bytes) lines → AfterLines (written l.setup.job) lines l.records l.counter) × (l.counter ≤ length l.refused)
+
+abbrev pub invariant-loop-place : goal.invariant-loop-place
+invariant-loop-place l =
+    (lines : List Line) → AreInShape (written l.setup.job) (records_of l.bytes) lines → refusals_in lines ≡ l.refused → AfterSteps (written l.setup.job) lines l.records l.wanted l.place

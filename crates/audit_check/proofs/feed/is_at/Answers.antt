@@ -1,0 +1,8 @@
+use Rattle.audit_check.proofs.FeedLemmas.{at_place, of_place}
+use Rattle.audit_check.proofs.feed.is_at.Goals as goal
+
+pub returns : goal.returns
+returns c = (
+  λ h. at_place c.args.wanted.now c.args.place _ c.args.found c.requires (c.are_same.ensures.0 h),
+  λ h. c.are_same.ensures.1 (of_place c.args.wanted.now c.args.place _ c.args.found h),
+)

@@ -1,0 +1,11 @@
+use Rattle.std.proofs.Common.{List}
+use Rattle.jobs.specs.Job.{written}
+use Rattle.audit_laws.specs.declared.audit.Line.{Line}
+use Rattle.audit_laws.specs.Fits.{records_of}
+use Rattle.audit_laws.specs.Verdict.{AreInShape}
+use Rattle.audit_check.proofs.RefusedLemmas.{AfterRefused}
+use Rattle.audit_check.proofs.refused.check_refused.Given as goal
+
+abbrev pub invariant-loop-place : goal.invariant-loop-place
+invariant-loop-place l =
+    (lines : List Line) → AreInShape (written l.setup.job) (records_of l.bytes) lines → AfterRefused (written l.setup.job) lines l.records l.refused l.place
