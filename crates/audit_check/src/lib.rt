@@ -1,4 +1,9 @@
-//! The passes of a checker of audits.
+//! The passes of a checker of audits, as far as they are there: the shape of a text, the refused
+//! requests, and the feed.
+//!
+//! ```text
+//! let feeds = check_text(alloc, &setup, refused.as_slice(), &rows, text.as_slice())?;
+//! ```
 #![tactic(auto)]
 
 mod entries;
@@ -10,7 +15,11 @@ mod records;
 mod refused;
 mod shape;
 mod spelling;
+mod steps;
+mod text;
 
 pub use feed::check_feed;
 pub use refused::check_refused;
 pub use shape::check_shape;
+pub use steps::feed_of_rows;
+pub use text::check_text;
