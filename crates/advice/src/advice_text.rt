@@ -23,8 +23,8 @@ use versions::Refused;
 /// What is told of a call whose status isn't 0, and nothing of any other.
 ///
 /// The first line names the file, the code with what it names, and the place by its name and its
-/// line. The lines after it say what the code means and what to do. Refused requests have such lines
-/// each. Files are looked at again, and if one can't be, its names and lines are left out.
+/// line. The lines after it say what the code means and what to do. Refused requests have such
+/// lines each. Files are looked at again, and if one can't be, its names and lines are left out.
 ///
 /// # Errors
 ///

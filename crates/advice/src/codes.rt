@@ -1,6 +1,7 @@
 // Which row of the table tells of a fault.
 ghost use Rattle.std.specs.Prelude.{◌≡◌};
-ghost use Rattle.advice.specs.Codes.{code_of, job_code, payments_code, refusal_code, requests_code, save_code};
+ghost use Rattle.advice.specs.Codes.{code_of, job_code, payments_code, refusal_code, requests_code};
+ghost use Rattle.advice.specs.Codes.{save_code};
 
 use crate::table::*;
 use job_file::{JobFault, ReqFileFault};

@@ -176,7 +176,8 @@ fn push_column(job: &Job, number: u32, out: &mut String) -> Result<(), AllocErro
     Ok(())
 }
 
-// Which field of a record holds a column. The source's name is the first; own columns have no field.
+// Which field of a record holds a column. The source's name is the first; own columns have no
+// field.
 fn cell_of(job: &Job, column: u32) -> usize {
     let mut cell = 1usize;
     for before in job.columns.as_slice().iter().take(column as usize) {

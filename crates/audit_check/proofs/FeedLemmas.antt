@@ -3,7 +3,7 @@ use Rattle.std.proofs.Common.{◌≡◌, ◌≢◌, ◌∙◌, ◌<◌, ◌≤�
 use Rattle.std.proofs.lemmas.List.{take-append-drop, take_all}
 use Rattle.std.proofs.lemmas.Option.{get_or_from_slice_get, slice_get-get_or, slice_get_within}
 use Rattle.jobs.specs.Law.{IsLawful}
-use Rattle.jobs.specs.Written.{Written}
+use Rattle.jobs.specs.JobView.{JobView}
 use Rattle.sink_journal.specs.Audit.{audit_header, feed_fields}
 use Rattle.sink_journal.specs.declared.audit.Noted.{Noted}
 use Rattle.sink_journal.specs.declared.journal.Feed.{Feed}
@@ -19,14 +19,14 @@ use Rattle.audit_check.proofs.PartLemmas.{IsAt, as_wanted, fewer, nothing_more, 
 -- ---- past the refused requests
 
 -- so many lines were read
-abbrev pub AfterLines : Written → List Line → List (List (List ℕ)) → ℕ → Type 0
+abbrev pub AfterLines : JobView → List Line → List (List (List ℕ)) → ℕ → Type 0
 AfterLines job lines left k = left ≡ fields_of job (drop k lines)
 
-pub after_header : (job : Written) (records : List (List (List ℕ))) (lines : List Line) (cells : List (List ℕ)) (left : List (List (List ℕ)))
+pub after_header : (job : JobView) (records : List (List (List ℕ))) (lines : List Line) (cells : List (List ℕ)) (left : List (List (List ℕ)))
     → AreInShape job records lines → records ≡ cells ∷ left → AfterLines job lines left 0
 after_header job records lines cells left s e = behind cells audit_header left (fields_of job lines) (sym e ∙ s.fields)
 
-pub one_line_more : (job : Written) (lines : List Line) (cells : List (List ℕ)) (left new : List (List (List ℕ))) (k : ℕ) → AfterLines job lines left k → left ≡ cells ∷ new → AfterLines job lines new (k + 1)
+pub one_line_more : (job : JobView) (lines : List Line) (cells : List (List ℕ)) (left new : List (List (List ℕ))) (k : ℕ) → AfterLines job lines left k → left ≡ cells ∷ new → AfterLines job lines new (k + 1)
 one_line_more job [] cells left new zero a e = let none = sym a ∙ e in absurd (cc)
 one_line_more job [] cells left new (suc k) a e = let none = sym a ∙ e in absurd (cc)
 one_line_more job (l ∷ lines) cells left new zero a e = behind cells _ new (fields_of job lines) (sym e ∙ a)
@@ -70,10 +70,10 @@ past_refused (line.State w key count ∷ lines) n o e = none_before (line.State 
 
 -- ---- the steps
 
-abbrev pub AfterSteps : Written → List Line → List (List (List ℕ)) → List Feed → ℕ → Type 0
+abbrev pub AfterSteps : JobView → List Line → List (List (List ℕ)) → List Feed → ℕ → Type 0
 AfterSteps job lines left wanted k = IsAt job step_in 1 lines left wanted k
 
-pub before_steps : (job : Written) (records : List (List (List ℕ))) (lines : List Line) (refused : List Noted) (wanted : List Feed) (left : List (List (List ℕ))) (n : ℕ)
+pub before_steps : (job : JobView) (records : List (List (List ℕ))) (lines : List Line) (refused : List Noted) (wanted : List Feed) (left : List (List (List ℕ))) (n : ℕ)
     → AreInShape job records lines → refusals_in lines ≡ refused → length refused ≡ n → AfterLines job lines left n → AfterSteps job lines left wanted 0
 before_steps job records lines refused wanted left n s same count after =
     let past : Past lines n = past_refused lines n s.ordered (ap length same ∙ count) in
@@ -99,7 +99,7 @@ made (line.Feed step) e = (step, refl)
 made (line.Step w entry) e = absurd (omega (arith, e))
 made (line.State w key count) e = absurd (omega (arith, e))
 
-module _ (job : Written) (law : IsLawful job) (records : List (List (List ℕ))) (lines : List Line) (s : AreInShape job records lines) (wanted : List Feed) (k : ℕ)
+module _ (job : JobView) (law : IsLawful job) (records : List (List (List ℕ))) (lines : List Line) (s : AreInShape job records lines) (wanted : List Feed) (k : ℕ)
     (left : List (List (List ℕ))) (at : AfterSteps job lines left wanted k)
   where
     pub step_as_wanted : (new : List (List (List ℕ))) (step : Feed) → IsStep step → left ≡ feed_fields step ∷ new → slice_get wanted k ≡ Some step → k < length wanted

@@ -3,7 +3,7 @@ use Rattle.std.proofs.Common.{◌≡◌, ◌≢◌, ◌∙◌, ◌<◌, ◌≤�
 use Rattle.std.proofs.lemmas.List.{append-nil, append_assoc, length-take}
 use Rattle.std.proofs.lemmas.List.Elements.{filter_map-append}
 use Rattle.std.proofs.lemmas.Option.{same_Some}
-use Rattle.jobs.specs.Written.{Written}
+use Rattle.jobs.specs.JobView.{JobView}
 use Rattle.flow_model.proofs.ElementLemmas.{Before, IsIn, at_of_all, before_right, in_right, pair_of_all}
 use Rattle.audit_laws.specs.declared.audit.Line.{Line}
 use Rattle.audit_laws.specs.Lines.{IsLine, StandInOrder, group_of, line_fields}
@@ -13,7 +13,7 @@ use Rattle.audit_laws.proofs.LineLemmas.{AreTold, same_line}
 
 -- Some lines were read, and these records are left. Of the group, the lines that were read tell the
 -- first of what is wanted.
-pub record IsAt (job : Written) {A : Type 0} (pick : Line → Option A) (g : ℕ) (lines : List Line) (left : List (List (List ℕ))) (wanted : List A) (k : ℕ) : Type 0 where
+pub record IsAt (job : JobView) {A : Type 0} (pick : Line → Option A) (g : ℕ) (lines : List Line) (left : List (List (List ℕ))) (wanted : List A) (k : ℕ) : Type 0 where
   pub above : List Line
   pub rest : List Line
   pub split : lines ≡ above ++ rest
@@ -69,7 +69,7 @@ none_past (x ∷ xs) = none_past xs
 
 -- ---- one line after the other
 
-module _ (job : Written) (told : AreTold job) {A : Type 0} (pick : Line → Option A) (make : A → Line) (IsGood : A → Type 0) (fields : A → List (List ℕ)) (g : ℕ)
+module _ (job : JobView) (told : AreTold job) {A : Type 0} (pick : Line → Option A) (make : A → Line) (IsGood : A → Type 0) (fields : A → List (List ℕ)) (g : ℕ)
     (picked : (a : A) → pick (make a) ≡ Some a) (others : (l : Line) → (group_of l ≡ g → ⊥) → pick l ≡ None) (made : (l : Line) → group_of l ≡ g → (a : A) × (l ≡ make a))
     (good : (a : A) → IsGood a → IsLine job (make a)) (is_good : (a : A) → IsLine job (make a) → IsGood a) (spelled : (a : A) → line_fields (named_workers job.nodes) (make a) ≡ fields a)
     (lines : List Line) (each : All (IsLine job) lines) (ordered : StandInOrder lines) (wanted : List A)

@@ -2,7 +2,7 @@
 use Rattle.std.proofs.Common.{◌≡◌, ◌≢◌, ◌∙◌, ◌<◌, ◌≤◌, ◌+◌, ◌++◌, ℕ, List, [], ◌∷◌, inl, inr, refl, sym, ap, subst, arith}
 use Rattle.std.proofs.lemmas.List.{append-nil, append_assoc, length-append, map-append}
 use Rattle.jobs.specs.Law.{IsLawful}
-use Rattle.jobs.specs.Written.{Written}
+use Rattle.jobs.specs.JobView.{JobView}
 use Rattle.sink_journal.specs.Audit.{audit_header}
 use Rattle.flow_model.proofs.ElementLemmas.{IsIn, all_of_at, all_of_pairs, at_of_all, before_cases, contains_of_in, in_cases, in_of_contains, in_right, pair_of_all}
 use Rattle.audit_laws.specs.declared.audit.Line.{Line}
@@ -21,7 +21,7 @@ no_record records none later e = let some = sym none ∙ e in absurd (cc)
 pub no_header : (records : List (List (List ℕ))) (cells : List (List ℕ)) (left : List (List (List ℕ))) → records ≡ cells ∷ left → cells ≢ audit_header → HasNoHeader records
 no_header records cells left is ne later e = let both = sym is ∙ e in let same : cells ≡ audit_header = cc in ne same
 
-pub begun : (job : Written) (records : List (List (List ℕ))) (cells : List (List ℕ)) (left : List (List (List ℕ))) → records ≡ cells ∷ left → cells ≡ audit_header → AreRead job records left 1 0
+pub begun : (job : JobView) (records : List (List (List ℕ))) (cells : List (List ℕ)) (left : List (List (List ℕ))) → records ≡ cells ∷ left → cells ≡ audit_header → AreRead job records left 1 0
 begun job records cells left is header = record {
   above = [];
   fields = is ∙ ap (λ (first : List (List ℕ)). first ∷ left) header;
@@ -34,7 +34,7 @@ begun job records cells left is header = record {
 
 -- ---- a line
 
-module _ (job : Written) (records : List (List (List ℕ))) (cells : List (List ℕ)) (left : List (List (List ℕ))) (number group : ℕ) (read : AreRead job records (cells ∷ left) number group)
+module _ (job : JobView) (records : List (List (List ℕ))) (cells : List (List ℕ)) (left : List (List (List ℕ))) (number group : ℕ) (read : AreRead job records (cells ∷ left) number group)
   where
     pub one_more : (l : Line) → IsLine job l → cells ≡ line_fields (named_workers job.nodes) l → group ≤ group_of l → AreRead job records left (number + 1) (group_of l)
     one_more l is told le =
@@ -110,7 +110,7 @@ module _ (job : Written) (records : List (List (List ℕ))) (cells : List (List 
 
 -- ---- the end
 
-pub all_read : (job : Written) (records left : List (List (List ℕ))) (number group : ℕ) → AreRead job records left number group → left ≡ [] → (lines : List Line) × AreInShape job records lines
+pub all_read : (job : JobView) (records left : List (List (List ℕ))) (number group : ℕ) → AreRead job records left number group → left ≡ [] → (lines : List Line) × AreInShape job records lines
 all_read job records left number group read none = (
   read.above,
   record {

@@ -3,7 +3,7 @@ use Rattle.std.proofs.Common.{◌≡◌, ◌≢◌, ◌∙◌, ◌<◌, ◌≤�
 use Rattle.std.proofs.lemmas.List.{take_all}
 use Rattle.std.proofs.lemmas.Option.{get_or_from_slice_get, slice_get-get_or, slice_get_within}
 use Rattle.jobs.specs.Law.{IsLawful}
-use Rattle.jobs.specs.Written.{Written}
+use Rattle.jobs.specs.JobView.{JobView}
 use Rattle.sink_journal.specs.Audit.{audit_header, refused_fields}
 use Rattle.sink_journal.specs.declared.audit.Noted.{Noted}
 use Rattle.audit_laws.specs.declared.audit.Line.{Line}
@@ -15,10 +15,10 @@ use Rattle.audit_laws.proofs.ShapeLemmas.{behind}
 use Rattle.audit_check.proofs.PartLemmas.{IsAt, as_wanted, fewer, nothing_more, something_else}
 
 -- after so many refused requests of the lines
-abbrev pub AfterRefused : Written → List Line → List (List (List ℕ)) → List Noted → ℕ → Type 0
+abbrev pub AfterRefused : JobView → List Line → List (List (List ℕ)) → List Noted → ℕ → Type 0
 AfterRefused job lines left refused k = IsAt job refusal_in 0 lines left refused k
 
-pub after_header : (job : Written) (records : List (List (List ℕ))) (lines : List Line) (cells : List (List ℕ)) (left : List (List (List ℕ))) (refused : List Noted)
+pub after_header : (job : JobView) (records : List (List (List ℕ))) (lines : List Line) (cells : List (List ℕ)) (left : List (List (List ℕ))) (refused : List Noted)
     → AreInShape job records lines → records ≡ cells ∷ left → AfterRefused job lines left refused 0
 after_header job records lines cells left refused s e = record {
   above = [];
@@ -42,7 +42,7 @@ made (line.Feed step) e = absurd (omega (arith, e))
 made (line.Step w entry) e = absurd (omega (arith, e))
 made (line.State w key count) e = absurd (omega (arith, e))
 
-module _ (job : Written) (law : IsLawful job) (records : List (List (List ℕ))) (lines : List Line) (s : AreInShape job records lines) (refused : List Noted) (k : ℕ)
+module _ (job : JobView) (law : IsLawful job) (records : List (List (List ℕ))) (lines : List Line) (s : AreInShape job records lines) (refused : List Noted) (k : ℕ)
     (left : List (List (List ℕ))) (at : AfterRefused job lines left refused k)
   where
     pub refused_as_wanted : (new : List (List (List ℕ))) (noted : Noted) → IsNoted noted → left ≡ refused_fields noted ∷ new → slice_get refused k ≡ Some noted → k < length refused

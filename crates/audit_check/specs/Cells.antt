@@ -1,6 +1,6 @@
 -- The cells of a record of six, and the workers that they name.
 use Rattle.std.specs.Prelude.{◌≡◌, ℕ, List, [], ◌∷◌, Some, decimal, slice_get}
-use Rattle.jobs.specs.Written.{Written}
+use Rattle.jobs.specs.JobView.{JobView}
 use Rattle.audit_laws.specs.Names.{Named, named_workers}
 use Rattle.audit_check.specs.declared.records.Six.{Six}
 
@@ -17,7 +17,7 @@ abbrev pub named_as : List ℕ → ℕ → Named
 named_as node place = record { node = node; place = place }
 
 -- The worker with this number has this name and this place, as cells spell them.
-abbrev pub NamesWorker : Written → List ℕ → List ℕ → ℕ → Type 0
+abbrev pub NamesWorker : JobView → List ℕ → List ℕ → ℕ → Type 0
 NamesWorker job node place w =
     (x : Named) × (slice_get (named_workers job.nodes) w ≡ Some x) × (x.node ≡ node)
     × (decimal x.place ≡ place)

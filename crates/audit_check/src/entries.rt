@@ -2,7 +2,7 @@
 ghost use Rattle.std.specs.Prelude.{◌≡◌, ◌≢◌, ◌<◌, ◌^◌, ◌↔◌, [], ℕ, ℤ, IfNone, IfOk, IfSome};
 ghost use Rattle.std.specs.Prelude.{IsTrue, List, codes};
 ghost use Rattle.std.specs.Int.Signed.{mag};
-ghost use Rattle.flow_model.specs.Setup.{outline};
+ghost use Rattle.flow_model.specs.Setup.{setup_view};
 ghost use Rattle.audit_laws.specs.declared.audit.AuditEntry.{AuditEntry as KeptIs};
 ghost use Rattle.audit_laws.specs.Lines.{IsEntryAt, count_fields, kept_fields};
 ghost use Rattle.audit_laws.specs.Names.{Named};
@@ -25,10 +25,10 @@ pub(crate) fn entry_in(
     six: Six<'_>,
 ) -> Result<Option<AuditEntry>, NoMemory>
     ensures some { IfOk result (λ found. IfSome found (λ entry.
-        IsEntryAt (outline setup.now).job worker entry × ((x : Named) → IsNamed six.entry x →
+        IsEntryAt (setup_view setup.now).job worker entry × ((x : Named) → IsNamed six.entry x →
         cells_of six.entry ≡ kept_fields x entry))) }
     ensures none { IfOk result (λ found. IfNone found ((x : Named) (entry : KeptIs) →
-        IsEntryAt (outline setup.now).job worker entry →
+        IsEntryAt (setup_view setup.now).job worker entry →
         cells_of six.entry ≢ kept_fields x entry)) }
 {
     if six.entry == b"met".as_slice() {
@@ -45,10 +45,10 @@ fn met_in(
 ) -> Result<Option<AuditEntry>, NoMemory>
     requires { six.entry.now ≡ codes "met" }
     ensures some { IfOk result (λ found. IfSome found (λ entry.
-        IsEntryAt (outline setup.now).job worker entry × ((x : Named) → IsNamed six.entry x →
+        IsEntryAt (setup_view setup.now).job worker entry × ((x : Named) → IsNamed six.entry x →
         cells_of six.entry ≡ kept_fields x entry))) }
     ensures none { IfOk result (λ found. IfNone found ((x : Named) (entry : KeptIs) →
-        IsEntryAt (outline setup.now).job worker entry →
+        IsEntryAt (setup_view setup.now).job worker entry →
         cells_of six.entry ≢ kept_fields x entry)) }
 {
     let Some(lane) = lane_into(setup, worker, six.lane) else {
@@ -67,10 +67,10 @@ fn met_in(
 fn other_in(setup: &Setup, worker: u32, six: Six<'_>) -> Option<AuditEntry>
     requires { six.entry.now ≢ codes "met" }
     ensures some { IfSome result (λ entry.
-        IsEntryAt (outline setup.now).job worker entry × ((x : Named) → IsNamed six.entry x →
+        IsEntryAt (setup_view setup.now).job worker entry × ((x : Named) → IsNamed six.entry x →
         cells_of six.entry ≡ kept_fields x entry)) }
     ensures none { IfNone result ((x : Named) (entry : KeptIs) →
-        IsEntryAt (outline setup.now).job worker entry →
+        IsEntryAt (setup_view setup.now).job worker entry →
         cells_of six.entry ≢ kept_fields x entry) }
 {
     if !is_blank(six.extra) {
@@ -92,10 +92,10 @@ fn marked_in(setup: &Setup, worker: u32, six: Six<'_>) -> Option<AuditEntry>
     requires named { six.entry.now ≡ codes "marked" }
     requires empty { six.extra.now ≡ [] }
     ensures some { IfSome result (λ entry.
-        IsEntryAt (outline setup.now).job worker entry × ((x : Named) → IsNamed six.entry x →
+        IsEntryAt (setup_view setup.now).job worker entry × ((x : Named) → IsNamed six.entry x →
         cells_of six.entry ≡ kept_fields x entry)) }
     ensures none { IfNone result ((x : Named) (entry : KeptIs) →
-        IsEntryAt (outline setup.now).job worker entry →
+        IsEntryAt (setup_view setup.now).job worker entry →
         cells_of six.entry ≢ kept_fields x entry) }
 {
     let Some(lane) = lane_into(setup, worker, six.lane) else {
@@ -111,10 +111,10 @@ fn turned_in(setup: &Setup, worker: u32, six: Six<'_>) -> Option<AuditEntry>
     requires named { six.entry.now ≡ codes "turned" }
     requires empty { six.extra.now ≡ [] }
     ensures some { IfSome result (λ entry.
-        IsEntryAt (outline setup.now).job worker entry × ((x : Named) → IsNamed six.entry x →
+        IsEntryAt (setup_view setup.now).job worker entry × ((x : Named) → IsNamed six.entry x →
         cells_of six.entry ≡ kept_fields x entry)) }
     ensures none { IfNone result ((x : Named) (entry : KeptIs) →
-        IsEntryAt (outline setup.now).job worker entry →
+        IsEntryAt (setup_view setup.now).job worker entry →
         cells_of six.entry ≢ kept_fields x entry) }
 {
     if !is_blank(six.lane) {
@@ -130,10 +130,10 @@ fn ended_in(setup: &Setup, worker: u32, six: Six<'_>) -> Option<AuditEntry>
     requires named { six.entry.now ≡ codes "ended" }
     requires empty { six.extra.now ≡ [] }
     ensures some { IfSome result (λ entry.
-        IsEntryAt (outline setup.now).job worker entry × ((x : Named) → IsNamed six.entry x →
+        IsEntryAt (setup_view setup.now).job worker entry × ((x : Named) → IsNamed six.entry x →
         cells_of six.entry ≡ kept_fields x entry)) }
     ensures none { IfNone result ((x : Named) (entry : KeptIs) →
-        IsEntryAt (outline setup.now).job worker entry →
+        IsEntryAt (setup_view setup.now).job worker entry →
         cells_of six.entry ≢ kept_fields x entry) }
 {
     if !is_blank(six.number) {

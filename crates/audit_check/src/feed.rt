@@ -4,7 +4,7 @@ ghost use Rattle.std.specs.Prelude.{◌+◌, ◌^◌, IsTrue, List, OnOk, Some, 
 ghost use Rattle.csv.specs.Records.{fields_of};
 ghost use Rattle.sink_journal.specs.Audit.{feed_fields};
 ghost use Rattle.sink_journal.specs.declared.journal.Feed.{Feed as FeedIs};
-ghost use Rattle.flow_model.specs.Setup.{outline};
+ghost use Rattle.flow_model.specs.Setup.{setup_view};
 ghost use Rattle.audit_laws.specs.Brought.{feed_of};
 ghost use Rattle.audit_laws.specs.declared.audit.Line.{Line as LineIs};
 ghost use Rattle.audit_laws.specs.Fits.{records_of};
@@ -35,14 +35,15 @@ pub fn check_feed(
     bytes: &[u8],
 ) -> Result<(), AuditFault>
     requires shape { (lines : List LineIs) ×
-        AreInShape (outline setup.now).job (records_of bytes.now) lines
+        AreInShape (setup_view setup.now).job (records_of bytes.now) lines
         × (refusals_in lines ≡ refused.now) }
-    requires wanted { wanted.now ≡ feed_of (outline setup.now) rows.now }
+    requires wanted { wanted.now ≡ feed_of (setup_view setup.now) rows.now }
     ensures ok { OnOk result ((lines : List LineIs) →
-        AreInShape (outline setup.now).job (records_of bytes.now) lines →
-        refusals_in lines ≡ refused.now → feeds_in lines ≡ feed_of (outline setup.now) rows.now) }
+        AreInShape (setup_view setup.now).job (records_of bytes.now) lines →
+        refusals_in lines ≡ refused.now → feeds_in lines
+        ≡ feed_of (setup_view setup.now) rows.now) }
     ensures fault { IfErr result
-        (IsFaultOf (outline setup.now) setup.now.job.dag.order refused.now rows.now
+        (IsFaultOf (setup_view setup.now) setup.now.job.dag.order refused.now rows.now
         (records_of bytes.now)) }
 {
     let mut records = TextRecords::of(alloc, bytes);

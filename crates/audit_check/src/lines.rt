@@ -1,7 +1,7 @@
 // The lines of an audit, as its records tell them.
 ghost use Rattle.std.specs.Prelude.{◌≡◌, ◌≢◌, IfNone, IfOk, IfSome};
 ghost use Rattle.csv.specs.Records.{fields_of};
-ghost use Rattle.flow_model.specs.Setup.{outline};
+ghost use Rattle.flow_model.specs.Setup.{setup_view};
 ghost use Rattle.audit_laws.specs.declared.audit.Line.{Line as LineIs};
 ghost use Rattle.audit_laws.specs.Lines.{IsLine, line_fields};
 ghost use Rattle.audit_laws.specs.Names.{named_workers};
@@ -25,11 +25,11 @@ pub(crate) fn line_of(
     near: u32,
 ) -> Result<Option<Line>, NoMemory>
     ensures some { IfOk result (λ found. IfSome found (λ line.
-        IsLine (outline setup.now).job line × (fields_of cells.now
-        ≡ line_fields (named_workers (outline setup.now).job.nodes) line))) }
+        IsLine (setup_view setup.now).job line × (fields_of cells.now
+        ≡ line_fields (named_workers (setup_view setup.now).job.nodes) line))) }
     ensures none { IfOk result (λ found. IfNone found ((line : LineIs) →
-        IsLine (outline setup.now).job line → fields_of cells.now
-        ≢ line_fields (named_workers (outline setup.now).job.nodes) line)) }
+        IsLine (setup_view setup.now).job line → fields_of cells.now
+        ≢ line_fields (named_workers (setup_view setup.now).job.nodes) line)) }
 {
     match six_of(cells) {
         Some(six) => line_in(alloc, setup, six, near),
@@ -39,11 +39,11 @@ pub(crate) fn line_of(
 
 fn line_in(alloc: Global, setup: &Setup, six: Six<'_>, near: u32) -> Result<Option<Line>, NoMemory>
     ensures some { IfOk result (λ found. IfSome found (λ line.
-        IsLine (outline setup.now).job line × (cells_of six.entry
-        ≡ line_fields (named_workers (outline setup.now).job.nodes) line))) }
+        IsLine (setup_view setup.now).job line × (cells_of six.entry
+        ≡ line_fields (named_workers (setup_view setup.now).job.nodes) line))) }
     ensures none { IfOk result (λ found. IfNone found ((line : LineIs) →
-        IsLine (outline setup.now).job line → cells_of six.entry
-        ≢ line_fields (named_workers (outline setup.now).job.nodes) line)) }
+        IsLine (setup_view setup.now).job line → cells_of six.entry
+        ≢ line_fields (named_workers (setup_view setup.now).job.nodes) line)) }
 {
     if let Some(noted) = refused_in(six) {
         return Ok(Some(Line::Refused(noted)));

@@ -1,8 +1,8 @@
 // Workers and lanes, as the cells of an audit name them.
 ghost use Rattle.std.specs.Prelude.{◌≡◌, ◌≢◌, ◌<◌, ◌↔◌, ℕ, IfNone, IfSome, IsTrue, Some, decimal};
 ghost use Rattle.std.specs.Prelude.{length, slice_get};
-ghost use Rattle.flow_model.specs.Setup.{outline};
-ghost use Rattle.flow_model.specs.Workers.{posts};
+ghost use Rattle.flow_model.specs.Setup.{setup_view};
+ghost use Rattle.flow_model.specs.Workers.{workers_in};
 ghost use Rattle.audit_laws.specs.Lines.{LeadsTo};
 ghost use Rattle.audit_laws.specs.Names.{named_workers};
 ghost use Rattle.audit_check.specs.Cells.{NamesWorker, named_as};
@@ -13,9 +13,9 @@ use flow_model::Setup;
 /// The worker with this place at the node with this name. The worker `near` is tried first.
 pub(crate) fn worker_named(setup: &Setup, node: &[u8], place: &[u8], near: u32) -> Option<u32>
     ensures some { IfSome result (λ worker.
-        NamesWorker (outline setup.now).job node.now place.now worker) }
+        NamesWorker (setup_view setup.now).job node.now place.now worker) }
     ensures none { IfNone result ((worker : ℕ) →
-        ¬ NamesWorker (outline setup.now).job node.now place.now worker) }
+        ¬ NamesWorker (setup_view setup.now).job node.now place.now worker) }
 {
     let Some(place) = narrow(place) else {
         return None;
@@ -30,7 +30,7 @@ pub(crate) fn worker_named(setup: &Setup, node: &[u8], place: &[u8], near: u32) 
 }
 
 fn is_worker(setup: &Setup, worker: u32, node: &[u8], place: u32) -> bool
-    ensures { IsTrue result → slice_get (named_workers (outline setup.now).job.nodes) worker
+    ensures { IsTrue result → slice_get (named_workers (setup_view setup.now).job.nodes) worker
         ≡ Some (named_as node.now place) }
 {
     worker < setup.workers() && is_named(setup, worker, node, place)
@@ -38,10 +38,10 @@ fn is_worker(setup: &Setup, worker: u32, node: &[u8], place: u32) -> bool
 
 fn search(setup: &Setup, node: &[u8], place: u32) -> Option<u32>
     ensures some { IfSome result (λ worker.
-        slice_get (named_workers (outline setup.now).job.nodes) worker
+        slice_get (named_workers (setup_view setup.now).job.nodes) worker
         ≡ Some (named_as node.now place)) }
     ensures none { IfNone result ((worker : ℕ) →
-        slice_get (named_workers (outline setup.now).job.nodes) worker
+        slice_get (named_workers (setup_view setup.now).job.nodes) worker
         ≢ Some (named_as node.now place)) }
 {
     for worker in 0..setup.workers() {
@@ -53,8 +53,8 @@ fn search(setup: &Setup, node: &[u8], place: u32) -> Option<u32>
 }
 
 fn is_named(setup: &Setup, worker: u32, node: &[u8], place: u32) -> bool
-    requires { worker < length (posts (outline setup.now).job) }
-    ensures { IsTrue result ↔ (slice_get (named_workers (outline setup.now).job.nodes) worker
+    requires { worker < length (workers_in (setup_view setup.now).job) }
+    ensures { IsTrue result ↔ (slice_get (named_workers (setup_view setup.now).job.nodes) worker
         ≡ Some (named_as node.now place)) }
 {
     let (name, index) = name_of(setup, worker);
@@ -62,8 +62,8 @@ fn is_named(setup: &Setup, worker: u32, node: &[u8], place: u32) -> bool
 }
 
 fn name_of(setup: &Setup, worker: u32) -> (&[u8], u32)
-    requires { worker < length (posts (outline setup.now).job) }
-    ensures { slice_get (named_workers (outline setup.now).job.nodes) worker
+    requires { worker < length (workers_in (setup_view setup.now).job) }
+    ensures { slice_get (named_workers (setup_view setup.now).job.nodes) worker
         ≡ Some (named_as result.0.now result.1) }
 {
     let at = setup.worker_at(worker);
@@ -74,8 +74,8 @@ fn name_of(setup: &Setup, worker: u32) -> (&[u8], u32)
 /// The lane into a worker that a cell spells.
 pub(crate) fn lane_into(setup: &Setup, worker: u32, text: &[u8]) -> Option<u32>
     ensures some { IfSome result (λ lane.
-        (text.now ≡ decimal lane) × LeadsTo (outline setup.now).job worker lane) }
-    ensures none { IfNone result ((lane : ℕ) → LeadsTo (outline setup.now).job worker lane →
+        (text.now ≡ decimal lane) × LeadsTo (setup_view setup.now).job worker lane) }
+    ensures none { IfNone result ((lane : ℕ) → LeadsTo (setup_view setup.now).job worker lane →
         text.now ≢ decimal lane) }
 {
     match narrow(text) {
@@ -85,7 +85,7 @@ pub(crate) fn lane_into(setup: &Setup, worker: u32, text: &[u8]) -> Option<u32>
 }
 
 fn leads_to(setup: &Setup, lane: u32, worker: u32) -> bool
-    ensures { IsTrue result ↔ LeadsTo (outline setup.now).job worker lane }
+    ensures { IsTrue result ↔ LeadsTo (setup_view setup.now).job worker lane }
 {
     (lane as usize) < setup.topology.lanes.len() && setup.lane(lane).receiver == worker
 }

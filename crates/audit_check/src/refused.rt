@@ -5,7 +5,7 @@ ghost use Rattle.csv.specs.Records.{fields_of};
 ghost use Rattle.sink_journal.specs.Audit.{refused_fields};
 ghost use Rattle.sink_journal.specs.declared.audit.Noted.{Noted as NotedIs};
 ghost use Rattle.tuple_trace.specs.declared.row.Row.{Row as RowIs};
-ghost use Rattle.flow_model.specs.Setup.{outline};
+ghost use Rattle.flow_model.specs.Setup.{setup_view};
 ghost use Rattle.audit_laws.specs.declared.audit.Line.{Line as LineIs};
 ghost use Rattle.audit_laws.specs.Fits.{records_of};
 ghost use Rattle.audit_laws.specs.Lines.{IsNoted, refusals_in};
@@ -32,12 +32,12 @@ pub fn check_refused(
     bytes: &[u8],
 ) -> Result<(), AuditFault>
     requires { (lines : List LineIs) ×
-        AreInShape (outline setup.now).job (records_of bytes.now) lines }
+        AreInShape (setup_view setup.now).job (records_of bytes.now) lines }
     ensures ok { OnOk result ((lines : List LineIs) →
-        AreInShape (outline setup.now).job (records_of bytes.now) lines →
+        AreInShape (setup_view setup.now).job (records_of bytes.now) lines →
         refusals_in lines ≡ refused.now) }
     ensures fault { (rows : List RowIs) → IfErr result
-        (IsFaultOf (outline setup.now) setup.now.job.dag.order refused.now rows
+        (IsFaultOf (setup_view setup.now) setup.now.job.dag.order refused.now rows
         (records_of bytes.now)) }
 {
     let mut records = TextRecords::of(alloc, bytes);

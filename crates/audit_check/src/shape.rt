@@ -4,7 +4,7 @@ ghost use Rattle.csv.specs.Records.{fields_of};
 ghost use Rattle.sink_journal.specs.Audit.{audit_header};
 ghost use Rattle.sink_journal.specs.declared.audit.Noted.{Noted as NotedIs};
 ghost use Rattle.tuple_trace.specs.declared.row.Row.{Row as RowIs};
-ghost use Rattle.flow_model.specs.Setup.{outline};
+ghost use Rattle.flow_model.specs.Setup.{setup_view};
 ghost use Rattle.audit_laws.specs.declared.audit.Line.{Line as LineIs};
 ghost use Rattle.audit_laws.specs.Fits.{records_of};
 ghost use Rattle.audit_laws.specs.Lines.{group_of as group_of_line};
@@ -28,9 +28,9 @@ use std::alloc::Global;
 /// The first record that breaks a rule, or out of memory.
 pub fn check_shape(alloc: Global, setup: &Setup, bytes: &[u8]) -> Result<(), AuditFault>
     ensures ok { OnOk result ((lines : List LineIs) ×
-        AreInShape (outline setup.now).job (records_of bytes.now) lines) }
+        AreInShape (setup_view setup.now).job (records_of bytes.now) lines) }
     ensures fault { (refused : List NotedIs) (rows : List RowIs) → IfErr result
-        (IsFaultOf (outline setup.now) setup.now.job.dag.order refused rows
+        (IsFaultOf (setup_view setup.now) setup.now.job.dag.order refused rows
         (records_of bytes.now)) }
 {
     let mut records = TextRecords::of(alloc, bytes);

@@ -1,6 +1,6 @@
 // The first three passes: what a text tells of the requests and of the feeder.
 ghost use Rattle.std.specs.Prelude.{◌≡◌, IfErr, IfOk, List};
-ghost use Rattle.flow_model.specs.Setup.{outline};
+ghost use Rattle.flow_model.specs.Setup.{setup_view};
 ghost use Rattle.audit_laws.specs.Brought.{feed_of};
 ghost use Rattle.audit_laws.specs.declared.audit.Line.{Line as LineIs};
 ghost use Rattle.audit_laws.specs.Fits.{records_of};
@@ -26,13 +26,13 @@ pub fn check_text(
     rows: &Rows,
     bytes: &[u8],
 ) -> Result<Feeds, AuditFault>
-    ensures feeds { IfOk result (λ feeds. feeds ≡ feed_of (outline setup.now) rows.now) }
+    ensures feeds { IfOk result (λ feeds. feeds ≡ feed_of (setup_view setup.now) rows.now) }
     ensures lines { IfOk result (λ feeds. (lines : List LineIs) ×
-        AreInShape (outline setup.now).job (records_of bytes.now) lines
+        AreInShape (setup_view setup.now).job (records_of bytes.now) lines
         × (refusals_in lines ≡ refused.now)
-        × (feeds_in lines ≡ feed_of (outline setup.now) rows.now)) }
+        × (feeds_in lines ≡ feed_of (setup_view setup.now) rows.now)) }
     ensures fault { IfErr result
-        (IsFaultOf (outline setup.now) setup.now.job.dag.order refused.now rows.now
+        (IsFaultOf (setup_view setup.now) setup.now.job.dag.order refused.now rows.now
         (records_of bytes.now)) }
 {
     check_shape(alloc, setup, bytes)?;

@@ -11,10 +11,10 @@ use Rattle.tuple_trace.specs.declared.row.Row.{Row}
 use Rattle.flow_model.specs.Begin.{at_first}
 use Rattle.flow_model.specs.Lanes.{lanes_in}
 use Rattle.flow_model.specs.Law.{initial}
-use Rattle.flow_model.specs.Outline.{Outline, Post}
+use Rattle.flow_model.specs.SetupView.{SetupView, Worker}
 use Rattle.flow_model.specs.Run.{IsRunFrom, IsWorked, final_counts, ran_as}
-use Rattle.flow_model.specs.Station.{station}
-use Rattle.flow_model.specs.Workers.{posts}
+use Rattle.flow_model.specs.Duties.{duties}
+use Rattle.flow_model.specs.Workers.{workers_in}
 use Rattle.flow_model.proofs.ElementLemmas.{map_in}
 use Rattle.flow_model.proofs.JobLemmas.{IsWired}
 use Rattle.flow_model.proofs.MarkerLemmas.{met_on_lane}
@@ -31,62 +31,62 @@ use Rattle.audit_laws.proofs.TiedLemmas.{IsTied}
 use Rattle.audit_laws.proofs.TrimLemmas.{MetOn}
 
 -- tuples come by lanes in, as the law of the draft says
-pub met_by_draft : (setup : Outline) (rows : List Row) (post : Post) (journal : List Entry) → IsFinishedDraft setup rows post (trimmed journal) → MetOn (lanes_in setup.job post.number) journal
-met_by_draft setup rows post journal law l t i =
-    met_on_lane (station setup 0 post) (initial (station setup 0 post)) (drafted (feed_of setup rows) (trimmed journal)) l _ law.lawful.execution
+pub met_by_draft : (setup : SetupView) (rows : List Row) (who : Worker) (journal : List Entry) → IsFinishedDraft setup rows who (trimmed journal) → MetOn (lanes_in setup.job who.number) journal
+met_by_draft setup rows who journal law l t i =
+    met_on_lane (duties setup 0 who) (initial (duties setup 0 who)) (drafted (feed_of setup rows) (trimmed journal)) l _ law.lawful.execution
     (map_in (draft (feed_of setup rows)) (trim (entry.Met l t)) (trimmed journal) (map_in trim (entry.Met l t) journal i))
 
-module _ (setup : Outline) (wired : IsWired setup.job) (rows : List Row) (are : AreRows rows) (audit : List (List AuditEntry)) (journals : List (List Entry)) (states : List Counts)
+module _ (setup : SetupView) (wired : IsWired setup.job) (rows : List Row) (are : AreRows rows) (audit : List (List AuditEntry)) (journals : List (List Entry)) (states : List Counts)
     (is : IsChecked setup rows audit journals states)
   where
     audit_there : (w : ℕ) (journal : List Entry) → slice_get journals w ≡ Some journal → slice_get audit w ≡ Some (trimmed journal)
     audit_there w journal j = ap (λ (l : List (List AuditEntry)). slice_get l w) (sym is.restored) ∙ (slice_get-map trimmed journals w ∙ ap (option_map trimmed) j)
 
-    as_many : length journals ≡ length (posts setup.job)
+    as_many : length journals ≡ length (workers_in setup.job)
     as_many = sym (length_trimmed journals) ∙ (ap length is.restored ∙ is.one_journal_each)
 
-    pub tied_by_check : (w : ℕ) (post : Post) → slice_get (posts setup.job) w ≡ Some post → IsTied setup rows journals w
-    tied_by_check w post p =
-        let lt : w < length (posts setup.job) = slice_get_within (posts setup.job) w post p in
+    pub tied_by_check : (w : ℕ) (who : Worker) → slice_get (workers_in setup.job) w ≡ Some who → IsTied setup rows journals w
+    tied_by_check w who p =
+        let lt : w < length (workers_in setup.job) = slice_get_within (workers_in setup.job) w who p in
         let j = item_at journals w (omega (arith, lt, as_many)) in
-        let number : post.number ≡ w = (worker_with setup.job w post p).0 in
+        let number : who.number ≡ w = (worker_with setup.job w who p).0 in
         record {
           journal = j.0;
           there = j.1;
-          met = subst (λ v. MetOn (lanes_in setup.job v) j.0) number (met_by_draft setup rows post j.0 (is.finished w post (trimmed j.0) p (audit_there w j.0 j.1)));
+          met = subst (λ v. MetOn (lanes_in setup.job v) j.0) number (met_by_draft setup rows who j.0 (is.finished w who (trimmed j.0) p (audit_there w j.0 j.1)));
           tied = is.brought_is_shown w j.0 j.1;
         }
 
     pub checked_run : IsRunFrom (at_first setup) rows (ran_as setup (feed_of setup rows) journals states)
     checked_run = record {
       feed = refl;
-      one_start_each = length-map (posts setup.job) (λ (post : Post). empty);
+      one_start_each = length-map (workers_in setup.job) (λ (who : Worker). empty);
       one_journal_each = as_many;
       one_state_each = is.one_state_each;
       worked = worked;
       tied = λ n lane journal g j. put_by-states setup rows journals states lane lane.sender ∙ is.brought_is_shown lane.receiver journal j n lane g refl;
     }
       where
-        worked : (w : ℕ) (post : Post) (counts : Counts) (journal : List Entry) (state : Counts) → slice_get (posts setup.job) w ≡ Some post
+        worked : (w : ℕ) (who : Worker) (counts : Counts) (journal : List Entry) (state : Counts) → slice_get (workers_in setup.job) w ≡ Some who
             → slice_get (at_first setup).states w ≡ Some counts → slice_get journals w ≡ Some journal → slice_get states w ≡ Some state
-            → IsWorked setup (at_first setup) post counts journal state
-        worked w post counts journal state p c j s =
-            let none : empty ≡ counts = same_Some empty counts (sym (none_counted setup w post p) ∙ c) in
-            let right : IssuedRight (feed_of setup rows) journal = issued_right setup wired rows are journals tied_by_check w post journal p j in
+            → IsWorked setup (at_first setup) who counts journal state
+        worked w who counts journal state p c j s =
+            let none : empty ≡ counts = same_Some empty counts (sym (none_counted setup w who p) ∙ c) in
+            let right : IssuedRight (feed_of setup rows) journal = issued_right setup wired rows are journals tied_by_check w who journal p j in
             record {
-              finished = finished_draft (station setup 0 post) (feed_of setup rows) journal right (is.finished w post (trimmed journal) p (audit_there w journal j));
+              finished = finished_draft (duties setup 0 who) (feed_of setup rows) journal right (is.finished w who (trimmed journal) p (audit_there w journal j));
               state_is =
-                  same_Some state (final_counts setup (at_first setup) post empty journal) (sym s ∙ is.states_are w post journal p j)
-                  ∙ ap (λ (c : Counts). final_counts setup (at_first setup) post c journal) none;
+                  same_Some state (final_counts setup (at_first setup) who empty journal) (sym s ∙ is.states_are w who journal p j)
+                  ∙ ap (λ (c : Counts). final_counts setup (at_first setup) who c journal) none;
             }
 
-module _ (setup : Outline) (wired : IsWired setup.job) (rows : List Row) (are : AreRows rows) (journals : List (List Entry)) (states : List Counts)
+module _ (setup : SetupView) (wired : IsWired setup.job) (rows : List Row) (are : AreRows rows) (journals : List (List Entry)) (states : List Counts)
     (run : IsRunFrom (at_first setup) rows (ran_as setup (feed_of setup rows) journals states))
   where
-    journal_at : (w : ℕ) (post : Post) (journal : List Entry) → slice_get (posts setup.job) w ≡ Some post → slice_get journals w ≡ Some journal
-        → (l : Left setup rows journals states run w post) × (l.journal ≡ journal)
-    journal_at w post journal p j =
-        let l : Left setup rows journals states run w post = left_of setup rows journals states run w post p in
+    journal_at : (w : ℕ) (who : Worker) (journal : List Entry) → slice_get (workers_in setup.job) w ≡ Some who → slice_get journals w ≡ Some journal
+        → (l : Left setup rows journals states run w who) × (l.journal ≡ journal)
+    journal_at w who journal p j =
+        let l : Left setup rows journals states run w who = left_of setup rows journals states run w who p in
         (l, same_Some l.journal journal (sym l.journal_there ∙ j))
 
     pub run_checked : IsChecked setup rows (map trimmed journals) journals states
@@ -97,17 +97,17 @@ module _ (setup : Outline) (wired : IsWired setup.job) (rows : List Row) (are : 
       finished = finished;
       brought_is_shown = λ w journal j n lane g r.
           sym (put_by-states setup rows journals states lane lane.sender) ∙ run.tied n lane journal g (subst (λ v. slice_get journals v ≡ Some journal) (sym r) j);
-      states_are = λ w post journal p j.
-          let l = journal_at w post journal p j in
-          l.0.state_there ∙ ap Some (l.0.worked.state_is ∙ ap (final_counts setup (at_first setup) post empty) l.1);
+      states_are = λ w who journal p j.
+          let l = journal_at w who journal p j in
+          l.0.state_there ∙ ap Some (l.0.worked.state_is ∙ ap (final_counts setup (at_first setup) who empty) l.1);
     }
       where
-        finished : (w : ℕ) (post : Post) (kept : List AuditEntry) → slice_get (posts setup.job) w ≡ Some post → slice_get (map trimmed journals) w ≡ Some kept
-            → IsFinishedDraft setup rows post kept
-        finished w post kept p k =
-            let l : Left setup rows journals states run w post = left_of setup rows journals states run w post p in
+        finished : (w : ℕ) (who : Worker) (kept : List AuditEntry) → slice_get (workers_in setup.job) w ≡ Some who → slice_get (map trimmed journals) w ≡ Some kept
+            → IsFinishedDraft setup rows who kept
+        finished w who kept p k =
+            let l : Left setup rows journals states run w who = left_of setup rows journals states run w who p in
             let e : trimmed l.journal ≡ kept =
             same_Some (trimmed l.journal) kept (sym (slice_get-map trimmed journals w ∙ ap (option_map trimmed) l.journal_there) ∙ k) in
-            subst (IsFinishedDraft setup rows post) e
-            (draft_finished (station setup 0 post) (feed_of setup rows) l.journal
-            (issued_right setup wired rows are journals (tied_by_run setup rows journals states run) w post l.journal p l.journal_there) l.worked.finished)
+            subst (IsFinishedDraft setup rows who) e
+            (draft_finished (duties setup 0 who) (feed_of setup rows) l.journal
+            (issued_right setup wired rows are journals (tied_by_run setup rows journals states run) w who l.journal p l.journal_there) l.worked.finished)

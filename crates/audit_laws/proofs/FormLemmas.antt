@@ -13,13 +13,13 @@ use Rattle.sink_journal.specs.declared.journal.Feed.TheVariants as feed
 use Rattle.tuple_trace.specs.Rows.{AreRows}
 use Rattle.tuple_trace.specs.declared.row.Row.{Row}
 use Rattle.versions.specs.Kept.{KeepKinds}
-use Rattle.flow_model.specs.Begin.{at_first, local_at}
+use Rattle.flow_model.specs.Begin.{at_first, view_at}
 use Rattle.flow_model.specs.Law.{initial}
-use Rattle.flow_model.specs.Outline.{Outline}
+use Rattle.flow_model.specs.SetupView.{SetupView}
 use Rattle.flow_model.specs.Requests.{afters}
 use Rattle.flow_model.specs.Run.{IsRunFrom, final_counts, ran_as}
-use Rattle.flow_model.specs.Station.{station}
-use Rattle.flow_model.specs.Workers.{posts}
+use Rattle.flow_model.specs.Duties.{duties}
+use Rattle.flow_model.specs.Workers.{workers_in}
 use Rattle.flow_model.proofs.ElementLemmas.{IsIn, all_of_at, at_of_all, in_cases, in_map}
 use Rattle.flow_model.proofs.JobLemmas.{IsWired}
 use Rattle.flow_model.proofs.WorkerLemmas.{item_at, worker_with}
@@ -62,7 +62,7 @@ of_image f xs k y g =
     let x = item_at xs k (omega (arith, lt, length-map xs f)) in
     (x.0, x.1, same_Some y (f x.0) (sym g ∙ (slice_get-map f xs k ∙ ap (option_map f) x.1)))
 
-module _ (setup : Outline) (law : IsLawful setup.job) (wired : IsWired setup.job) (kinds : KeepKinds setup.job setup.requests)
+module _ (setup : SetupView) (law : IsLawful setup.job) (wired : IsWired setup.job) (kinds : KeepKinds setup.job setup.requests)
     (few_plans : length setup.plans < 2 ^ 64) (few_requests : length setup.requests < 2 ^ 64) (rows : List Row) (are : AreRows rows) (few_rows : length rows < 2 ^ 64)
     (journals : List (List Entry)) (states : List Counts) (run : IsRunFrom (at_first setup) rows (ran_as setup (feed_of setup rows) journals states))
   where
@@ -83,8 +83,8 @@ module _ (setup : Outline) (law : IsLawful setup.job) (wired : IsWired setup.job
     worker_form : (w : ℕ) (journal : List Entry) (state : Counts) (y : Line) → slice_get journals w ≡ Some journal → slice_get states w ≡ Some state
         → IsIn y (worker_lines w (trimmed journal) (entries state)) → IsLine setup.job y
     worker_form w journal state y j s i =
-        let lt : w < length (posts setup.job) = let l = slice_get_within journals w journal j in omega (arith, l, run.one_journal_each) in
-        let p = item_at (posts setup.job) w lt in
+        let lt : w < length (workers_in setup.job) = let l = slice_get_within journals w journal j in omega (arith, l, run.one_journal_each) in
+        let p = item_at (workers_in setup.job) w lt in
         let here : Left setup rows journals states run w p.0 = left_of setup rows journals states run w p.0 p.1 in
         let number : p.0.number ≡ w = (worker_with setup.job w p.0 p.1).0 in
         let one : here.journal ≡ journal = same_Some here.journal journal (sym here.journal_there ∙ j) in
@@ -96,7 +96,7 @@ module _ (setup : Outline) (law : IsLawful setup.job) (wired : IsWired setup.job
               let x = in_map trim e.0 journal e.1 in
               let names : Names setup w x.0 =
               subst (λ v. Names setup v x.0) number
-              (law_names setup p.0 (initial (station setup 0 p.0)) here.journal x.0 law here.worked.finished.lawful.execution (λ r k. k) (subst (λ (l : List Entry). IsIn x.0 l) (sym one) x.1)) in
+              (law_names setup p.0 (initial (duties setup 0 p.0)) here.journal x.0 law here.worked.finished.lawful.execution (λ r k. k) (subst (λ (l : List Entry). IsIn x.0 l) (sym one) x.1)) in
               let narrow : HasEach (IsNarrow (length rows)) journal =
               each_narrow setup law wired kinds rows are journals (tied_by_run setup rows journals states run) w p.0 journal p.1 j in
               let form : IsEntryAt setup.job w e.0 = subst (IsEntryAt setup.job w) (sym x.2) (entry_form w journal x.0 names narrow x.1) in
@@ -105,7 +105,7 @@ module _ (setup : Outline) (law : IsLawful setup.job) (wired : IsWired setup.job
               let c = in_map (λ counted. line.State w counted.0 counted.1) y (entries state) b in
               let last : state ≡ final_counts setup (at_first setup) p.0 empty here.journal = sym two ∙ here.worked.state_is in
               let range : AreInRange (entries state) =
-              subst (λ (counts : Counts). AreInRange (entries counts)) (sym last) (all_range setup p.0 (local_at setup 0 p.0 empty) here.journal empty_range) in
+              subst (λ (counts : Counts). AreInRange (entries counts)) (sym last) (all_range setup p.0 (view_at setup 0 p.0 empty) here.journal empty_range) in
               subst (IsLine setup.job) (sym c.2) (named, range c.0 c.1)
         ]
 

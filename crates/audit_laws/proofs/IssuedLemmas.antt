@@ -2,7 +2,7 @@
 use Rattle.std.proofs.Common.{◌≡◌, ◌∙◌, ◌<◌, ◌+◌, ◌++◌, ◌==◌, ℕ, List, [], ◌∷◌, inl, inr, refl, sym, ap, arith, cond, length, Some, None, Option, slice_get}
 use Rattle.std.specs.FinMap.{empty}
 use Rattle.std.proofs.lemmas.Bool.{eq-eqb, ne_eqb}
-use Rattle.jobs.specs.Written.{Written}
+use Rattle.jobs.specs.JobView.{JobView}
 use Rattle.operators.specs.Laws.{IsMadeOf}
 use Rattle.operators.specs.Meaning.{step}
 use Rattle.operators.proofs.OutputLemmas.{outputs_made}
@@ -14,13 +14,13 @@ use Rattle.tuple_trace.specs.Rows.{AreRows}
 use Rattle.tuple_trace.specs.declared.row.Row.{Row}
 use Rattle.tuple_trace.specs.declared.tuple.Item.TheVariants as item
 use Rattle.tuple_trace.specs.declared.tuple.Tuple.{Tuple}
-use Rattle.flow_model.specs.Begin.{local_at}
+use Rattle.flow_model.specs.Begin.{view_at}
 use Rattle.flow_model.specs.Feeding.{fed, fed_put, fed_puts, fed_tuple, row_at}
-use Rattle.flow_model.specs.Outline.{Outline, Post}
+use Rattle.flow_model.specs.SetupView.{SetupView, Worker}
 use Rattle.flow_model.specs.declared.topology.Lane.{Lane}
-use Rattle.flow_model.specs.Replay.{Local, Put, after, items_on, put_out, puts, sent, visit_at}
+use Rattle.flow_model.specs.Replay.{StateView, Put, after, items_on, put_out, puts, sent, visit_at}
 use Rattle.flow_model.specs.Requests.{afters}
-use Rattle.flow_model.specs.Workers.{posts}
+use Rattle.flow_model.specs.Workers.{workers_in}
 use Rattle.flow_model.proofs.ElementLemmas.{IsIn, in_cases, in_map, place_of_in}
 use Rattle.flow_model.proofs.JobLemmas.{IsWired}
 use Rattle.flow_model.proofs.RootLemmas.{FeedsRise, feed_rises}
@@ -35,7 +35,7 @@ use Rattle.audit_laws.proofs.TiedLemmas.{IsTied}
 -- ---- what the feeder puts
 
 -- a put of a rising feed carries a tuple of a row above the bound, issued as the feed says of the row
-put_issued : (job : Written) (rows : List Row) (k issued : ℕ) (feeds : List Feed) (p : Put) (t : Tuple) → AreRows rows → FeedsRise k feeds
+put_issued : (job : JobView) (rows : List Row) (k issued : ℕ) (feeds : List Feed) (p : Put) (t : Tuple) → AreRows rows → FeedsRise k feeds
     → IsIn p (fed_puts job rows issued feeds) → p.item ≡ item.Carry t → (k < t.row) × (t.issued ≡ issued_before t.row issued feeds)
 put_issued job rows k issued [] p t are f h e = absurd h
 put_issued job rows k issued (feed.Fed n ∷ more) p t are f h e =
@@ -71,11 +71,11 @@ pub record IsSentOf (journal : List Entry) (t : Tuple) : Type 0 where
   pub row : t.row ≡ tuple.row
   pub issued : t.issued ≡ tuple.issued
 
-carried_put : (setup : Outline) (post : Post) (local : Local) (x : Entry) (p : Put) (t : Tuple) → IsIn p (puts setup post local x) → p.item ≡ item.Carry t → IsSentOf (x ∷ []) t
-carried_put setup post local (entry.Met l u) p t i e =
-    let s = in_map (put_out setup.job post) p (step setup.job (visit_at post local) local.func local.counts u).1 i in
-    let k = place_of_in s.0 (step setup.job (visit_at post local) local.func local.counts u).1 s.1 in
-    let o : IsMadeOf setup.job.edges (visit_at post local) local.func u k.0 s.0 = outputs_made setup.job (visit_at post local) local.func local.counts u k.0 s.0 k.1 in
+carried_put : (setup : SetupView) (who : Worker) (view : StateView) (x : Entry) (p : Put) (t : Tuple) → IsIn p (puts setup who view x) → p.item ≡ item.Carry t → IsSentOf (x ∷ []) t
+carried_put setup who view (entry.Met l u) p t i e =
+    let s = in_map (put_out setup.job who) p (step setup.job (visit_at who view) view.func view.counts u).1 i in
+    let k = place_of_in s.0 (step setup.job (visit_at who view) view.func view.counts u).1 s.1 in
+    let o : IsMadeOf setup.job.edges (visit_at who view) view.func u k.0 s.0 = outputs_made setup.job (visit_at who view) view.func view.counts u k.0 s.0 k.1 in
     let c : item.Carry s.0.tuple ≡ item.Carry t = sym (ap (λ (p : Put). p.item) s.2) ∙ e in
     let same : s.0.tuple ≡ t = cc in
     record {
@@ -85,20 +85,20 @@ carried_put setup post local (entry.Met l u) p t i e =
       row = sym (ap (λ (t : Tuple). t.row) same) ∙ o.row;
       issued = sym (ap (λ (t : Tuple). t.issued) same) ∙ o.issued;
     }
-carried_put setup post local (entry.Marked l r) p t i e = absurd i
-carried_put setup post local (entry.Turned r) p t i e = let m = (puts_come setup post local (entry.Turned r) p i).2 in absurd (cc)
-carried_put setup post local (entry.Ended l) p t i e = let m = puts_come setup post local (entry.Ended l) p i in absurd (cc)
+carried_put setup who view (entry.Marked l r) p t i e = absurd i
+carried_put setup who view (entry.Turned r) p t i e = let m = (puts_come setup who view (entry.Turned r) p i).2 in absurd (cc)
+carried_put setup who view (entry.Ended l) p t i e = let m = puts_come setup who view (entry.Ended l) p i in absurd (cc)
 
-carried_sent : (setup : Outline) (post : Post) (local : Local) (lane : Lane) (xs : List Entry) (t : Tuple) → IsIn (item.Carry t) (sent setup post local lane xs) → IsSentOf xs t
-carried_sent setup post local lane [] t i = absurd i
-carried_sent setup post local lane (x ∷ xs) t i =
-    elim (in_cases (item.Carry t) (items_on lane (puts setup post local x)) (sent setup post (after setup post local x) lane xs) i) [
+carried_sent : (setup : SetupView) (who : Worker) (view : StateView) (lane : Lane) (xs : List Entry) (t : Tuple) → IsIn (item.Carry t) (sent setup who view lane xs) → IsSentOf xs t
+carried_sent setup who view lane [] t i = absurd i
+carried_sent setup who view lane (x ∷ xs) t i =
+    elim (in_cases (item.Carry t) (items_on lane (puts setup who view x)) (sent setup who (after setup who view x) lane xs) i) [
       | inl a ↦
-          let p = in_items lane (puts setup post local x) (item.Carry t) a in
-          let r : IsSentOf (x ∷ []) t = carried_put setup post local x p.0 t p.1 (sym p.3) in
+          let p = in_items lane (puts setup who view x) (item.Carry t) a in
+          let r : IsSentOf (x ∷ []) t = carried_put setup who view x p.0 t p.1 (sym p.3) in
           record { lane = r.lane; tuple = r.tuple; met = first r.met; row = r.row; issued = r.issued }
       | inr b ↦
-          let r : IsSentOf xs t = carried_sent setup post (after setup post local x) lane xs t b in
+          let r : IsSentOf xs t = carried_sent setup who (after setup who view x) lane xs t b in
           record { lane = r.lane; tuple = r.tuple; met = inr r.met; row = r.row; issued = r.issued }
     ]
   where
@@ -108,8 +108,8 @@ carried_sent setup post local lane (x ∷ xs) t i =
 
 -- ---- all workers
 
-module _ (setup : Outline) (wired : IsWired setup.job) (rows : List Row) (are : AreRows rows) (journals : List (List Entry))
-    (tied : (w : ℕ) (post : Post) → slice_get (posts setup.job) w ≡ Some post → IsTied setup rows journals w)
+module _ (setup : SetupView) (wired : IsWired setup.job) (rows : List Row) (are : AreRows rows) (journals : List (List Entry))
+    (tied : (w : ℕ) (who : Worker) → slice_get (workers_in setup.job) w ≡ Some who → IsTied setup rows journals w)
   where
     abbrev IsRight : Tuple → Type 0
     IsRight t = t.issued ≡ issued_before t.row 0 (feed_of setup rows)
@@ -119,10 +119,10 @@ module _ (setup : Outline) (wired : IsWired setup.job) (rows : List Row) (are : 
         let p = in_items lane (fed_puts setup.job rows 0 (feed_of setup rows)) (item.Carry t) i in
         (put_issued setup.job rows 0 0 (feed_of setup rows) p.0 t are (feed_rises 0 0 (afters setup.requests) (length rows)) p.1 (sym p.3)).1
 
-    right_sent : (post : Post) (journal : List Entry) → SendsEach setup IsRight post journal
-    right_sent post journal h lane t i =
-        let k : IsSentOf journal t = carried_sent setup post (local_at setup 0 post empty) lane journal t i in
+    right_sent : (who : Worker) (journal : List Entry) → SendsEach setup IsRight who journal
+    right_sent who journal h lane t i =
+        let k : IsSentOf journal t = carried_sent setup who (view_at setup 0 who empty) lane journal t i in
         k.issued ∙ (h k.lane k.tuple k.met ∙ ap (λ n. issued_before n 0 (feed_of setup rows)) (sym k.row))
 
-    pub issued_right : (w : ℕ) (post : Post) (journal : List Entry) → slice_get (posts setup.job) w ≡ Some post → slice_get journals w ≡ Some journal → IssuedRight (feed_of setup rows) journal
-    issued_right = each_tuple setup wired rows journals tied IsRight right_fed (λ w post journal p j. right_sent post journal)
+    pub issued_right : (w : ℕ) (who : Worker) (journal : List Entry) → slice_get (workers_in setup.job) w ≡ Some who → slice_get journals w ≡ Some journal → IssuedRight (feed_of setup rows) journal
+    issued_right = each_tuple setup wired rows journals tied IsRight right_fed (λ w who journal p j. right_sent who journal)

@@ -4,7 +4,7 @@ use Rattle.std.specs.List.{AllByRecursion}
 use Rattle.std.proofs.lemmas.Fmt.{decimal_injective, signed_decimal_injective}
 use Rattle.std.proofs.lemmas.List.{append_cancel_left}
 use Rattle.std.proofs.lemmas.List.Elements.{recursion_from_All}
-use Rattle.jobs.specs.Written.{Written}
+use Rattle.jobs.specs.JobView.{JobView}
 use Rattle.sink_journal.specs.declared.journal.Feed.TheVariants as feed
 use Rattle.flow_model.proofs.WorkerLemmas.{item_at}
 use Rattle.audit_laws.specs.declared.audit.AuditEntry.{AuditEntry}
@@ -20,7 +20,7 @@ abbrev pub field : ℕ → List (List ℕ) → List ℕ
 field k fields = get_or fields k []
 
 -- a worker's names tell its number
-abbrev pub AreTold : Written → Type 0
+abbrev pub AreTold : JobView → Type 0
 AreTold job =
     (w v : ℕ) (x y : Named) → slice_get (named_workers job.nodes) w ≡ Some x → slice_get (named_workers job.nodes) v ≡ Some y → x.node ≡ y.node → decimal x.place ≡ decimal y.place → w ≡ v
 
@@ -61,7 +61,7 @@ entry_node worker (kept.Marked l r) = (refl, refl)
 entry_node worker (kept.Turned r) = (refl, refl)
 entry_node worker (kept.Ended l) = (refl, refl)
 
-same_entry : (job : Written) (w v : ℕ) (x y : Named) (e f : AuditEntry) → IsEntryAt job w e → IsEntryAt job v f → kept_fields x e ≡ kept_fields y f → entry_name e ≡ entry_name f → e ≡ f
+same_entry : (job : JobView) (w v : ℕ) (x y : Named) (e f : AuditEntry) → IsEntryAt job w e → IsEntryAt job v f → kept_fields x e ≡ kept_fields y f → entry_name e ≡ entry_name f → e ≡ f
 same_entry job w v x y (kept.Met l row birth) (kept.Met k other births) p q h n =
     let lane : l ≡ k = decimal_injective l k (wide l p.0.0) (wide k q.0.0) (ap (field 3) h) in
     let number : row ≡ other = decimal_injective row other p.1 q.1 (ap (field 4) h) in
@@ -77,7 +77,7 @@ same_entry job w v x y e f p q h n = absurd (omega (arith, ap sum n))
 
 -- ---- lines
 
-pub line_named : (job : Written) (l : Line) → IsLine job l → field 0 (line_fields (named_workers job.nodes) l) ≡ name_of l
+pub line_named : (job : JobView) (l : Line) → IsLine job l → field 0 (line_fields (named_workers job.nodes) l) ≡ name_of l
 line_named job (line.Refused noted) h = refl
 line_named job (line.Feed (feed.Fed row)) h = refl
 line_named job (line.Feed (feed.Issued request)) h = refl
@@ -104,7 +104,7 @@ small_code a b p q e =
     let tail : decimal a ≡ decimal b = append_cancel_left (codes "Q") (decimal a) (decimal b) e in
     decimal_injective a b (omega arith) (omega arith) tail
 
-module _ (job : Written) (told : AreTold job) where
+module _ (job : JobView) (told : AreTold job) where
   same_step : (w v : ℕ) (e f : AuditEntry) → IsLine job (line.Step w e) → IsLine job (line.Step v f)
       → line_fields (named_workers job.nodes) (line.Step w e) ≡ line_fields (named_workers job.nodes) (line.Step v f) → entry_name e ≡ entry_name f → line.Step w e ≡ line.Step v f
   same_step w v e f p q h n =

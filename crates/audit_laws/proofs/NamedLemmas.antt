@@ -8,7 +8,7 @@ use Rattle.std.proofs.lemmas.Fmt.{decimal_injective}
 use Rattle.std.proofs.lemmas.Option.{same_Some}
 use Rattle.jobs.specs.Law.{IsLawful}
 use Rattle.jobs.specs.Nodes.{most_workers, worker_count, workers_of, workers_with}
-use Rattle.jobs.specs.Written.{Written}
+use Rattle.jobs.specs.JobView.{JobView}
 use Rattle.jobs.specs.declared.func.Func.{Func}
 use Rattle.jobs.specs.declared.func.Func.TheVariants as func
 use Rattle.jobs.specs.declared.func.NodeDef.{NodeDef}
@@ -73,7 +73,7 @@ taken_in (y ∷ xs) k zero x g lt = absurd (omega arith)
 taken_in (y ∷ xs) zero (suc n) x g lt = inl (sym (same_Some y x g))
 taken_in (y ∷ xs) (suc k) (suc n) x g lt = inr (taken_in xs k n x g (omega arith))
 
-not_named_before : (job : Written) → IsLawful job → (i j : ℕ) (a b : NodeDef) → slice_get job.nodes i ≡ Some a → slice_get job.nodes j ≡ Some b → a.name ≡ b.name → i < j → ⊥
+not_named_before : (job : JobView) → IsLawful job → (i j : ℕ) (a b : NodeDef) → slice_get job.nodes i ≡ Some a → slice_get job.nodes j ≡ Some b → a.name ≡ b.name → i < j → ⊥
 not_named_before job is i j a b g h e lt =
     let named : list_any (λ (n : NodeDef). pointwise nat_eq n.name b.name) (take j job.nodes) ≡ true =
     in_any (λ (n : NodeDef). pointwise nat_eq n.name b.name) a (take j job.nodes) (taken_in job.nodes i j a g lt) (same_text a.name b.name e) in
@@ -83,7 +83,7 @@ not_named_before job is i j a b g h e lt =
     go true e f = absurd (cc)
     go false e f = absurd (cc)
 
-one_node : (job : Written) → IsLawful job → (i j : ℕ) (a b : NodeDef) → slice_get job.nodes i ≡ Some a → slice_get job.nodes j ≡ Some b → a.name ≡ b.name → i ≡ j
+one_node : (job : JobView) → IsLawful job → (i j : ℕ) (a b : NodeDef) → slice_get job.nodes i ≡ Some a → slice_get job.nodes j ≡ Some b → a.name ≡ b.name → i ≡ j
 one_node job is i j a b g h e =
     elim (cases_lt i j) [
       | inl lt ↦ absurd (not_named_before job is i j a b g h e lt)
@@ -102,11 +102,11 @@ few (func.Split split) workers le = le
 few func.Replicate workers le = le
 few (func.Sink listed) workers le = omega arith
 
-pub few_workers : (job : Written) → IsLawful job → (i : ℕ) (def : NodeDef) → slice_get job.nodes i ≡ Some def → workers_of def ≤ 8
+pub few_workers : (job : JobView) → IsLawful job → (i : ℕ) (def : NodeDef) → slice_get job.nodes i ≡ Some def → workers_of def ≤ 8
 few_workers job is i def g =
     few def.func def.workers (at_of_all (λ (n : NodeDef). (1 ≤ n.workers) × (n.workers ≤ most_workers n.func)) def job.nodes is.limits.workers (in_of_place def job.nodes i g)).1
 
-pub are_told : (job : Written) → IsLawful job → AreTold job
+pub are_told : (job : JobView) → IsLawful job → AreTold job
 are_told job is w v x y g h node place =
     let a : NameStands job.nodes w x = name_stands job.nodes w x g in
     let b : NameStands job.nodes v y = name_stands job.nodes v y h in

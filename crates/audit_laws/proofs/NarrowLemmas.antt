@@ -21,11 +21,11 @@ use Rattle.tuple_trace.specs.declared.tuple.Item.TheVariants as item
 use Rattle.tuple_trace.specs.declared.tuple.Tuple.{Tuple}
 use Rattle.versions.specs.Kept.{KeepKinds}
 use Rattle.flow_model.specs.declared.topology.Lane.{Lane}
-use Rattle.flow_model.specs.Begin.{local_at}
+use Rattle.flow_model.specs.Begin.{view_at}
 use Rattle.flow_model.specs.Feeding.{fed, fed_puts, fed_tuple, row_at}
-use Rattle.flow_model.specs.Outline.{Outline, Post}
-use Rattle.flow_model.specs.Replay.{Local, Put, put_out, puts, visit_at}
-use Rattle.flow_model.specs.Workers.{posts}
+use Rattle.flow_model.specs.SetupView.{SetupView, Worker}
+use Rattle.flow_model.specs.Replay.{StateView, Put, put_out, puts, visit_at}
+use Rattle.flow_model.specs.Workers.{workers_in}
 use Rattle.flow_model.proofs.ElementLemmas.{IsIn, all_of_at, in_flat_map, in_map, place_of_in}
 use Rattle.flow_model.proofs.JobLemmas.{IsWired}
 use Rattle.flow_model.proofs.KindLemmas.{AreAlike, IsGiven, alike_given, given_roof, given_then}
@@ -48,7 +48,7 @@ row_within : (rows : List Row) (number : ℕ) (row : Row) → row_at rows number
 row_within rows zero row g = absurd (cc)
 row_within rows (suc place) row g = let lt = slice_get_within rows place row g in omega arith
 
-narrow_fed : (setup : Outline) (rows : List Row) → AreRows rows → (lane : Lane) (t : Tuple) → IsIn (item.Carry t) (fed setup.job rows 0 lane (feed_of setup rows)) → IsNarrow (length rows) t
+narrow_fed : (setup : SetupView) (rows : List Row) → AreRows rows → (lane : Lane) (t : Tuple) → IsIn (item.Carry t) (fed setup.job rows 0 lane (feed_of setup rows)) → IsNarrow (length rows) t
 narrow_fed setup rows are lane t i =
     let p = in_items lane (fed_puts setup.job rows 0 (feed_of setup rows)) (item.Carry t) i in
     let r = in_fed_puts setup.job rows 0 (feed_of setup rows) p.0 p.1 in
@@ -77,16 +77,16 @@ few_pieces func.Replicate outs = omega arith
 few_pieces (func.Sink listed) outs = omega arith
 
 -- what a node may be given makes few pieces, and has the node's ports
-record Fits (setup : Outline) (node : ℕ) (f : Func) : Type 0 where
+record Fits (setup : SetupView) (node : ℕ) (f : Func) : Type 0 where
   pieces : fan_out f ≤ 16
   ports : are_ports setup.job.edges node f ≡ true
 
-narrow_put : (rows : ℕ) (setup : Outline) (post : Post) (local : Local) (x : Entry) (p : Put) (t : Tuple) → Fits setup post.node local.func
-    → ((l : ℕ) (u : Tuple) → entry.Met l u ≡ x → IsNarrow rows u) → IsIn p (puts setup post local x) → p.item ≡ item.Carry t → IsNarrow rows t
-narrow_put rows setup post local (entry.Met l u) p t fits h i e =
-    let s = in_map (put_out setup.job post) p (step setup.job (visit_at post local) local.func local.counts u).1 i in
-    let k = place_of_in s.0 (step setup.job (visit_at post local) local.func local.counts u).1 s.1 in
-    let o : IsMadeOf setup.job.edges (visit_at post local) local.func u k.0 s.0 = outputs_made setup.job (visit_at post local) local.func local.counts u k.0 s.0 k.1 in
+narrow_put : (rows : ℕ) (setup : SetupView) (who : Worker) (view : StateView) (x : Entry) (p : Put) (t : Tuple) → Fits setup who.node view.func
+    → ((l : ℕ) (u : Tuple) → entry.Met l u ≡ x → IsNarrow rows u) → IsIn p (puts setup who view x) → p.item ≡ item.Carry t → IsNarrow rows t
+narrow_put rows setup who view (entry.Met l u) p t fits h i e =
+    let s = in_map (put_out setup.job who) p (step setup.job (visit_at who view) view.func view.counts u).1 i in
+    let k = place_of_in s.0 (step setup.job (visit_at who view) view.func view.counts u).1 s.1 in
+    let o : IsMadeOf setup.job.edges (visit_at who view) view.func u k.0 s.0 = outputs_made setup.job (visit_at who view) view.func view.counts u k.0 s.0 k.1 in
     let c : item.Carry s.0.tuple ≡ item.Carry t = sym (ap (λ (p : Put). p.item) s.2) ∙ e in
     let same : s.0.tuple ≡ t = cc in
     let met : IsNarrow rows u = h l u refl in
@@ -94,13 +94,13 @@ narrow_put rows setup post local (entry.Met l u) p t fits h i e =
     let le = met.0 in (
       omega arith,
       subst AreNarrow (sym o.birth ∙ ap (λ (t : Tuple). t.birth) same)
-          (births_narrow setup.job.edges post.node local.func u.birth k.0 s.0.port fits.pieces fits.ports o.port met.1),
+          (births_narrow setup.job.edges who.node view.func u.birth k.0 s.0.port fits.pieces fits.ports o.port met.1),
     )
-narrow_put rows setup post local (entry.Marked l r) p t fits h i e = absurd i
-narrow_put rows setup post local (entry.Turned r) p t fits h i e = let m = (puts_come setup post local (entry.Turned r) p i).2 in absurd (cc)
-narrow_put rows setup post local (entry.Ended l) p t fits h i e = let m = puts_come setup post local (entry.Ended l) p i in absurd (cc)
+narrow_put rows setup who view (entry.Marked l r) p t fits h i e = absurd i
+narrow_put rows setup who view (entry.Turned r) p t fits h i e = let m = (puts_come setup who view (entry.Turned r) p i).2 in absurd (cc)
+narrow_put rows setup who view (entry.Ended l) p t fits h i e = let m = puts_come setup who view (entry.Ended l) p i in absurd (cc)
 
-module _ (setup : Outline) (law : IsLawful setup.job) (wired : IsWired setup.job) (kinds : KeepKinds setup.job setup.requests) where
+module _ (setup : SetupView) (law : IsLawful setup.job) (wired : IsWired setup.job) (kinds : KeepKinds setup.job setup.requests) where
   fits_given : (node : ℕ) (def : NodeDef) (f : Func) → slice_get setup.job.nodes node ≡ Some def → IsGiven setup node def.func f → Fits setup node f
   fits_given node def f there given =
       let roof = given_roof setup node def f law kinds there given in
@@ -109,22 +109,22 @@ module _ (setup : Outline) (law : IsLawful setup.job) (wired : IsWired setup.job
       let alike : AreAlike setup.job.edges node def.func f = alike_given setup node def f kinds there given in
       record { pieces = omega arith; ports = alike.ports (wired.ports node def there) }
 
-  narrow_sent : (rows : ℕ) (w : ℕ) (post : Post) (journal : List Entry) → slice_get (posts setup.job) w ≡ Some post → SendsEach setup (IsNarrow rows) post journal
-  narrow_sent rows w post journal p h lane t i =
-      let local : Local = local_at setup 0 post empty in
-      let is : IsWorker setup.job post = (worker_with setup.job w post p).1 in
-      let j : IsIn (item.Carry t) _ = subst (λ (l : List Item). IsIn (item.Carry t) l) (sent-story setup post local lane journal) i in
-      let m = in_flat_map (put_then setup post lane) (item.Carry t) (story setup post local journal) j in
-      let k = place_of_in m.0 (story setup post local journal) m.1 in
-      let given : IsGiven setup post.node post.func m.0.local.func = given_then setup post post.func local journal k.0 m.0 (inl refl) k.1 in
-      let q = in_items lane (puts setup post m.0.local m.0.entry) (item.Carry t) m.2 in
-      narrow_put rows setup post m.0.local m.0.entry q.0 t
-      (fits_given post.node is.def m.0.local.func is.node_is (subst (λ (f : Func). IsGiven setup post.node f m.0.local.func) is.func_is given))
-      (λ l u e. h l u (subst (λ (x : Entry). IsIn x journal) (sym e) (entry_in setup post local journal m.0 m.1))) q.1 (sym q.3)
+  narrow_sent : (rows : ℕ) (w : ℕ) (who : Worker) (journal : List Entry) → slice_get (workers_in setup.job) w ≡ Some who → SendsEach setup (IsNarrow rows) who journal
+  narrow_sent rows w who journal p h lane t i =
+      let view : StateView = view_at setup 0 who empty in
+      let is : IsWorker setup.job who = (worker_with setup.job w who p).1 in
+      let j : IsIn (item.Carry t) _ = subst (λ (l : List Item). IsIn (item.Carry t) l) (sent-story setup who view lane journal) i in
+      let m = in_flat_map (put_then setup who lane) (item.Carry t) (story setup who view journal) j in
+      let k = place_of_in m.0 (story setup who view journal) m.1 in
+      let given : IsGiven setup who.node who.func m.0.view.func = given_then setup who who.func view journal k.0 m.0 (inl refl) k.1 in
+      let q = in_items lane (puts setup who m.0.view m.0.entry) (item.Carry t) m.2 in
+      narrow_put rows setup who m.0.view m.0.entry q.0 t
+      (fits_given who.node is.def m.0.view.func is.node_is (subst (λ (f : Func). IsGiven setup who.node f m.0.view.func) is.func_is given))
+      (λ l u e. h l u (subst (λ (x : Entry). IsIn x journal) (sym e) (entry_in setup who view journal m.0 m.1))) q.1 (sym q.3)
 
   -- in journals that are tied to their senders every tuple is of one of the rows, and its births are in range
   pub each_narrow : (rows : List Row) → AreRows rows → (journals : List (List Entry))
-      → ((w : ℕ) (post : Post) → slice_get (posts setup.job) w ≡ Some post → IsTied setup rows journals w)
-      → (w : ℕ) (post : Post) (journal : List Entry) → slice_get (posts setup.job) w ≡ Some post → slice_get journals w ≡ Some journal → HasEach (IsNarrow (length rows)) journal
+      → ((w : ℕ) (who : Worker) → slice_get (workers_in setup.job) w ≡ Some who → IsTied setup rows journals w)
+      → (w : ℕ) (who : Worker) (journal : List Entry) → slice_get (workers_in setup.job) w ≡ Some who → slice_get journals w ≡ Some journal → HasEach (IsNarrow (length rows)) journal
   each_narrow rows are journals tied =
-      each_tuple setup wired rows journals tied (IsNarrow (length rows)) (narrow_fed setup rows are) (λ w post journal p j. narrow_sent (length rows) w post journal p)
+      each_tuple setup wired rows journals tied (IsNarrow (length rows)) (narrow_fed setup rows are) (λ w who journal p j. narrow_sent (length rows) w who journal p)

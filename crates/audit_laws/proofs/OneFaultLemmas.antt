@@ -11,10 +11,10 @@ use Rattle.sink_journal.specs.declared.journal.Entry.TheVariants as entry
 use Rattle.tuple_trace.specs.declared.row.Row.{Row}
 use Rattle.flow_model.specs.Lanes.{lanes_in}
 use Rattle.flow_model.specs.Law.{initial}
-use Rattle.flow_model.specs.Outline.{Outline, Post}
+use Rattle.flow_model.specs.SetupView.{SetupView, Worker}
 use Rattle.flow_model.specs.Replay.{shown}
-use Rattle.flow_model.specs.Station.{station}
-use Rattle.flow_model.specs.Workers.{posts}
+use Rattle.flow_model.specs.Duties.{duties}
+use Rattle.flow_model.specs.Workers.{workers_in}
 use Rattle.flow_model.proofs.ElementLemmas.{map_in}
 use Rattle.flow_model.proofs.JobLemmas.{IsWired}
 use Rattle.flow_model.proofs.PlannedLemmas.{due_covers}
@@ -34,34 +34,34 @@ use Rattle.audit_laws.proofs.TrimLemmas.{MetOn}
 
 -- ---- the order of workers
 
-before_trans : (order : List ℕ) (a b c : Post) → ComesBefore order a b → ComesBefore order b c → ComesBefore order a c
+before_trans : (order : List ℕ) (a b c : Worker) → ComesBefore order a b → ComesBefore order b c → ComesBefore order a c
 before_trans order a b c (inl x) (inl y) = inl (omega arith)
 before_trans order a b c (inl x) (inr (node, y)) = inl (subst (λ v. place_of order a.node < place_of order v) node x)
 before_trans order a b c (inr (node, x)) (inl y) = inl (subst (λ v. place_of order v < place_of order c.node) (sym node) y)
 before_trans order a b c (inr (node, x)) (inr (other, y)) = inr (node ∙ other, omega arith)
 
-module _ (setup : Outline) (order : List ℕ) (wired : IsWired setup.job) (up : (a b : ℕ) → wired.rank a < wired.rank b → place_of order a < place_of order b)
-    (one_place : (a b : Post) (v w : ℕ) → slice_get (posts setup.job) v ≡ Some a → slice_get (posts setup.job) w ≡ Some b → place_of order a.node ≡ place_of order b.node → a.node ≡ b.node)
+module _ (setup : SetupView) (order : List ℕ) (wired : IsWired setup.job) (up : (a b : ℕ) → wired.rank a < wired.rank b → place_of order a < place_of order b)
+    (one_place : (a b : Worker) (v w : ℕ) → slice_get (workers_in setup.job) v ≡ Some a → slice_get (workers_in setup.job) w ≡ Some b → place_of order a.node ≡ place_of order b.node → a.node ≡ b.node)
     (rows : List Row) (audit : List (List AuditEntry)) (finished : AreFinished setup rows audit)
   where
-    tied : (journals : List (List Entry)) (w : ℕ) (post : Post) → slice_get (posts setup.job) w ≡ Some post → IsRestored setup rows audit journals w → IsTied setup rows journals w
-    tied journals w post p r = record {
+    tied : (journals : List (List Entry)) (w : ℕ) (who : Worker) → slice_get (workers_in setup.job) w ≡ Some who → IsRestored setup rows audit journals w → IsTied setup rows journals w
+    tied journals w who p r = record {
       journal = r.journal;
       there = r.there;
-      met = subst (λ v. MetOn (lanes_in setup.job v) r.journal) (worker_with setup.job w post p).0 (met_by_draft setup rows post r.journal (finished w post (trimmed r.journal) p r.kept_there));
+      met = subst (λ v. MetOn (lanes_in setup.job v) r.journal) (worker_with setup.job w who p).0 (met_by_draft setup rows who r.journal (finished w who (trimmed r.journal) p r.kept_there));
       tied = r.shows;
     }
 
-    marks_plans : (journals : List (List Entry)) (w : ℕ) (post : Post) → slice_get (posts setup.job) w ≡ Some post → (r : IsRestored setup rows audit journals w) → MarksPlans setup r.journal
-    marks_plans journals w post p r n q i =
-        plan_there setup q post.node (due_covers setup 0 post.node q (
-        marked_is_due (station setup 0 post) (initial (station setup 0 post)) (drafted (feed_of setup rows) (trimmed r.journal)) n q
-        (finished w post (trimmed r.journal) p r.kept_there).lawful.execution
+    marks_plans : (journals : List (List Entry)) (w : ℕ) (who : Worker) → slice_get (workers_in setup.job) w ≡ Some who → (r : IsRestored setup rows audit journals w) → MarksPlans setup r.journal
+    marks_plans journals w who p r n q i =
+        plan_there setup q who.node (due_covers setup 0 who.node q (
+        marked_is_due (duties setup 0 who) (initial (duties setup 0 who)) (drafted (feed_of setup rows) (trimmed r.journal)) n q
+        (finished w who (trimmed r.journal) p r.kept_there).lawful.execution
         (map_in (draft (feed_of setup rows)) (trim (entry.Marked n q)) (trimmed r.journal) (map_in trim (entry.Marked n q) r.journal i))))
 
     -- two restored journals are the same
     same : (A B : List (List Entry)) (Done : ℕ → Type 0) → IsClosed setup wired Done
-        → ((w : ℕ) → Done w → ((post : Post) × (slice_get (posts setup.job) w ≡ Some post)) × IsRestored setup rows audit A w × IsRestored setup rows audit B w)
+        → ((w : ℕ) → Done w → ((who : Worker) × (slice_get (workers_in setup.job) w ≡ Some who)) × IsRestored setup rows audit A w × IsRestored setup rows audit B w)
         → (w : ℕ) → Done w → slice_get A w ≡ slice_get B w
     same A B Done closed h w d =
         let here = h w d in
@@ -72,43 +72,43 @@ module _ (setup : Outline) (order : List ℕ) (wired : IsWired setup.job) (up : 
         w here.0.0 here.0.1 d
 
     -- the workers before one
-    abbrev EarlierThan : Post → ℕ → Type 0
-    EarlierThan post v = (q : Post) × (slice_get (posts setup.job) v ≡ Some q) × ComesBefore order q post
+    abbrev EarlierThan : Worker → ℕ → Type 0
+    EarlierThan who v = (q : Worker) × (slice_get (workers_in setup.job) v ≡ Some q) × ComesBefore order q who
 
-    earlier_closed : (post : Post) → IsClosed setup wired (EarlierThan post)
-    earlier_closed post w s here sender p q lt (one, there, before) =
+    earlier_closed : (who : Worker) → IsClosed setup wired (EarlierThan who)
+    earlier_closed who w s here sender p q lt (one, there, before) =
         let e : here ≡ one = same_Some here one (sym p ∙ there) in
-        (sender, q, before_trans order sender one post (inl (subst (λ (x : Post). place_of order sender.node < place_of order x.node) e (up sender.node here.node lt))) before)
+        (sender, q, before_trans order sender one who (inl (subst (λ (x : Worker). place_of order sender.node < place_of order x.node) e (up sender.node here.node lt))) before)
 
     -- the journals that are restored before a bad lane bring it what any others do
     same_brings : (n : ℕ) (h : HasBadLane setup order rows audit n) (B : List (List Entry))
-        → ((w : ℕ) (p : Post) → slice_get (posts setup.job) w ≡ Some p → ComesBefore order p h.post → IsRestored setup rows audit B w)
+        → ((w : ℕ) (p : Worker) → slice_get (workers_in setup.job) w ≡ Some p → ComesBefore order p h.who → IsRestored setup rows audit B w)
         → brought setup rows h.journals h.lane ≡ brought setup rows B h.lane
     same_brings n h B others =
-        brings_same setup wired rows h.journals B n h.lane h.post h.lane_is h.receives
-        (λ s sender p lt. same h.journals B (EarlierThan h.post) (earlier_closed h.post) (λ v d. ((d.0, d.1), h.restored v d.0 d.1 d.2, others v d.0 d.1 d.2)) s
-        (sender, p, inl (up sender.node h.post.node lt)))
+        brings_same setup wired rows h.journals B n h.lane h.who h.lane_is h.receives
+        (λ s sender p lt. same h.journals B (EarlierThan h.who) (earlier_closed h.who) (λ v d. ((d.0, d.1), h.restored v d.0 d.1 d.2, others v d.0 d.1 d.2)) s
+        (sender, p, inl (up sender.node h.who.node lt)))
 
     -- no restored journal is that of a bad lane's receiver
     not_restored : (n : ℕ) (h : HasBadLane setup order rows audit n) (B : List (List Entry))
-        → ((w : ℕ) (p : Post) → slice_get (posts setup.job) w ≡ Some p → ComesBefore order p h.post → IsRestored setup rows audit B w)
+        → ((w : ℕ) (p : Worker) → slice_get (workers_in setup.job) w ≡ Some p → ComesBefore order p h.who → IsRestored setup rows audit B w)
         → IsRestored setup rows audit B h.lane.receiver → ⊥
     not_restored n h B others r =
         let items : h.items ≡ shown setup n r.journal =
         same_Some h.items (shown setup n r.journal) (sym h.brings ∙ (same_brings n h B others ∙ r.shows n h.lane h.lane_is refl)) in
         let kept : trimmed r.journal ≡ h.journal = same_Some (trimmed r.journal) h.journal (sym r.kept_there ∙ h.there) in
-        h.differ (subst (λ x. AreItems n x h.journal) (sym items) (subst (AreItems n (shown setup n r.journal)) kept (seen_shown setup n r.journal (marks_plans B h.lane.receiver h.post h.receives r))))
+        h.differ (subst (λ x. AreItems n x h.journal) (sym items) (subst (AreItems n (shown setup n r.journal)) kept (seen_shown setup n r.journal (marks_plans B h.lane.receiver h.who h.receives r))))
 
     -- of two bad lanes into one worker none comes first
     not_first : (n m : ℕ) (h : HasBadLane setup order rows audit n) (k : HasBadLane setup order rows audit m) → h.lane.receiver ≡ k.lane.receiver → n < m → ⊥
     not_first n m h k e lt =
-        let one : h.post ≡ k.post = same_Some h.post k.post (sym h.receives ∙ subst (λ v. slice_get (posts setup.job) v ≡ Some k.post) (sym e) k.receives) in
+        let one : h.who ≡ k.who = same_Some h.who k.who (sym h.receives ∙ subst (λ v. slice_get (workers_in setup.job) v ≡ Some k.who) (sym e) k.receives) in
         let brings : brought setup rows k.journals h.lane ≡ Some h.items =
         sym (same_brings n h k.journals (λ w p g before. k.restored w p g (subst (ComesBefore order p) one before))) ∙ h.brings in
         h.differ (k.least n h.lane lt h.lane_is e h.items h.journal brings h.there)
 
     -- of two workers one comes before the other, or they are one
-    compare : (a b : Post) (v w : ℕ) → slice_get (posts setup.job) v ≡ Some a → slice_get (posts setup.job) w ≡ Some b → ComesBefore order a b ⊎ (ComesBefore order b a ⊎ (v ≡ w))
+    compare : (a b : Worker) (v w : ℕ) → slice_get (workers_in setup.job) v ≡ Some a → slice_get (workers_in setup.job) w ≡ Some b → ComesBefore order a b ⊎ (ComesBefore order b a ⊎ (v ≡ w))
     compare a b v w p q =
         elim (cases_lt (place_of order a.node) (place_of order b.node)) [
           | inl lt ↦ inl (inl lt)
@@ -128,12 +128,12 @@ module _ (setup : Outline) (order : List ℕ) (wired : IsWired setup.job) (up : 
             inr (inr (omega arith))
 
     pub one_lane : (n m : ℕ) → HasBadLane setup order rows audit n → HasBadLane setup order rows audit m → n ≡ m
-    one_lane n m h k = go (compare h.post k.post h.lane.receiver k.lane.receiver h.receives k.receives)
+    one_lane n m h k = go (compare h.who k.who h.lane.receiver k.lane.receiver h.receives k.receives)
       where
-        go : ComesBefore order h.post k.post ⊎ (ComesBefore order k.post h.post ⊎ (h.lane.receiver ≡ k.lane.receiver)) → n ≡ m
-        go (inl first) = absurd (not_restored n h k.journals (λ w p g before. k.restored w p g (before_trans order p h.post k.post before first)) (k.restored h.lane.receiver h.post h.receives first))
+        go : ComesBefore order h.who k.who ⊎ (ComesBefore order k.who h.who ⊎ (h.lane.receiver ≡ k.lane.receiver)) → n ≡ m
+        go (inl first) = absurd (not_restored n h k.journals (λ w p g before. k.restored w p g (before_trans order p h.who k.who before first)) (k.restored h.lane.receiver h.who h.receives first))
         go (inr (inl first)) =
-            absurd (not_restored m k h.journals (λ w p g before. h.restored w p g (before_trans order p k.post h.post before first)) (h.restored k.lane.receiver k.post k.receives first))
+            absurd (not_restored m k h.journals (λ w p g before. h.restored w p g (before_trans order p k.who h.who before first)) (h.restored k.lane.receiver k.who k.receives first))
         go (inr (inr e)) =
             elim (cases_lt n m) [
               | inl lt ↦ absurd (not_first n m h k e lt)
@@ -142,14 +142,14 @@ module _ (setup : Outline) (order : List ℕ) (wired : IsWired setup.job) (up : 
 
     -- a bad lane leaves no bad state
     pub lane_or_state : (states : List Listed) (n w : ℕ) → HasBadLane setup order rows audit n → HasBadState setup rows audit states w → ⊥
-    lane_or_state states n w h k = not_restored n h k.journals (λ v p g before. k.restored v p g) (k.restored h.lane.receiver h.post h.receives)
+    lane_or_state states n w h k = not_restored n h k.journals (λ v p g before. k.restored v p g) (k.restored h.lane.receiver h.who h.receives)
 
     not_first_state : (states : List Listed) (v w : ℕ) → HasBadState setup rows audit states v → HasBadState setup rows audit states w → v < w → ⊥
     not_first_state states v w h k lt =
         let e : slice_get h.journals v ≡ slice_get k.journals v =
-        same h.journals k.journals (λ u. (post : Post) × (slice_get (posts setup.job) u ≡ Some post)) (λ w s post sender p q lt d. (sender, q))
-        (λ u d. (d, h.restored u d.0 d.1, k.restored u d.0 d.1)) v (h.post, h.works) in
-        h.differ (k.least v h.post h.journal lt h.works (sym e ∙ h.there))
+        same h.journals k.journals (λ u. (who : Worker) × (slice_get (workers_in setup.job) u ≡ Some who)) (λ w s who sender p q lt d. (sender, q))
+        (λ u d. (d, h.restored u d.0 d.1, k.restored u d.0 d.1)) v (h.who, h.works) in
+        h.differ (k.least v h.who h.journal lt h.works (sym e ∙ h.there))
 
     pub one_state : (states : List Listed) (v w : ℕ) → HasBadState setup rows audit states v → HasBadState setup rows audit states w → v ≡ w
     one_state states v w h k =
@@ -159,20 +159,20 @@ module _ (setup : Outline) (order : List ℕ) (wired : IsWired setup.job) (up : 
         ]
 
 -- of two workers whose journals aren't finished the first is named
-pub one_law : (setup : Outline) (rows : List Row) (audit : List (List AuditEntry)) (v w : ℕ) → HasBadLaw setup rows audit v → HasBadLaw setup rows audit w → v ≡ w
+pub one_law : (setup : SetupView) (rows : List Row) (audit : List (List AuditEntry)) (v w : ℕ) → HasBadLaw setup rows audit v → HasBadLaw setup rows audit w → v ≡ w
 one_law setup rows audit v w h k =
     elim (cases_lt v w) [
-      | inl lt ↦ absurd (h.unfinished (k.least v h.post h.journal lt h.works h.there))
-      | inr ge ↦ elim (cases_lt w v) [ inl lt ↦ absurd (k.unfinished (h.least w k.post k.journal lt k.works k.there)) | inr le ↦ omega arith ]
+      | inl lt ↦ absurd (h.unfinished (k.least v h.who h.journal lt h.works h.there))
+      | inr ge ↦ elim (cases_lt w v) [ inl lt ↦ absurd (k.unfinished (h.least w k.who k.journal lt k.works k.there)) | inr le ↦ omega arith ]
     ]
 
-pub law_or_more : (setup : Outline) (rows : List Row) (audit : List (List AuditEntry)) (w : ℕ) → HasBadLaw setup rows audit w → AreFinished setup rows audit → ⊥
-law_or_more setup rows audit w h finished = h.unfinished (finished w h.post h.journal h.works h.there)
+pub law_or_more : (setup : SetupView) (rows : List Row) (audit : List (List AuditEntry)) (w : ℕ) → HasBadLaw setup rows audit w → AreFinished setup rows audit → ⊥
+law_or_more setup rows audit w h finished = h.unfinished (finished w h.who h.journal h.works h.there)
 
 -- ---- by the types of a setup and of rows
 
 -- nodes of one place are one
-one_place_of : (setup : Outline) (dag : DagView) → dag.nodes ≡ length setup.job.nodes → (a b : Post) (v w : ℕ) → slice_get (posts setup.job) v ≡ Some a → slice_get (posts setup.job) w ≡ Some b
+one_place_of : (setup : SetupView) (dag : DagView) → dag.nodes ≡ length setup.job.nodes → (a b : Worker) (v w : ℕ) → slice_get (workers_in setup.job) v ≡ Some a → slice_get (workers_in setup.job) w ≡ Some b
     → place_of dag.order a.node ≡ place_of dag.order b.node → a.node ≡ b.node
 one_place_of setup dag nodes a b v w p q e =
     let x = (worker_with setup.job v a p).1 in
@@ -182,7 +182,7 @@ one_place_of setup dag nodes a b v w p q e =
     sym (get_or-place_of (HasEdge dag.edges) dag.nodes dag.order dag.lawful.ordered a.node (omega arith))
     ∙ (ap (λ k. get_or dag.order k 0) e ∙ get_or-place_of (HasEdge dag.edges) dag.nodes dag.order dag.lawful.ordered b.node (omega arith))
 
-module _ (setup : Outline) (dag : DagView) (wired : IsWired setup.job) (edges : dag.edges ≡ setup.job.edges) (nodes : dag.nodes ≡ length setup.job.nodes) (rows : List Row)
+module _ (setup : SetupView) (dag : DagView) (wired : IsWired setup.job) (edges : dag.edges ≡ setup.job.edges) (nodes : dag.nodes ≡ length setup.job.nodes) (rows : List Row)
     (audit : List (List AuditEntry)) (states : List Listed)
   where
     -- the job, its nodes ranked by their places

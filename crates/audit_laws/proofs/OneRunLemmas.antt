@@ -9,11 +9,11 @@ use Rattle.tuple_trace.specs.declared.row.Row.{Row}
 use Rattle.flow_model.specs.Begin.{at_first}
 use Rattle.flow_model.specs.Lanes.{lanes_in}
 use Rattle.flow_model.specs.Law.{initial}
-use Rattle.flow_model.specs.Outline.{Outline, Post}
+use Rattle.flow_model.specs.SetupView.{SetupView, Worker}
 use Rattle.flow_model.specs.declared.topology.Lane.{Lane}
 use Rattle.flow_model.specs.Run.{IsRun, IsRunFrom, IsWorked, Ran, final_counts, put_by, ran_as}
-use Rattle.flow_model.specs.Station.{station}
-use Rattle.flow_model.specs.Workers.{posts}
+use Rattle.flow_model.specs.Duties.{duties}
+use Rattle.flow_model.specs.Workers.{workers_in}
 use Rattle.flow_model.proofs.JobLemmas.{IsWired}
 use Rattle.flow_model.proofs.MarkerLemmas.{met_on_lane}
 use Rattle.flow_model.proofs.WorkerLemmas.{item_at, worker_with}
@@ -33,29 +33,29 @@ same_list {A} (x ∷ xs) (y ∷ ys) e h =
     ap₂ (λ (z : A) (zs : List A). z ∷ zs) first (same_list xs ys (omega (arith, e)) (λ k lt. h (suc k) (omega (arith, lt))))
 
 -- what is put on a lane doesn't depend on the counts at the end
-pub put_by-states : (setup : Outline) (rows : List Row) (journals : List (List Entry)) (states : List Counts) (lane : Lane) (o : Option ℕ)
+pub put_by-states : (setup : SetupView) (rows : List Row) (journals : List (List Entry)) (states : List Counts) (lane : Lane) (o : Option ℕ)
     → put_by (at_first setup) rows (ran_as setup (feed_of setup rows) journals states) lane o ≡ put_by (at_first setup) rows (ran_as setup (feed_of setup rows) journals []) lane o
 put_by-states setup rows journals states lane None = refl
 put_by-states setup rows journals states lane (Some s) = refl
 
 -- no worker has counts at first
-pub none_counted : (setup : Outline) (w : ℕ) (post : Post) → slice_get (posts setup.job) w ≡ Some post → slice_get (at_first setup).states w ≡ Some empty
-none_counted setup w post p = slice_get-map (λ (post : Post). empty) (posts setup.job) w ∙ ap (option_map (λ (post : Post). empty)) p
+pub none_counted : (setup : SetupView) (w : ℕ) (who : Worker) → slice_get (workers_in setup.job) w ≡ Some who → slice_get (at_first setup).states w ≡ Some empty
+none_counted setup w who p = slice_get-map (λ (who : Worker). empty) (workers_in setup.job) w ∙ ap (option_map (λ (who : Worker). empty)) p
 
-module _ (setup : Outline) (rows : List Row) (journals : List (List Entry)) (states : List Counts)
+module _ (setup : SetupView) (rows : List Row) (journals : List (List Entry)) (states : List Counts)
     (run : IsRunFrom (at_first setup) rows (ran_as setup (feed_of setup rows) journals states))
   where
     -- what a run leaves of a worker
-    pub record Left (w : ℕ) (post : Post) : Type 0 where
+    pub record Left (w : ℕ) (who : Worker) : Type 0 where
       pub journal : List Entry
       pub journal_there : slice_get journals w ≡ Some journal
       pub state : Counts
       pub state_there : slice_get states w ≡ Some state
-      pub worked : IsWorked setup (at_first setup) post empty journal state
+      pub worked : IsWorked setup (at_first setup) who empty journal state
 
-    pub left_of : (w : ℕ) (post : Post) → slice_get (posts setup.job) w ≡ Some post → Left w post
-    left_of w post p =
-        let lt : w < length (posts setup.job) = slice_get_within (posts setup.job) w post p in
+    pub left_of : (w : ℕ) (who : Worker) → slice_get (workers_in setup.job) w ≡ Some who → Left w who
+    left_of w who p =
+        let lt : w < length (workers_in setup.job) = slice_get_within (workers_in setup.job) w who p in
         let j = item_at journals w (omega (arith, lt, run.one_journal_each)) in
         let s = item_at states w (omega (arith, lt, run.one_state_each)) in
         record {
@@ -63,18 +63,18 @@ module _ (setup : Outline) (rows : List Row) (journals : List (List Entry)) (sta
           journal_there = j.1;
           state = s.0;
           state_there = s.1;
-          worked = run.worked w post empty j.0 s.0 p (none_counted setup w post p) j.1 s.1;
+          worked = run.worked w who empty j.0 s.0 p (none_counted setup w who p) j.1 s.1;
         }
 
-    pub tied_by_run : (w : ℕ) (post : Post) → slice_get (posts setup.job) w ≡ Some post → IsTied setup rows journals w
-    tied_by_run w post p =
-        let l : Left w post = left_of w post p in
-        let number : post.number ≡ w = (worker_with setup.job w post p).0 in
+    pub tied_by_run : (w : ℕ) (who : Worker) → slice_get (workers_in setup.job) w ≡ Some who → IsTied setup rows journals w
+    tied_by_run w who p =
+        let l : Left w who = left_of w who p in
+        let number : who.number ≡ w = (worker_with setup.job w who p).0 in
         record {
           journal = l.journal;
           there = l.journal_there;
           met = subst (λ v. MetOn (lanes_in setup.job v) l.journal) number
-              (λ n t i. met_on_lane (station setup 0 post) (initial (station setup 0 post)) l.journal n t l.worked.finished.lawful.execution i);
+              (λ n t i. met_on_lane (duties setup 0 who) (initial (duties setup 0 who)) l.journal n t l.worked.finished.lawful.execution i);
           tied = λ n lane g r.
               sym (put_by-states setup rows journals states lane lane.sender)
               ∙ run.tied n lane l.journal g (subst (λ v. slice_get journals v ≡ Some l.journal) (sym r) l.journal_there);
@@ -88,27 +88,27 @@ pub length_trimmed : (A : List (List Entry)) → length (map trimmed A) ≡ leng
 length_trimmed [] = refl
 length_trimmed (j ∷ A) = ap suc (length_trimmed A)
 
-module _ (setup : Outline) (wired : IsWired setup.job) (rows : List Row) (A B : List (List Entry)) (S T : List Counts)
+module _ (setup : SetupView) (wired : IsWired setup.job) (rows : List Row) (A B : List (List Entry)) (S T : List Counts)
     (a : IsRunFrom (at_first setup) rows (ran_as setup (feed_of setup rows) A S)) (b : IsRunFrom (at_first setup) rows (ran_as setup (feed_of setup rows) B T)) (same : map trimmed A ≡ map trimmed B)
   where
     abbrev IsThere : ℕ → Type 0
-    IsThere w = (post : Post) × (slice_get (posts setup.job) w ≡ Some post)
+    IsThere w = (who : Worker) × (slice_get (workers_in setup.job) w ≡ Some who)
 
-    by_worker : (w : ℕ) (post : Post) → slice_get (posts setup.job) w ≡ Some post → slice_get A w ≡ slice_get B w
-    by_worker w post p =
-        same_journals setup wired rows A B IsThere (λ w s post sender p there lt d. (sender, there))
+    by_worker : (w : ℕ) (who : Worker) → slice_get (workers_in setup.job) w ≡ Some who → slice_get A w ≡ slice_get B w
+    by_worker w who p =
+        same_journals setup wired rows A B IsThere (λ w s who sender p there lt d. (sender, there))
         (λ w d. tied_by_run setup rows A S a w d.0 d.1) (λ w d. tied_by_run setup rows B T b w d.0 d.1)
-        (λ w d. trimmed_there A B w same) w post p (post, p)
+        (λ w d. trimmed_there A B w same) w who p (who, p)
 
     one_journals : A ≡ B
     one_journals =
         same_list A B (sym (length_trimmed A) ∙ (ap length same ∙ length_trimmed B))
-        (λ w lt. let p = item_at (posts setup.job) w (omega (arith, lt, a.one_journal_each)) in by_worker w p.0 p.1)
+        (λ w lt. let p = item_at (workers_in setup.job) w (omega (arith, lt, a.one_journal_each)) in by_worker w p.0 p.1)
 
     one_states : S ≡ T
     one_states =
         same_list S T (a.one_state_each ∙ sym b.one_state_each) (λ w lt.
-        let p = item_at (posts setup.job) w (omega (arith, lt, a.one_state_each)) in
+        let p = item_at (workers_in setup.job) w (omega (arith, lt, a.one_state_each)) in
         let x : Left setup rows A S a w p.0 = left_of setup rows A S a w p.0 p.1 in
         let y : Left setup rows B T b w p.0 = left_of setup rows B T b w p.0 p.1 in
         let j : x.journal ≡ y.journal = same_Some x.journal y.journal (sym x.journal_there ∙ (by_worker w p.0 p.1 ∙ y.journal_there)) in
@@ -116,10 +116,10 @@ module _ (setup : Outline) (wired : IsWired setup.job) (rows : List Row) (A B : 
         x.state_there ∙ (ap Some s ∙ sym y.state_there))
 
 -- a run is that of its parts
-parts : (setup : Outline) (ran : Ran) → ran.setup ≡ setup → ran ≡ ran_as setup ran.feeds ran.journals ran.states
+parts : (setup : SetupView) (ran : Ran) → ran.setup ≡ setup → ran ≡ ran_as setup ran.feeds ran.journals ran.states
 parts setup ran e = λ i. record { setup = e i; feeds = ran.feeds; journals = ran.journals; states = ran.states }
 
-pub by_parts : (setup : Outline) (rows : List Row) (ran : Ran) → IsRun setup rows ran
+pub by_parts : (setup : SetupView) (rows : List Row) (ran : Ran) → IsRun setup rows ran
     → (ran ≡ ran_as setup (feed_of setup rows) ran.journals ran.states) × IsRunFrom (at_first setup) rows (ran_as setup (feed_of setup rows) ran.journals ran.states)
 by_parts setup rows ran is =
     let e : ran ≡ ran_as setup ran.feeds ran.journals ran.states = parts setup ran is.setup_is in
@@ -128,7 +128,7 @@ by_parts setup rows ran is =
     ap (λ (feeds : List Feed). ran_as setup feeds ran.journals ran.states) r.feed in
     (e ∙ f, subst (IsRunFrom (at_first setup) rows) f r)
 
-pub one_run : (setup : Outline) → IsWired setup.job → (rows : List Row) (a b : Ran) → IsRun setup rows a → IsRun setup rows b → map trimmed a.journals ≡ map trimmed b.journals → a ≡ b
+pub one_run : (setup : SetupView) → IsWired setup.job → (rows : List Row) (a b : Ran) → IsRun setup rows a → IsRun setup rows b → map trimmed a.journals ≡ map trimmed b.journals → a ≡ b
 one_run setup wired rows a b x y same =
     let p = by_parts setup rows a x in
     let q = by_parts setup rows b y in

@@ -3,12 +3,12 @@ use Rattle.std.proofs.Common.{◌≡◌, ◌∙◌, ◌<◌, ◌≤◌, ◌+◌,
 use Rattle.std.proofs.lemmas.Bool.{cases_lt}
 use Rattle.flow_dag.specs.Dag.{DagView}
 use Rattle.jobs.specs.Law.{IsLawful}
-use Rattle.jobs.specs.Written.{Written}
+use Rattle.jobs.specs.JobView.{JobView}
 use Rattle.sink_journal.specs.Audit.{audit_header}
 use Rattle.sink_journal.specs.declared.audit.Noted.{Noted}
 use Rattle.sink_journal.specs.declared.journal.Feed.{Feed}
 use Rattle.tuple_trace.specs.declared.row.Row.{Row}
-use Rattle.flow_model.specs.Outline.{Outline}
+use Rattle.flow_model.specs.SetupView.{SetupView}
 use Rattle.flow_model.proofs.ElementLemmas.{all_of_at, at_of_all, before_both, in_left, in_right, pair_of_all}
 use Rattle.flow_model.proofs.JobLemmas.{IsWired}
 use Rattle.audit_laws.specs.declared.audit.Line.{Line}
@@ -56,7 +56,7 @@ past_front {A} {B} f (a ∷ fs) (b ∷ bs) x y xs ys e lt =
     let r = past_front f fs bs x y xs ys later (omega arith) in
     (b ∷ r.0, r.1, r.2, ap (λ (t : List A). b ∷ t) {y = r.0 ++ r.1 ∷ r.2} r.3, ap₂ (λ (u : B) (us : List B). u ∷ us) first r.4, r.5)
 
-shape_before : (job : Written) → AreTold job → (records : List (List (List ℕ))) (i j : ℕ) (a : HasBadShape job records i) (b : HasBadShape job records j) → length a.above < length b.above → ⊥
+shape_before : (job : JobView) → AreTold job → (records : List (List (List ℕ))) (i j : ℕ) (a : HasBadShape job records i) (b : HasBadShape job records j) → length a.above < length b.above → ⊥
 shape_before job told records i j a b lt =
     let e : map (line_fields (named_workers job.nodes)) a.above ++ a.here ∷ a.later ≡ map (line_fields (named_workers job.nodes)) b.above ++ b.here ∷ b.later =
     behind audit_header audit_header _ _ (sym a.fields ∙ b.fields) in
@@ -71,7 +71,7 @@ shape_before job told records i j a b lt =
     all_of_at (λ earlier. group_of earlier ≤ group_of r.1) r.0 (λ x j.
     pair_of_all (λ a b. group_of a ≤ group_of b) x r.1 (r.0 ++ r.1 ∷ r.2) ordered (before_both x r.1 r.0 (r.1 ∷ r.2) j (inl refl)))))
 
-one_shape : (job : Written) → AreTold job → (records : List (List (List ℕ))) (i j : ℕ) → HasBadShape job records i → HasBadShape job records j → i ≡ j
+one_shape : (job : JobView) → AreTold job → (records : List (List (List ℕ))) (i j : ℕ) → HasBadShape job records i → HasBadShape job records j → i ≡ j
 one_shape job told records i j a b =
     let p = a.place in
     let q = b.place in
@@ -82,7 +82,7 @@ one_shape job told records i j a b =
 
 -- ---- the six codes
 
-module _ (setup : Outline) (dag : DagView) (wired : IsWired setup.job) (lawful : IsLawful setup.job) (edges : dag.edges ≡ setup.job.edges) (nodes : dag.nodes ≡ length setup.job.nodes)
+module _ (setup : SetupView) (dag : DagView) (wired : IsWired setup.job) (lawful : IsLawful setup.job) (edges : dag.edges ≡ setup.job.edges) (nodes : dag.nodes ≡ length setup.job.nodes)
     (rows : List Row) (refused : List Noted) (records : List (List (List ℕ)))
   where
     -- the fault is one of the shape, of the refused requests, of the feed, or of the workers

@@ -7,7 +7,7 @@ use Rattle.std.specs.FinMap.Entries.{by_order}
 use Rattle.std.specs.Int.Signed.{mag}
 use Rattle.std.specs.Ordering.{nat_cmp}
 use Rattle.std.specs.declared.cmp.Ordering.TheVariants.{Less, Equal, Greater}
-use Rattle.jobs.specs.Written.{Written}
+use Rattle.jobs.specs.JobView.{JobView}
 use Rattle.jobs.specs.declared.func.Func.{Func}
 use Rattle.jobs.specs.declared.func.Func.TheVariants as func
 use Rattle.keyed_state.specs.Counts.{Counts, carried, clamp, scaled}
@@ -19,8 +19,8 @@ use Rattle.sink_journal.specs.declared.journal.Entry.{Entry}
 use Rattle.sink_journal.specs.declared.journal.Entry.TheVariants as entry
 use Rattle.tuple_trace.specs.declared.tuple.Tuple.{Tuple}
 use Rattle.versions.specs.declared.request.Change.{Change}
-use Rattle.flow_model.specs.Outline.{Outline, Post}
-use Rattle.flow_model.specs.Replay.{Local, after, after_all, with_change}
+use Rattle.flow_model.specs.SetupView.{SetupView, Worker}
+use Rattle.flow_model.specs.Replay.{StateView, after, after_all, with_change}
 use Rattle.flow_model.specs.Requests.{change_of}
 use Rattle.flow_model.proofs.ElementLemmas.{IsIn, in_filter, in_map}
 
@@ -73,7 +73,7 @@ carried_range (carry.Scale by over) counts h =
 carried_range (carry.DropBelow least) counts h =
     list_range (filter _ (entries counts)) (λ c i. h c (in_filter _ c (entries counts) i).0)
 
-step_range : (job : Written) (f : Func) (counts : Counts) (t : Tuple) → AreInRange (entries counts) → AreInRange (entries (counts_after job f counts t))
+step_range : (job : JobView) (f : Func) (counts : Counts) (t : Tuple) → AreInRange (entries counts) → AreInRange (entries (counts_after job f counts t))
 step_range job func.Source counts t h = h
 step_range job (func.Filter conds) counts t h = h
 step_range job (func.Map steps) counts t h = h
@@ -84,17 +84,17 @@ step_range job (func.Split split) counts t h = h
 step_range job func.Replicate counts t h = h
 step_range job (func.Sink listed) counts t h = h
 
-after_range : (setup : Outline) (post : Post) (local : Local) (x : Entry) → AreInRange (entries local.counts) → AreInRange (entries (after setup post local x).counts)
-after_range setup post local (entry.Met l t) h = step_range setup.job local.func local.counts t h
-after_range setup post local (entry.Marked l r) h = h
-after_range setup post local (entry.Turned r) h = go (change_of setup r post.node)
+after_range : (setup : SetupView) (who : Worker) (view : StateView) (x : Entry) → AreInRange (entries view.counts) → AreInRange (entries (after setup who view x).counts)
+after_range setup who view (entry.Met l t) h = step_range setup.job view.func view.counts t h
+after_range setup who view (entry.Marked l r) h = h
+after_range setup who view (entry.Turned r) h = go (change_of setup r who.node)
   where
-    go : (o : Option Change) → AreInRange (entries (with_change o local).counts)
+    go : (o : Option Change) → AreInRange (entries (with_change o view).counts)
     go None = h
-    go (Some change) = carried_range change.carry local.counts h
-after_range setup post local (entry.Ended l) h = h
+    go (Some change) = carried_range change.carry view.counts h
+after_range setup who view (entry.Ended l) h = h
 
 -- so it is at the end of a journal
-pub all_range : (setup : Outline) (post : Post) (local : Local) (xs : List Entry) → AreInRange (entries local.counts) → AreInRange (entries (after_all setup post local xs).counts)
-all_range setup post local [] h = h
-all_range setup post local (x ∷ xs) h = all_range setup post (after setup post local x) xs (after_range setup post local x h)
+pub all_range : (setup : SetupView) (who : Worker) (view : StateView) (xs : List Entry) → AreInRange (entries view.counts) → AreInRange (entries (after_all setup who view xs).counts)
+all_range setup who view [] h = h
+all_range setup who view (x ∷ xs) h = all_range setup who (after setup who view x) xs (after_range setup who view x h)

@@ -8,7 +8,7 @@ use Rattle.csv.specs.Writing.{default_writer, fields_text, is_blank, row_body}
 use Rattle.csv.specs.declared.parser.State.TheVariants as st
 use Rattle.csv.proofs.RoundTrip.{read-write}
 use Rattle.jobs.specs.Nodes.{workers_of}
-use Rattle.jobs.specs.Written.{Written}
+use Rattle.jobs.specs.JobView.{JobView}
 use Rattle.jobs.specs.declared.func.NodeDef.{NodeDef}
 use Rattle.keyed_state.specs.Counts.{Counts}
 use Rattle.sink_journal.specs.Audit.{audit, audit_header, audit_records, entry_fields, feed_fields, nodes_records}
@@ -89,14 +89,14 @@ nodes_have (def ∷ nodes) journals states =
     (workers_have def.name 0 (take (workers_of def) journals) (take (workers_of def) states))
     (nodes_have nodes (drop (workers_of def) journals) (drop (workers_of def) states))
 
-audit_has : (job : Written) (refused : List Noted) (feeds : List Feed) (journals : List (List Entry)) (states : List Counts)
+audit_has : (job : JobView) (refused : List Noted) (feeds : List Feed) (journals : List (List Entry)) (states : List Counts)
     → HaveFields (audit_header ∷ audit_records job refused feeds journals states)
 audit_has job refused feeds journals states =
     both_have (map refused_fields refused ++ map feed_fields feeds) (nodes_records job.nodes journals states)
     (both_have (map refused_fields refused) (map feed_fields feeds) (refused_have refused) (feeds_have feeds)) (nodes_have job.nodes journals states)
 
 -- no byte order mark stands at its front
-bare : (job : Written) (refused : List Noted) (feeds : List Feed) (journals : List (List Entry)) (states : List Counts)
+bare : (job : JobView) (refused : List Noted) (feeds : List Feed) (journals : List (List Entry)) (states : List Counts)
     → strip_bom (audit job refused feeds journals states) ≡ audit job refused feeds journals states
 unfolding strip_bom is_blank fields_text
 bare job refused feeds journals states = refl

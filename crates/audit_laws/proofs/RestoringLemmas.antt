@@ -4,7 +4,7 @@ use Rattle.std.proofs.lemmas.Bool.{eq-eqb, eqb-true}
 use Rattle.sink_journal.specs.declared.journal.Entry.{Entry}
 use Rattle.tuple_trace.specs.declared.tuple.Item.{Item}
 use Rattle.tuple_trace.specs.declared.tuple.Item.TheVariants as item
-use Rattle.flow_model.specs.Outline.{Outline}
+use Rattle.flow_model.specs.SetupView.{SetupView}
 use Rattle.flow_model.specs.Replay.{came_in, marker, shown}
 use Rattle.flow_model.proofs.ElementLemmas.{IsIn}
 use Rattle.audit_laws.specs.declared.audit.AuditEntry.{AuditEntry}
@@ -22,19 +22,19 @@ ComeBy lanes (kept.Turned r ∷ more) = ComeBy lanes more
 ComeBy lanes (kept.Ended l ∷ more) = IsIn l lanes × ComeBy lanes more
 
 -- a marker on a lane is that of its request
-abbrev pub IsRightMark : Outline → Item → Type 0
+abbrev pub IsRightMark : SetupView → Item → Type 0
 IsRightMark setup (item.Carry t) = Unit {0}
 IsRightMark setup (item.Mark r c) = marker setup r ≡ item.Mark r c ∷ []
 IsRightMark setup item.Last = Unit {0}
 
-abbrev pub AreRightMarks : Outline → List ℕ → (ℕ → List Item) → Type 0
+abbrev pub AreRightMarks : SetupView → List ℕ → (ℕ → List Item) → Type 0
 AreRightMarks setup lanes left = (n : ℕ) (x : Item) → IsIn n lanes → IsIn x (left n) → IsRightMark setup x
 
 abbrev pub AllAgree : List ℕ → (ℕ → List Item) → List AuditEntry → Type 0
 AllAgree lanes left journal = (n : ℕ) → IsIn n lanes → AreItems n (left n) journal
 
 -- what was restored is the journal that is sought
-abbrev pub IsSought : Outline → List ℕ → (ℕ → List Item) → List AuditEntry → List Entry → Type 0
+abbrev pub IsSought : SetupView → List ℕ → (ℕ → List Item) → List AuditEntry → List Entry → Type 0
 IsSought setup lanes left journal found = (trimmed found ≡ journal) × ((n : ℕ) → IsIn n lanes → shown setup n found ≡ left n)
 
 trim_took : (n : ℕ) (x : Item) → trim (took n x) ≡ seen n x
@@ -42,7 +42,7 @@ trim_took n (item.Carry t) = refl
 trim_took n (item.Mark r c) = refl
 trim_took n item.Last = refl
 
-came_took : (setup : Outline) (l n : ℕ) (x : Item) → IsRightMark setup x → came_in setup n (took l x) ≡ cond (l == n) (x ∷ []) []
+came_took : (setup : SetupView) (l n : ℕ) (x : Item) → IsRightMark setup x → came_in setup n (took l x) ≡ cond (l == n) (x ∷ []) []
 came_took setup l n (item.Carry t) h = refl
 came_took setup l n (item.Mark r c) h = ap (λ (m : List Item). cond (l == n) m []) h
 came_took setup l n item.Last h = refl
@@ -64,7 +64,7 @@ later_in : (x : Item) (items : List Item) → IsIn x (later_items items) → IsI
 later_in x [] i = absurd i
 later_in x (y ∷ items) i = inr i
 
-step : (setup : Outline) (lanes : List ℕ) (left : ℕ → List Item) (l : ℕ) (k : AuditEntry) (more : List AuditEntry) → IsIn l lanes → Takes l k → AllAgree lanes left (k ∷ more)
+step : (setup : SetupView) (lanes : List ℕ) (left : ℕ → List Item) (l : ℕ) (k : AuditEntry) (more : List AuditEntry) → IsIn l lanes → Takes l k → AllAgree lanes left (k ∷ more)
     → AreRightMarks setup lanes left
     → (AllAgree lanes (taken_from l left) more → AreRightMarks setup lanes (taken_from l left) → IsSought setup lanes (taken_from l left) more (restored (taken_from l left) more))
     → IsSought setup lanes left (k ∷ more) (took_next l (left l) ++ restored (taken_from l left) more)
@@ -101,7 +101,7 @@ step setup lanes left l k more here takes agree marks later = go (next_item l k 
         shows n true same = subst (λ v. x ∷ later_items (left v) ≡ left v) (eqb-true l n same) (ap (λ (ys : List Item). x ∷ later_items ys) e ∙ sym e)
         shows n false differ = refl
 
-pub restored_sought : (setup : Outline) (lanes : List ℕ) (left : ℕ → List Item) (journal : List AuditEntry) → ComeBy lanes journal → AllAgree lanes left journal → AreRightMarks setup lanes left
+pub restored_sought : (setup : SetupView) (lanes : List ℕ) (left : ℕ → List Item) (journal : List AuditEntry) → ComeBy lanes journal → AllAgree lanes left journal → AreRightMarks setup lanes left
     → IsSought setup lanes left journal (restored left journal)
 restored_sought setup lanes left [] come agree marks = (refl, λ n i. empty_of n (left n) (agree n i))
   where

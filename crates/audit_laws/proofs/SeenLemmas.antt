@@ -7,8 +7,8 @@ use Rattle.sink_journal.specs.declared.journal.Entry.{Entry}
 use Rattle.sink_journal.specs.declared.journal.Entry.TheVariants as entry
 use Rattle.tuple_trace.specs.declared.tuple.Item.TheVariants as item
 use Rattle.flow_model.specs.Covers.{covers, holds_node, plan_of}
-use Rattle.flow_model.specs.Law.{IsExecution, Progress, Station, after_entry, later_dues, next_due}
-use Rattle.flow_model.specs.Outline.{Outline}
+use Rattle.flow_model.specs.Law.{IsExecution, Progress, Duties, after_entry, later_dues, next_due}
+use Rattle.flow_model.specs.SetupView.{SetupView}
 use Rattle.flow_model.specs.Replay.{came_in, marker, marker_by, shown}
 use Rattle.flow_model.proofs.ElementLemmas.{IsIn}
 use Rattle.flow_model.proofs.JournalLemmas.{due_first}
@@ -18,7 +18,7 @@ use Rattle.audit_laws.specs.Faults.{comes_by, seen}
 use Rattle.audit_laws.specs.Trimmed.{trim, trimmed}
 
 -- every marker is of a request that has a plan
-abbrev pub MarksPlans : Outline → List Entry → Type 0
+abbrev pub MarksPlans : SetupView → List Entry → Type 0
 MarksPlans setup xs = (l r : ℕ) → IsIn (entry.Marked l r) xs → (plan : Plan) × (plan_of setup r ≡ Some plan)
 
 -- ---- by the law a marker is of a due
@@ -27,21 +27,21 @@ pub later_due : (r : ℕ) (dues : List ℕ) → IsIn r (later_dues dues) → IsI
 later_due r [] i = absurd i
 later_due r (due ∷ later) i = inr i
 
-pub marked_is_due : (station : Station) (progress : Progress) (xs : List Entry) (l r : ℕ) → IsExecution station progress xs → IsIn (entry.Marked l r) xs → IsIn r progress.dues
-marked_is_due station progress [] l r f i = absurd i
-marked_is_due station progress (entry.Met k t ∷ xs) l r f (inl e) = absurd (cc)
-marked_is_due station progress (entry.Met k t ∷ xs) l r f (inr i) = marked_is_due station (after_entry progress (entry.Met k t)) xs l r f.1 i
-marked_is_due station progress (entry.Marked k q ∷ xs) l r f (inl e) =
+pub marked_is_due : (duties : Duties) (progress : Progress) (xs : List Entry) (l r : ℕ) → IsExecution duties progress xs → IsIn (entry.Marked l r) xs → IsIn r progress.dues
+marked_is_due duties progress [] l r f i = absurd i
+marked_is_due duties progress (entry.Met k t ∷ xs) l r f (inl e) = absurd (cc)
+marked_is_due duties progress (entry.Met k t ∷ xs) l r f (inr i) = marked_is_due duties (after_entry progress (entry.Met k t)) xs l r f.1 i
+marked_is_due duties progress (entry.Marked k q ∷ xs) l r f (inl e) =
     let same : r ≡ q = cc in
     let due : next_due progress.dues ≡ Some q = f.0.0 in
     subst (λ (l : List ℕ). IsIn r l) (sym (due_first progress.dues q due)) (inl same)
-marked_is_due station progress (entry.Marked k q ∷ xs) l r f (inr i) = marked_is_due station (after_entry progress (entry.Marked k q)) xs l r f.1 i
-marked_is_due station progress (entry.Turned q ∷ xs) l r f (inl e) = absurd (cc)
-marked_is_due station progress (entry.Turned q ∷ xs) l r f (inr i) = later_due r progress.dues (marked_is_due station (after_entry progress (entry.Turned q)) xs l r f.1 i)
-marked_is_due station progress (entry.Ended k ∷ xs) l r f (inl e) = absurd (cc)
-marked_is_due station progress (entry.Ended k ∷ xs) l r f (inr i) = marked_is_due station (after_entry progress (entry.Ended k)) xs l r f.1 i
+marked_is_due duties progress (entry.Marked k q ∷ xs) l r f (inr i) = marked_is_due duties (after_entry progress (entry.Marked k q)) xs l r f.1 i
+marked_is_due duties progress (entry.Turned q ∷ xs) l r f (inl e) = absurd (cc)
+marked_is_due duties progress (entry.Turned q ∷ xs) l r f (inr i) = later_due r progress.dues (marked_is_due duties (after_entry progress (entry.Turned q)) xs l r f.1 i)
+marked_is_due duties progress (entry.Ended k ∷ xs) l r f (inl e) = absurd (cc)
+marked_is_due duties progress (entry.Ended k ∷ xs) l r f (inr i) = marked_is_due duties (after_entry progress (entry.Ended k)) xs l r f.1 i
 
-pub plan_there : (setup : Outline) (r node : ℕ) → covers setup r node ≡ true → (plan : Plan) × (plan_of setup r ≡ Some plan)
+pub plan_there : (setup : SetupView) (r node : ℕ) → covers setup r node ≡ true → (plan : Plan) × (plan_of setup r ≡ Some plan)
 plan_there setup r node c = go (plan_of setup r) refl c
   where
     go : (o : Option Plan) → plan_of setup r ≡ o → holds_node o node ≡ true → (plan : Plan) × (plan_of setup r ≡ Some plan)
@@ -50,7 +50,7 @@ plan_there setup r node c = go (plan_of setup r) refl c
 
 -- ---- lanes
 
-seen_one : (setup : Outline) (n : ℕ) (x : Entry) → ((l r : ℕ) → entry.Marked l r ≡ x → (plan : Plan) × (plan_of setup r ≡ Some plan))
+seen_one : (setup : SetupView) (n : ℕ) (x : Entry) → ((l r : ℕ) → entry.Marked l r ≡ x → (plan : Plan) × (plan_of setup r ≡ Some plan))
     → map (seen n) (came_in setup n x) ≡ cond (comes_by n (trim x)) (trim x ∷ []) []
 seen_one setup n (entry.Met l t) p = go (l == n) refl
   where
@@ -70,7 +70,7 @@ seen_one setup n (entry.Ended l) p = go (l == n) refl
     go true e = ap (λ (k : ℕ). kept.Ended k ∷ []) (sym (eqb-true l n e))
     go false e = refl
 
-pub seen_shown : (setup : Outline) (n : ℕ) (xs : List Entry) → MarksPlans setup xs → map (seen n) (shown setup n xs) ≡ filter (comes_by n) (trimmed xs)
+pub seen_shown : (setup : SetupView) (n : ℕ) (xs : List Entry) → MarksPlans setup xs → map (seen n) (shown setup n xs) ≡ filter (comes_by n) (trimmed xs)
 seen_shown setup n [] p = refl
 seen_shown setup n (x ∷ xs) p =
     map-append (seen n) (came_in setup n x) (shown setup n xs)

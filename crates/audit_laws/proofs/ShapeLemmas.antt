@@ -5,11 +5,11 @@ use Rattle.std.proofs.lemmas.Bool.{eq-eqb, ne_eqb}
 use Rattle.std.proofs.lemmas.List.{append-nil}
 use Rattle.std.proofs.lemmas.List.Elements.{filter_map-append, recursion_from_All}
 use Rattle.std.proofs.lemmas.Option.{same_Some}
-use Rattle.jobs.specs.Written.{Written}
+use Rattle.jobs.specs.JobView.{JobView}
 use Rattle.sink_journal.specs.Audit.{audit_header}
 use Rattle.sink_journal.specs.declared.audit.Noted.{Noted}
 use Rattle.sink_journal.specs.declared.journal.Feed.{Feed}
-use Rattle.flow_model.specs.Station.{numbers_from}
+use Rattle.flow_model.specs.Duties.{numbers_from}
 use Rattle.flow_model.proofs.ElementLemmas.{all_of_at, at_of_all, before_both, in_left, in_right, pair_of_all}
 use Rattle.audit_laws.specs.declared.audit.AuditEntry.{AuditEntry}
 use Rattle.audit_laws.specs.declared.audit.Line.{Line}
@@ -22,7 +22,7 @@ use Rattle.audit_laws.proofs.LineLemmas.{AreTold, same_line}
 
 -- ---- one reading
 
-same_lines_of : (job : Written) → AreTold job → (a b : List Line) → AllByRecursion (IsLine job) a → AllByRecursion (IsLine job) b
+same_lines_of : (job : JobView) → AreTold job → (a b : List Line) → AllByRecursion (IsLine job) a → AllByRecursion (IsLine job) b
     → map (line_fields (named_workers job.nodes)) a ≡ map (line_fields (named_workers job.nodes)) b → a ≡ b
 same_lines_of job told [] [] p q e = refl
 same_lines_of job told [] (y ∷ b) p q e = absurd (cc)
@@ -32,14 +32,14 @@ same_lines_of job told (x ∷ a) (y ∷ b) p q e =
     let later : map (line_fields (named_workers job.nodes)) a ≡ map (line_fields (named_workers job.nodes)) b = cc in
     ap₂ (λ (z : Line) (zs : List Line). z ∷ zs) (same_line job told x y p.0 q.0 first) (same_lines_of job told a b p.1 q.1 later)
 
-pub same_lines : (job : Written) → AreTold job → (a b : List Line) → All (IsLine job) a → All (IsLine job) b
+pub same_lines : (job : JobView) → AreTold job → (a b : List Line) → All (IsLine job) a → All (IsLine job) b
     → map (line_fields (named_workers job.nodes)) a ≡ map (line_fields (named_workers job.nodes)) b → a ≡ b
 same_lines job told a b p q e = same_lines_of job told a b (recursion_from_All (IsLine job) a p) (recursion_from_All (IsLine job) b q) e
 
 pub behind : (x y : List (List ℕ)) (a b : List (List (List ℕ))) → x ∷ a ≡ y ∷ b → a ≡ b
 behind x y a b e = cc
 
-pub one_reading : (job : Written) → AreTold job → (records : List (List (List ℕ))) (a b : List Line) → AreInShape job records a → AreInShape job records b → a ≡ b
+pub one_reading : (job : JobView) → AreTold job → (records : List (List (List ℕ))) (a b : List Line) → AreInShape job records a → AreInShape job records b → a ≡ b
 one_reading job told records a b p q = same_lines job told a b p.each q.each (behind audit_header audit_header _ _ (sym p.fields ∙ q.fields))
 
 -- a list whose image is in two parts is in two parts
@@ -55,7 +55,7 @@ split_map {A} {B} f (l ∷ ls) (x ∷ xs) y zs e =
     (l ∷ r.0, r.1, r.2, ap (λ (t : List A). l ∷ t) {y = r.0 ++ r.1 ∷ r.2} r.3, ap₂ (λ (u : B) (us : List B). u ∷ us) first r.4, r.5)
 
 -- records in shape have no bad shape
-pub no_bad_shape : (job : Written) → AreTold job → (records : List (List (List ℕ))) (lines : List Line) (i : ℕ) → AreInShape job records lines → HasBadShape job records i → ⊥
+pub no_bad_shape : (job : JobView) → AreTold job → (records : List (List (List ℕ))) (lines : List Line) (i : ℕ) → AreInShape job records lines → HasBadShape job records i → ⊥
 no_bad_shape job told records lines i s h =
     let e : map (line_fields (named_workers job.nodes)) lines ≡ map (line_fields (named_workers job.nodes)) h.above ++ h.here ∷ h.later =
     behind audit_header audit_header _ _ (sym s.fields ∙ h.fields) in
@@ -70,7 +70,7 @@ no_bad_shape job told records lines i s h =
     all_of_at (λ earlier. group_of earlier ≤ group_of r.1) r.0 (λ x j.
     pair_of_all (λ a b. group_of a ≤ group_of b) x r.1 (r.0 ++ r.1 ∷ r.2) ordered (before_both x r.1 r.0 (r.1 ∷ r.2) j (inl refl)))))
 
-pub no_missing_header : (job : Written) (records : List (List (List ℕ))) (lines : List Line) → AreInShape job records lines → HasNoHeader records → ⊥
+pub no_missing_header : (job : JobView) (records : List (List (List ℕ))) (lines : List Line) → AreInShape job records lines → HasNoHeader records → ⊥
 no_missing_header job records lines s h = h (map (line_fields (named_workers job.nodes)) lines) s.fields
 
 pub no_difference : {A : Type 0} (xs ys : List A) (k : ℕ) → xs ≡ ys → DifferFirst xs ys k → ⊥

@@ -4,7 +4,7 @@ use Rattle.std.proofs.Common.{drop, length, map, take, Some, slice_get}
 use Rattle.std.specs.FinMap.{entries}
 use Rattle.std.proofs.lemmas.List.{append_assoc, length-append, length-drop, length-take, map-append, take-append-drop}
 use Rattle.jobs.specs.Nodes.{worker_count, workers_of}
-use Rattle.jobs.specs.Written.{Written}
+use Rattle.jobs.specs.JobView.{JobView}
 use Rattle.jobs.specs.declared.func.NodeDef.{NodeDef}
 use Rattle.keyed_state.specs.Counts.{Counts}
 use Rattle.sink_journal.specs.Audit.{audit_header, audit_records, entry_fields, feed_fields, nodes_records, refused_fields}
@@ -13,8 +13,8 @@ use Rattle.sink_journal.specs.declared.audit.Noted.{Noted}
 use Rattle.sink_journal.specs.declared.journal.Entry.{Entry}
 use Rattle.sink_journal.specs.declared.journal.Entry.TheVariants as entry
 use Rattle.sink_journal.specs.declared.journal.Feed.{Feed}
-use Rattle.flow_model.specs.Workers.{posts, posts_at, posts_from}
-use Rattle.flow_model.proofs.PostLemmas.{length-posts_at, length-posts_from}
+use Rattle.flow_model.specs.Workers.{workers_in, node_workers, workers_from}
+use Rattle.flow_model.proofs.WorkerListLemmas.{length-node_workers, length-workers_from}
 use Rattle.audit_laws.specs.declared.audit.AuditEntry.{AuditEntry}
 use Rattle.audit_laws.specs.declared.audit.Line.{Line}
 use Rattle.audit_laws.specs.declared.audit.Line.TheVariants as line
@@ -150,14 +150,14 @@ feed_lines all [] = refl
 feed_lines all (step ∷ feeds) = ap (λ (rest : List (List (List ℕ))). feed_fields step ∷ rest) (feed_lines all feeds)
 
 -- an audit has the records of its lines
-pub audit_lines : (job : Written) (refused : List Noted) (feeds : List Feed) (journals : List (List Entry)) (states : List Counts)
-    → length journals ≡ length (posts job) → length states ≡ length (posts job)
+pub audit_lines : (job : JobView) (refused : List Noted) (feeds : List Feed) (journals : List (List Entry)) (states : List Counts)
+    → length journals ≡ length (workers_in job) → length states ≡ length (workers_in job)
     → audit_header ∷ audit_records job refused feeds journals states
     ≡ audit_header ∷ map (line_fields (named_workers job.nodes)) (lines_of refused feeds (map trimmed journals) (map entries states))
 audit_lines job refused feeds journals states a b =
     let all : List Named = named_workers job.nodes in
     let later : List Line = lines_from 0 (map trimmed journals) (map entries states) in
-    let count : length (posts job) ≡ worker_count job.nodes = length-posts_from 0 0 job.nodes in
+    let count : length (workers_in job) ≡ worker_count job.nodes = length-workers_from 0 0 job.nodes in
     let workers = nodes_lines all 0 job.nodes journals states (λ k. let e : 0 + k ≡ k = omega arith in ap (slice_get all) e) (a ∙ count) (b ∙ count) in
     ap (λ (rest : List (List (List ℕ))). audit_header ∷ rest)
     (append_assoc (map refused_fields refused) (map feed_fields feeds) (nodes_records job.nodes journals states)
@@ -171,12 +171,12 @@ pub length-named_at : (node : List ℕ) (place left : ℕ) → length (named_at 
 length-named_at node place zero = refl
 length-named_at node place (suc left) = ap suc (length-named_at node (place + 1) left)
 
-pub length-named : (number node : ℕ) (nodes : List NodeDef) → length (named_workers nodes) ≡ length (posts_from number node nodes)
+pub length-named : (number node : ℕ) (nodes : List NodeDef) → length (named_workers nodes) ≡ length (workers_from number node nodes)
 length-named number node [] = refl
 length-named number node (def ∷ nodes) =
     let here : length (named_at def.name 0 (workers_of def)) ≡ workers_of def = length-named_at def.name 0 (workers_of def) in
-    let there : length (posts_at number node def.func 0 (workers_of def)) ≡ workers_of def = length-posts_at number node def.func 0 (workers_of def) in
+    let there : length (node_workers number node def.func 0 (workers_of def)) ≡ workers_of def = length-node_workers number node def.func 0 (workers_of def) in
     let later = length-named (number + workers_of def) (node + 1) nodes in
     length-append (named_at def.name 0 (workers_of def)) (named_workers nodes)
     ∙ (omega (arith, here, there, later)
-    ∙ sym (length-append (posts_at number node def.func 0 (workers_of def)) (posts_from (number + workers_of def) (node + 1) nodes)))
+    ∙ sym (length-append (node_workers number node def.func 0 (workers_of def)) (workers_from (number + workers_of def) (node + 1) nodes)))

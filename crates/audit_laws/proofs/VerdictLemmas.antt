@@ -12,9 +12,9 @@ use Rattle.sink_journal.specs.declared.journal.Feed.{Feed}
 use Rattle.tuple_trace.specs.Rows.{AreRows}
 use Rattle.tuple_trace.specs.declared.row.Row.{Row}
 use Rattle.flow_model.specs.Begin.{at_first}
-use Rattle.flow_model.specs.Outline.{Outline}
+use Rattle.flow_model.specs.SetupView.{SetupView}
 use Rattle.flow_model.specs.Run.{IsRun, IsRunFrom, Ran, ran_as}
-use Rattle.flow_model.specs.Workers.{posts}
+use Rattle.flow_model.specs.Workers.{workers_in}
 use Rattle.flow_model.proofs.JobLemmas.{IsWired}
 use Rattle.flow_model.proofs.WorkerLemmas.{item_at}
 use Rattle.audit_laws.specs.declared.audit.AuditEntry.{AuditEntry}
@@ -36,13 +36,13 @@ use Rattle.audit_laws.proofs.OneRunLemmas.{length_trimmed}
 use Rattle.audit_laws.proofs.ShapeLemmas.{counts_told, feeds_told, journal_told, mapped_numbers, no_bad_shape, no_difference, no_missing_header, one_reading, refusals_told}
 
 -- what the lines of a run tell of its workers is what was kept of them
-module _ (setup : Outline) (refusals : List Noted) (feeds : List Feed) (journals : List (List Entry)) (states : List Counts)
-    (one_journal_each : length journals ≡ length (posts setup.job)) (one_state_each : length states ≡ length (posts setup.job))
+module _ (setup : SetupView) (refusals : List Noted) (feeds : List Feed) (journals : List (List Entry)) (states : List Counts)
+    (one_journal_each : length journals ≡ length (workers_in setup.job)) (one_state_each : length states ≡ length (workers_in setup.job))
   where
     abbrev pub the_lines : List Line
     the_lines = lines_of refusals feeds (map trimmed journals) (map entries states)
 
-    here : (w : ℕ) → w < length (posts setup.job)
+    here : (w : ℕ) → w < length (workers_in setup.job)
         → ((j : List AuditEntry) × (slice_get (map trimmed journals) w ≡ Some j)) × ((s : Listed) × (slice_get (map entries states) w ≡ Some s))
     here w lt = (
       item_at (map trimmed journals) w (let l = length_trimmed journals in omega arith),
@@ -51,19 +51,19 @@ module _ (setup : Outline) (refusals : List Noted) (feeds : List Feed) (journals
 
     pub journals_told : by_worker setup (journal_in the_lines) ≡ map trimmed journals
     journals_told =
-        mapped_numbers (journal_in the_lines) 0 (length (posts setup.job)) (map trimmed journals) (length_trimmed journals ∙ one_journal_each) (λ w lt.
+        mapped_numbers (journal_in the_lines) 0 (length (workers_in setup.job)) (map trimmed journals) (length_trimmed journals ∙ one_journal_each) (λ w lt.
         let h = here w lt in
         let z : w ≡ 0 + w = omega arith in
         h.0.1 ∙ ap Some (sym (journal_told refusals feeds (map trimmed journals) (map entries states) w h.0.0 h.1.0 h.0.1 h.1.1) ∙ ap (journal_in the_lines) z))
 
     pub states_told : by_worker setup (counts_in the_lines) ≡ map entries states
     states_told =
-        mapped_numbers (counts_in the_lines) 0 (length (posts setup.job)) (map entries states) (length-map states entries ∙ one_state_each) (λ w lt.
+        mapped_numbers (counts_in the_lines) 0 (length (workers_in setup.job)) (map entries states) (length-map states entries ∙ one_state_each) (λ w lt.
         let h = here w lt in
         let z : w ≡ 0 + w = omega arith in
         h.1.1 ∙ ap Some (sym (counts_told refusals feeds (map trimmed journals) (map entries states) w h.0.0 h.1.0 h.0.1 h.1.1) ∙ ap (counts_in the_lines) z))
 
-module _ (setup : Outline) (dag : DagView) (wired : IsWired setup.job) (lawful : IsLawful setup.job) (edges : dag.edges ≡ setup.job.edges) (nodes : dag.nodes ≡ length setup.job.nodes)
+module _ (setup : SetupView) (dag : DagView) (wired : IsWired setup.job) (lawful : IsLawful setup.job) (edges : dag.edges ≡ setup.job.edges) (nodes : dag.nodes ≡ length setup.job.nodes)
     (rows : List Row) (are : AreRows rows) (refused : List Noted) (records : List (List (List ℕ))) (journals : List (List Entry)) (states : List Counts)
     (run : IsRunFrom (at_first setup) rows (ran_as setup (feed_of setup rows) journals states))
     (shape : AreInShape setup.job records (lines_of refused (feed_of setup rows) (map trimmed journals) (map entries states)))
@@ -101,8 +101,8 @@ module _ (setup : Outline) (dag : DagView) (wired : IsWired setup.job) (lawful :
     no_text_fault fault.NoMemory some h = some refl
 
 -- runs whose lines are those of one text are the same once trimmed
-pub same_trims : (setup : Outline) → IsLawful setup.job → (refused : List Noted) (records : List (List (List ℕ))) (feeds others : List Feed) (A B : List (List Entry)) (S T : List Counts)
-    → length A ≡ length (posts setup.job) → length S ≡ length (posts setup.job) → length B ≡ length (posts setup.job) → length T ≡ length (posts setup.job)
+pub same_trims : (setup : SetupView) → IsLawful setup.job → (refused : List Noted) (records : List (List (List ℕ))) (feeds others : List Feed) (A B : List (List Entry)) (S T : List Counts)
+    → length A ≡ length (workers_in setup.job) → length S ≡ length (workers_in setup.job) → length B ≡ length (workers_in setup.job) → length T ≡ length (workers_in setup.job)
     → AreInShape setup.job records (lines_of refused feeds (map trimmed A) (map entries S))
     → AreInShape setup.job records (lines_of refused others (map trimmed B) (map entries T)) → map trimmed A ≡ map trimmed B
 same_trims setup lawful refused records feeds others A B S T a s b t p q =
@@ -112,18 +112,18 @@ same_trims setup lawful refused records feeds others A B S T a s b t p q =
     ∙ (ap (λ (ls : List Line). by_worker setup (journal_in ls)) e ∙ journals_told setup refused others B T b t)
 
 -- a run fits a text exactly where the text's records are its lines
-pub fits_lines : (setup : Outline) (rows : List Row) (refused : List Noted) (ran : Ran) → IsRun setup rows ran
+pub fits_lines : (setup : SetupView) (rows : List Row) (refused : List Noted) (ran : Ran) → IsRun setup rows ran
     → audit_header ∷ audit_records ran.setup.job refused ran.feeds ran.journals ran.states ≡ audit_header ∷ map (line_fields (named_workers setup.job.nodes)) (kept_lines refused ran)
 fits_lines setup rows refused ran is =
-    let many : length ran.journals ≡ length (posts ran.setup.job) = is.run.one_journal_each in
-    subst (λ (s : Outline). audit_header ∷ audit_records ran.setup.job refused ran.feeds ran.journals ran.states ≡ audit_header ∷ map (line_fields (named_workers s.job.nodes)) (kept_lines refused ran)) is.setup_is
+    let many : length ran.journals ≡ length (workers_in ran.setup.job) = is.run.one_journal_each in
+    subst (λ (s : SetupView). audit_header ∷ audit_records ran.setup.job refused ran.feeds ran.journals ran.states ≡ audit_header ∷ map (line_fields (named_workers s.job.nodes)) (kept_lines refused ran)) is.setup_is
     (audit_lines ran.setup.job refused ran.feeds ran.journals ran.states many is.run.one_state_each)
 
 -- the lines of a run that fits a text are in shape
-pub in_shape : (setup : Outline) (rows : List Row) (refused : List Noted) (text : List ℕ) (ran : Ran) → IsRun setup rows ran → Fits refused text ran → HasForm refused ran
+pub in_shape : (setup : SetupView) (rows : List Row) (refused : List Noted) (text : List ℕ) (ran : Ran) → IsRun setup rows ran → Fits refused text ran → HasForm refused ran
     → AreInShape setup.job (records_of text) (kept_lines refused ran)
 in_shape setup rows refused text ran is fits form = record {
   fields = fits ∙ fits_lines setup rows refused ran is;
-  each = subst (λ (s : Outline). All (IsLine s.job) (kept_lines refused ran)) is.setup_is form;
+  each = subst (λ (s : SetupView). All (IsLine s.job) (kept_lines refused ran)) is.setup_is form;
   ordered = lines_ordered refused ran.feeds (map trimmed ran.journals) (map entries ran.states);
 }

@@ -10,17 +10,17 @@ use Rattle.sink_journal.specs.declared.journal.Feed.{Feed}
 use Rattle.tuple_trace.specs.declared.row.Row.{Row}
 use Rattle.tuple_trace.specs.declared.tuple.Item.{Item}
 use Rattle.tuple_trace.specs.declared.tuple.Item.TheVariants as item
-use Rattle.flow_model.specs.Begin.{at_first, local_at}
+use Rattle.flow_model.specs.Begin.{at_first, view_at}
 use Rattle.flow_model.specs.Covers.{covers_edge, plan_of}
 use Rattle.flow_model.specs.Feeding.{fed, fed_puts}
 use Rattle.flow_model.specs.Lanes.{lanes, lanes_in, marked_lanes}
 use Rattle.flow_model.specs.Law.{IsExecution, Progress, after_entry, initial}
-use Rattle.flow_model.specs.Outline.{Outline, Post}
+use Rattle.flow_model.specs.SetupView.{SetupView, Worker}
 use Rattle.flow_model.specs.declared.topology.Lane.{Lane}
-use Rattle.flow_model.specs.Replay.{Local, after, items_on, marker, marker_by, puts, sent}
+use Rattle.flow_model.specs.Replay.{StateView, after, items_on, marker, marker_by, puts, sent}
 use Rattle.flow_model.specs.Run.{put_by, ran_as, sent_by}
-use Rattle.flow_model.specs.Station.{station}
-use Rattle.flow_model.specs.Workers.{posts}
+use Rattle.flow_model.specs.Duties.{duties}
+use Rattle.flow_model.specs.Workers.{workers_in}
 use Rattle.flow_model.proofs.ElementLemmas.{IsIn, in_cases, in_of_contains}
 use Rattle.flow_model.proofs.LaneLemmas.{in_lanes_that, lanes_that_in}
 use Rattle.flow_model.proofs.RunLemmas.{in_fed_puts}
@@ -38,48 +38,48 @@ use Rattle.audit_laws.proofs.RestoringLemmas.{ComeBy, IsRightMark, restored_soug
 
 -- ---- by which lanes entries come
 
-marked_in : (setup : Outline) (w r n : ℕ) → IsIn n (marked_lanes setup w r) → IsIn n (lanes_in setup.job w)
+marked_in : (setup : SetupView) (w r n : ℕ) → IsIn n (marked_lanes setup w r) → IsIn n (lanes_in setup.job w)
 marked_in setup w r n i =
     let l = in_lanes_that (λ (lane : Lane). (lane.receiver == w) && covers_edge setup r lane.edge) setup.job n i in
     lanes_that_in (λ (lane : Lane). lane.receiver == w) setup.job n l.0 l.1 (and_parts (l.0.receiver == w) (covers_edge setup r l.0.edge) l.2).0
 
-pub come_by : (setup : Outline) (feeds : List Feed) (post : Post) (progress : Progress) (journal : List AuditEntry) → IsExecution (station setup 0 post) progress (drafted feeds journal)
-    → ComeBy (lanes_in setup.job post.number) journal
-come_by setup feeds post progress [] law = tt
-come_by setup feeds post progress (kept.Met l row birth ∷ more) law = (in_of_contains l (lanes_in setup.job post.number) law.0.0, come_by setup feeds post progress more law.1)
-come_by setup feeds post progress (kept.Marked l r ∷ more) law =
-    (marked_in setup post.number r l (in_of_contains l (marked_lanes setup post.number r) law.0.1), come_by setup feeds post (after_entry progress (entry.Marked l r)) more law.1)
-come_by setup feeds post progress (kept.Turned r ∷ more) law = come_by setup feeds post (after_entry progress (entry.Turned r)) more law.1
-come_by setup feeds post progress (kept.Ended l ∷ more) law =
-    (in_of_contains l (lanes_in setup.job post.number) law.0.0, come_by setup feeds post (after_entry progress (entry.Ended l)) more law.1)
+pub come_by : (setup : SetupView) (feeds : List Feed) (who : Worker) (progress : Progress) (journal : List AuditEntry) → IsExecution (duties setup 0 who) progress (drafted feeds journal)
+    → ComeBy (lanes_in setup.job who.number) journal
+come_by setup feeds who progress [] law = tt
+come_by setup feeds who progress (kept.Met l row birth ∷ more) law = (in_of_contains l (lanes_in setup.job who.number) law.0.0, come_by setup feeds who progress more law.1)
+come_by setup feeds who progress (kept.Marked l r ∷ more) law =
+    (marked_in setup who.number r l (in_of_contains l (marked_lanes setup who.number r) law.0.1), come_by setup feeds who (after_entry progress (entry.Marked l r)) more law.1)
+come_by setup feeds who progress (kept.Turned r ∷ more) law = come_by setup feeds who (after_entry progress (entry.Turned r)) more law.1
+come_by setup feeds who progress (kept.Ended l ∷ more) law =
+    (in_of_contains l (lanes_in setup.job who.number) law.0.0, come_by setup feeds who (after_entry progress (entry.Ended l)) more law.1)
 
 -- ---- which markers are brought
 
-mark_by_plan : (setup : Outline) (q r c : ℕ) (plan : Plan) → plan_of setup q ≡ Some plan → item.Mark r c ≡ item.Mark q plan.nodes → marker setup r ≡ item.Mark r c ∷ []
+mark_by_plan : (setup : SetupView) (q r c : ℕ) (plan : Plan) → plan_of setup q ≡ Some plan → item.Mark r c ≡ item.Mark q plan.nodes → marker setup r ≡ item.Mark r c ∷ []
 mark_by_plan setup q r c plan there e =
     let request : r ≡ q = cc in
     let cover : c ≡ plan.nodes = cc in
     ap (λ v. marker setup v) request ∙ (ap (marker_by q) there ∙ ap (λ (x : Item). x ∷ []) (sym e))
 
-right_put : (setup : Outline) (post : Post) (lane : Lane) (local : Local) (x : Entry) (y : Item) → IsIn y (items_on lane (puts setup post local x)) → IsRightMark setup y
-right_put setup post lane local x (item.Carry t) i = tt
-right_put setup post lane local x item.Last i = tt
-right_put setup post lane local (entry.Met l t) (item.Mark r c) i = let m = (comes_of setup post lane local (entry.Met l t) (item.Mark r c) i).1 in absurd (cc)
-right_put setup post lane local (entry.Marked l q) (item.Mark r c) i = absurd (comes_of setup post lane local (entry.Marked l q) (item.Mark r c) i)
-right_put setup post lane local (entry.Turned q) (item.Mark r c) i =
-    let m = comes_of setup post lane local (entry.Turned q) (item.Mark r c) i in
+right_put : (setup : SetupView) (who : Worker) (lane : Lane) (view : StateView) (x : Entry) (y : Item) → IsIn y (items_on lane (puts setup who view x)) → IsRightMark setup y
+right_put setup who lane view x (item.Carry t) i = tt
+right_put setup who lane view x item.Last i = tt
+right_put setup who lane view (entry.Met l t) (item.Mark r c) i = let m = (comes_of setup who lane view (entry.Met l t) (item.Mark r c) i).1 in absurd (cc)
+right_put setup who lane view (entry.Marked l q) (item.Mark r c) i = absurd (comes_of setup who lane view (entry.Marked l q) (item.Mark r c) i)
+right_put setup who lane view (entry.Turned q) (item.Mark r c) i =
+    let m = comes_of setup who lane view (entry.Turned q) (item.Mark r c) i in
     mark_by_plan setup q r c m.0 m.1 m.2
-right_put setup post lane local (entry.Ended l) (item.Mark r c) i = let m = comes_of setup post lane local (entry.Ended l) (item.Mark r c) i in absurd (cc)
+right_put setup who lane view (entry.Ended l) (item.Mark r c) i = let m = comes_of setup who lane view (entry.Ended l) (item.Mark r c) i in absurd (cc)
 
-right_sent : (setup : Outline) (post : Post) (lane : Lane) (local : Local) (xs : List Entry) (y : Item) → IsIn y (sent setup post local lane xs) → IsRightMark setup y
-right_sent setup post lane local [] y i = absurd i
-right_sent setup post lane local (x ∷ xs) y i =
-    elim (in_cases y (items_on lane (puts setup post local x)) (sent setup post (after setup post local x) lane xs) i) [
-      | inl a ↦ right_put setup post lane local x y a
-      | inr b ↦ right_sent setup post lane (after setup post local x) xs y b
+right_sent : (setup : SetupView) (who : Worker) (lane : Lane) (view : StateView) (xs : List Entry) (y : Item) → IsIn y (sent setup who view lane xs) → IsRightMark setup y
+right_sent setup who lane view [] y i = absurd i
+right_sent setup who lane view (x ∷ xs) y i =
+    elim (in_cases y (items_on lane (puts setup who view x)) (sent setup who (after setup who view x) lane xs) i) [
+      | inl a ↦ right_put setup who lane view x y a
+      | inr b ↦ right_sent setup who lane (after setup who view x) xs y b
     ]
 
-right_fed : (setup : Outline) (rows : List Row) (feeds : List Feed) (lane : Lane) (y : Item) → IsIn y (fed setup.job rows 0 lane feeds ++ item.Last ∷ []) → IsRightMark setup y
+right_fed : (setup : SetupView) (rows : List Row) (feeds : List Feed) (lane : Lane) (y : Item) → IsIn y (fed setup.job rows 0 lane feeds ++ item.Last ∷ []) → IsRightMark setup y
 right_fed setup rows feeds lane (item.Carry t) i = tt
 right_fed setup rows feeds lane item.Last i = tt
 right_fed setup rows feeds lane (item.Mark r c) i =
@@ -93,33 +93,33 @@ right_fed setup rows feeds lane (item.Mark r c) i =
       | inr (inr n) ↦ absurd n
     ]
 
-pub right_brought : (setup : Outline) (rows : List Row) (journals : List (List Entry)) (lane : Lane) (items : List Item) (y : Item) → brought setup rows journals lane ≡ Some items → IsIn y items
+pub right_brought : (setup : SetupView) (rows : List Row) (journals : List (List Entry)) (lane : Lane) (items : List Item) (y : Item) → brought setup rows journals lane ≡ Some items → IsIn y items
     → IsRightMark setup y
 right_brought setup rows journals lane items y e i = by_sender lane.sender e
   where
-    by_parts : (a : Option Post) (b : Option Counts) (c : Option (List Entry)) → sent_by setup (at_first setup) lane a b c ≡ Some items → IsRightMark setup y
+    by_parts : (a : Option Worker) (b : Option Counts) (c : Option (List Entry)) → sent_by setup (at_first setup) lane a b c ≡ Some items → IsRightMark setup y
     by_parts None b c e = absurd (cc)
     by_parts (Some q) None c e = absurd (cc)
     by_parts (Some q) (Some counts) None e = absurd (cc)
     by_parts (Some q) (Some counts) (Some journal) e =
-        right_sent setup q lane (local_at setup 0 q counts) journal y
-        (subst (λ (l : List Item). IsIn y l) (sym (same_Some (sent setup q (local_at setup 0 q counts) lane journal) items e)) i)
+        right_sent setup q lane (view_at setup 0 q counts) journal y
+        (subst (λ (l : List Item). IsIn y l) (sym (same_Some (sent setup q (view_at setup 0 q counts) lane journal) items e)) i)
 
     by_sender : (o : Option ℕ) → put_by (at_first setup) rows (ran_as setup (feed_of setup rows) journals []) lane o ≡ Some items → IsRightMark setup y
     by_sender None e =
         right_fed setup rows (feed_of setup rows) lane y
         (subst (λ (l : List Item). IsIn y l) (sym (same_Some (fed setup.job rows 0 lane (feed_of setup rows) ++ item.Last ∷ []) items e)) i)
-    by_sender (Some s) e = by_parts (slice_get (posts setup.job) s) (slice_get (at_first setup).states s) (slice_get journals s) e
+    by_sender (Some s) e = by_parts (slice_get (workers_in setup.job) s) (slice_get (at_first setup).states s) (slice_get journals s) e
 
 -- ---- a worker
 
-pub worker_restored : (setup : Outline) (rows : List Row) (journals : List (List Entry)) (w : ℕ) (post : Post) (journal : List AuditEntry) → slice_get (posts setup.job) w ≡ Some post
-    → IsFinishedDraft setup rows post journal → LanesAgree setup rows journals w journal
+pub worker_restored : (setup : SetupView) (rows : List Row) (journals : List (List Entry)) (w : ℕ) (who : Worker) (journal : List AuditEntry) → slice_get (workers_in setup.job) w ≡ Some who
+    → IsFinishedDraft setup rows who journal → LanesAgree setup rows journals w journal
     → (trimmed (restored (brought_on setup rows journals) journal) ≡ journal) × ShowsBrought setup rows journals w (restored (brought_on setup rows journals) journal)
-worker_restored setup rows journals w post journal p law agree =
-    let number : post.number ≡ w = (worker_with setup.job w post p).0 in
+worker_restored setup rows journals w who journal p law agree =
+    let number : who.number ≡ w = (worker_with setup.job w who p).0 in
     let come : ComeBy (lanes_in setup.job w) journal =
-    subst (λ v. ComeBy (lanes_in setup.job v) journal) number (come_by setup (feed_of setup rows) post (initial (station setup 0 post)) journal law.lawful.execution) in
+    subst (λ v. ComeBy (lanes_in setup.job v) journal) number (come_by setup (feed_of setup rows) who (initial (duties setup 0 who)) journal law.lawful.execution) in
     let sought = restored_sought setup (lanes_in setup.job w) (brought_on setup rows journals) journal come (λ n i. (on n i).3)
     (λ n x i j. let o = on n i in right_brought setup rows journals o.0 o.1 x o.2 (subst (λ (l : List Item). IsIn x l) o.4 j)) in (
       sought.0,

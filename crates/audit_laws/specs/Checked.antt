@@ -8,42 +8,42 @@ use Rattle.flow_model.specs.declared.topology.Lane.{Lane}
 use Rattle.flow_model.specs.Begin.{at_first}
 use Rattle.flow_model.specs.Lanes.{lanes}
 use Rattle.flow_model.specs.Law.{IsFinished}
-use Rattle.flow_model.specs.Outline.{Outline, Post}
+use Rattle.flow_model.specs.SetupView.{SetupView, Worker}
 use Rattle.flow_model.specs.Replay.{shown}
 use Rattle.flow_model.specs.Run.{final_counts}
-use Rattle.flow_model.specs.Station.{station}
-use Rattle.flow_model.specs.Workers.{posts}
+use Rattle.flow_model.specs.Duties.{duties}
+use Rattle.flow_model.specs.Workers.{workers_in}
 use Rattle.audit_laws.specs.declared.audit.AuditEntry.{AuditEntry}
 use Rattle.audit_laws.specs.Brought.{brought, feed_of}
 use Rattle.audit_laws.specs.Drafted.{drafted}
 use Rattle.audit_laws.specs.Trimmed.{trimmed}
 
 -- The trimmed journal of a worker is finished.
-abbrev pub IsFinishedDraft : Outline → List Row → Post → List AuditEntry → Type 0
-IsFinishedDraft setup rows post journal =
-    IsFinished (station setup 0 post) (drafted (feed_of setup rows) journal)
+abbrev pub IsFinishedDraft : SetupView → List Row → Worker → List AuditEntry → Type 0
+IsFinishedDraft setup rows who journal =
+    IsFinished (duties setup 0 who) (drafted (feed_of setup rows) journal)
 
 -- Each lane into the worker shows, in order, what it brings.
-abbrev pub ShowsBrought : Outline → List Row → List (List Entry) → ℕ → List Entry → Type 0
+abbrev pub ShowsBrought : SetupView → List Row → List (List Entry) → ℕ → List Entry → Type 0
 ShowsBrought setup rows journals w journal =
     (n : ℕ) (lane : Lane) → slice_get (lanes setup.job) n ≡ Some lane → lane.receiver ≡ w →
     brought setup rows journals lane ≡ Some (shown setup n journal)
 
 -- These journals are restored from the trimmed ones. The law holds of the trimmed journals, and the
 -- counts are those of the replays.
-pub record IsChecked (setup : Outline) (rows : List Row) (audit : List (List AuditEntry))
+pub record IsChecked (setup : SetupView) (rows : List Row) (audit : List (List AuditEntry))
     (journals : List (List Entry)) (states : List Counts) : Type 0 where
-  pub one_journal_each : length audit ≡ length (posts setup.job)
-  pub one_state_each : length states ≡ length (posts setup.job)
+  pub one_journal_each : length audit ≡ length (workers_in setup.job)
+  pub one_state_each : length states ≡ length (workers_in setup.job)
   pub restored : map trimmed journals ≡ audit
   pub finished :
-      (w : ℕ) (post : Post) (journal : List AuditEntry) →
-      slice_get (posts setup.job) w ≡ Some post → slice_get audit w ≡ Some journal →
-      IsFinishedDraft setup rows post journal
+      (w : ℕ) (who : Worker) (journal : List AuditEntry) →
+      slice_get (workers_in setup.job) w ≡ Some who → slice_get audit w ≡ Some journal →
+      IsFinishedDraft setup rows who journal
   pub brought_is_shown :
       (w : ℕ) (journal : List Entry) → slice_get journals w ≡ Some journal →
       ShowsBrought setup rows journals w journal
   pub states_are :
-      (w : ℕ) (post : Post) (journal : List Entry) →
-      slice_get (posts setup.job) w ≡ Some post → slice_get journals w ≡ Some journal →
-      slice_get states w ≡ Some (final_counts setup (at_first setup) post empty journal)
+      (w : ℕ) (who : Worker) (journal : List Entry) →
+      slice_get (workers_in setup.job) w ≡ Some who → slice_get journals w ≡ Some journal →
+      slice_get states w ≡ Some (final_counts setup (at_first setup) who empty journal)

@@ -10,9 +10,9 @@ use Rattle.tuple_trace.specs.declared.tuple.Item.TheVariants as item
 use Rattle.flow_model.specs.declared.topology.Lane.{Lane}
 use Rattle.flow_model.specs.Begin.{at_first}
 use Rattle.flow_model.specs.Lanes.{lanes}
-use Rattle.flow_model.specs.Outline.{Outline, Post}
+use Rattle.flow_model.specs.SetupView.{SetupView, Worker}
 use Rattle.flow_model.specs.Run.{final_counts}
-use Rattle.flow_model.specs.Workers.{posts}
+use Rattle.flow_model.specs.Workers.{workers_in}
 use Rattle.audit_laws.specs.declared.audit.AuditEntry.{AuditEntry}
 use Rattle.audit_laws.specs.declared.audit.AuditEntry.TheVariants as kept
 use Rattle.audit_laws.specs.declared.fault.AuditFault.{AuditFault}
@@ -24,22 +24,22 @@ use Rattle.audit_laws.specs.Trimmed.{trimmed}
 -- ---- the law
 
 -- The trimmed journal of this worker isn't finished. Those of the workers before it are finished.
-pub record HasBadLaw (setup : Outline) (rows : List Row) (audit : List (List AuditEntry))
+pub record HasBadLaw (setup : SetupView) (rows : List Row) (audit : List (List AuditEntry))
     (w : ℕ) : Type 0 where
-  pub post : Post
-  pub works : slice_get (posts setup.job) w ≡ Some post
+  pub who : Worker
+  pub works : slice_get (workers_in setup.job) w ≡ Some who
   pub journal : List AuditEntry
   pub there : slice_get audit w ≡ Some journal
-  pub unfinished : ¬ IsFinishedDraft setup rows post journal
+  pub unfinished : ¬ IsFinishedDraft setup rows who journal
   pub least :
-      (v : ℕ) (p : Post) (j : List AuditEntry) → v < w → slice_get (posts setup.job) v ≡ Some p →
+      (v : ℕ) (p : Worker) (j : List AuditEntry) → v < w → slice_get (workers_in setup.job) v ≡ Some p →
       slice_get audit v ≡ Some j → IsFinishedDraft setup rows p j
 
 -- The trimmed journal of each worker is finished.
-abbrev pub AreFinished : Outline → List Row → List (List AuditEntry) → Type 0
+abbrev pub AreFinished : SetupView → List Row → List (List AuditEntry) → Type 0
 AreFinished setup rows audit =
-    (w : ℕ) (post : Post) (journal : List AuditEntry) → slice_get (posts setup.job) w ≡ Some post →
-    slice_get audit w ≡ Some journal → IsFinishedDraft setup rows post journal
+    (w : ℕ) (who : Worker) (journal : List AuditEntry) → slice_get (workers_in setup.job) w ≡ Some who →
+    slice_get audit w ≡ Some journal → IsFinishedDraft setup rows who journal
 
 -- ---- the lanes
 
@@ -63,7 +63,7 @@ AreItems n items journal = map (seen n) items ≡ filter (comes_by n) journal
 -- The trimmed journal of a lane's receiver shows what the lane brings if the workers have these
 -- journals.
 abbrev pub LaneAgrees :
-    Outline → List Row → List (List AuditEntry) → List (List Entry) → ℕ → Lane → Type 0
+    SetupView → List Row → List (List AuditEntry) → List (List Entry) → ℕ → Lane → Type 0
 LaneAgrees setup rows audit journals n lane =
     (items : List Item) (journal : List AuditEntry) →
     brought setup rows journals lane ≡ Some items → slice_get audit lane.receiver ≡ Some journal →
@@ -71,7 +71,7 @@ LaneAgrees setup rows audit journals n lane =
 
 -- The journal of a worker is restored: its trimmed form is the audit's, and its lanes show what
 -- they bring.
-pub record IsRestored (setup : Outline) (rows : List Row) (audit : List (List AuditEntry))
+pub record IsRestored (setup : SetupView) (rows : List Row) (audit : List (List AuditEntry))
     (journals : List (List Entry)) (w : ℕ) : Type 0 where
   pub journal : List Entry
   pub there : slice_get journals w ≡ Some journal
@@ -80,21 +80,21 @@ pub record IsRestored (setup : Outline) (rows : List Row) (audit : List (List Au
 
 -- A worker comes before another if its node stands earlier in the order of the nodes. At one node
 -- it comes before if its number is less.
-abbrev pub ComesBefore : List ℕ → Post → Post → Type 0
+abbrev pub ComesBefore : List ℕ → Worker → Worker → Type 0
 ComesBefore order a b =
     (place_of order a.node < place_of order b.node) ⊎ ((a.node ≡ b.node) × (a.number < b.number))
 
 -- The journals of all workers before one are restored. The entries of this lane into that worker
 -- aren't the items that the lane brings. Those of its lanes with lesser numbers are.
-pub record HasBadLane (setup : Outline) (order : List ℕ) (rows : List Row)
+pub record HasBadLane (setup : SetupView) (order : List ℕ) (rows : List Row)
     (audit : List (List AuditEntry)) (n : ℕ) : Type 0 where
   pub journals : List (List Entry)
   pub lane : Lane
   pub lane_is : slice_get (lanes setup.job) n ≡ Some lane
-  pub post : Post
-  pub receives : slice_get (posts setup.job) lane.receiver ≡ Some post
+  pub who : Worker
+  pub receives : slice_get (workers_in setup.job) lane.receiver ≡ Some who
   pub restored :
-      (w : ℕ) (p : Post) → slice_get (posts setup.job) w ≡ Some p → ComesBefore order p post →
+      (w : ℕ) (p : Worker) → slice_get (workers_in setup.job) w ≡ Some p → ComesBefore order p who →
       IsRestored setup rows audit journals w
   pub items : List Item
   pub brings : brought setup rows journals lane ≡ Some items
@@ -113,27 +113,27 @@ Listed = List (List ℕ × ℤ)
 
 -- All journals are restored. The counts of this worker aren't those of its replay. Those of the
 -- workers before it are.
-pub record HasBadState (setup : Outline) (rows : List Row) (audit : List (List AuditEntry))
+pub record HasBadState (setup : SetupView) (rows : List Row) (audit : List (List AuditEntry))
     (states : List Listed) (w : ℕ) : Type 0 where
   pub journals : List (List Entry)
   pub restored :
-      (v : ℕ) (p : Post) → slice_get (posts setup.job) v ≡ Some p →
+      (v : ℕ) (p : Worker) → slice_get (workers_in setup.job) v ≡ Some p →
       IsRestored setup rows audit journals v
-  pub post : Post
-  pub works : slice_get (posts setup.job) w ≡ Some post
+  pub who : Worker
+  pub works : slice_get (workers_in setup.job) w ≡ Some who
   pub journal : List Entry
   pub there : slice_get journals w ≡ Some journal
   pub differ :
-      slice_get states w ≢ Some (entries (final_counts setup (at_first setup) post empty journal))
+      slice_get states w ≢ Some (entries (final_counts setup (at_first setup) who empty journal))
   pub least :
-      (v : ℕ) (p : Post) (j : List Entry) → v < w → slice_get (posts setup.job) v ≡ Some p →
+      (v : ℕ) (p : Worker) (j : List Entry) → v < w → slice_get (workers_in setup.job) v ≡ Some p →
       slice_get journals v ≡ Some j →
       slice_get states v ≡ Some (entries (final_counts setup (at_first setup) p empty j))
 
 -- ---- the first code that holds, of those that look at the workers
 
 abbrev pub IsFaultOfWorkers :
-    Outline → List ℕ → List Row → List (List AuditEntry) → List Listed → AuditFault → Type 0
+    SetupView → List ℕ → List Row → List (List AuditEntry) → List Listed → AuditFault → Type 0
 IsFaultOfWorkers setup order rows audit states (fault.Shape i) = ⊥
 IsFaultOfWorkers setup order rows audit states (fault.Refused i) = ⊥
 IsFaultOfWorkers setup order rows audit states (fault.Feed i) = ⊥

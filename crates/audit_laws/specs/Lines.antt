@@ -4,7 +4,7 @@ use Rattle.std.specs.Prelude.{[], ◌∷◌, ◌++◌, length, map, Option, Some
 use Rattle.std.specs.Prelude.{if◌then◌else◌}
 use Rattle.std.specs.Int.Signed.{mag}
 use Rattle.std.specs.List.{filter_map}
-use Rattle.jobs.specs.Written.{Written}
+use Rattle.jobs.specs.JobView.{JobView}
 use Rattle.sink_journal.specs.Audit.{entry_fields, feed_fields, refused_fields, state_fields}
 use Rattle.sink_journal.specs.declared.audit.Noted.{Noted}
 use Rattle.sink_journal.specs.declared.journal.Feed.{Feed}
@@ -44,11 +44,11 @@ line_fields workers (line.State w key count) =
 -- ---- their form
 
 -- The lane leads to this worker, and its number is in range.
-abbrev pub LeadsTo : Written → ℕ → ℕ → Type 0
+abbrev pub LeadsTo : JobView → ℕ → ℕ → Type 0
 LeadsTo job w n =
     (n < 2 ^ 32) × (lane : Lane) × (slice_get (lanes job) n ≡ Some lane) × (lane.receiver ≡ w)
 
-abbrev pub IsEntryAt : Written → ℕ → AuditEntry → Type 0
+abbrev pub IsEntryAt : JobView → ℕ → AuditEntry → Type 0
 IsEntryAt job w (kept.Met lane row birth) =
     LeadsTo job w lane × (row < 2 ^ 64) × All (λ birth. birth < 2 ^ 32) birth
 IsEntryAt job w (kept.Marked lane request) = LeadsTo job w lane × (request < 2 ^ 64)
@@ -66,7 +66,7 @@ IsNoted noted = (noted.place < 2 ^ 32) × (1 ≤ noted.code) × (noted.code ≤ 
 
 -- The worker and the lane of a line are those of the job. Its numbers are in the ranges of their
 -- types.
-abbrev pub IsLine : Written → Line → Type 0
+abbrev pub IsLine : JobView → Line → Type 0
 IsLine job (line.Refused noted) = IsNoted noted
 IsLine job (line.Feed step) = IsStep step
 IsLine job (line.Step w entry) = (w < length (named_workers job.nodes)) × IsEntryAt job w entry

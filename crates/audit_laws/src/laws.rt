@@ -6,10 +6,10 @@ ghost use Rattle.sink_journal.specs.Audit.{audit, audit_header};
 ghost use Rattle.sink_journal.specs.declared.audit.Noted.{Noted as NotedIs};
 ghost use Rattle.sink_journal.specs.declared.journal.Entry.{Entry as EntryIs};
 ghost use Rattle.tuple_trace.specs.declared.row.Row.{Row as RowIs};
-ghost use Rattle.flow_model.specs.Outline.{Post};
+ghost use Rattle.flow_model.specs.SetupView.{Worker};
 ghost use Rattle.flow_model.specs.Run.{IsRun, Ran, ran_as};
-ghost use Rattle.flow_model.specs.Setup.{outline};
-ghost use Rattle.flow_model.specs.Workers.{posts};
+ghost use Rattle.flow_model.specs.Setup.{setup_view};
+ghost use Rattle.flow_model.specs.Workers.{workers_in};
 ghost use Rattle.audit_laws.specs.declared.audit.AuditEntry.{AuditEntry as KeptIs};
 ghost use Rattle.audit_laws.specs.declared.fault.AuditFault.{AuditFault as FaultIs};
 ghost use Rattle.audit_laws.specs.declared.fault.AuditFault.TheVariants as TheFault;
@@ -29,7 +29,7 @@ use tuple_trace::Rows;
 /// journals are equal once trimmed.
 pub fn journals_tell_the_run(setup: &Setup)
     ensures { (rows : List RowIs) (a b : Ran) →
-        IsRun (outline setup.now) rows a → IsRun (outline setup.now) rows b →
+        IsRun (setup_view setup.now) rows a → IsRun (setup_view setup.now) rows b →
         map trimmed a.journals ≡ map trimmed b.journals → a ≡ b }
 {}
 
@@ -37,19 +37,20 @@ pub fn journals_tell_the_run(setup: &Setup)
 /// unchecked, and nothing more is asked.
 pub fn checked_journals_are_a_run(setup: &Setup, rows: &Rows)
     ensures sound { (audit : List (List KeptIs)) (journals : List (List EntryIs))
-        (states : List Counts) → IsChecked (outline setup.now) rows.now audit journals states →
-        IsRun (outline setup.now) rows.now (ran_as (outline setup.now)
-        (feed_of (outline setup.now) rows.now) journals states) }
-    ensures complete { (ran : Ran) → IsRun (outline setup.now) rows.now ran →
-        IsChecked (outline setup.now) rows.now (map trimmed ran.journals) ran.journals ran.states }
+        (states : List Counts) → IsChecked (setup_view setup.now) rows.now audit journals states →
+        IsRun (setup_view setup.now) rows.now (ran_as (setup_view setup.now)
+        (feed_of (setup_view setup.now) rows.now) journals states) }
+    ensures complete { (ran : Ran) → IsRun (setup_view setup.now) rows.now ran →
+        IsChecked (setup_view setup.now) rows.now (map trimmed ran.journals) ran.journals ran.states }
 {
     let _numbered = rows.as_slice();
 }
 
 /// The audit of a run has no fault of its law, of a lane or of a state.
 pub fn audits_of_runs_have_no_fault(setup: &Setup, rows: &Rows)
-    ensures { (ran : Ran) (fault : FaultIs) → IsRun (outline setup.now) rows.now ran →
-        fault ≢ TheFault.NoMemory → ¬ IsFaultOfWorkers (outline setup.now) setup.now.job.dag.order
+    ensures { (ran : Ran) (fault : FaultIs) → IsRun (setup_view setup.now) rows.now ran →
+        fault ≢ TheFault.NoMemory → ¬ IsFaultOfWorkers (setup_view setup.now)
+        setup.now.job.dag.order
         rows.now (map trimmed ran.journals) (map entries ran.states) fault }
 {
     let _numbered = rows.as_slice();
@@ -58,13 +59,13 @@ pub fn audits_of_runs_have_no_fault(setup: &Setup, rows: &Rows)
 /// If the law holds of a trimmed journal and each lane into its worker brings the journal's entries
 /// of the lane, the journal is restored: each entry takes the next item of its lane.
 pub fn journals_are_restored(setup: &Setup)
-    ensures { (rows : List RowIs) (journals : List (List EntryIs)) (w : ℕ) (post : Post)
-        (journal : List KeptIs) → slice_get (posts (outline setup.now).job) w ≡ Some post →
-        IsFinishedDraft (outline setup.now) rows post journal →
-        LanesAgree (outline setup.now) rows journals w journal →
-        (trimmed (restored_by (outline setup.now) rows journals journal) ≡ journal)
-        × ShowsBrought (outline setup.now) rows journals w
-        (restored_by (outline setup.now) rows journals journal) }
+    ensures { (rows : List RowIs) (journals : List (List EntryIs)) (w : ℕ) (who : Worker)
+        (journal : List KeptIs) → slice_get (workers_in (setup_view setup.now).job) w ≡ Some who →
+        IsFinishedDraft (setup_view setup.now) rows who journal →
+        LanesAgree (setup_view setup.now) rows journals w journal →
+        (trimmed (restored_by (setup_view setup.now) rows journals journal) ≡ journal)
+        × ShowsBrought (setup_view setup.now) rows journals w
+        (restored_by (setup_view setup.now) rows journals journal) }
 {}
 
 /// No audit has two faults of its law, a lane or a state. So the first code that holds is the only
@@ -72,16 +73,16 @@ pub fn journals_are_restored(setup: &Setup)
 pub fn audits_have_one_fault(setup: &Setup)
     ensures { (rows : List RowIs) (audit : List (List KeptIs)) (states : List Listed)
         (f g : FaultIs) → f ≢ TheFault.NoMemory → g ≢ TheFault.NoMemory →
-        IsFaultOfWorkers (outline setup.now) setup.now.job.dag.order rows audit states f →
-        IsFaultOfWorkers (outline setup.now) setup.now.job.dag.order rows audit states g →
+        IsFaultOfWorkers (setup_view setup.now) setup.now.job.dag.order rows audit states f →
+        IsFaultOfWorkers (setup_view setup.now) setup.now.job.dag.order rows audit states g →
         f ≡ g }
 {}
 
 /// A run fits a text exactly if the text's records are the lines of what an audit keeps of the run.
 pub fn runs_fit_their_lines(setup: &Setup)
     ensures { (rows : List RowIs) (refused : List NotedIs) (text : List ℕ) (ran : Ran) →
-        IsRun (outline setup.now) rows ran →
-        records_of text ≡ audit_header ∷ fields_of (outline setup.now).job (kept_lines refused ran)
+        IsRun (setup_view setup.now) rows ran →
+        records_of text ≡ audit_header ∷ fields_of (setup_view setup.now).job (kept_lines refused ran)
         ↔ Fits refused text ran }
 {}
 
@@ -95,7 +96,7 @@ pub fn written_audits_fit()
 /// So every row, request, birth and count of a run is in the range of its type.
 pub fn lines_of_runs_have_form(setup: &Setup, rows: &Rows)
     ensures { (refused : List NotedIs) (ran : Ran) → All IsNoted refused →
-        IsRun (outline setup.now) rows.now ran → HasForm refused ran }
+        IsRun (setup_view setup.now) rows.now ran → HasForm refused ran }
 {
     let _numbered = rows.as_slice();
     let _request_count = setup.requests();
@@ -105,8 +106,8 @@ pub fn lines_of_runs_have_form(setup: &Setup, rows: &Rows)
 /// A text that a run fits has no fault.
 pub fn texts_of_runs_have_no_fault(setup: &Setup, rows: &Rows)
     ensures { (refused : List NotedIs) (text : List ℕ) (ran : Ran) (fault : FaultIs) →
-        All IsNoted refused → IsRun (outline setup.now) rows.now ran → Fits refused text ran →
-        fault ≢ TheFault.NoMemory → ¬ IsFaultOf (outline setup.now) setup.now.job.dag.order
+        All IsNoted refused → IsRun (setup_view setup.now) rows.now ran → Fits refused text ran →
+        fault ≢ TheFault.NoMemory → ¬ IsFaultOf (setup_view setup.now) setup.now.job.dag.order
         refused rows.now (records_of text) fault }
 {
     let _numbered = rows.as_slice();
@@ -117,15 +118,15 @@ pub fn texts_of_runs_have_no_fault(setup: &Setup, rows: &Rows)
 pub fn texts_have_one_fault(setup: &Setup)
     ensures { (rows : List RowIs) (refused : List NotedIs) (text : List ℕ) (f g : FaultIs) →
         f ≢ TheFault.NoMemory → g ≢ TheFault.NoMemory →
-        IsFaultOf (outline setup.now) setup.now.job.dag.order refused rows (records_of text) f →
-        IsFaultOf (outline setup.now) setup.now.job.dag.order refused rows (records_of text) g →
+        IsFaultOf (setup_view setup.now) setup.now.job.dag.order refused rows (records_of text) f →
+        IsFaultOf (setup_view setup.now) setup.now.job.dag.order refused rows (records_of text) g →
         f ≡ g }
 {}
 
 /// A text determines the run: two runs that fit one text are equal.
 pub fn texts_tell_the_run(setup: &Setup, rows: &Rows)
     ensures { (refused : List NotedIs) (text : List ℕ) (a b : Ran) → All IsNoted refused →
-        IsRun (outline setup.now) rows.now a → IsRun (outline setup.now) rows.now b →
+        IsRun (setup_view setup.now) rows.now a → IsRun (setup_view setup.now) rows.now b →
         Fits refused text a → Fits refused text b → a ≡ b }
 {
     lines_of_runs_have_form(setup, rows);

@@ -1,7 +1,7 @@
 -- What a file that a call reads is answered by, and how the end of a call is.
 use Rattle.std.proofs.Common.{◌≡◌, ◌≤◌, ◌<◌, ◌⊎◌, ◌∙◌, ◌∷◌, [], inl, inr, ℕ, List, Option, None, Some, Ok, Err, length, refl, sym, ap, subst, arith}
 use Rattle.std.specs.Prelude.{IfSome}
-use Rattle.jobs.specs.Written.{Written}
+use Rattle.jobs.specs.JobView.{JobView}
 use Rattle.job_file.specs.Job.{Excludes, HaveOneFault, IsJobIn}
 use Rattle.job_file.specs.RequestFile.{requests_of}
 use Rattle.job_file.specs.declared.fault.JobFault.{JobFault}
@@ -12,7 +12,7 @@ use Rattle.tuple_trace.specs.Counts.{Rose}
 use Rattle.tuple_trace.specs.declared.row.Row.{Row}
 use Rattle.versions.specs.declared.request.Request.{Request}
 use Rattle.flow_model.specs.Begin.{Begin}
-use Rattle.flow_model.specs.Outline.{Outline}
+use Rattle.flow_model.specs.SetupView.{SetupView}
 use Rattle.savepoint.specs.SaveReading.{save_of}
 use Rattle.call_steps.specs.Ends.{EndsAfterRun, EndsStoring, StopsStoring}
 use Rattle.payments.specs.World.{ShelfState, SinkState, World, world}
@@ -107,15 +107,15 @@ unread_excused is P Refuses name old between new why apart tells same unread = a
 
 -- ---- what each file holds, or is refused for
 
-pub no_job : Excludes → (job : Written) → Apart (λ bytes. IsJobIn bytes job) RefusesJob
+pub no_job : Excludes → (job : JobView) → Apart (λ bytes. IsJobIn bytes job) RefusesJob
 no_job excludes job (fault.Job code) bytes holds refused = excludes bytes code job refused.0 refused.1 holds
 no_job excludes job _ bytes holds refused = absurd refused
 
-pub no_requests : (job : Written) (requests : List Request) → Apart (λ bytes. requests_of job bytes ≡ Ok requests) (RefusesRequests job)
+pub no_requests : (job : JobView) (requests : List Request) → Apart (λ bytes. requests_of job bytes ≡ Ok requests) (RefusesRequests job)
 no_requests job requests (fault.Requests code) bytes holds refused = absurd (let clash : Ok requests ≡ Err code = sym holds ∙ refused.1 in cc)
 no_requests job requests _ bytes holds refused = absurd refused
 
-pub no_rows : (job : Written) (rows : List Row) → Apart (λ bytes. rows_of job bytes ≡ Ok rows) (RefusesRows job)
+pub no_rows : (job : JobView) (rows : List Row) → Apart (λ bytes. rows_of job bytes ≡ Ok rows) (RefusesRows job)
 no_rows job rows (fault.Payments code) bytes holds refused = absurd (let clash : Ok rows ≡ Err code = sym holds ∙ refused.1 in cc)
 no_rows job rows _ bytes holds refused = absurd refused
 
@@ -124,58 +124,58 @@ sole_job have (fault.Job f) (fault.Job g) bytes x y = ap (λ (code : JobFault). 
 sole_job have (fault.Job f) _ bytes x y = absurd y
 sole_job have _ g bytes x y = absurd x
 
-pub sole_requests : (job : Written) → IsSole (RefusesRequests job)
+pub sole_requests : (job : JobView) → IsSole (RefusesRequests job)
 sole_requests job (fault.Requests f) (fault.Requests g) bytes x y = let same = sym x.1 ∙ y.1 in cc
 sole_requests job (fault.Requests f) _ bytes x y = absurd y
 sole_requests job _ g bytes x y = absurd x
 
-pub sole_rows : (job : Written) → IsSole (RefusesRows job)
+pub sole_rows : (job : JobView) → IsSole (RefusesRows job)
 sole_rows job (fault.Payments f) (fault.Payments g) bytes x y = let same = sym x.1 ∙ y.1 in cc
 sole_rows job (fault.Payments f) _ bytes x y = absurd y
 sole_rows job _ g bytes x y = absurd x
 
-pub no_start : (setup : Outline) (rows : ℕ) (start : Begin) → Apart (λ bytes. save_of setup rows bytes ≡ Ok start) (RefusesSave setup rows)
+pub no_start : (setup : SetupView) (rows : ℕ) (start : Begin) → Apart (λ bytes. save_of setup rows bytes ≡ Ok start) (RefusesSave setup rows)
 no_start setup rows start (fault.Save code) bytes holds refused = absurd (let clash : Ok start ≡ Err code = sym holds ∙ refused.1 in cc)
 no_start setup rows start _ bytes holds refused = absurd refused
 
-pub sole_start : (setup : Outline) (rows : ℕ) → IsSole (RefusesSave setup rows)
+pub sole_start : (setup : SetupView) (rows : ℕ) → IsSole (RefusesSave setup rows)
 sole_start setup rows (fault.Save f) (fault.Save g) bytes x y = let same = sym x.1 ∙ y.1 in cc
 sole_start setup rows (fault.Save f) _ bytes x y = absurd y
 sole_start setup rows _ g bytes x y = absurd x
 
 -- the job that was read of a file that is told is the one that the file holds
-pub same_job : (files : Option Files) (name : List ℕ) (job other : Written) → IsJobOf files name job → TellsJob files name other → job ≡ other
+pub same_job : (files : Option Files) (name : List ℕ) (job other : JobView) → IsJobOf files name job → TellsJob files name other → job ≡ other
 same_job files name job other of tells =
     let there = told_so file.Job (λ bytes. IsJobIn bytes job) files name tells.bytes of tells.told in
     let same = sym there.0 ∙ tells.are_so.0 in cc
 
-pub same_requests : (files : Option Files) (name : List ℕ) (job : Written) (requests other : List Request) → AreRequestsOf files name job requests → TellsRequests files name job other → requests ≡ other
+pub same_requests : (files : Option Files) (name : List ℕ) (job : JobView) (requests other : List Request) → AreRequestsOf files name job requests → TellsRequests files name job other → requests ≡ other
 same_requests files name job requests other of tells =
     let there = told_so file.Requests (λ bytes. requests_of job bytes ≡ Ok requests) files name tells.bytes of tells.told in
     let same = sym there ∙ tells.are_so in cc
 
-pub same_rows : (files : Option Files) (name : List ℕ) (job : Written) (rows other : List Row) → AreRowsOf files name job rows → TellsRows files name job other → rows ≡ other
+pub same_rows : (files : Option Files) (name : List ℕ) (job : JobView) (rows other : List Row) → AreRowsOf files name job rows → TellsRows files name job other → rows ≡ other
 same_rows files name job rows other of tells =
     let there = told_so file.Payments (λ bytes. rows_of job bytes ≡ Ok rows) files name tells.bytes of tells.told in
     let same = sym there ∙ tells.are_so in cc
 
 -- ---- savepoints of setups that read the same
 
-abbrev pub ReadSame : Outline → Outline → ℕ → Type 0
+abbrev pub ReadSame : SetupView → SetupView → ℕ → Type 0
 ReadSame s t rows = (bytes : List ℕ) → save_of s rows bytes ≡ save_of t rows bytes
 
-refuses_same : (s t : Outline) (rows : ℕ) → ReadSame s t rows → (why : Fault) (bytes : List ℕ) → RefusesSave t rows why bytes → RefusesSave s rows why bytes
+refuses_same : (s t : SetupView) (rows : ℕ) → ReadSame s t rows → (why : Fault) (bytes : List ℕ) → RefusesSave t rows why bytes → RefusesSave s rows why bytes
 refuses_same s t rows same (fault.Save code) bytes refused = (refused.0, same bytes ∙ refused.1)
 refuses_same s t rows same _ bytes refused = absurd refused
 
-pub start_follows_same : (s t : Outline) (rows : ℕ) (name : List ℕ) (old new : World) (answer : Option Fault) → ReadSame s t rows →
+pub start_follows_same : (s t : SetupView) (rows : ℕ) (name : List ℕ) (old new : World) (answer : Option Fault) → ReadSame s t rows →
     FollowsStart s rows name old new answer → FollowsStart t rows name old new answer
 start_follows_same s t rows name old new answer same follows = record {
   long = follows.long;
   refused = λ why tells. follows.refused why (record { bytes = tells.bytes; told = tells.told; short = tells.short; are_so = refuses_same s t rows same why tells.bytes tells.are_so });
 }
 
-pub start_told_same : (s t : Outline) (rows : ℕ) (files : Option Files) (name : List ℕ) (start : Begin) → ReadSame s t rows → TellsStart files name t rows start → TellsStart files name s rows start
+pub start_told_same : (s t : SetupView) (rows : ℕ) (files : Option Files) (name : List ℕ) (start : Begin) → ReadSame s t rows → TellsStart files name t rows start → TellsStart files name s rows start
 start_told_same s t rows files name start same tells =
     record { bytes = tells.bytes; told = tells.told; short = tells.short; are_so = same tells.bytes ∙ tells.are_so }
 

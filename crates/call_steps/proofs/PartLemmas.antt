@@ -2,22 +2,22 @@
 use Rattle.std.proofs.Common.{◌≡◌, ◌∙◌, ℕ, List, length, min, take, ap, false, subst, sym, arith}
 use Rattle.std.proofs.lemmas.List.{length-take-le}
 use Rattle.std.proofs.lemmas.List.Elements.{All-take}
-use Rattle.jobs.specs.Job.{written}
+use Rattle.jobs.specs.Job.{job_view}
 use Rattle.jobs.specs.Nodes.{AreFromSources, IsSourceOf, worker_count}
-use Rattle.jobs.specs.Written.{Written}
+use Rattle.jobs.specs.JobView.{JobView}
 use Rattle.jobs.specs.declared.job.Job.{Job}
 use Rattle.sink_journal.specs.declared.journal.Feed.{Feed}
 use Rattle.tuple_trace.specs.declared.row.Row.{Row}
 use Rattle.versions.specs.declared.request.Request.{Request}
 use Rattle.flow_model.specs.Begin.{Begin}
 use Rattle.flow_model.specs.Consistent.{IsConsistent}
-use Rattle.flow_model.specs.Record.{told}
+use Rattle.flow_model.specs.Record.{record_view}
 use Rattle.flow_model.specs.Requests.{afters}
 use Rattle.flow_model.specs.Run.{IsRun, IsRunSince, Ran}
-use Rattle.flow_model.specs.Setup.{outline}
+use Rattle.flow_model.specs.Setup.{setup_view}
 use Rattle.flow_model.specs.declared.record.RunRecord.{RunRecord}
 use Rattle.flow_model.specs.declared.setup.Setup.{Setup}
-use Rattle.flow_model.proofs.PostLemmas.{length-posts_from}
+use Rattle.flow_model.proofs.WorkerListLemmas.{length-workers_from}
 use Rattle.flow_worker.specs.Parts.{WorkedIs}
 use Rattle.flow_ends.specs.Ended.{record_of as ended}
 use Rattle.flow_engine.specs.Flown.{record_of}
@@ -28,47 +28,47 @@ use Rattle.call_steps.specs.SetupFor.{AreSame, IsSetupFor}
 use Rattle.call_steps.specs.declared.running.Done.{Done}
 
 -- the first rows enter by sources of the cut setup's job
-pub first_sources : (row : ℕ) (job : Written) (requests : List Request) (rows first : List Row) (whole part : Setup)
-    → IsSetupFor AreSame false job requests whole → part.job ≡ whole.job → first ≡ take row rows → AreFromSources job rows → AreFromSources (outline part).job first
+pub first_sources : (row : ℕ) (job : JobView) (requests : List Request) (rows first : List Row) (whole part : Setup)
+    → IsSetupFor AreSame false job requests whole → part.job ≡ whole.job → first ≡ take row rows → AreFromSources job rows → AreFromSources (setup_view part).job first
 first_sources row job requests rows first whole part made same is sources =
-    subst (λ (j : Job). AreFromSources (written j) first) (sym same)
-    (subst (λ (j : Written). AreFromSources j first) (sym made.job_is)
+    subst (λ (j : Job). AreFromSources (job_view j) first) (sym same)
+    (subst (λ (j : JobView). AreFromSources j first) (sym made.job_is)
     (subst (λ (f : List Row). AreFromSources job f) (sym is) (All-take (λ (r : Row). IsSourceOf job r.source) row rows sources)))
 
 -- a run of the first rows under the cut setup is a first part
-pub first_part_of : (most row count turned : ℕ) (job : Written) (requests : List Request) (rows first : List Row) (whole part left : Setup) (ran : RunRecord) (done : Done)
-    → IsSetupFor AreSame false job requests whole → count ≡ length rows → row ≡ min most count → turned ≡ issued_up_to row count (afters (outline whole).requests)
-    → outline part ≡ first_of (outline whole) turned → part.judged.refused ≡ whole.judged.refused → first ≡ take row rows
-    → ((other : Ran) → IsRun (outline part) first other → AreFromSources (outline part).job first → IsConsistent first other) → AreFromSources (outline part).job first
-    → ran.setup ≡ left → left ≡ part → IsRun (outline part) first (told ran) → IsDoneOf ran requests first done → IsFirstPart (min most (length rows)) job requests rows done
+pub first_part_of : (most row count turned : ℕ) (job : JobView) (requests : List Request) (rows first : List Row) (whole part left : Setup) (ran : RunRecord) (done : Done)
+    → IsSetupFor AreSame false job requests whole → count ≡ length rows → row ≡ min most count → turned ≡ issued_up_to row count (afters (setup_view whole).requests)
+    → setup_view part ≡ first_of (setup_view whole) turned → part.judged.refused ≡ whole.judged.refused → first ≡ take row rows
+    → ((other : Ran) → IsRun (setup_view part) first other → AreFromSources (setup_view part).job first → IsConsistent first other) → AreFromSources (setup_view part).job first
+    → ran.setup ≡ left → left ≡ part → IsRun (setup_view part) first (record_view ran) → IsDoneOf ran requests first done → IsFirstPart (min most (length rows)) job requests rows done
 first_part_of most row count turned job requests rows first whole part left ran done made all upto issued cut refused is law sources left_is part_is run of =
     let at : row ≡ min most (length rows) = upto ∙ ap (λ n. min most n) all in
     let same : ran.setup ≡ part = left_is ∙ part_is in
     let kept : done.ran.setup ≡ part = ap (λ (r : RunRecord). r.setup) of.ran_is ∙ same in
-    let so : IsRun (outline part) first (told done.ran) = subst (λ (r : RunRecord). IsRun (outline part) first (told r)) (sym of.ran_is) run in
+    let so : IsRun (setup_view part) first (record_view done.ran) = subst (λ (r : RunRecord). IsRun (setup_view part) first (record_view r)) (sym of.ran_is) run in
     let first_part : IsFirstPart row job requests rows done = record {
       whole = whole;
       setup = made;
       row_is = of.row ∙ (ap (λ (f : List Row). length f) is ∙ length-take-le row rows (omega (arith, at)));
-      cut = ap outline kept ∙ (cut ∙ ap (λ n. first_of (outline whole) n) (issued ∙ ap (λ n. issued_up_to row n (afters (outline whole).requests)) all));
-      run = subst (λ (s : Setup). IsRun (outline s) (take row rows) (told done.ran)) (sym kept) (subst (λ (f : List Row). IsRun (outline part) f (told done.ran)) is so);
-      consistent = subst (λ (f : List Row). IsConsistent f (told done.ran)) is (law (told done.ran) so sources);
+      cut = ap setup_view kept ∙ (cut ∙ ap (λ n. first_of (setup_view whole) n) (issued ∙ ap (λ n. issued_up_to row n (afters (setup_view whole).requests)) all));
+      run = subst (λ (s : Setup). IsRun (setup_view s) (take row rows) (record_view done.ran)) (sym kept) (subst (λ (f : List Row). IsRun (setup_view part) f (record_view done.ran)) is so);
+      consistent = subst (λ (f : List Row). IsConsistent f (record_view done.ran)) is (law (record_view done.ran) so sources);
       refused = of.refused ∙ (ap (λ (s : Setup). s.judged.refused) same ∙ refused);
       count = of.count;
     } in
     subst (λ n. IsFirstPart n job requests rows done) at first_part
 
 -- a run has a journal and the counts of each worker of the job
-pub workers_of : (start : Begin) (setup : Setup) (requests : List Request) (rows : List Row) (ran : RunRecord) (done : Done) → IsRunSince start (outline setup) rows (told ran)
+pub workers_of : (start : Begin) (setup : Setup) (requests : List Request) (rows : List Row) (ran : RunRecord) (done : Done) → IsRunSince start (setup_view setup) rows (record_view ran)
     → IsDoneOf ran requests rows done → HasWorkers done
 workers_of start setup requests rows ran done run of = record {
-  journals = subst (λ (r : RunRecord). length r.journals ≡ worker_count r.setup.job.nodes) (sym of.ran_is) (run.run.one_journal_each ∙ length-posts_from 0 0 ran.setup.job.nodes);
-  states = subst (λ (r : RunRecord). length r.states ≡ worker_count r.setup.job.nodes) (sym of.ran_is) (run.run.one_state_each ∙ length-posts_from 0 0 ran.setup.job.nodes);
+  journals = subst (λ (r : RunRecord). length r.journals ≡ worker_count r.setup.job.nodes) (sym of.ran_is) (run.run.one_journal_each ∙ length-workers_from 0 0 ran.setup.job.nodes);
+  states = subst (λ (r : RunRecord). length r.states ≡ worker_count r.setup.job.nodes) (sym of.ran_is) (run.run.one_state_each ∙ length-workers_from 0 0 ran.setup.job.nodes);
 }
 
 -- the record of what a run on threads left is that of a run from there
 pub since_so : (start : Begin) (setup left : Setup) (rows : List Row) (feeds : List Feed) (crew : List WorkedIs) (ran : RunRecord) → left ≡ setup
-    → IsRunSince start (outline setup) rows (ended (outline setup) feeds crew) → ran ≡ record_of left feeds crew → IsRunSince start (outline setup) rows (told ran)
+    → IsRunSince start (setup_view setup) rows (ended (setup_view setup) feeds crew) → ran ≡ record_of left feeds crew → IsRunSince start (setup_view setup) rows (record_view ran)
 since_so start setup left rows feeds crew ran same run is =
-    subst (λ (r : RunRecord). IsRunSince start (outline setup) rows (told r)) (sym is)
-    (subst (λ (s : Setup). IsRunSince start (outline setup) rows (ended (outline s) feeds crew)) (sym same) run)
+    subst (λ (r : RunRecord). IsRunSince start (setup_view setup) rows (record_view r)) (sym is)
+    (subst (λ (s : Setup). IsRunSince start (setup_view setup) rows (ended (setup_view s) feeds crew)) (sym same) run)

@@ -3,7 +3,7 @@ use Rattle.std.specs.Prelude.{ℕ, ℤ, List, [], ◌∷◌, false, codes}
 use Rattle.keyed_state.specs.declared.carry.Carry.TheVariants as carry
 use Rattle.versions.specs.declared.request.Request.{Request}
 use Rattle.flow_dag.specs.declared.edge.Edge.{Edge}
-use Rattle.jobs.specs.Written.{Written}
+use Rattle.jobs.specs.JobView.{JobView}
 use Rattle.jobs.specs.declared.column.Column.{Column}
 use Rattle.jobs.specs.declared.column.ColumnKind.{ColumnKind}
 use Rattle.jobs.specs.declared.column.ColumnKind.TheVariants as kind
@@ -34,7 +34,7 @@ abbrev pub first_edges : List Edge
 first_edges = (record { from = 0; port = 0; to = 1 }) ∷ (record { from = 1; port = 0; to = 2 }) ∷ []
 
 -- a source, a filter of large amounts, and a sink that shows every column
-abbrev pub first_job : ℤ → Written
+abbrev pub first_job : ℤ → JobView
 first_job least = record {
   columns = first_columns;
   nodes = node_of (codes "card") func.Source ∷ node_of (codes "big") (at_least least) ∷ node_of (codes "alerts") (func.Sink (0 ∷ 1 ∷ 2 ∷ 3 ∷ [])) ∷ [];

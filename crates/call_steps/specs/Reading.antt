@@ -1,6 +1,6 @@
 -- What a call reads of its files, and why it doesn't.
 use Rattle.std.specs.Prelude.{◌≡◌, ◌≢◌, ◌⊎◌, ◌<◌, ◌≤◌, ℕ, List, Option, Some, Ok, Err, IfSome, length}
-use Rattle.jobs.specs.Written.{Written}
+use Rattle.jobs.specs.JobView.{JobView}
 use Rattle.job_file.specs.Job.{IsFaultIn, IsJobIn}
 use Rattle.job_file.specs.RequestFile.{requests_of}
 use Rattle.job_file.specs.declared.fault.JobFault.TheVariants as job
@@ -12,7 +12,7 @@ use Rattle.payments.specs.declared.read.PFault.TheVariants as rows
 use Rattle.tuple_trace.specs.declared.row.Row.{Row}
 use Rattle.versions.specs.declared.request.Request.{Request}
 use Rattle.flow_model.specs.Begin.{Begin}
-use Rattle.flow_model.specs.Outline.{Outline}
+use Rattle.flow_model.specs.SetupView.{SetupView}
 use Rattle.savepoint.specs.SaveReading.{save_of}
 use Rattle.savepoint.specs.declared.fault.SaveFault.TheVariants as save
 use Rattle.report.specs.Faults.{limit_of}
@@ -37,19 +37,19 @@ pub record HasRead (is : FileIs) (P : List ℕ → Type 0) (files : Option Files
   pub are_so : P bytes
 
 -- the job is that of the file
-abbrev pub IsJobOf : Option Files → List ℕ → Written → Type 0
+abbrev pub IsJobOf : Option Files → List ℕ → JobView → Type 0
 IsJobOf files name job = HasRead file.Job (λ bytes. IsJobIn bytes job) files name
 
 -- the requests are those that the file makes of the job
-abbrev pub AreRequestsOf : Option Files → List ℕ → Written → List Request → Type 0
+abbrev pub AreRequestsOf : Option Files → List ℕ → JobView → List Request → Type 0
 AreRequestsOf files name job requests = HasRead file.Requests (λ bytes. requests_of job bytes ≡ Ok requests) files name
 
 -- the rows are those of the payments file of the job
-abbrev pub AreRowsOf : Option Files → List ℕ → Written → List Row → Type 0
+abbrev pub AreRowsOf : Option Files → List ℕ → JobView → List Row → Type 0
 AreRowsOf files name job rows = HasRead file.Payments (λ bytes. rows_of job bytes ≡ Ok rows) files name
 
 -- the beginning is that of the savepoint's file, for this setup and so many rows
-abbrev pub IsStartOf : Option Files → List ℕ → Outline → ℕ → Begin → Type 0
+abbrev pub IsStartOf : Option Files → List ℕ → SetupView → ℕ → Begin → Type 0
 IsStartOf files name setup rows start = HasRead file.Save (λ bytes. save_of setup rows bytes ≡ Ok start) files name
 
 -- ---- why nothing is read
@@ -60,17 +60,17 @@ RefusesJob (fault.Job code) bytes = (code ≢ job.NoMemory) × IsFaultIn bytes c
 RefusesJob _ bytes = ⊥
 
 -- the bytes are no requests of the job, for this fault
-abbrev pub RefusesRequests : Written → Fault → List ℕ → Type 0
+abbrev pub RefusesRequests : JobView → Fault → List ℕ → Type 0
 RefusesRequests job (fault.Requests code) bytes = (code ≢ requests.NoMemory) × (requests_of job bytes ≡ Err code)
 RefusesRequests job _ bytes = ⊥
 
 -- the bytes are no payments of the job, for this fault
-abbrev pub RefusesRows : Written → Fault → List ℕ → Type 0
+abbrev pub RefusesRows : JobView → Fault → List ℕ → Type 0
 RefusesRows job (fault.Payments code) bytes = (code ≢ rows.NoMemory) × (rows_of job bytes ≡ Err code)
 RefusesRows job _ bytes = ⊥
 
 -- the bytes are no savepoint of the setup and so many rows, for this fault
-abbrev pub RefusesSave : Outline → ℕ → Fault → List ℕ → Type 0
+abbrev pub RefusesSave : SetupView → ℕ → Fault → List ℕ → Type 0
 RefusesSave setup rows (fault.Save code) bytes = (code ≢ save.NoMemory) × (save_of setup rows bytes ≡ Err code)
 RefusesSave setup rows _ bytes = ⊥
 
@@ -85,13 +85,13 @@ IsUnread is Refuses files name old new why = HasRead is (Refuses why) files name
 abbrev pub IsNoJob : Option Files → List ℕ → Faults → Faults → Fault → Type 0
 IsNoJob files name old new why = IsUnread file.Job RefusesJob files name old new why
 
-abbrev pub AreNoRequests : Option Files → List ℕ → Written → Faults → Faults → Fault → Type 0
+abbrev pub AreNoRequests : Option Files → List ℕ → JobView → Faults → Faults → Fault → Type 0
 AreNoRequests files name job old new why = IsUnread file.Requests (RefusesRequests job) files name old new why
 
-abbrev pub AreNoRows : Option Files → List ℕ → Written → Faults → Faults → Fault → Type 0
+abbrev pub AreNoRows : Option Files → List ℕ → JobView → Faults → Faults → Fault → Type 0
 AreNoRows files name job old new why = IsUnread file.Payments (RefusesRows job) files name old new why
 
-abbrev pub IsNoStart : Option Files → List ℕ → Outline → ℕ → Faults → Faults → Fault → Type 0
+abbrev pub IsNoStart : Option Files → List ℕ → SetupView → ℕ → Faults → Faults → Fault → Type 0
 IsNoStart files name setup rows old new why = IsUnread file.Save (RefusesSave setup rows) files name old new why
 
 -- ---- seen from a file that is told
@@ -103,16 +103,16 @@ pub record Tells (is : FileIs) (P : List ℕ → Type 0) (files : Option Files) 
   pub short : length bytes ≤ limit_of is
   pub are_so : P bytes
 
-abbrev pub TellsJob : Option Files → List ℕ → Written → Type 0
+abbrev pub TellsJob : Option Files → List ℕ → JobView → Type 0
 TellsJob files name job = Tells file.Job (λ bytes. IsJobIn bytes job) files name
 
-abbrev pub TellsRequests : Option Files → List ℕ → Written → List Request → Type 0
+abbrev pub TellsRequests : Option Files → List ℕ → JobView → List Request → Type 0
 TellsRequests files name job requests = Tells file.Requests (λ bytes. requests_of job bytes ≡ Ok requests) files name
 
-abbrev pub TellsRows : Option Files → List ℕ → Written → List Row → Type 0
+abbrev pub TellsRows : Option Files → List ℕ → JobView → List Row → Type 0
 TellsRows files name job rows = Tells file.Payments (λ bytes. rows_of job bytes ≡ Ok rows) files name
 
-abbrev pub TellsStart : Option Files → List ℕ → Outline → ℕ → Begin → Type 0
+abbrev pub TellsStart : Option Files → List ℕ → SetupView → ℕ → Begin → Type 0
 TellsStart files name setup rows start = Tells file.Save (λ bytes. save_of setup rows bytes ≡ Ok start) files name
 
 -- What a file is answered by, where it is told: one that is too long by just that, and one that is refused by just the fault that its bytes have.
@@ -125,11 +125,11 @@ pub record FollowsFile (is : FileIs) (Refuses : Fault → List ℕ → Type 0) (
 abbrev pub FollowsJob : List ℕ → World → World → Option Fault → Type 0
 FollowsJob name old new answer = FollowsFile file.Job RefusesJob name old new answer
 
-abbrev pub FollowsRequests : Written → List ℕ → World → World → Option Fault → Type 0
+abbrev pub FollowsRequests : JobView → List ℕ → World → World → Option Fault → Type 0
 FollowsRequests job name old new answer = FollowsFile file.Requests (RefusesRequests job) name old new answer
 
-abbrev pub FollowsRows : Written → List ℕ → World → World → Option Fault → Type 0
+abbrev pub FollowsRows : JobView → List ℕ → World → World → Option Fault → Type 0
 FollowsRows job name old new answer = FollowsFile file.Payments (RefusesRows job) name old new answer
 
-abbrev pub FollowsStart : Outline → ℕ → List ℕ → World → World → Option Fault → Type 0
+abbrev pub FollowsStart : SetupView → ℕ → List ℕ → World → World → Option Fault → Type 0
 FollowsStart setup rows name old new answer = FollowsFile file.Save (RefusesSave setup rows) name old new answer

@@ -1,7 +1,7 @@
 -- What a call runs, and what it writes of that.
 use Rattle.std.specs.Prelude.{◌≡◌, ◌++◌, ◌∷◌, ℕ, Bool, IsTrue, List, [], Option, None, Some, length, map, if◌then◌else◌}
-use Rattle.jobs.specs.Job.{written}
-use Rattle.jobs.specs.Written.{Written}
+use Rattle.jobs.specs.Job.{job_view}
+use Rattle.jobs.specs.JobView.{JobView}
 use Rattle.sink_journal.specs.Alerts.{alerts}
 use Rattle.sink_journal.specs.Audit.{audit}
 use Rattle.tuple_trace.specs.declared.row.Row.{Row}
@@ -9,10 +9,10 @@ use Rattle.versions.specs.declared.request.Request.{Request}
 use Rattle.flow_model.specs.Begin.{Begin}
 use Rattle.flow_model.specs.Consistent.{IsConsistent}
 use Rattle.flow_model.specs.OneTable.{HasNoCounts}
-use Rattle.flow_model.specs.Record.{told}
+use Rattle.flow_model.specs.Record.{record_view}
 use Rattle.flow_model.specs.Run.{IsRun, Ran}
 use Rattle.flow_model.specs.Serial.{IsSerial, SeesPrefix, serial}
-use Rattle.flow_model.specs.Setup.{outline}
+use Rattle.flow_model.specs.Setup.{setup_view}
 use Rattle.flow_model.specs.declared.record.RunRecord.{RunRecord}
 use Rattle.savepoint.specs.Parts.{start_of}
 use Rattle.savepoint.specs.SaveText.{save_text}
@@ -42,17 +42,17 @@ pub record IsDoneOf (ran : RunRecord) (requests : List Request) (rows : List Row
   pub count : done.requests ≡ length requests
   pub row : done.row ≡ length rows
   pub refused : done.refused ≡ ran.setup.judged.refused
-  pub numbers : IsTrue ran.setup.ordered → done.serial ≡ serials (told ran) rows
+  pub numbers : IsTrue ran.setup.ordered → done.serial ≡ serials (record_view ran) rows
 
 -- The rows were run by the setup of the job and its requests in this mode, and judging refused just these. What the run leaves is consistent. In
 -- ordered mode rows and requests have one order, and each row has its number. How the requests of the record relate to those that judging accepts
 -- is told by `Keeps`.
-pub record IsRunOf (Keeps : List Request → List Request → Type 0) (ordered : Bool) (job : Written) (requests : List Request) (rows : List Row) (done : Done) : Type 0 where
+pub record IsRunOf (Keeps : List Request → List Request → Type 0) (ordered : Bool) (job : JobView) (requests : List Request) (rows : List Row) (done : Done) : Type 0 where
   pub setup : IsSetupFor Keeps ordered job requests done.ran.setup
-  pub run : IsRun (outline done.ran.setup) rows (told done.ran)
-  pub consistent : IsConsistent rows (told done.ran)
-  pub one_order : IsTrue done.ran.setup.ordered → HaveOneOrder rows (told done.ran)
-  pub numbers : IsTrue done.ran.setup.ordered → done.serial ≡ serials (told done.ran) rows
+  pub run : IsRun (setup_view done.ran.setup) rows (record_view done.ran)
+  pub consistent : IsConsistent rows (record_view done.ran)
+  pub one_order : IsTrue done.ran.setup.ordered → HaveOneOrder rows (record_view done.ran)
+  pub numbers : IsTrue done.ran.setup.ordered → done.serial ≡ serials (record_view done.ran) rows
   pub refused : done.refused ≡ done.ran.setup.judged.refused
   pub count : done.requests ≡ length requests
 
@@ -60,16 +60,16 @@ pub record IsRunOf (Keeps : List Request → List Request → Type 0) (ordered :
 
 -- the text of the alerts
 abbrev pub alerts_of : Done → List ℕ
-alerts_of done = alerts (written done.ran.setup.job) done.ran.journals
+alerts_of done = alerts (job_view done.ran.setup.job) done.ran.journals
 
 -- the text of the audit
 abbrev pub audit_of : Done → List ℕ
 audit_of done =
-    audit (written done.ran.setup.job) (map noted done.refused) done.ran.feeds done.ran.journals done.ran.states
+    audit (job_view done.ran.setup.job) (map noted done.refused) done.ran.feeds done.ran.journals done.ran.states
 
 -- the text of the savepoint: where a run goes on after this one
 abbrev pub saved_of : Done → List ℕ
-saved_of done = save_text (written done.ran.setup.job) (start_of done.row (told done.ran))
+saved_of done = save_text (job_view done.ran.setup.job) (start_of done.row (record_view done.ran))
 
 -- an alerts file
 abbrev pub alerts_file : List ℕ → List ℕ → FileText

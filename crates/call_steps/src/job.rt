@@ -1,6 +1,7 @@
 ghost use Rattle.std.specs.Prelude.{◌≡◌, ◌∷◌, [], IfOk};
-ghost use Rattle.jobs.specs.Job.{written};
-ghost use Rattle.call_steps.specs.FirstJob.{at_least as at_least_of, column_of, first_columns, first_job as first_job_of, first_request, node_of};
+ghost use Rattle.jobs.specs.Job.{job_view};
+ghost use Rattle.call_steps.specs.FirstJob.{at_least as at_least_of, column_of, first_columns};
+ghost use Rattle.call_steps.specs.FirstJob.{first_job as first_job_of, first_request, node_of};
 
 use command_line::First;
 use flow_dag::Edge;
@@ -19,9 +20,10 @@ const BIG: u32 = 1;
 /// The place of the column `amount`.
 const AMOUNT: u32 = 2;
 
-/// The job of the command `first`: payments enter by `card`, those of at least so many cents pass `big`, and `alerts` shows them.
+/// The job of the command `first`: payments enter by `card`, those of at least so many cents pass
+/// `big`, and `alerts` shows them.
 pub fn first_job(alloc: Global, least: i64) -> Result<Job, NoMemory>
-    ensures { IfOk result (λ job. written job ≡ first_job_of least) }
+    ensures { IfOk result (λ job. job_view job ≡ first_job_of least) }
 {
     let listed = Columns::from_slice(alloc, &[0, 1, 2, 3])?;
     let card = node(alloc, b"card", Func::Source)?;
@@ -47,7 +49,8 @@ pub fn first_job(alloc: Global, least: i64) -> Result<Job, NoMemory>
 
 /// The one request of the command `first`: `big` has another threshold from a row on.
 pub fn first_requests(alloc: Global, first: &First) -> Result<Requests, NoMemory>
-    ensures { IfOk result (λ requests. requests ≡ first_request first.now.after first.now.least_after ∷ []) }
+    ensures { IfOk result (λ requests. requests ≡ first_request first.now.after
+        first.now.least_after ∷ []) }
 {
     let change = Change {
         node: BIG,

@@ -1,8 +1,8 @@
 //! The steps that the commands of `fries` share: a file is read, requests are judged, rows are run,
 //! files are written, and lines are printed.
 //!
-//! Each step meets files and the output by the traits [`payments::Shelf`] and [`payments::Sink`] only.
-//! Its clauses say what it leaves of them, and why it failed.
+//! Each step meets files and the output by the traits [`payments::Shelf`] and [`payments::Sink`]
+//! only. Its clauses say what it leaves of them, and why it failed.
 //!
 //! ```text
 //! let job = job_in(alloc, &name, &mut shelf)?;

@@ -1,11 +1,11 @@
 // The two parts of a run with a savepoint between them.
 ghost use Rattle.std.specs.Prelude.{◌≡◌, ◌≤◌, IfOk, length, min, take};
-ghost use Rattle.jobs.specs.Job.{written};
+ghost use Rattle.jobs.specs.Job.{job_view};
 ghost use Rattle.jobs.specs.Nodes.{AreFromSources};
 ghost use Rattle.job_file.specs.RequestSizes.{AreFew};
 ghost use Rattle.tuple_trace.specs.Rows.{AreRows};
-ghost use Rattle.flow_model.specs.Setup.{outline};
-ghost use Rattle.flow_model.specs.Workers.{posts};
+ghost use Rattle.flow_model.specs.Setup.{setup_view};
+ghost use Rattle.flow_model.specs.Workers.{workers_in};
 ghost use Rattle.command_line.specs.Asked.{IsSize};
 ghost use Rattle.call_steps.specs.Parts.{HasWorkers, IsFirstPart, IsRunFromStart};
 
@@ -45,9 +45,9 @@ where
     G: Gate + Sync,
     requires size { IsSize size }
     requires few { AreFew requests.now }
-    requires sources { AreFromSources (written job) rows.now }
+    requires sources { AreFromSources (job_view job) rows.now }
     ensures run { IfOk result (IsFirstPart (min most (length rows.now))
-        (written job) requests.now rows.now) }
+        (job_view job) requests.now rows.now) }
     ensures workers { IfOk result HasWorkers }
 {
     let setup = setup_of(alloc, job, requests, false)?;
@@ -109,9 +109,9 @@ where
     R: Threads + Wait + Copy + Send + Sync + 'static,
     G: Gate + Sync,
     requires size { IsSize size }
-    requires sources { AreFromSources (outline setup).job rows.now }
-    requires turned { start.now.turned ≤ length (outline setup).requests }
-    requires states { length start.now.states ≡ length (posts (outline setup).job) }
+    requires sources { AreFromSources (setup_view setup).job rows.now }
+    requires turned { start.now.turned ≤ length (setup_view setup).requests }
+    requires states { length start.now.states ≡ length (workers_in (setup_view setup).job) }
     ensures run { IfOk result (IsRunFromStart start.now setup requests.now rows.now) }
     ensures workers { IfOk result HasWorkers }
 {

@@ -1,10 +1,12 @@
 // Files that are read, and what they hold.
 ghost use Rattle.std.specs.Prelude.{◌≡◌, IfOk, IfErr, OnOk};
-ghost use Rattle.jobs.specs.Job.{written};
+ghost use Rattle.jobs.specs.Job.{job_view};
 ghost use Rattle.jobs.specs.Nodes.{AreFromSources};
 ghost use Rattle.job_file.specs.RequestSizes.{AreFew};
-ghost use Rattle.flow_model.specs.Setup.{outline};
-ghost use Rattle.call_steps.specs.Reading.{AreNoRequests, AreNoRows, AreRequestsOf, AreRowsOf, IsJobOf, IsNoJob, IsNoStart, IsRead, IsStartOf, IsUnread};
+ghost use Rattle.flow_model.specs.Setup.{setup_view};
+ghost use Rattle.call_steps.specs.Reading.{AreNoRequests, AreNoRows, AreRequestsOf, AreRowsOf};
+ghost use Rattle.call_steps.specs.Reading.{IsJobOf, IsNoJob, IsNoStart, IsRead, IsStartOf};
+ghost use Rattle.call_steps.specs.Reading.{IsUnread};
 
 use flow_model::{Setup, Start};
 use job_file::{read_job, read_requests};
@@ -18,7 +20,7 @@ use versions::Requests;
 
 /// The job of a job file.
 pub fn job_in<S: Shelf>(alloc: Global, name: &Word, shelf: &mut S) -> Result<Job, Fault>
-    ensures job { IfOk result (λ job. IsJobOf (S.state shelf.old).files name.now (written job)) }
+    ensures job { IfOk result (λ job. IsJobOf (S.state shelf.old).files name.now (job_view job)) }
     ensures kept { OnOk result (S.state shelf.new ≡ S.state shelf.old) }
     ensures files { (S.state shelf.new).files ≡ (S.state shelf.old).files }
     ensures target { (S.state shelf.new).target ≡ (S.state shelf.old).target }
@@ -37,12 +39,13 @@ pub fn requests_in<S: Shelf>(
     shelf: &mut S,
 ) -> Result<Requests, Fault>
     ensures requests { IfOk result (λ requests.
-        AreRequestsOf (S.state shelf.old).files name.now (written job.now) requests) }
+        AreRequestsOf (S.state shelf.old).files name.now (job_view job.now) requests) }
     ensures few { IfOk result AreFew }
     ensures kept { OnOk result (S.state shelf.new ≡ S.state shelf.old) }
     ensures files { (S.state shelf.new).files ≡ (S.state shelf.old).files }
     ensures target { (S.state shelf.new).target ≡ (S.state shelf.old).target }
-    ensures cause { IfErr result (AreNoRequests (S.state shelf.old).files name.now (written job.now)
+    ensures cause { IfErr result (AreNoRequests (S.state shelf.old).files name.now
+        (job_view job.now)
         (S.state shelf.old).faults (S.state shelf.new).faults) }
 {
     let bytes = read_file(alloc, FileIs::Requests, name, shelf)?;
@@ -57,12 +60,12 @@ pub fn rows_in<S: Shelf>(
     shelf: &mut S,
 ) -> Result<Rows, Fault>
     ensures rows { IfOk result (λ rows.
-        AreRowsOf (S.state shelf.old).files name.now (written job.now) rows) }
-    ensures sources { IfOk result (λ rows. AreFromSources (written job.now) rows) }
+        AreRowsOf (S.state shelf.old).files name.now (job_view job.now) rows) }
+    ensures sources { IfOk result (λ rows. AreFromSources (job_view job.now) rows) }
     ensures kept { OnOk result (S.state shelf.new ≡ S.state shelf.old) }
     ensures files { (S.state shelf.new).files ≡ (S.state shelf.old).files }
     ensures target { (S.state shelf.new).target ≡ (S.state shelf.old).target }
-    ensures cause { IfErr result (AreNoRows (S.state shelf.old).files name.now (written job.now)
+    ensures cause { IfErr result (AreNoRows (S.state shelf.old).files name.now (job_view job.now)
         (S.state shelf.old).faults (S.state shelf.new).faults) }
 {
     let bytes = read_file(alloc, FileIs::Payments, name, shelf)?;
@@ -78,12 +81,12 @@ pub fn start_in<S: Shelf>(
     shelf: &mut S,
 ) -> Result<Start, Fault>
     ensures start { IfOk result (IsStartOf (S.state shelf.old).files name.now
-        (outline setup.now) rows) }
+        (setup_view setup.now) rows) }
     ensures kept { OnOk result (S.state shelf.new ≡ S.state shelf.old) }
     ensures files { (S.state shelf.new).files ≡ (S.state shelf.old).files }
     ensures target { (S.state shelf.new).target ≡ (S.state shelf.old).target }
     ensures cause { IfErr result (IsNoStart (S.state shelf.old).files name.now
-        (outline setup.now) rows (S.state shelf.old).faults (S.state shelf.new).faults) }
+        (setup_view setup.now) rows (S.state shelf.old).faults (S.state shelf.new).faults) }
 {
     let bytes = read_file(alloc, FileIs::Save, name, shelf)?;
     Ok(read_save(alloc, setup, rows, bytes.as_slice())?)

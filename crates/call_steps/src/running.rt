@@ -1,16 +1,18 @@
 // What is run, and what a run leaves to be written.
 ghost use Rattle.std.specs.Prelude.{◌≡◌, IsTrue, Some, IfOk, false, length, option_copied};
 ghost use Rattle.std.specs.Result.{result_err};
-ghost use Rattle.jobs.specs.Job.{written};
+ghost use Rattle.jobs.specs.Job.{job_view};
 ghost use Rattle.jobs.specs.Nodes.{AreFromSources, worker_count};
 ghost use Rattle.job_file.specs.RequestSizes.{AreFew};
-ghost use Rattle.flow_model.specs.Record.{told};
+ghost use Rattle.flow_model.specs.Record.{record_view};
 ghost use Rattle.flow_replay.specs.Order.{IsInOrder};
 ghost use Rattle.command_line.specs.Asked.{IsSize};
 ghost use Rattle.call_steps.specs.Ends.{EndsAfterRun};
 ghost use Rattle.payments.specs.World.{world};
 ghost use Rattle.call_steps.specs.SetupFor.{AreSame};
-ghost use Rattle.call_steps.specs.Running.{audit_of, files_of, run_lines as run_lines_of, saved_of, serial_lines as serial_lines_of, summary_of as summary_of_done, IsDoneOf, IsRunOf};
+ghost use Rattle.call_steps.specs.Running.{audit_of, files_of, run_lines as run_lines_of, saved_of};
+ghost use Rattle.call_steps.specs.Running.{serial_lines as serial_lines_of};
+ghost use Rattle.call_steps.specs.Running.{summary_of as summary_of_done, IsDoneOf, IsRunOf};
 ghost use Rattle.serial_order.specs.Serials.{serials};
 
 use crate::answer::Answer;
@@ -47,7 +49,8 @@ pub struct Done {
     pub row: u64,
 }
 
-/// Judges the requests, and runs the rows and those that are accepted on one thread, one row after another.
+/// Judges the requests, and runs the rows and those that are accepted on one thread, one row after
+/// another.
 pub fn run_in_order(
     alloc: Global,
     job: Job,
@@ -55,11 +58,13 @@ pub fn run_in_order(
     rows: &Rows,
 ) -> Result<Done, NoMemory>
     requires few { AreFew requests.now }
-    requires sources { AreFromSources (written job) rows.now }
-    ensures run { IfOk result (IsRunOf AreSame false (written job) requests.now rows.now) }
-    ensures order { IfOk result (λ done. IsInOrder (length rows.now) (told done.ran)) }
-    ensures journals { IfOk result (λ done. length done.ran.journals ≡ worker_count done.ran.setup.job.nodes) }
-    ensures states { IfOk result (λ done. length done.ran.states ≡ worker_count done.ran.setup.job.nodes) }
+    requires sources { AreFromSources (job_view job) rows.now }
+    ensures run { IfOk result (IsRunOf AreSame false (job_view job) requests.now rows.now) }
+    ensures order { IfOk result (λ done. IsInOrder (length rows.now) (record_view done.ran)) }
+    ensures journals { IfOk result (λ done. length done.ran.journals
+        ≡ worker_count done.ran.setup.job.nodes) }
+    ensures states { IfOk result (λ done. length done.ran.states
+        ≡ worker_count done.ran.setup.job.nodes) }
 {
     let setup = setup_of(alloc, job, requests, false)?;
     runs_are_consistent(&setup, rows);
@@ -84,10 +89,12 @@ where
     G: Gate + Sync,
     requires size { IsSize size }
     requires few { AreFew requests.now }
-    requires sources { AreFromSources (written job) rows.now }
-    ensures run { IfOk result (IsRunOf AreSame ordered (written job) requests.now rows.now) }
-    ensures journals { IfOk result (λ done. length done.ran.journals ≡ worker_count done.ran.setup.job.nodes) }
-    ensures states { IfOk result (λ done. length done.ran.states ≡ worker_count done.ran.setup.job.nodes) }
+    requires sources { AreFromSources (job_view job) rows.now }
+    ensures run { IfOk result (IsRunOf AreSame ordered (job_view job) requests.now rows.now) }
+    ensures journals { IfOk result (λ done. length done.ran.journals
+        ≡ worker_count done.ran.setup.job.nodes) }
+    ensures states { IfOk result (λ done. length done.ran.states
+        ≡ worker_count done.ran.setup.job.nodes) }
 {
     let setup = setup_of(alloc, job, requests, ordered)?;
     runs_are_consistent(&setup, rows);
@@ -120,7 +127,8 @@ pub(crate) fn done_of(
 
 // In ordered mode the number of each row; else nothing.
 fn serial_of(alloc: Global, ran: &RunRecord, rows: &Rows) -> Result<Serial, NoMemory>
-    ensures { IfOk result (λ found. IsTrue ran.now.setup.ordered → found ≡ serials (told ran.now) rows.now) }
+    ensures { IfOk result (λ found. IsTrue ran.now.setup.ordered
+        → found ≡ serials (record_view ran.now) rows.now) }
 {
     if ran.setup.ordered {
         serial(alloc, ran, rows)
@@ -266,7 +274,8 @@ fn audit_in(alloc: Global, done: &Done) -> Result<Bytes, NoMemory>
     )
 }
 
-/// What is printed of a run: the refused requests, in ordered mode the numbers of rows, and the summary.
+/// What is printed of a run: the refused requests, in ordered mode the numbers of rows, and the
+/// summary.
 pub fn run_lines(alloc: Global, done: &Done) -> Result<Bytes, NoMemory>
     requires { length done.now.ran.journals ≡ worker_count done.now.ran.setup.job.nodes }
     ensures { IfOk result (λ lines. lines ≡ run_lines_of done.now) }

@@ -1,10 +1,10 @@
 // The setup of a job and its requests.
 ghost use Rattle.std.specs.Prelude.{◌≡◌, IfOk};
-ghost use Rattle.jobs.specs.Job.{written};
+ghost use Rattle.jobs.specs.Job.{job_view};
 ghost use Rattle.job_file.specs.RequestSizes.{AreFew};
 ghost use Rattle.versions.specs.Judged.{AreAccepted};
 ghost use Rattle.flow_model.specs.Planned.{IsExact};
-ghost use Rattle.flow_model.specs.Setup.{outline};
+ghost use Rattle.flow_model.specs.Setup.{setup_view};
 ghost use Rattle.call_steps.specs.SetupFor.{AreSame, IsSetupFor};
 
 use flow_model::{Setup, plans_are_least};
@@ -22,7 +22,7 @@ pub fn setup_of(
     ordered: bool,
 ) -> Result<Setup, NoMemory>
     requires { AreFew requests.now }
-    ensures { IfOk result (IsSetupFor AreSame ordered (written job) requests.now) }
+    ensures { IfOk result (IsSetupFor AreSame ordered (job_view job) requests.now) }
 {
     accepted_requests_stay_accepted();
     let judged = judge_all(alloc, &job, requests)?;
@@ -32,10 +32,10 @@ pub fn setup_of(
 }
 
 fn setup_in_mode(alloc: Global, job: Job, judged: Judged, ordered: bool) -> Result<Setup, NoMemory>
-    requires { AreAccepted (written job) judged.accepted }
+    requires { AreAccepted (job_view job) judged.accepted }
     ensures job { IfOk result (λ setup. setup.job ≡ job) }
     ensures judged { IfOk result (λ setup. setup.judged ≡ judged) }
-    ensures exact { IfOk result (λ setup. IsExact (outline setup)) }
+    ensures exact { IfOk result (λ setup. IsExact (setup_view setup)) }
     ensures mode { IfOk result (λ setup. setup.ordered ≡ ordered) }
 {
     if ordered {

@@ -1,7 +1,9 @@
 // The commands that `clap` reads the words by.
 ghost use Rattle.std.specs.Prelude.{◌≡◌, IfOk, false};
 ghost use Rattle.clap.specs.Words.{rule_of};
-ghost use Rattle.command_line.specs.Apps.{IsApp, check_app, first_app, flag_rule, make_app, name_rule, option_rule, plan_app, program_app, resume_app, run_app, save_app};
+ghost use Rattle.command_line.specs.Apps.{IsApp, check_app, first_app, flag_rule, make_app};
+ghost use Rattle.command_line.specs.Apps.{name_rule, option_rule, plan_app, program_app};
+ghost use Rattle.command_line.specs.Apps.{resume_app, run_app, save_app};
 
 use clap::{Arg, ArgAction, Command};
 use std::alloc::{AllocError, Global};

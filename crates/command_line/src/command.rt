@@ -1,5 +1,9 @@
-ghost use Rattle.std.specs.Prelude.{◌≡◌, ◌≢◌, ◌≤◌, IfOk, IfErr, IfSome, Some, None, drop, length, slice_get};
-ghost use Rattle.command_line.specs.Asked.{IsSized, asked_after, asked_alone, asked_by, asked_of, asks_help as asks_help_of, is_help as is_help_word, is_version as is_version_word, topic_of as topic_of_word};
+ghost use Rattle.std.specs.Prelude.{◌≡◌, ◌≢◌, ◌≤◌, IfOk, IfErr, IfSome, Some, None, drop, length};
+ghost use Rattle.std.specs.Prelude.{slice_get};
+ghost use Rattle.command_line.specs.Asked.{IsSized, asked_after, asked_alone, asked_by, asked_of};
+ghost use Rattle.command_line.specs.Asked.{asks_help as asks_help_of, is_help as is_help_word};
+ghost use Rattle.command_line.specs.Asked.{is_version as is_version_word};
+ghost use Rattle.command_line.specs.Asked.{topic_of as topic_of_word};
 ghost use Rattle.command_line.specs.Views.{texts};
 ghost use Rattle.command_line.specs.declared.command.WordsFault.TheVariants.{NoMemory as OutOfMemory};
 
@@ -52,7 +56,8 @@ pub struct PlanFiles {
     pub ordered: bool,
 }
 
-/// How many threads an engine has, 1 to 16, and how many items each of its lanes holds at most, 1 to 64.
+/// How many threads an engine has, 1 to 16, and how many items each of its lanes holds at most, 1
+/// to 64.
 #[derive(Clone, Copy, Debug)]
 pub struct EngineSize {
     pub threads: u32,
@@ -124,17 +129,20 @@ impl From<NoMemory> for WordsFault {
 
 /// What the words after the program's name ask for.
 ///
-/// A command is followed by its names in their order. Its options stand at any place among them, each once at most: `--threads N` or
-/// `--threads=N`. The program tests this by itself, and `clap` then reads the values. `--help` or `-h` alone, or directly after a command
-/// and last, asks for help; `--version` or `-V` alone asks for the version.
+/// A command is followed by its names in their order. Its options stand at any place among them,
+/// each once at most: `--threads N` or `--threads=N`. The program tests this by itself, and `clap`
+/// then reads the values. `--help` or `-h` alone, or directly after a command and last, asks for
+/// help; `--version` or `-V` alone asks for the version.
 ///
 /// # Errors
 ///
-/// [`WordsFault::Usage`] if the words are none of this, or a number is outside its range. The one other answer is out of memory.
+/// [`WordsFault::Usage`] if the words are none of this, or a number is outside its range. The one
+/// other answer is out of memory.
 pub fn command_of(alloc: Global, words: &[Word]) -> Result<Command, WordsFault>
     ensures asked { IfOk result (λ command. asked_of words.now ≡ Some (asked_by command)) }
     ensures sized { IfOk result IsSized }
-    ensures usage { IfErr result (λ fault. fault ≢ WordsFault.NoMemory → asked_of words.now ≡ None) }
+    ensures usage { IfErr result (λ fault. fault ≢ WordsFault.NoMemory
+        → asked_of words.now ≡ None) }
 {
     let words = strings_of(alloc, words)?;
     let Some((first, rest)) = words.split_first() else {
@@ -154,11 +162,14 @@ fn command_after<'w>(
     topic: Topic,
     words: &'w [&'w str],
 ) -> Result<Command, WordsFault>
-    requires command { IfSome (slice_get (texts words.now) 0) (λ word. topic_of_word word ≡ Some topic) }
+    requires command { IfSome (slice_get (texts words.now) 0) (λ word. topic_of_word word
+        ≡ Some topic) }
     requires some { 1 ≤ length words.now }
-    ensures asked { IfOk result (λ command. asked_after topic (drop 1 (texts words.now)) ≡ Some (asked_by command)) }
+    ensures asked { IfOk result (λ command. asked_after topic (drop 1 (texts words.now))
+        ≡ Some (asked_by command)) }
     ensures sized { IfOk result IsSized }
-    ensures usage { IfErr result (λ fault. fault ≢ WordsFault.NoMemory → asked_after topic (drop 1 (texts words.now)) ≡ None) }
+    ensures usage { IfErr result (λ fault. fault ≢ WordsFault.NoMemory
+        → asked_after topic (drop 1 (texts words.now)) ≡ None) }
 {
     if !has_form(alloc, &form_of(topic), &words[1..])? {
         return Err(WordsFault::Usage);

@@ -5,7 +5,8 @@ ghost use Rattle.command_line.specs.Views.{flag_view, form_view, option_view};
 
 use crate::Topic;
 
-/// An option with a value: its name, its word, and the start of the one word that has the value too.
+/// An option with a value: its name, its word, and the start of the one word that has the value
+/// too.
 #[derive(Clone, Copy)]
 pub(crate) struct ValueOption {
     pub(crate) id: &'static str,

@@ -1,8 +1,14 @@
 // The words after a command, taken apart by its form.
-ghost use Rattle.std.specs.Prelude.{◌≡◌, ◌≤◌, true, IfOk, IfSome, option_map, option_copied, length, find, is_some, map, take};
+ghost use Rattle.std.specs.Prelude.{◌≡◌, ◌≤◌, true, IfOk, IfSome, option_map, option_copied};
+ghost use Rattle.std.specs.Prelude.{length, find, is_some, map, take};
 ghost use Rattle.std.specs.Str.{bytes_eq};
-ghost use Rattle.command_line.specs.Form.{at_end, found_after, found_in, has_start as has_start_of, is_flag as is_flag_of, is_found as is_found_in, is_name as is_name_of, is_option as is_option_of, no_parts, with_name as with_name_of, with_value as with_value_of, with_word};
-ghost use Rattle.command_line.specs.Views.{flag_view, form_view, if_taken, option_view, pair_view, parts_view, texts};
+ghost use Rattle.command_line.specs.Form.{at_end, found_after, found_in, has_start as has_start_of};
+ghost use Rattle.command_line.specs.Form.{is_flag as is_flag_of, is_found as is_found_in};
+ghost use Rattle.command_line.specs.Form.{is_name as is_name_of, is_option as is_option_of};
+ghost use Rattle.command_line.specs.Form.{no_parts, with_name as with_name_of};
+ghost use Rattle.command_line.specs.Form.{with_value as with_value_of, with_word};
+ghost use Rattle.command_line.specs.Views.{flag_view, form_view, if_taken, option_view, pair_view};
+ghost use Rattle.command_line.specs.Views.{parts_view, texts};
 
 use crate::form::{Flag, Form, ValueOption};
 use std::alloc::Global;
@@ -85,7 +91,8 @@ impl<'w> Parts<'w> {
 
     // Whether no name and no value is missing.
     fn are_whole(&self) -> bool
-        ensures { result ≡ is_some (at_end (parts_view self.now).names (parts_view self.now).waiting (parts_view self.now).found) }
+        ensures { result ≡ is_some (at_end (parts_view self.now).names (parts_view self.now).waiting
+            (parts_view self.now).found) }
     {
         self.next >= self.names.len() && self.waiting.is_none()
     }
@@ -103,7 +110,8 @@ impl<'w> Parts<'w> {
 }
 
 fn option_in(options: &'static [ValueOption], word: &[u8]) -> Option<ValueOption>
-    ensures { option_map option_view result ≡ find (is_option_of word.now) (map option_view options.entry.now) }
+    ensures { option_map option_view result ≡ find (is_option_of word.now)
+        (map option_view options.entry.now) }
 {
     for option in options {
         if option.word.as_bytes() == word {
@@ -114,7 +122,8 @@ fn option_in(options: &'static [ValueOption], word: &[u8]) -> Option<ValueOption
 }
 
 fn flag_in(flags: &'static [Flag], word: &[u8]) -> Option<Flag>
-    ensures { option_map flag_view result ≡ find (is_flag_of word.now) (map flag_view flags.entry.now) }
+    ensures { option_map flag_view result ≡ find (is_flag_of word.now)
+        (map flag_view flags.entry.now) }
 {
     for flag in flags {
         if flag.word.as_bytes() == word {
@@ -125,7 +134,8 @@ fn flag_in(flags: &'static [Flag], word: &[u8]) -> Option<Flag>
 }
 
 fn start_in(options: &'static [ValueOption], word: &[u8]) -> Option<ValueOption>
-    ensures is { option_map option_view result ≡ find (has_start_of word.now) (map option_view options.entry.now) }
+    ensures is { option_map option_view result ≡ find (has_start_of word.now)
+        (map option_view options.entry.now) }
     ensures within { IfSome result (λ option. length option.start.now ≤ length word.now) }
 {
     for option in options {

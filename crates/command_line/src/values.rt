@@ -1,7 +1,19 @@
 // The values that `clap` read, as what a command is asked to do.
-ghost use Rattle.std.specs.Prelude.{◌≡◌, ◌≢◌, ◌≤◌, IfOk, IfErr, IfSome, Some, None, codes, option_map};
+ghost use Rattle.std.specs.Prelude.{◌≡◌, ◌≢◌, ◌≤◌, IfOk, IfErr, IfSome, Some, None, codes};
+ghost use Rattle.std.specs.Prelude.{option_map};
 ghost use Rattle.clap.specs.Words.{first_value, found_of};
-ghost use Rattle.command_line.specs.Asked.{IsSize, IsSized, IsThreads, amount_in as amount_of, asked_by, asked_with, engine_in as engine_of, first_asked, first_of as first_of_values, is_true as is_true_text, make_asked, make_of as make_of_values, name_in as name_of, number_in as number_of, plan_asked, plan_of as plan_of_values, resume_asked, resume_of as resume_of_values, run_asked, run_of as run_of_values, run_with as run_with_values, save_asked, save_of as save_of_values, size_in as size_of, unordered_of as unordered_of_values, writes as writes_to};
+ghost use Rattle.command_line.specs.Asked.{IsSize, IsSized, IsThreads, amount_in as amount_of};
+ghost use Rattle.command_line.specs.Asked.{asked_by, asked_with, engine_in as engine_of};
+ghost use Rattle.command_line.specs.Asked.{first_asked, first_of as first_of_values};
+ghost use Rattle.command_line.specs.Asked.{is_true as is_true_text, make_asked};
+ghost use Rattle.command_line.specs.Asked.{make_of as make_of_values, name_in as name_of};
+ghost use Rattle.command_line.specs.Asked.{number_in as number_of, plan_asked};
+ghost use Rattle.command_line.specs.Asked.{plan_of as plan_of_values, resume_asked};
+ghost use Rattle.command_line.specs.Asked.{resume_of as resume_of_values, run_asked};
+ghost use Rattle.command_line.specs.Asked.{run_of as run_of_values, run_with as run_with_values};
+ghost use Rattle.command_line.specs.Asked.{save_asked, save_of as save_of_values};
+ghost use Rattle.command_line.specs.Asked.{size_in as size_of, unordered_of as unordered_of_values};
+ghost use Rattle.command_line.specs.Asked.{writes as writes_to};
 
 use crate::{
     Command, EngineSize, First, Make, PlanFiles, ResumeFiles, RunFiles, SaveFiles, Topic,
@@ -20,7 +32,8 @@ pub(crate) fn command_with(
     topic: Topic,
     values: &ArgMatches<'_>,
 ) -> Result<Command, WordsFault>
-    ensures asked { IfOk result (λ command. asked_with topic (first_value (found_of values.now)) ≡ Some (asked_by command)) }
+    ensures asked { IfOk result (λ command. asked_with topic (first_value (found_of values.now))
+        ≡ Some (asked_by command)) }
     ensures sized { IfOk result IsSized }
     ensures usage { IfErr result (λ fault. fault ≢ WordsFault.NoMemory →
         asked_with topic (first_value (found_of values.now)) ≡ None) }
@@ -38,8 +51,10 @@ pub(crate) fn command_with(
 }
 
 fn first_of(alloc: Global, values: &ArgMatches<'_>) -> Result<First, WordsFault>
-    ensures asked { IfOk result (λ first. first_of_values (first_value (found_of values.now)) ≡ Some (first_asked first)) }
-    ensures usage { IfErr result (λ fault. fault ≢ WordsFault.NoMemory → first_of_values (first_value (found_of values.now)) ≡ None) }
+    ensures asked { IfOk result (λ first. first_of_values (first_value (found_of values.now))
+        ≡ Some (first_asked first)) }
+    ensures usage { IfErr result (λ fault. fault ≢ WordsFault.NoMemory
+        → first_of_values (first_value (found_of values.now)) ≡ None) }
 {
     let Some(least) = amount_in(values, "min") else {
         return Err(WordsFault::Usage);
@@ -60,7 +75,8 @@ fn first_of(alloc: Global, values: &ArgMatches<'_>) -> Result<First, WordsFault>
 }
 
 fn plan_of(alloc: Global, values: &ArgMatches<'_>) -> Result<PlanFiles, NoMemory>
-    ensures { IfOk result (λ files. plan_asked files ≡ plan_of_values (first_value (found_of values.now))) }
+    ensures { IfOk result (λ files. plan_asked files
+        ≡ plan_of_values (first_value (found_of values.now))) }
 {
     Ok(PlanFiles {
         job: name_in(alloc, values, "job")?,
@@ -71,7 +87,8 @@ fn plan_of(alloc: Global, values: &ArgMatches<'_>) -> Result<PlanFiles, NoMemory
 
 // The files of a plan that isn't in ordered mode.
 fn unordered_of(alloc: Global, values: &ArgMatches<'_>) -> Result<PlanFiles, NoMemory>
-    ensures { IfOk result (λ files. plan_asked files ≡ unordered_of_values (first_value (found_of values.now))) }
+    ensures { IfOk result (λ files. plan_asked files
+        ≡ unordered_of_values (first_value (found_of values.now))) }
 {
     Ok(PlanFiles {
         job: name_in(alloc, values, "job")?,
@@ -81,7 +98,8 @@ fn unordered_of(alloc: Global, values: &ArgMatches<'_>) -> Result<PlanFiles, NoM
 }
 
 fn run_of(alloc: Global, values: &ArgMatches<'_>) -> Result<RunFiles, WordsFault>
-    ensures asked { IfOk result (λ files. run_of_values (first_value (found_of values.now)) ≡ Some (run_asked files)) }
+    ensures asked { IfOk result (λ files. run_of_values (first_value (found_of values.now))
+        ≡ Some (run_asked files)) }
     ensures sized { IfOk result (λ files. IsSize files.size) }
     ensures usage { IfErr result (λ fault. fault ≢ WordsFault.NoMemory →
         run_of_values (first_value (found_of values.now)) ≡ None) }
@@ -90,7 +108,8 @@ fn run_of(alloc: Global, values: &ArgMatches<'_>) -> Result<RunFiles, WordsFault
 }
 
 fn run_with(alloc: Global, plan: PlanFiles, values: &ArgMatches<'_>) -> Result<RunFiles, WordsFault>
-    ensures asked { IfOk result (λ files. run_with_values (plan_asked plan) (first_value (found_of values.now)) ≡ Some (run_asked files)) }
+    ensures asked { IfOk result (λ files. run_with_values (plan_asked plan)
+        (first_value (found_of values.now)) ≡ Some (run_asked files)) }
     ensures sized { IfOk result (λ files. IsSize files.size) }
     ensures usage { IfErr result (λ fault. fault ≢ WordsFault.NoMemory →
         run_with_values (plan_asked plan) (first_value (found_of values.now)) ≡ None) }
@@ -113,7 +132,8 @@ fn run_with(alloc: Global, plan: PlanFiles, values: &ArgMatches<'_>) -> Result<R
 }
 
 fn save_of(alloc: Global, values: &ArgMatches<'_>) -> Result<SaveFiles, WordsFault>
-    ensures asked { IfOk result (λ files. save_of_values (first_value (found_of values.now)) ≡ Some (save_asked files)) }
+    ensures asked { IfOk result (λ files. save_of_values (first_value (found_of values.now))
+        ≡ Some (save_asked files)) }
     ensures sized { IfOk result (λ files. IsSize files.run.size) }
     ensures usage { IfErr result (λ fault. fault ≢ WordsFault.NoMemory →
         save_of_values (first_value (found_of values.now)) ≡ None) }
@@ -126,7 +146,8 @@ fn save_of(alloc: Global, values: &ArgMatches<'_>) -> Result<SaveFiles, WordsFau
 }
 
 fn resume_of(alloc: Global, values: &ArgMatches<'_>) -> Result<ResumeFiles, WordsFault>
-    ensures asked { IfOk result (λ files. resume_of_values (first_value (found_of values.now)) ≡ Some (resume_asked files)) }
+    ensures asked { IfOk result (λ files. resume_of_values (first_value (found_of values.now))
+        ≡ Some (resume_asked files)) }
     ensures sized { IfOk result (λ files. IsSize files.run.size) }
     ensures usage { IfErr result (λ fault. fault ≢ WordsFault.NoMemory →
         resume_of_values (first_value (found_of values.now)) ≡ None) }
@@ -147,9 +168,11 @@ fn writes(run: &RunFiles, name: &str) -> bool
 }
 
 fn make_of(alloc: Global, values: &ArgMatches<'_>) -> Result<Make, WordsFault>
-    ensures asked { IfOk result (λ make. make_of_values (first_value (found_of values.now)) ≡ Some (make_asked make)) }
+    ensures asked { IfOk result (λ make. make_of_values (first_value (found_of values.now))
+        ≡ Some (make_asked make)) }
     ensures sized { IfOk result (λ make. IsThreads make.threads) }
-    ensures usage { IfErr result (λ fault. fault ≢ WordsFault.NoMemory → make_of_values (first_value (found_of values.now)) ≡ None) }
+    ensures usage { IfErr result (λ fault. fault ≢ WordsFault.NoMemory
+        → make_of_values (first_value (found_of values.now)) ≡ None) }
 {
     let Some(seed) = number_in(values, "seed", u64::MAX) else {
         return Err(WordsFault::Usage);

@@ -10,9 +10,9 @@ use Rattle.control_box.specs.Ends.{HasShownReady, PosterIs}
 use Rattle.cover_planner.specs.declared.cover.Plan.{Plan}
 use Rattle.flow_dag.proofs.MaskLemmas.{has-Has}
 use Rattle.flow_model.specs.Covers.{covers, heads, holds_node, is_head}
-use Rattle.flow_model.specs.Outline.{Outline, Post}
+use Rattle.flow_model.specs.SetupView.{SetupView, Worker}
 use Rattle.flow_model.specs.Planned.{IsPlanned}
-use Rattle.flow_model.specs.Workers.{posts}
+use Rattle.flow_model.specs.Workers.{workers_in}
 use Rattle.flow_model.proofs.WorkerLemmas.{item_at}
 use Rattle.coordinator.specs.Boxes.{AreCountedWith, ArePosted, AreReady, IsUnready, LastAtLeast, MayPost, SameBoxes, SameLoads, SamePosts}
 use Rattle.coordinator.specs.Numbers.{covered_to, node_at, node_in, number_of}
@@ -20,28 +20,28 @@ use Rattle.coordinator.proofs.ListLemmas.{Pairs, also_there, get_set_other, get_
 
 -- ---- numbers
 
-pub covers_here : (setup : Outline) (w request : ℕ) (b : Bool) → option_map (λ (post : Post). covers setup request post.node) (slice_get (posts setup.job) w) ≡ Some b → covers setup request (node_at setup w) ≡ b
-covers_here setup w request b = go (slice_get (posts setup.job) w)
+pub covers_here : (setup : SetupView) (w request : ℕ) (b : Bool) → option_map (λ (post : Worker). covers setup request post.node) (slice_get (workers_in setup.job) w) ≡ Some b → covers setup request (node_at setup w) ≡ b
+covers_here setup w request b = go (slice_get (workers_in setup.job) w)
   where
-    go : (o : Option Post) → option_map (λ (post : Post). covers setup request post.node) o ≡ Some b → covers setup request (node_in o) ≡ b
+    go : (o : Option Worker) → option_map (λ (post : Worker). covers setup request post.node) o ≡ Some b → covers setup request (node_in o) ≡ b
     go None e = absurd (cc)
     go (Some post) e = same_some (covers setup request post.node) b e
 
-pub heads_here : (setup : Outline) (w request : ℕ) (b : Bool) → option_map (λ (post : Post). is_head setup request post.node) (slice_get (posts setup.job) w) ≡ Some b → is_head setup request (node_at setup w) ≡ b
-heads_here setup w request b = go (slice_get (posts setup.job) w)
+pub heads_here : (setup : SetupView) (w request : ℕ) (b : Bool) → option_map (λ (post : Worker). is_head setup request post.node) (slice_get (workers_in setup.job) w) ≡ Some b → is_head setup request (node_at setup w) ≡ b
+heads_here setup w request b = go (slice_get (workers_in setup.job) w)
   where
-    go : (o : Option Post) → option_map (λ (post : Post). is_head setup request post.node) o ≡ Some b → is_head setup request (node_in o) ≡ b
+    go : (o : Option Worker) → option_map (λ (post : Worker). is_head setup request post.node) o ≡ Some b → is_head setup request (node_in o) ≡ b
     go None e = absurd (cc)
     go (Some post) e = same_some (is_head setup request post.node) b e
 
-pub covered_rises : (setup : Outline) (node r : ℕ) → covered_to setup node r ≤ covered_to setup node (suc r)
+pub covered_rises : (setup : SetupView) (node r : ℕ) → covered_to setup node r ≤ covered_to setup node (suc r)
 covered_rises setup node r = go (covers setup (suc r) node)
   where
     go : (b : Bool) → covered_to setup node r ≤ cond b (suc (covered_to setup node r)) (covered_to setup node r)
     go true = omega arith
     go false = omega arith
 
-pub covered_grows : (setup : Outline) (node a b : ℕ) → a ≤ b → covered_to setup node a ≤ covered_to setup node b
+pub covered_grows : (setup : SetupView) (node a b : ℕ) → a ≤ b → covered_to setup node a ≤ covered_to setup node b
 covered_grows setup node a zero le = let e : a ≡ 0 = omega (arith, le) in subst (λ n. covered_to setup node a ≤ covered_to setup node n) e (omega arith)
 covered_grows setup node a (suc b) le = elim (cases_lt b a) [
   | inl lt ↦ (let e : a ≡ suc b = omega (arith, le, lt) in subst (λ n. covered_to setup node a ≤ covered_to setup node n) e (omega arith))
@@ -49,24 +49,24 @@ covered_grows setup node a (suc b) le = elim (cases_lt b a) [
 ]
 
 -- the numbers go on by one where a worker is covered
-pub number_covered : (setup : Outline) (from w r n : ℕ) → from ≤ r → covers setup (suc r) (node_at setup w) ≡ true → n ≡ number_of setup from w r → n + 1 ≡ number_of setup from w (suc r)
+pub number_covered : (setup : SetupView) (from w r n : ℕ) → from ≤ r → covers setup (suc r) (node_at setup w) ≡ true → n ≡ number_of setup from w r → n + 1 ≡ number_of setup from w (suc r)
 number_covered setup from w r n le e is =
     let grows = covered_grows setup (node_at setup w) from r le in
     let next : covered_to setup (node_at setup w) (suc r) ≡ suc (covered_to setup (node_at setup w) r) =
     ap (λ b. cond b (suc (covered_to setup (node_at setup w) r)) (covered_to setup (node_at setup w) r)) e in
     omega (arith, grows, next, is)
 
-pub number_uncovered : (setup : Outline) (from w r n : ℕ) → covers setup (suc r) (node_at setup w) ≡ false → n ≡ number_of setup from w r → n ≡ number_of setup from w (suc r)
+pub number_uncovered : (setup : SetupView) (from w r n : ℕ) → covers setup (suc r) (node_at setup w) ≡ false → n ≡ number_of setup from w r → n ≡ number_of setup from w (suc r)
 number_uncovered setup from w r n e is =
     let next : covered_to setup (node_at setup w) (suc r) ≡ covered_to setup (node_at setup w) r =
     ap (λ b. cond b (suc (covered_to setup (node_at setup w) r)) (covered_to setup (node_at setup w) r)) e in
     omega (arith, next, is)
 
-pub number_grows : (setup : Outline) (from w r : ℕ) → number_of setup from w r ≤ number_of setup from w (suc r)
+pub number_grows : (setup : SetupView) (from w r : ℕ) → number_of setup from w r ≤ number_of setup from w (suc r)
 number_grows setup from w r = let s = covered_rises setup (node_at setup w) r in omega (arith, s)
 
 -- a head is covered
-head_planned : (setup : Outline) → IsPlanned setup → (r node : ℕ) → is_head setup r node ≡ true → covers setup r node ≡ true
+head_planned : (setup : SetupView) → IsPlanned setup → (r node : ℕ) → is_head setup r node ≡ true → covers setup r node ≡ true
 head_planned setup is zero node h = absurd (cc)
 head_planned setup is (suc r) node h = go (slice_get setup.plans r) refl h
   where
@@ -79,10 +79,10 @@ head_planned setup is (suc r) node h = go (slice_get setup.plans r) refl h
         let inside = ((p.planned.cover.heads node).0 ((has-Has plan.heads node).0 h)).0 in
         (has-Has plan.nodes node).1 ((p.planned.cover.nodes node).1 inside)
 
-pub head_covered : (setup : Outline) → ∥ IsPlanned setup ∥₁ → (r node : ℕ) → is_head setup r node ≡ true → covers setup r node ≡ true
+pub head_covered : (setup : SetupView) → ∥ IsPlanned setup ∥₁ → (r node : ℕ) → is_head setup r node ≡ true → covers setup r node ≡ true
 head_covered setup planned r node h = ∥∥₁_elim planned (Bool-set _ _) (λ is. head_planned setup is r node h)
 
-covered_within : (setup : Outline) (node r : ℕ) → covered_to setup node r ≤ r
+covered_within : (setup : SetupView) (node r : ℕ) → covered_to setup node r ≤ r
 covered_within setup node zero = omega arith
 covered_within setup node (suc r) = go (covers setup (suc r) node) (covered_within setup node r)
   where
@@ -90,7 +90,7 @@ covered_within setup node (suc r) = go (covers setup (suc r) node) (covered_with
     go true h = omega (arith, h)
     go false h = omega (arith, h)
 
-pub number_within : (setup : Outline) (from w r : ℕ) → number_of setup from w r ≤ r
+pub number_within : (setup : SetupView) (from w r : ℕ) → number_of setup from w r ≤ r
 number_within setup from w r = let h = covered_within setup (node_at setup w) r in omega (arith, h)
 
 -- ---- asking
@@ -159,16 +159,16 @@ shown_ready n loads (earlier, load, e, le) =
 
 -- ---- counting
 
-abbrev pub CountedAt : Outline → ℕ → ℕ → ℕ → ℕ → ℕ → Type 0
+abbrev pub CountedAt : SetupView → ℕ → ℕ → ℕ → ℕ → ℕ → Type 0
 CountedAt setup request k i m n = (i < k → n ≡ cond (covers setup request (node_at setup i)) (m + 1) m) × (k ≤ i → n ≡ m)
 
-abbrev pub Counted : Outline → ℕ → ℕ → List ℕ → List ℕ → Type 0
+abbrev pub Counted : SetupView → ℕ → ℕ → List ℕ → List ℕ → Type 0
 Counted setup request k old now = Pairs (CountedAt setup request k) old now
 
-pub counted_none : (setup : Outline) (request : ℕ) (old : List ℕ) → Counted setup request 0 old old
+pub counted_none : (setup : SetupView) (request : ℕ) (old : List ℕ) → Counted setup request 0 old old
 counted_none setup request old = (refl, λ i m n a b. ((λ lt. absurd (omega (arith, lt))), (λ le. same_some n m (sym b ∙ a))))
 
-pub count_skips : (setup : Outline) (request k : ℕ) (old now : List ℕ) → Counted setup request k old now → covers setup request (node_at setup k) ≡ false → Counted setup request (k + 1) old now
+pub count_skips : (setup : SetupView) (request k : ℕ) (old now : List ℕ) → Counted setup request k old now → covers setup request (node_at setup k) ≡ false → Counted setup request (k + 1) old now
 count_skips setup request k old now h e =
     pairs_map (CountedAt setup request k) (CountedAt setup request (k + 1)) old now h (λ i m n r. ((λ lt. go i m n r lt (here_or_not k i)), (λ le. r.1 (omega (arith, le)))))
   where
@@ -178,37 +178,37 @@ count_skips setup request k old now h e =
         rw f (r.1 (omega (arith, s)))
     go i m n r lt (inr ne) = r.0 (omega (arith, lt, ne))
 
-pub count_next : (setup : Outline) (request k : ℕ) (old now : List ℕ) (x y : ℕ) → Counted setup request k old now → slice_get now k ≡ Some x → covers setup request (node_at setup k) ≡ true → y ≡ x + 1
+pub count_next : (setup : SetupView) (request k : ℕ) (old now : List ℕ) (x y : ℕ) → Counted setup request k old now → slice_get now k ≡ Some x → covers setup request (node_at setup k) ≡ true → y ≡ x + 1
     → Counted setup request (k + 1) old (set now k y)
 count_next setup request k old now x y h g e s =
     pairs_set (CountedAt setup request k) (CountedAt setup request (k + 1)) old now k x y h g
     (λ i m n ne r. ((λ lt. r.0 (omega (arith, lt, ne))), (λ le. r.1 (omega (arith, le)))))
     (λ m a r. ((λ lt. rw e (s ∙ ap (λ z. z + 1) (r.1 (omega arith)))), (λ le. absurd (omega (arith, le)))))
 
-pub uncounted : (setup : Outline) (request k : ℕ) (old now : List ℕ) (x : ℕ) → Counted setup request k old now → slice_get now k ≡ Some x → slice_get old k ≡ Some x
+pub uncounted : (setup : SetupView) (request k : ℕ) (old now : List ℕ) (x : ℕ) → Counted setup request k old now → slice_get now k ≡ Some x → slice_get old k ≡ Some x
 uncounted setup request k old now x h g =
     let r = also_there now old k (sym h.0) (slice_get_within now k x g) in
     let same : x ≡ r.0 = (h.1 k r.0 x r.1 g).1 (omega arith) in
     r.1 ∙ ap Some (sym same)
 
-pub counted_all : (setup : Outline) (request k : ℕ) (old now : List ℕ) → Counted setup request k old now → length old ≤ k → AreCountedWith setup request old now
+pub counted_all : (setup : SetupView) (request k : ℕ) (old now : List ℕ) → Counted setup request k old now → length old ≤ k → AreCountedWith setup request old now
 counted_all setup request k old now h e = (h.0, λ w m n a b. let lt = slice_get_within old w m a in (h.1 w m n a b).0 (omega (arith, lt, e)))
 
 -- ---- posting
 
-abbrev pub PostedAt : Outline → ℕ → List ℕ → ℕ → ℕ → PosterIs → PosterIs → Type 0
+abbrev pub PostedAt : SetupView → ℕ → List ℕ → ℕ → ℕ → PosterIs → PosterIs → Type 0
 PostedAt setup request covered k i p q =
     (q.within ≡ p.within) × (q.loads ≡ p.loads)
     × (i < k → (n : ℕ) → slice_get covered i ≡ Some n → q.posted ≡ cond (is_head setup request (node_at setup i)) n p.posted) × (k ≤ i → q ≡ p)
 
-abbrev pub Posted : Outline → ℕ → List ℕ → ℕ → List PosterIs → List PosterIs → Type 0
+abbrev pub Posted : SetupView → ℕ → List ℕ → ℕ → List PosterIs → List PosterIs → Type 0
 Posted setup request covered k old now = Pairs (PostedAt setup request covered k) old now
 
-pub posted_none : (setup : Outline) (request : ℕ) (covered : List ℕ) (old : List PosterIs) → Posted setup request covered 0 old old
+pub posted_none : (setup : SetupView) (request : ℕ) (covered : List ℕ) (old : List PosterIs) → Posted setup request covered 0 old old
 posted_none setup request covered old = (refl, λ i p q a b. let e : q ≡ p = same_some q p (sym b ∙ a) in (ap (λ z. z.within) e, ap (λ z. z.loads) e, (λ lt. absurd (omega (arith, lt))), (λ le. e)))
 
 -- a worker that isn't of a head
-pub post_skips : (setup : Outline) (request : ℕ) (covered : List ℕ) (k : ℕ) (old now : List PosterIs) → Posted setup request covered k old now → is_head setup request (node_at setup k) ≡ false → Posted setup request covered (k + 1) old now
+pub post_skips : (setup : SetupView) (request : ℕ) (covered : List ℕ) (k : ℕ) (old now : List PosterIs) → Posted setup request covered k old now → is_head setup request (node_at setup k) ≡ false → Posted setup request covered (k + 1) old now
 post_skips setup request covered k old now h e =
     pairs_map (PostedAt setup request covered k) (PostedAt setup request covered (k + 1)) old now h
     (λ i p q r. (r.0, r.1, (λ lt n c. go i p q r lt n c (here_or_not k i)), (λ le. r.3 (omega (arith, le)))))
@@ -219,36 +219,36 @@ post_skips setup request covered k old now h e =
         rw f (ap (λ z. z.posted) (r.3 (omega (arith, s))))
     go i p q r lt n c (inr ne) = r.2 (omega (arith, lt, ne)) n c
 
-pub post_next : (setup : Outline) (request : ℕ) (covered : List ℕ) (k m : ℕ) (old now : List PosterIs) (x y : PosterIs) → Posted setup request covered k old now → slice_get now k ≡ Some x → slice_get covered k ≡ Some m
+pub post_next : (setup : SetupView) (request : ℕ) (covered : List ℕ) (k m : ℕ) (old now : List PosterIs) (x y : PosterIs) → Posted setup request covered k old now → slice_get now k ≡ Some x → slice_get covered k ≡ Some m
     → is_head setup request (node_at setup k) ≡ true → y.within ≡ x.within → y.loads ≡ x.loads → y.posted ≡ m → Posted setup request covered (k + 1) old (set now k y)
 post_next setup request covered k m old now x y h g c e w l t =
     pairs_set (PostedAt setup request covered k) (PostedAt setup request covered (k + 1)) old now k x y h g
     (λ i p q ne r. (r.0, r.1, (λ lt n d. r.2 (omega (arith, lt, ne)) n d), (λ le. r.3 (omega (arith, le)))))
     (λ p a r. (w ∙ r.0, l ∙ r.1, (λ lt n d. rw e (t ∙ same_some m n (sym c ∙ d))), (λ le. absurd (omega (arith, le)))))
 
-pub unposted : (setup : Outline) (request : ℕ) (covered : List ℕ) (k : ℕ) (old now : List PosterIs) (x : PosterIs) → Posted setup request covered k old now → slice_get now k ≡ Some x → slice_get old k ≡ Some x
+pub unposted : (setup : SetupView) (request : ℕ) (covered : List ℕ) (k : ℕ) (old now : List PosterIs) (x : PosterIs) → Posted setup request covered k old now → slice_get now k ≡ Some x → slice_get old k ≡ Some x
 unposted setup request covered k old now x h g =
     let r = also_there now old k (sym h.0) (slice_get_within now k x g) in
     let same : x ≡ r.0 = (h.1 k r.0 x r.1 g).3 (omega arith) in
     r.1 ∙ ap Some (sym same)
 
-pub posted_boxes : (setup : Outline) (request : ℕ) (covered : List ℕ) (k : ℕ) (old now : List PosterIs) → Posted setup request covered k old now → SameBoxes old now
+pub posted_boxes : (setup : SetupView) (request : ℕ) (covered : List ℕ) (k : ℕ) (old now : List PosterIs) → Posted setup request covered k old now → SameBoxes old now
 posted_boxes setup request covered k old now h = (h.0, λ w p q a b. (h.1 w p q a b).0)
 
-pub posted_loads : (setup : Outline) (request : ℕ) (covered : List ℕ) (k : ℕ) (old now : List PosterIs) → Posted setup request covered k old now → SameLoads old now
+pub posted_loads : (setup : SetupView) (request : ℕ) (covered : List ℕ) (k : ℕ) (old now : List PosterIs) → Posted setup request covered k old now → SameLoads old now
 posted_loads setup request covered k old now h = λ w p q a b. (h.1 w p q a b).1
 
-pub posted_all : (setup : Outline) (request : ℕ) (covered : List ℕ) (k : ℕ) (old now : List PosterIs) → Posted setup request covered k old now → length old ≤ k → ArePosted setup request covered old now
+pub posted_all : (setup : SetupView) (request : ℕ) (covered : List ℕ) (k : ℕ) (old now : List PosterIs) → Posted setup request covered k old now → length old ≤ k → ArePosted setup request covered old now
 posted_all setup request covered k old now h e = λ w n p q c a b. let lt = slice_get_within old w p a in (h.1 w p q a b).2 (omega (arith, lt, e)) n c
 
-pub stepped : (setup : Outline) (request : ℕ) (covered : List ℕ) (k : ℕ) (old now then : List PosterIs) → then ≡ now → Posted setup request covered k old now → Posted setup request covered k old then
+pub stepped : (setup : SetupView) (request : ℕ) (covered : List ℕ) (k : ℕ) (old now then : List PosterIs) → then ≡ now → Posted setup request covered k old now → Posted setup request covered k old then
 stepped setup request covered k old now then e h = subst (Posted setup request covered k old) (sym e) h
 
-pub counted_step : (setup : Outline) (request k : ℕ) (old now then : List ℕ) → then ≡ now → Counted setup request k old now → Counted setup request k old then
+pub counted_step : (setup : SetupView) (request k : ℕ) (old now then : List ℕ) → then ≡ now → Counted setup request k old now → Counted setup request k old then
 counted_step setup request k old now then e h = subst (Counted setup request k old) (sym e) h
 
 -- once the request is counted, it may be posted to the workers of its heads
-pub may_post_all : (setup : Outline) → ∥ IsPlanned setup ∥₁ → (request : ℕ) (old new : List ℕ) (ps : List PosterIs) → AreCountedWith setup request old new
+pub may_post_all : (setup : SetupView) → ∥ IsPlanned setup ∥₁ → (request : ℕ) (old new : List ℕ) (ps : List PosterIs) → AreCountedWith setup request old new
     → ((w m : ℕ) (p : PosterIs) → slice_get old w ≡ Some m → slice_get ps w ≡ Some p → HasShownReady (m + 1) p.loads × (p.posted ≤ m)) → MayPost setup request new ps
 may_post_all setup planned request old new ps h ready = λ w n p e c g.
     let r = also_there new old w (sym h.0) (slice_get_within new w n c) in

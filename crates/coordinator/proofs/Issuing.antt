@@ -8,8 +8,8 @@ use Rattle.sink_journal.specs.declared.journal.Feed.TheVariants.{Issued}
 use Rattle.tuple_trace.specs.declared.row.Row.{Row}
 use Rattle.flow_model.specs.Begin.{Begin}
 use Rattle.flow_model.specs.Covers.{covers, is_head}
-use Rattle.flow_model.specs.Outline.{Outline}
-use Rattle.flow_model.specs.Workers.{posts}
+use Rattle.flow_model.specs.SetupView.{SetupView}
+use Rattle.flow_model.specs.Workers.{workers_in}
 use Rattle.coordinator.specs.Boxes.{AreBoxes, AreCountedWith, ArePosted, AreReady, AsIssued, IsUnready, LastAtLeast, SameBoxes, SameLoads, SamePosts, SomeBelow}
 use Rattle.coordinator.specs.Feeding.{IsFeeding}
 use Rattle.coordinator.specs.Numbers.{node_at, number_of}
@@ -19,11 +19,11 @@ use Rattle.coordinator.specs.declared.feeding.FeedTurn.TheVariants.{Idle, Moved}
 use Rattle.coordinator.proofs.Asking.{number_covered, number_grows, number_uncovered, number_within, shown_ready}
 use Rattle.coordinator.proofs.ListLemmas.{also_in, also_there}
 
-pub few_covered : (setup : Outline) (turned issued : ℕ) (b : BoxesIs) → AreBoxes setup turned issued b → issued < 2 ^ 64 - 1 → (w n : ℕ) → slice_get b.covered w ≡ Some n → n < 2 ^ 64 - 1
+pub few_covered : (setup : SetupView) (turned issued : ℕ) (b : BoxesIs) → AreBoxes setup turned issued b → issued < 2 ^ 64 - 1 → (w n : ℕ) → slice_get b.covered w ≡ Some n → n < 2 ^ 64 - 1
 few_covered setup turned issued b law lt w n g = let e = law.counted w n g in let h = number_within setup turned w issued in omega (arith, e, h, lt)
 
 -- the boxes were asked
-pub asked_boxes_are : (setup : Outline) (turned issued : ℕ) (old mid : BoxesIs) → AreBoxes setup turned issued old → mid.covered ≡ old.covered → SameBoxes old.posters mid.posters → SamePosts old.posters mid.posters
+pub asked_boxes_are : (setup : SetupView) (turned issued : ℕ) (old mid : BoxesIs) → AreBoxes setup turned issued old → mid.covered ≡ old.covered → SameBoxes old.posters mid.posters → SamePosts old.posters mid.posters
     → mid.ready ≤ length mid.posters → AreReady old.covered mid.ready mid.posters → AreBoxes setup turned issued mid
 asked_boxes_are setup turned issued old mid law e b s le ready = record {
   one_each = b.0 ∙ law.one_each;
@@ -39,24 +39,24 @@ asked_boxes_are setup turned issued old mid law e b s le ready = record {
 }
 
 -- what a box has, with its number
-number_there : (setup : Outline) (turned issued : ℕ) (b : BoxesIs) → AreBoxes setup turned issued b → (w : ℕ) (p : PosterIs) → slice_get b.posters w ≡ Some p → slice_get b.covered w ≡ Some (number_of setup turned w issued)
+number_there : (setup : SetupView) (turned issued : ℕ) (b : BoxesIs) → AreBoxes setup turned issued b → (w : ℕ) (p : PosterIs) → slice_get b.posters w ≡ Some p → slice_get b.covered w ≡ Some (number_of setup turned w issued)
 number_there setup turned issued b law w p g =
     let r = also_in b.posters b.covered w law.one_number_each (slice_get_within b.posters w p g) in
     r.1 ∙ ap Some (law.counted w r.0 r.1)
 
-pub all_shown : (setup : Outline) (turned issued : ℕ) (b : BoxesIs) → AreBoxes setup turned issued b → b.ready ≡ length b.posters → (w : ℕ) (p : PosterIs) → slice_get b.posters w ≡ Some p → LastAtLeast (number_of setup turned w issued) p.loads
+pub all_shown : (setup : SetupView) (turned issued : ℕ) (b : BoxesIs) → AreBoxes setup turned issued b → b.ready ≡ length b.posters → (w : ℕ) (p : PosterIs) → slice_get b.posters w ≡ Some p → LastAtLeast (number_of setup turned w issued) p.loads
 all_shown setup turned issued b law e w p g =
     law.ready_are w (number_of setup turned w issued) p (let lt = slice_get_within b.posters w p g in omega (arith, lt, e)) (number_there setup turned issued b law w p g) g
 
 -- the next number may be posted
-pub may_post : (setup : Outline) (turned issued : ℕ) (b : BoxesIs) → AreBoxes setup turned issued b → b.ready ≡ length b.posters
+pub may_post : (setup : SetupView) (turned issued : ℕ) (b : BoxesIs) → AreBoxes setup turned issued b → b.ready ≡ length b.posters
     → (w n : ℕ) (p : PosterIs) → slice_get b.covered w ≡ Some n → slice_get b.posters w ≡ Some p → HasShownReady (n + 1) p.loads × (p.posted ≤ n)
 may_post setup turned issued b law e w n p c g =
     let is = law.counted w n c in
     (shown_ready n p.loads (subst (λ k. LastAtLeast k p.loads) (sym is) (all_shown setup turned issued b law e w p g)), (let le = law.posted w p g in omega (arith, le, is)))
 
 -- the boxes after the issue of the next request
-module _ (setup : Outline) (turned issued : ℕ) (mid new : BoxesIs) (law : AreBoxes setup turned issued mid) (le : turned ≤ issued)
+module _ (setup : SetupView) (turned issued : ℕ) (mid new : BoxesIs) (law : AreBoxes setup turned issued mid) (le : turned ≤ issued)
     (counts : AreCountedWith setup (issued + 1) mid.covered new.covered) (boxes : SameBoxes mid.posters new.posters) (posts_are : ArePosted setup (issued + 1) new.covered mid.posters new.posters) where
   one : issued + 1 ≡ suc issued
   one = omega arith
@@ -116,7 +116,7 @@ module _ (setup : Outline) (turned issued : ℕ) (mid new : BoxesIs) (law : AreB
     (boxes.0 ∙ b.0, λ w p q a c. let r = also_there old mid.posters w b.0 (slice_get_within old w p a) in boxes.1 w r.0 q r.1 c ∙ b.1 w p r.0 a r.1),
   )
 
-pub issue_moved : (setup : Outline) (v old : FeederIs) (mid new : BoxesIs) (fs : List Feed) → v ≡ old → AreBoxes setup v.begin_turned v.issued v.boxes → v.begin_turned ≤ v.issued
+pub issue_moved : (setup : SetupView) (v old : FeederIs) (mid new : BoxesIs) (fs : List Feed) → v ≡ old → AreBoxes setup v.begin_turned v.issued v.boxes → v.begin_turned ≤ v.issued
     → mid.covered ≡ v.boxes.covered → SameBoxes v.boxes.posters mid.posters → SamePosts v.boxes.posters mid.posters → mid.ready ≤ length mid.posters → AreReady v.boxes.covered mid.ready mid.posters → mid.ready ≡ length mid.posters
     → AreCountedWith setup (v.issued + 1) mid.covered new.covered → SameBoxes mid.posters new.posters → SameLoads mid.posters new.posters → ArePosted setup (v.issued + 1) new.covered mid.posters new.posters → new.ready ≡ 0
     → fs ≡ v.feeds ++ Issued (v.issued + 1) ∷ [] → Issues setup old (record v { feeds = fs; issued = v.issued + 1; boxes = new }) Moved
@@ -126,7 +126,7 @@ issue_moved setup v old mid new fs e law le c b s w r all counts b' l' t none f 
     subst (λ o. Issues setup o (record v { feeds = fs; issued = v.issued + 1; boxes = new }) Moved) e
     (i.0, i.1, next_boxes setup v.begin_turned v.issued mid new law' le counts b' t none, ap (λ x. record v { feeds = x; issued = v.issued + 1; boxes = new }) f)
 
-pub issue_idle : (setup : Outline) (v old : FeederIs) (mid : BoxesIs) (fs : List Feed) → v ≡ old → AreBoxes setup v.begin_turned v.issued v.boxes
+pub issue_idle : (setup : SetupView) (v old : FeederIs) (mid : BoxesIs) (fs : List Feed) → v ≡ old → AreBoxes setup v.begin_turned v.issued v.boxes
     → mid.covered ≡ v.boxes.covered → SameBoxes v.boxes.posters mid.posters → SamePosts v.boxes.posters mid.posters → mid.ready ≤ length mid.posters → AreReady v.boxes.covered mid.ready mid.posters
     → IsUnready v.boxes.covered mid.ready v.boxes.posters mid.posters → fs ≡ v.feeds → Issues setup old (record v { feeds = fs; boxes = mid }) Idle
 issue_idle setup v old mid fs e law c b s w r (n, p, q, d, g, h, below) f =
@@ -147,7 +147,7 @@ all_zero (suc k) zero m g = let h : 0 ≡ m = cc in omega (arith, h)
 all_zero (suc k) (suc w) m g = all_zero k w m g
 
 -- the boxes before any request is issued
-pub first_boxes : (setup : Outline) (turned : ℕ) (b : BoxesIs) (ps : List PosterIs) → b ≡ record { posters = ps; covered = replicate (length ps) 0; ready = 0 } → length ps ≡ length (posts setup.job)
+pub first_boxes : (setup : SetupView) (turned : ℕ) (b : BoxesIs) (ps : List PosterIs) → b ≡ record { posters = ps; covered = replicate (length ps) 0; ready = 0 } → length ps ≡ length (workers_in setup.job)
     → ((w : ℕ) (p : PosterIs) → slice_get ps w ≡ Some p → p.posted ≡ 0) → AreBoxes setup turned turned b
 first_boxes setup turned b ps e n none = subst (AreBoxes setup turned turned) (sym e) (record {
   one_each = n;
@@ -159,12 +159,12 @@ first_boxes setup turned b ps e n none = subst (AreBoxes setup turned turned) (s
 })
 
 -- the boxes of a feeder that is seen so
-pub boxes_of : (setup : Outline) (begin : Begin) (xs : List ℕ) (rows : List Row) (v old : FeederIs) → v ≡ old → IsFeeding setup begin xs rows old → AreBoxes setup v.begin_turned v.issued v.boxes
+pub boxes_of : (setup : SetupView) (begin : Begin) (xs : List ℕ) (rows : List Row) (v old : FeederIs) → v ≡ old → IsFeeding setup begin xs rows old → AreBoxes setup v.begin_turned v.issued v.boxes
 boxes_of setup begin xs rows v old e law =
     let law' = subst (IsFeeding setup begin xs rows) (sym e) law in
     subst (λ t. AreBoxes setup t v.issued v.boxes) (sym law'.turned_begun) law'.boxes
 
-pub turned_first : (setup : Outline) (begin : Begin) (xs : List ℕ) (rows : List Row) (v old : FeederIs) → v ≡ old → IsFeeding setup begin xs rows old → v.begin_turned ≤ v.issued
+pub turned_first : (setup : SetupView) (begin : Begin) (xs : List ℕ) (rows : List Row) (v old : FeederIs) → v ≡ old → IsFeeding setup begin xs rows old → v.begin_turned ≤ v.issued
 turned_first setup begin xs rows v old e law =
     let law' = subst (IsFeeding setup begin xs rows) (sym e) law in
     let a = law'.turned_begun in

@@ -12,7 +12,7 @@ use Rattle.tuple_trace.specs.declared.tuple.Item.TheVariants.{Last}
 use Rattle.flow_model.specs.Begin.{Begin}
 use Rattle.flow_model.specs.Feeding.{fed, fed_tuple, feed_from}
 use Rattle.flow_model.specs.Lanes.{lane_of}
-use Rattle.flow_model.specs.Outline.{Outline}
+use Rattle.flow_model.specs.SetupView.{SetupView}
 use Rattle.flow_model.specs.declared.topology.Lane.{Lane}
 use Rattle.coordinator.specs.Boxes.{AreBoxes}
 use Rattle.coordinator.specs.Views.{BoxesIs, FeederIs, OutIs}
@@ -36,7 +36,7 @@ no_end k e q = ap (λ t. cond t (Last ∷ []) []) (ge_test k e q)
 pub an_end : (k e : ℕ) → k < e → end_at k e ≡ Last ∷ []
 an_end k e q = ap (λ t. cond t (Last ∷ []) []) (lt_test k e q)
 
-module _ (setup : Outline) (begin : Begin) (xs : List ℕ) (rows : List Row) where
+module _ (setup : SetupView) (begin : Begin) (xs : List ℕ) (rows : List Row) where
   -- ---- the issue of a request
 
   pub law_issue : (f : FeederIs) (b : BoxesIs) → IsFeeding setup begin xs rows f → f.stopped ≡ false → IsReached xs (length rows) f.row f.issued

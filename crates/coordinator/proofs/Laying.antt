@@ -8,7 +8,7 @@ use Rattle.flow_dag.specs.declared.edge.Edge.{Edge}
 use Rattle.flow_dag.specs.declared.graph.Graph.{Graph}
 use Rattle.jobs.specs.Law.{IsLawful}
 use Rattle.jobs.specs.Nodes.{is_source_node}
-use Rattle.jobs.specs.Written.{Written}
+use Rattle.jobs.specs.JobView.{JobView}
 use Rattle.lane_core.specs.Steady.{Agrees, ComesTo, HasComeTo, MayFollow}
 use Rattle.sink_journal.specs.declared.journal.Feed.{Feed}
 use Rattle.sink_journal.specs.declared.journal.Feed.TheVariants.{Fed}
@@ -22,7 +22,7 @@ use Rattle.flow_model.specs.Agreement.{IsGraphOf}
 use Rattle.flow_model.specs.Begin.{Begin}
 use Rattle.flow_model.specs.Feeding.{fed_tuple}
 use Rattle.flow_model.specs.Lanes.{is_same_sender, lanes, senders}
-use Rattle.flow_model.specs.Outline.{Outline}
+use Rattle.flow_model.specs.SetupView.{SetupView}
 use Rattle.flow_model.specs.declared.topology.Lane.{Lane}
 use Rattle.flow_model.proofs.ElementLemmas.{IsIn, all_of_at, in_filter, in_of_place}
 use Rattle.flow_model.proofs.JobLemmas.{unentered}
@@ -40,19 +40,19 @@ no_sender None e = refl
 no_sender (Some s) e = absurd (cc)
 
 -- the feeder sends on these lanes
-pub fed_by : (job : Written) (place : ℕ) (lane : Lane) → slice_get (fed_lanes job) place ≡ Some lane → lane.sender ≡ None
+pub fed_by : (job : JobView) (place : ℕ) (lane : Lane) → slice_get (fed_lanes job) place ≡ Some lane → lane.sender ≡ None
 fed_by job place lane g =
     no_sender lane.sender (in_filter (λ (l : Lane). is_same_sender None l.sender) lane (lanes job) (in_of_place lane (fed_lanes job) place g)).1
 
 -- and they begin at sources
-from_source : (job : Written) (place number : ℕ) (lane : Lane) (edge : Edge) → slice_get (fed_lanes job) place ≡ Some lane → slice_get (lanes job) number ≡ Some lane → slice_get job.edges lane.edge ≡ Some edge
+from_source : (job : JobView) (place number : ℕ) (lane : Lane) (edge : Edge) → slice_get (fed_lanes job) place ≡ Some lane → slice_get (lanes job) number ≡ Some lane → slice_get job.edges lane.edge ≡ Some edge
     → is_source_node (slice_get job.nodes edge.from) ≡ true
 from_source job place number lane edge g n e =
     let is : LaneIs job lane = lane_is job number lane n in
     let same : is.edge ≡ edge = same_some is.edge edge (sym is.edge_is ∙ e) in
     sender_source job edge.from (subst (λ s. IsIn s (senders job edge.from)) (fed_by job place lane g) (subst (λ (x : Edge). IsIn lane.sender (senders job x.from)) same is.sends))
 
-unled : (job : Written) (node : ℕ) → IsLawful job → is_source_node (slice_get job.nodes node) ≡ true → (a : ℕ) → ¬ HasEdge job.edges a node
+unled : (job : JobView) (node : ℕ) → IsLawful job → is_source_node (slice_get job.nodes node) ≡ true → (a : ℕ) → ¬ HasEdge job.edges a node
 unled job node law source a (i, edge, lt, at, (from, to)) =
     let g : slice_get job.edges i ≡ Some edge = slice_get-get_or job.edges i edge lt ∙ ap Some at in
     let k : is_source_node (slice_get job.nodes node) ≡ false = subst (λ v. is_source_node (slice_get job.nodes v) ≡ false) to (unentered job law i edge g) in
@@ -69,7 +69,7 @@ agrees_last (Mark r c) = tt
 agrees_last Last = tt
 
 -- a tuple that was nowhere yet may follow whatever was sent
-pub may_feed : (setup : Outline) (begin : Begin) (rows : List Row) (graph : Graph) (feeds : List Feed) (ended place : ℕ) (lane : Lane) (out : OutIs) (t : Tuple) → IsLawful setup.job → IsGraphOf setup.job graph
+pub may_feed : (setup : SetupView) (begin : Begin) (rows : List Row) (graph : Graph) (feeds : List Feed) (ended place : ℕ) (lane : Lane) (out : OutIs) (t : Tuple) → IsLawful setup.job → IsGraphOf setup.job graph
     → slice_get (fed_lanes setup.job) place ≡ Some lane → IsOut setup begin rows graph feeds ended place lane out → t.trace ≡ [] → MayFollow out.origin out.sent (Carry t)
 may_feed setup begin rows graph feeds ended place lane out t law is g o e = (way, all_of_at (λ x. Agrees x (Carry t)) out.sent (λ x i. agrees_new t x e))
   where
@@ -88,7 +88,7 @@ may_end out = (tt, all_of_at (λ x. Agrees x Last) out.sent (λ x i. agrees_last
 
 -- ---- the next state
 
-pub feed_idle : (job : Written) (rows : List Row) (v old : FeederIs) (row : Row) (k : ℕ) (t back : Tuple) (outs : List OutIs) (fs : List Feed) → v ≡ old → fs ≡ v.feeds → slice_get rows v.row ≡ Some row → IsLaneOfRow job row k
+pub feed_idle : (job : JobView) (rows : List Row) (v old : FeederIs) (row : Row) (k : ℕ) (t back : Tuple) (outs : List OutIs) (fs : List Feed) → v ≡ old → fs ≡ v.feeds → slice_get rows v.row ≡ Some row → IsLaneOfRow job row k
     → t ≡ fed_tuple v.issued row → back ≡ t → (o : OutIs) × (n : ℕ) × (slice_get v.outs k ≡ Some o) × (outs ≡ slice_set v.outs k (record o { full = n })) × Rose o.full n
     → Feeds job rows old (record v { feeds = fs; outs = outs; held = Some back }) Idle
 feed_idle job rows v old row k t back outs fs e f g is same kept (o, n, at, set, rose) =
@@ -105,7 +105,7 @@ feed_idle job rows v old row k t back outs fs e f g is same kept (o, n, at, set,
           ∙ ap (λ (x : Tuple). record v { outs = slice_set v.outs k (record o { full = n }); held = Some x }) (kept ∙ same)),
     )
 
-pub feed_moved : (job : Written) (rows : List Row) (v old : FeederIs) (row : Row) (k : ℕ) (t : Tuple) (outs : List OutIs) (fs : List Feed) (h : Option Tuple) → v ≡ old → fs ≡ v.feeds ++ Fed (v.row + 1) ∷ [] → slice_get rows v.row ≡ Some row
+pub feed_moved : (job : JobView) (rows : List Row) (v old : FeederIs) (row : Row) (k : ℕ) (t : Tuple) (outs : List OutIs) (fs : List Feed) (h : Option Tuple) → v ≡ old → fs ≡ v.feeds ++ Fed (v.row + 1) ∷ [] → slice_get rows v.row ≡ Some row
     → IsLaneOfRow job row k → t ≡ fed_tuple v.issued row → h ≡ None → (o : OutIs) × (slice_get v.outs k ≡ Some o) × (outs ≡ slice_set v.outs k (record o { sent = o.sent ++ Carry t ∷ [] }))
     → Feeds job rows old (record v { feeds = fs; row = v.row + 1; outs = outs; held = h }) Moved
 feed_moved job rows v old row k t outs fs h e f g is same none (o, at, set) =

@@ -10,7 +10,7 @@ use Rattle.tuple_trace.specs.declared.row.Row.{Row}
 use Rattle.versions.specs.declared.request.Request.{Request}
 use Rattle.flow_model.specs.Begin.{Begin, at_first}
 use Rattle.flow_model.specs.Feeding.{feed_from}
-use Rattle.flow_model.specs.Outline.{Outline}
+use Rattle.flow_model.specs.SetupView.{SetupView}
 use Rattle.flow_model.specs.Requests.{afters}
 use Rattle.flow_model.proofs.ElementLemmas.{Before, IsIn, before_cases, contains_of_in, in_cases, in_of_contains}
 use Rattle.coordinator.specs.Boxes.{AreBoxes, LastAtLeast, LoadedBelow}
@@ -100,12 +100,12 @@ heard_same : (lo ln : List ℕ) (old new : List Feed) → AreHeard lo old → ((
 heard_same lo ln old new heard kept same before after r n e c = kept r (heard before after r n (sym same ∙ e) c)
 
 -- the rows that the requests wait for, at a feeder that began at the first row
-abbrev pub plain : Outline → List Row → FeederIs → List ℕ
+abbrev pub plain : SetupView → List Row → FeederIs → List ℕ
 plain setup rows f = issue_rows 0 f.feeds ++ replicate (length setup.requests - f.issued) (length rows)
 
 -- ---- the law of a feeder that is seen with other loads, and of one whose requests wait for other rows
 
-module _ (setup : Outline) (begin : Begin) (rows : List Row) where
+module _ (setup : SetupView) (begin : Begin) (rows : List Row) where
   pub law_loads : (xs : List ℕ) (f : FeederIs) (loads : List ℕ) → IsFeeding setup begin xs rows f → IsFeeding setup begin xs rows (record f { loads = loads })
   law_loads xs f loads law = record {
     row_begun = law.row_begun;
@@ -295,13 +295,13 @@ module _ (setup : Outline) (begin : Begin) (rows : List Row) where
 
 -- ---- all steps
 
-rows_as : (setup : Outline) (rows : List Row) (old new : FeederIs) → issue_rows 0 new.feeds ≡ issue_rows 0 old.feeds → new.issued ≡ old.issued → plain setup rows new ≡ plain setup rows old
+rows_as : (setup : SetupView) (rows : List Row) (old new : FeederIs) → issue_rows 0 new.feeds ≡ issue_rows 0 old.feeds → new.issued ≡ old.issued → plain setup rows new ≡ plain setup rows old
 rows_as setup rows old new e i = ap (λ l. l ++ replicate (length setup.requests - new.issued) (length rows)) e ∙ ap (λ k. issue_rows 0 old.feeds ++ replicate (length setup.requests - k) (length rows)) i
 
 nothing_more : (feeds : List Feed) (e : Feed) → issue_rows (0 + fed_in feeds) (e ∷ []) ≡ [] → issue_rows 0 (feeds ++ e ∷ []) ≡ issue_rows 0 feeds
 nothing_more feeds e none = issue_rows-append 0 feeds (e ∷ []) ∙ (ap (λ l. issue_rows 0 feeds ++ l) none ∙ append-nil (issue_rows 0 feeds))
 
-module _ (setup : Outline) (rows : List Row) (xs : List ℕ) where
+module _ (setup : SetupView) (rows : List Row) (xs : List ℕ) where
   -- a step that isn't the issue of a request leaves the rows that the requests wait for
   plain_kept : (old new : FeederIs) (turn : FeedTurn) → Steps setup xs rows old new turn → ((r : ℕ) → new.feeds ≢ old.feeds ++ Issued r ∷ []) → plain setup rows new ≡ plain setup rows old
   plain_kept old new turn (inl h) n = ap (plain setup rows) h.1
@@ -388,7 +388,7 @@ snoc_same : (feeds : List Feed) (r n : ℕ) → feeds ++ Issued n ∷ [] ≡ fee
 snoc_same feeds r n e = let a = ap (λ (l : List Feed). length l) e in let b = length-append feeds (Issued n ∷ []) in absurd (omega (arith, a, b))
 
 -- a step issues no request, or it issues the next one
-feeds_are : (setup : Outline) (rows : List Row) (xs : List ℕ) (old new : FeederIs) (turn : FeedTurn) → Steps setup xs rows old new turn
+feeds_are : (setup : SetupView) (rows : List Row) (xs : List ℕ) (old new : FeederIs) (turn : FeedTurn) → Steps setup xs rows old new turn
     → ((r : ℕ) → new.feeds ≢ old.feeds ++ Issued r ∷ [])
     ⊎ ((old.stopped ≡ false) × IsReached xs (length rows) old.row old.issued × (new ≡ record old { feeds = old.feeds ++ Issued (suc old.issued) ∷ []; issued = suc old.issued; boxes = new.boxes }))
 feeds_are setup rows xs old new turn (inl h) = inl (λ r e. snoc_same old.feeds r r (sym e ∙ ap (λ f. f.feeds) h.1))
@@ -405,7 +405,7 @@ feeds_are setup rows xs old new turn (inr (inr (inr h))) =
 
 -- ---- the law after a step
 
-module _ (setup : Outline) (begin : Begin) (rows : List Row) (released : ℕ) where
+module _ (setup : SetupView) (begin : Begin) (rows : List Row) (released : ℕ) where
   abbrev waiting : List ℕ
   waiting = released_rows released (length rows) (afters setup.requests)
 
@@ -507,7 +507,7 @@ module _ (setup : Outline) (begin : Begin) (rows : List Row) (released : ℕ) wh
 abbrev with_loads : FeederIs → List ℕ → FeederIs
 with_loads f loads = record f { loads = loads }
 
-module _ (setup : Outline) (rows : List Row) (released : ℕ) (old new : FeederIs) (turn : FeedTurn) (lo ln : List ℕ) (first : IsFromFirst old)
+module _ (setup : SetupView) (rows : List Row) (released : ℕ) (old new : FeederIs) (turn : FeedTurn) (lo ln : List ℕ) (first : IsFromFirst old)
     (s : Steps setup (released_rows released (length rows) (afters setup.requests)) rows old new turn) (hears : Hears (length setup.requests) released lo ln) where
   -- the law of the feeder, without its loads
   pub plain_law : (begin : Begin) → IsFeeder true setup begin rows (with_loads old lo) → IsFeeding setup begin (plain setup rows old) rows old
@@ -567,7 +567,7 @@ module _ (setup : Outline) (rows : List Row) (released : ℕ) (old new : FeederI
       go (inl lt) = let h = ahead a (get_released released (length rows) (afters setup.requests) old.issued a g lt) in absurd (omega (arith, h, reached))
       go (inr le) = loaded_unreleased (length setup.requests) released old.issued lo ln hears (few old.issued a g) le
 
-live_waits : (setup : Outline) (rows : List Row) (released : ℕ) (old new : FeederIs) (lo ln : List ℕ) (first : IsFromFirst old)
+live_waits : (setup : SetupView) (rows : List Row) (released : ℕ) (old new : FeederIs) (lo ln : List ℕ) (first : IsFromFirst old)
     → Steps setup (released_rows released (length rows) (afters setup.requests)) rows old new Idle → Hears (length setup.requests) released lo ln
     → (new.feeds ≡ old.feeds) × Waits true setup rows (with_loads old lo) (with_loads new ln)
 live_waits setup rows released old new lo ln first (inl h) hears = let e = h.2 in absurd (cc)
@@ -599,7 +599,7 @@ live_waits setup rows released old new lo ln first (inr (inr (inr h))) hears =
       )),
     )
 
-pub is_live_turn : (setup : Outline) (rows : List Row) (released : ℕ) (old new : FeederIs) (turn : FeedTurn) (lo ln : List ℕ) → IsFromFirst old
+pub is_live_turn : (setup : SetupView) (rows : List Row) (released : ℕ) (old new : FeederIs) (turn : FeedTurn) (lo ln : List ℕ) → IsFromFirst old
     → Steps setup (released_rows released (length rows) (afters setup.requests)) rows old new turn → Hears (length setup.requests) released lo ln
     → IsTurn true setup rows turn (record old { loads = lo }) (record new { loads = ln })
 is_live_turn setup rows released old new turn lo ln first s hears =
@@ -620,13 +620,13 @@ is_live_turn setup rows released old new turn lo ln first s hears =
       no_memory = λ e. ap (λ (f : FeederIs). record f { loads = ln }) (starved setup xs rows old new (subst (Steps setup xs rows old new) e s));
     }
 
-pub first_after : (setup : Outline) (begin : Begin) (rows : List Row) (released : ℕ) (old new : FeederIs) (turn : FeedTurn) (loads : List ℕ) → IsFromFirst old
+pub first_after : (setup : SetupView) (begin : Begin) (rows : List Row) (released : ℕ) (old new : FeederIs) (turn : FeedTurn) (loads : List ℕ) → IsFromFirst old
     → IsFeeder true setup begin rows (record old { loads = loads }) → Steps setup (released_rows released (length rows) (afters setup.requests)) rows old new turn → IsFromFirst new
 first_after setup begin rows released old new turn loads first law s =
     let law' = subst (λ xs. IsFeeding setup begin xs rows old) (waits_plain setup begin rows old first) (law_unloads setup begin rows (waits true setup (length rows) old) old loads law.feeding) in
     first_kept setup rows (released_rows released (length rows) (afters setup.requests)) old new turn s (issued_is setup begin rows (plain setup rows old) old first law') first
 
-pub heard_after : (setup : Outline) (begin : Begin) (rows : List Row) (released : ℕ) (old new : FeederIs) (turn : FeedTurn) (lo ln : List ℕ) → IsFromFirst old
+pub heard_after : (setup : SetupView) (begin : Begin) (rows : List Row) (released : ℕ) (old new : FeederIs) (turn : FeedTurn) (lo ln : List ℕ) → IsFromFirst old
     → Steps setup (released_rows released (length rows) (afters setup.requests)) rows old new turn → Hears (length setup.requests) released lo ln
     → IsFeeder true setup begin rows (record old { loads = lo }) → AreHeard lo old.feeds → AreHeard ln new.feeds
 heard_after setup begin rows released old new turn lo ln first s hears law heard = heard_next setup rows released old new turn lo ln first s hears begin law heard
@@ -645,7 +645,7 @@ nothing_held : (fs : List Feed) (r : ℕ) → fs ≡ [] → Contains fs (Issued 
 nothing_held fs r none c = subst (IsIn (Issued r)) none (in_of_contains (Issued r) fs c)
 
 -- the law of a new feeder, whose requests all wait for the last row
-pub live_first : (setup : Outline) (rows : List Row) (loads : List ℕ) (fs : List Feed) (outs : List OutIs) (b : BoxesIs) (places : List ℕ) (row turned : ℕ) → fs ≡ [] → row ≡ 0 → turned ≡ 0
+pub live_first : (setup : SetupView) (rows : List Row) (loads : List ℕ) (fs : List Feed) (outs : List OutIs) (b : BoxesIs) (places : List ℕ) (row turned : ℕ) → fs ≡ [] → row ≡ 0 → turned ≡ 0
     → IsFeeding setup (at_first setup) (replicate (length setup.requests) (length rows)) rows (new_feeder fs outs b places row turned)
     → IsFeeder true setup (at_first setup) rows (record (new_feeder fs outs b places row turned) { loads = loads })
 live_first setup rows loads fs outs b places row turned none no_row none_turned law =

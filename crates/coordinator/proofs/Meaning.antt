@@ -9,7 +9,7 @@ use Rattle.tuple_trace.specs.declared.tuple.Item.TheVariants.{Last}
 use Rattle.flow_model.specs.Begin.{Begin}
 use Rattle.flow_model.specs.Feeding.{fed, feed_after, feed_from, issued_after, issued_at_first, issued_where}
 use Rattle.flow_model.specs.Lanes.{lanes}
-use Rattle.flow_model.specs.Outline.{Outline}
+use Rattle.flow_model.specs.SetupView.{SetupView}
 use Rattle.flow_model.specs.declared.topology.Lane.{Lane}
 use Rattle.flow_model.specs.Requests.{afters}
 use Rattle.flow_model.specs.Run.{Ran, put_by}
@@ -73,7 +73,7 @@ stop_there (Fed k ∷ xs) lt = inr (stop_there xs lt)
 stop_there (Issued r ∷ xs) lt = inr (stop_there xs lt)
 stop_there (Stopped ∷ xs) lt = inl refl
 
-pub recorded : (setup : Outline) (begin : Begin) (xs : List ℕ) (rows : List Row) (f : FeederIs) → IsFeeding setup begin xs rows f → (f.stopped ≡ true) ↔ Contains f.feeds Stopped
+pub recorded : (setup : SetupView) (begin : Begin) (xs : List ℕ) (rows : List Row) (f : FeederIs) → IsFeeding setup begin xs rows f → (f.stopped ≡ true) ↔ Contains f.feeds Stopped
 recorded setup begin xs rows f law = (
   (λ s. contains_of_in Stopped f.feeds (stop_there f.feeds (let one = feed_stops begin.row begin.turned xs (length rows) in let same : stops_in f.feeds ≡ stops_in (feed_from begin.row begin.turned xs (length rows)) = ap stops_in (law.stopped s) in omega (arith, one, same)))),
   (λ i. go f.stopped refl (stop_counts f.feeds (in_of_contains Stopped f.feeds i))),
@@ -91,14 +91,14 @@ recorded setup begin xs rows f law = (
 -- ---- what the ends have sent
 
 -- what the law says of an end, with its lane
-at_place : (setup : Outline) (begin : Begin) (xs : List ℕ) (rows : List Row) (f : FeederIs) (law : IsFeeding setup begin xs rows f) (k : ℕ) (out : OutIs) → slice_get f.outs k ≡ Some out
+at_place : (setup : SetupView) (begin : Begin) (xs : List ℕ) (rows : List Row) (f : FeederIs) (law : IsFeeding setup begin xs rows f) (k : ℕ) (out : OutIs) → slice_get f.outs k ≡ Some out
     → (lane : Lane) × (slice_get (fed_lanes setup.job) k ≡ Some lane) × IsOut setup begin rows law.graph f.feeds f.ended k lane out
 at_place setup begin xs rows f law k out h =
     let lt = slice_get_within f.outs k out h in
     let there = item_at (fed_lanes setup.job) k (omega (arith, lt, law.outs_are)) in
     (there.0, there.1, law.outs k there.0 out there.1 h)
 
-pub sends : (setup : Outline) (begin : Begin) (xs : List ℕ) (rows : List Row) (f : FeederIs) → IsFeeding setup begin xs rows f → SendsTheFeed setup begin rows f
+pub sends : (setup : SetupView) (begin : Begin) (xs : List ℕ) (rows : List Row) (f : FeederIs) → IsFeeding setup begin xs rows f → SendsTheFeed setup begin rows f
 sends setup begin xs rows f law k out h =
     let at = at_place setup begin xs rows f law k out h in
     (at.0, at.2.numbered, pick at.0 (nat_lt k f.ended) at.2.sent_is)
@@ -108,13 +108,13 @@ sends setup begin xs rows f law k out h =
     pick lane true e = inr e
     pick lane false e = inl (e ∙ append-nil (fed setup.job rows begin.turned lane f.feeds))
 
-pub sent_all : (setup : Outline) (begin : Begin) (xs : List ℕ) (rows : List Row) (f : FeederIs) → IsFeeding setup begin xs rows f → f.stopped ≡ true → HasSentAll setup begin rows f
+pub sent_all : (setup : SetupView) (begin : Begin) (xs : List ℕ) (rows : List Row) (f : FeederIs) → IsFeeding setup begin xs rows f → f.stopped ≡ true → HasSentAll setup begin rows f
 sent_all setup begin xs rows f law s k out h =
     let at = at_place setup begin xs rows f law k out h in
     let lt = slice_get_within f.outs k out h in
     (at.0, at.2.numbered, at.2.sent_is ∙ ap (λ l. fed setup.job rows begin.turned at.0 f.feeds ++ l) (an_end k f.ended (omega (arith, lt, law.all_ended s))))
 
-pub puts : (setup : Outline) (begin : Begin) (xs : List ℕ) (rows : List Row) (f : FeederIs) (ran : Ran) → IsFeeding setup begin xs rows f → f.stopped ≡ true → ran.setup ≡ setup → ran.feeds ≡ f.feeds
+pub puts : (setup : SetupView) (begin : Begin) (xs : List ℕ) (rows : List Row) (f : FeederIs) (ran : Ran) → IsFeeding setup begin xs rows f → f.stopped ≡ true → ran.setup ≡ setup → ran.feeds ≡ f.feeds
     → (k : ℕ) (out : OutIs) → slice_get f.outs k ≡ Some out → (lane : Lane) × (slice_get (lanes setup.job) out.number ≡ Some lane) × (put_by begin rows ran lane lane.sender ≡ Some out.sent)
 puts setup begin xs rows f ran law s e fs k out h =
     let at = at_place setup begin xs rows f law k out h in
@@ -124,11 +124,11 @@ puts setup begin xs rows f ran law s e fs k out h =
       at.0,
       at.2.numbered,
       ap (put_by begin rows ran at.0) (fed_by setup.job k at.0 at.1)
-          ∙ (ap (λ (t : Outline). Some (fed t.job rows begin.turned at.0 ran.feeds ++ Last ∷ [])) e ∙ (ap (λ l. Some (fed setup.job rows begin.turned at.0 l ++ Last ∷ [])) fs ∙ ap Some (sym sent))),
+          ∙ (ap (λ (t : SetupView). Some (fed t.job rows begin.turned at.0 ran.feeds ++ Last ∷ [])) e ∙ (ap (λ l. Some (fed setup.job rows begin.turned at.0 l ++ Last ∷ [])) fs ∙ ap Some (sym sent))),
     )
 
 -- a request that is due comes next
-pub next : (setup : Outline) (begin : Begin) (rows : List Row) (f : FeederIs) → IsFeeder false setup begin rows f → f.stopped ≡ false → IsDue false setup rows f.loads f
+pub next : (setup : SetupView) (begin : Begin) (rows : List Row) (f : FeederIs) → IsFeeder false setup begin rows f → f.stopped ≡ false → IsDue false setup rows f.loads f
     → (more : List Feed) × (feed_from begin.row begin.turned (afters setup.requests) (length rows) ≡ f.feeds ++ Issued (suc f.issued) ∷ more)
 next setup begin rows f law s (after, at, due) = (
   feed_from f.row (suc f.issued) (afters setup.requests) (length rows),

@@ -6,10 +6,10 @@ use Rattle.std.proofs.lemmas.Option.{slice_get_within}
 use Rattle.flow_dag.specs.declared.edge.Edge.{Edge}
 use Rattle.jobs.specs.Law.{IsLawful}
 use Rattle.jobs.specs.Nodes.{IsSourceOf}
-use Rattle.jobs.specs.Written.{Written}
+use Rattle.jobs.specs.JobView.{JobView}
 use Rattle.tuple_trace.specs.declared.tuple.Tuple.{Tuple}
 use Rattle.flow_model.specs.Lanes.{first_on, is_same_sender, lane_along, lane_of, lanes, receiver_of, senders}
-use Rattle.flow_model.specs.Outline.{Post}
+use Rattle.flow_model.specs.SetupView.{Worker}
 use Rattle.flow_model.specs.Topology.{IsNumberOf}
 use Rattle.flow_model.specs.declared.topology.Lane.{Lane}
 use Rattle.flow_model.proofs.OutLanes.{lane_from_source}
@@ -55,34 +55,34 @@ at_place (l ∷ ls) k (suc n) p lane g e h = go (fed l) refl (λ from. at_place 
         let r = next k (ap (λ b. slice_get (places_after (cond b (suc k) k) ls) n) (sym f) ∙ h) in
         (r.0, ap (λ (xs : List Lane). slice_get xs (p - k)) (ap (λ b. cond b (l ∷ filter fed ls) (filter fed ls)) f) ∙ r.1)
 
-pub source_senders : (job : Written) (source : ℕ) → IsSourceOf job source → senders job source ≡ None ∷ []
+pub source_senders : (job : JobView) (source : ℕ) → IsSourceOf job source → senders job source ≡ None ∷ []
 source_senders job source e = rw e refl
 
-pub one_sender : (job : Written) (source : ℕ) → IsSourceOf job source → 0 < length (senders job source)
+pub one_sender : (job : JobView) (source : ℕ) → IsSourceOf job source → 0 < length (senders job source)
 one_sender job source e = subst (λ (l : List (Option ℕ)). 0 < length l) (sym (source_senders job source e)) (omega arith)
 
 -- the feeder sends on the lane of a row
-sent_by_feeder : (job : Written) (out : Option (ℕ × Edge)) (t : Tuple) (lane : Lane) → lane_along job None out t ≡ Some lane → lane.sender ≡ None
+sent_by_feeder : (job : JobView) (out : Option (ℕ × Edge)) (t : Tuple) (lane : Lane) → lane_along job None out t ≡ Some lane → lane.sender ≡ None
 sent_by_feeder job None t lane e = absurd (cc)
 sent_by_feeder job (Some out) t lane e = go (receiver_of job out.1 t) e
   where
-    go : (o : Option Post) → option_map (λ (post : Post). record { edge = out.0; sender = None; receiver = post.number }) o ≡ Some lane → lane.sender ≡ None
+    go : (o : Option Worker) → option_map (λ (post : Worker). record { edge = out.0; sender = None; receiver = post.number }) o ≡ Some lane → lane.sender ≡ None
     go None e = absurd (cc)
     go (Some post) e = let same : record { edge = out.0; sender = None; receiver = post.number } ≡ lane = same_some _ lane e in ap (λ (l : Lane). l.sender) (sym same)
 
 -- what the topology finds for a row
-pub row_number : (job : Written) (source number : ℕ) (t : Tuple) → IsSourceOf job source
+pub row_number : (job : JobView) (source number : ℕ) (t : Tuple) → IsSourceOf job source
     → ((from : Option ℕ) → slice_get (senders job source) 0 ≡ Some from → IsNumberOf job (lane_of job from source 0 t) number) → IsNumberOf job (lane_of job None source 0 t) number
 row_number job source number t e f = f None (ap (λ (l : List (Option ℕ)). slice_get l 0) (source_senders job source e))
 
-pub number_there : (job : Written) (places : List ℕ) (found : Option Lane) (number : ℕ) → places ≡ places_of job → IsNumberOf job found number → number < length places
+pub number_there : (job : JobView) (places : List ℕ) (found : Option Lane) (number : ℕ) → places ≡ places_of job → IsNumberOf job found number → number < length places
 number_there job places found number is (lane, e, g) =
     let long = ap (λ (l : List ℕ). length l) is in
     let all = length_places 0 (lanes job) in
     let lt = slice_get_within (lanes job) number lane g in
     omega (arith, long, all, lt)
 
-pub place_found : (job : Written) (places : List ℕ) (source number p : ℕ) (t : Tuple) → places ≡ places_of job → IsNumberOf job (lane_of job None source 0 t) number → slice_get places number ≡ Some p
+pub place_found : (job : JobView) (places : List ℕ) (source number p : ℕ) (t : Tuple) → places ≡ places_of job → IsNumberOf job (lane_of job None source 0 t) number → slice_get places number ≡ Some p
     → (lane : Lane) × (lane_of job None source 0 t ≡ Some lane) × (slice_get (fed_lanes job) p ≡ Some lane)
 place_found job places source number p t is (lane, e, g) at =
     let sender : lane.sender ≡ None = sent_by_feeder job (first_on source 0 (enumerate_from 0 job.edges)) t lane e in
@@ -90,5 +90,5 @@ place_found job places source number p t is (lane, e, g) at =
     let none : p - 0 ≡ p = omega arith in
     (lane, e, ap (slice_get (fed_lanes job)) (sym none) ∙ r.1)
 
-pub no_lane : (job : Written) (source : ℕ) (t : Tuple) → IsLawful job → IsSourceOf job source → ((from : Option ℕ) → lane_of job from source 0 t ≡ None) → ⊥
+pub no_lane : (job : JobView) (source : ℕ) (t : Tuple) → IsLawful job → IsSourceOf job source → ((from : Option ℕ) → lane_of job from source 0 t ≡ None) → ⊥
 no_lane job source t law e f = lane_from_source job source t law e (f None)

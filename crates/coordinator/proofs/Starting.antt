@@ -4,12 +4,12 @@ use Rattle.std.specs.List.{enumerate_from}
 use Rattle.std.specs.Prelude.{replicate}
 use Rattle.std.proofs.lemmas.List.{length-map}
 use Rattle.control_box.specs.Ends.{PosterIs}
-use Rattle.jobs.specs.Written.{Written}
+use Rattle.jobs.specs.JobView.{JobView}
 use Rattle.sink_journal.specs.declared.journal.Feed.{Feed}
 use Rattle.tuple_trace.specs.declared.row.Row.{Row}
 use Rattle.flow_model.specs.Begin.{Begin}
 use Rattle.flow_model.specs.Lanes.{is_same_sender, lanes, lanes_that}
-use Rattle.flow_model.specs.Outline.{Outline}
+use Rattle.flow_model.specs.SetupView.{SetupView}
 use Rattle.flow_model.specs.declared.topology.Lane.{Lane}
 use Rattle.flow_model.proofs.ElementLemmas.{in_filter, in_of_place}
 use Rattle.flow_model.proofs.LaneLemmas.{in_enumerate}
@@ -58,7 +58,7 @@ get_map f (z ∷ xs) zero x h = ap Some (ap f (same_some z x h))
 get_map f (z ∷ xs) (suc k) x h = get_map f xs k x h
 
 -- the end at a place has the number of the lane at that place
-number_at : (job : Written) (outs : List OutIs) (k : ℕ) (lane : Lane) (out : OutIs) → map (λ (o : OutIs). o.number) outs ≡ lanes_that (λ (l : Lane). is_same_sender None l.sender) job
+number_at : (job : JobView) (outs : List OutIs) (k : ℕ) (lane : Lane) (out : OutIs) → map (λ (o : OutIs). o.number) outs ≡ lanes_that (λ (l : Lane). is_same_sender None l.sender) job
     → slice_get (fed_lanes job) k ≡ Some lane → slice_get outs k ≡ Some out → slice_get (lanes job) out.number ≡ Some lane
 number_at job outs k lane out are g h =
     let test : Lane → Bool = λ l. is_same_sender None l.sender in
@@ -71,14 +71,14 @@ number_at job outs k lane out are g h =
     let at : i.0 ≡ out.number = omega (arith, i.1, p.2) in
     subst (λ n. slice_get (lanes job) n ≡ Some lane) at (i.2 ∙ ap Some q)
 
-as_many : (job : Written) (outs : List OutIs) → map (λ (o : OutIs). o.number) outs ≡ lanes_that (λ (l : Lane). is_same_sender None l.sender) job → length outs ≡ length (fed_lanes job)
+as_many : (job : JobView) (outs : List OutIs) → map (λ (o : OutIs). o.number) outs ≡ lanes_that (λ (l : Lane). is_same_sender None l.sender) job → length outs ≡ length (fed_lanes job)
 as_many job outs are =
     let test : Lane → Bool = λ l. is_same_sender None l.sender in
     let among : List (ℕ × Lane) = filter (λ (p : ℕ × Lane). test p.1) (enumerate_from 0 (lanes job)) in
     sym (length-map outs (λ (o : OutIs). o.number)) ∙ (ap (λ (l : List ℕ). length l) are ∙ (length-map among (λ (p : ℕ × Lane). p.0)
     ∙ (sym (length-map among (λ (p : ℕ × Lane). p.1)) ∙ ap (λ (l : List Lane). length l) (sym (numbered test 0 (lanes job))))))
 
-law_first : (setup : Outline) (begin : Begin) (xs : List ℕ) (rows : List Row) (outs : List OutIs) (b : BoxesIs) (places : List ℕ) → places ≡ places_of setup.job → AreRising 0 xs → begin.turned ≤ length xs → AreNewOuts setup.job outs → AreBoxes setup begin.turned begin.turned b
+law_first : (setup : SetupView) (begin : Begin) (xs : List ℕ) (rows : List Row) (outs : List OutIs) (b : BoxesIs) (places : List ℕ) → places ≡ places_of setup.job → AreRising 0 xs → begin.turned ≤ length xs → AreNewOuts setup.job outs → AreBoxes setup begin.turned begin.turned b
     → IsFeeding setup begin xs rows (new_feeder [] outs b places begin.row begin.turned)
 law_first setup begin xs rows outs b places at o le are boxes = record {
   row_begun = refl;
@@ -110,7 +110,7 @@ law_first setup begin xs rows outs b places at o le are boxes = record {
   held = λ t row h g. absurd (cc);
 }
 
-pub begins : (setup : Outline) (begin : Begin) (xs : List ℕ) (rows : List Row) (fs : List Feed) (outs os : List OutIs) (b : BoxesIs) (ps : List PosterIs) (places : List ℕ) (row turned : ℕ) → places ≡ places_of setup.job → fs ≡ [] → outs ≡ os
+pub begins : (setup : SetupView) (begin : Begin) (xs : List ℕ) (rows : List Row) (fs : List Feed) (outs os : List OutIs) (b : BoxesIs) (ps : List PosterIs) (places : List ℕ) (row turned : ℕ) → places ≡ places_of setup.job → fs ≡ [] → outs ≡ os
     → b ≡ record { posters = ps; covered = replicate (length ps) 0; ready = 0 } → begin.row ≡ row → begin.turned ≡ turned
     → AreRising 0 xs → turned ≤ length xs → AreNewOuts setup.job os → AreUnused setup ps → IsFeeding setup begin xs rows (new_feeder fs outs b places row turned)
 begins setup begin xs rows fs outs os b ps places row turned at a e f d t o le are unused =

@@ -6,7 +6,7 @@ use Rattle.sink_journal.specs.declared.journal.Feed.TheVariants.{Fed, Issued, St
 use Rattle.tuple_trace.specs.declared.row.Row.{Row}
 use Rattle.tuple_trace.specs.declared.tuple.Item.TheVariants.{Last}
 use Rattle.flow_model.specs.Begin.{Begin}
-use Rattle.flow_model.specs.Outline.{Outline}
+use Rattle.flow_model.specs.SetupView.{SetupView}
 use Rattle.flow_model.specs.Requests.{afters}
 use Rattle.coordinator.specs.Boxes.{AsIssued, SameBoxes, SamePosts}
 use Rattle.coordinator.specs.Views.{FeederIs, OutIs, end_of}
@@ -26,7 +26,7 @@ map_kept [] k o q h e = absurd (cc)
 map_kept (x ∷ xs) zero o q h e = let p : x ≡ o = cc in ap (λ t. t ∷ map end_of xs) (e ∙ sym (ap end_of p))
 map_kept (x ∷ xs) (suc k) o q h e = ap (λ l. end_of x ∷ l) (map_kept xs k o q h e)
 
-pub ends_kept : (setup : Outline) (xs : List ℕ) (rows : List Row) (old new : FeederIs) (turn : FeedTurn) → Steps setup xs rows old new turn → map end_of new.outs ≡ map end_of old.outs
+pub ends_kept : (setup : SetupView) (xs : List ℕ) (rows : List Row) (old new : FeederIs) (turn : FeedTurn) → Steps setup xs rows old new turn → map end_of new.outs ≡ map end_of old.outs
 ends_kept setup xs rows old new turn (inl h) = ap (λ f. map end_of f.outs) h.1
 ends_kept setup xs rows old new Moved (inr (inl h)) = ap (λ f. map end_of f.outs) h.2.3
 ends_kept setup xs rows old new Idle (inr (inl h)) = ap (λ f. map end_of f.outs) h.2.4
@@ -59,7 +59,7 @@ no_more : {A : Type 0} (xs : List A) (x : A) → xs ≡ xs ++ x ∷ [] → ⊥
 no_more [] x e = absurd (cc)
 no_more (z ∷ xs) x e = no_more xs x (cc)
 
-pub issued_told : (setup : Outline) (xs : List ℕ) (rows : List Row) (old new : FeederIs) (turn : FeedTurn) → Steps setup xs rows old new turn → (r : ℕ) → new.feeds ≡ old.feeds ++ Issued r ∷ []
+pub issued_told : (setup : SetupView) (xs : List ℕ) (rows : List Row) (old new : FeederIs) (turn : FeedTurn) → Steps setup xs rows old new turn → (r : ℕ) → new.feeds ≡ old.feeds ++ Issued r ∷ []
     → IsReached xs (length rows) old.row old.issued × AsIssued setup old.begin_turned r old.boxes.posters new.boxes.posters
 issued_told setup xs rows old new turn (inl h) r e = absurd (no_more old.feeds (Issued r) (sym (ap (λ f. f.feeds) h.1) ∙ e))
 issued_told setup xs rows old new Moved (inr (inl h)) r e =
@@ -80,7 +80,7 @@ issued_told setup xs rows old new NoMemory (inr (inr (inr h))) r e = absurd (no_
 
 -- ---- causes
 
-pub moved_grew : (setup : Outline) (xs : List ℕ) (rows : List Row) (old new : FeederIs) → Steps setup xs rows old new Moved → Grew old new
+pub moved_grew : (setup : SetupView) (xs : List ℕ) (rows : List Row) (old new : FeederIs) → Steps setup xs rows old new Moved → Grew old new
 moved_grew setup xs rows old new (inl h) = let e = h.2 in absurd (cc)
 moved_grew setup xs rows old new (inr (inl h)) = inl (Issued (old.issued + 1), ap (λ f. f.feeds) h.2.3)
 moved_grew setup xs rows old new (inr (inr (inl h))) = inl (Fed (old.row + 1), ap (λ f. f.feeds) h.3.6)
@@ -102,7 +102,7 @@ boxes_as old new e = subst (SameBoxes old.boxes.posters) (sym e) (same_boxes old
 posts_as : (old new : FeederIs) → new.boxes.posters ≡ old.boxes.posters → SamePosts old.boxes.posters new.boxes.posters
 posts_as old new e = subst (SamePosts old.boxes.posters) (sym e) (same_posts old.boxes.posters)
 
-pub boxes_kept : (setup : Outline) (xs : List ℕ) (rows : List Row) (old new : FeederIs) (turn : FeedTurn) → Steps setup xs rows old new turn → SameBoxes old.boxes.posters new.boxes.posters
+pub boxes_kept : (setup : SetupView) (xs : List ℕ) (rows : List Row) (old new : FeederIs) (turn : FeedTurn) → Steps setup xs rows old new turn → SameBoxes old.boxes.posters new.boxes.posters
 boxes_kept setup xs rows old new turn (inl h) = boxes_as old new (ap (λ f. f.boxes.posters) h.1)
 boxes_kept setup xs rows old new Moved (inr (inl h)) = h.2.1
 boxes_kept setup xs rows old new Idle (inr (inl h)) = h.2.2
@@ -117,7 +117,7 @@ boxes_kept setup xs rows old new Idle (inr (inr (inr h))) = boxes_as old new (ap
 boxes_kept setup xs rows old new Done (inr (inr (inr h))) = boxes_as old new (ap (λ f. f.boxes.posters) h.3.1)
 boxes_kept setup xs rows old new NoMemory (inr (inr (inr h))) = boxes_as old new (ap (λ f. f.boxes.posters) h.3)
 
-pub posts_kept : (setup : Outline) (xs : List ℕ) (rows : List Row) (old new : FeederIs) (turn : FeedTurn) → Steps setup xs rows old new turn → ((r : ℕ) → new.feeds ≢ old.feeds ++ Issued r ∷ []) → SamePosts old.boxes.posters new.boxes.posters
+pub posts_kept : (setup : SetupView) (xs : List ℕ) (rows : List Row) (old new : FeederIs) (turn : FeedTurn) → Steps setup xs rows old new turn → ((r : ℕ) → new.feeds ≢ old.feeds ++ Issued r ∷ []) → SamePosts old.boxes.posters new.boxes.posters
 posts_kept setup xs rows old new turn (inl h) n = posts_as old new (ap (λ f. f.boxes.posters) h.1)
 posts_kept setup xs rows old new Moved (inr (inl h)) n = absurd (n (old.issued + 1) (ap (λ f. f.feeds) h.2.3))
 posts_kept setup xs rows old new Idle (inr (inl h)) n = h.2.1
@@ -134,7 +134,7 @@ posts_kept setup xs rows old new NoMemory (inr (inr (inr h))) n = posts_as old n
 
 -- ---- the beginning
 
-pub begun_kept : (setup : Outline) (xs : List ℕ) (rows : List Row) (old new : FeederIs) (turn : FeedTurn) → Steps setup xs rows old new turn → (new.begin_row ≡ old.begin_row) × (new.begin_turned ≡ old.begin_turned)
+pub begun_kept : (setup : SetupView) (xs : List ℕ) (rows : List Row) (old new : FeederIs) (turn : FeedTurn) → Steps setup xs rows old new turn → (new.begin_row ≡ old.begin_row) × (new.begin_turned ≡ old.begin_turned)
 begun_kept setup xs rows old new turn (inl h) = (ap (λ f. f.begin_row) h.1, ap (λ f. f.begin_turned) h.1)
 begun_kept setup xs rows old new Moved (inr (inl h)) = (ap (λ f. f.begin_row) h.2.3, ap (λ f. f.begin_turned) h.2.3)
 begun_kept setup xs rows old new Idle (inr (inl h)) = (ap (λ f. f.begin_row) h.2.4, ap (λ f. f.begin_turned) h.2.4)
@@ -163,7 +163,7 @@ not_idle e = absurd (cc)
 not_memory : NoMemory ≡ Done → ⊥
 not_memory e = absurd (cc)
 
-pub done_stopped : (setup : Outline) (xs : List ℕ) (rows : List Row) (old new : FeederIs) (turn : FeedTurn) → Steps setup xs rows old new turn → (turn ≡ Done) ↔ (new.stopped ≡ true)
+pub done_stopped : (setup : SetupView) (xs : List ℕ) (rows : List Row) (old new : FeederIs) (turn : FeedTurn) → Steps setup xs rows old new turn → (turn ≡ Done) ↔ (new.stopped ≡ true)
 done_stopped setup xs rows old new turn (inl h) = ((λ d. ap (λ f. f.stopped) h.1 ∙ h.0), (λ t. h.2))
 done_stopped setup xs rows old new Moved (inr (inl h)) = still old new Moved h.0 (ap (λ f. f.stopped) h.2.3) not_moved
 done_stopped setup xs rows old new Idle (inr (inl h)) = still old new Idle h.0 (ap (λ f. f.stopped) h.2.4) not_idle
@@ -178,7 +178,7 @@ done_stopped setup xs rows old new Idle (inr (inr (inr h))) = still old new Idle
 done_stopped setup xs rows old new Done (inr (inr (inr h))) = ((λ d. ap (λ f. f.stopped) h.3.1), (λ t. refl))
 done_stopped setup xs rows old new NoMemory (inr (inr (inr h))) = still old new NoMemory h.0 (ap (λ f. f.stopped) h.3) not_memory
 
-pub starved : (setup : Outline) (xs : List ℕ) (rows : List Row) (old new : FeederIs) → Steps setup xs rows old new NoMemory → new ≡ old
+pub starved : (setup : SetupView) (xs : List ℕ) (rows : List Row) (old new : FeederIs) → Steps setup xs rows old new NoMemory → new ≡ old
 starved setup xs rows old new (inl h) = h.1
 starved setup xs rows old new (inr (inl h)) = h.2
 starved setup xs rows old new (inr (inr (inl h))) = h.3
@@ -186,7 +186,7 @@ starved setup xs rows old new (inr (inr (inr h))) = h.3
 
 -- ---- loads
 
-pub loads_kept : (setup : Outline) (xs : List ℕ) (rows : List Row) (old new : FeederIs) (turn : FeedTurn) → Steps setup xs rows old new turn → new.loads ≡ old.loads
+pub loads_kept : (setup : SetupView) (xs : List ℕ) (rows : List Row) (old new : FeederIs) (turn : FeedTurn) → Steps setup xs rows old new turn → new.loads ≡ old.loads
 loads_kept setup xs rows old new turn (inl h) = ap (λ f. f.loads) h.1
 loads_kept setup xs rows old new Moved (inr (inl h)) = ap (λ f. f.loads) h.2.3
 loads_kept setup xs rows old new Idle (inr (inl h)) = ap (λ f. f.loads) h.2.4
@@ -203,7 +203,7 @@ loads_kept setup xs rows old new NoMemory (inr (inr (inr h))) = ap (λ f. f.load
 
 -- ---- rows and ends wait for requests that are due
 
-pub fed_told : (setup : Outline) (xs : List ℕ) (rows : List Row) (old new : FeederIs) (turn : FeedTurn) → Steps setup xs rows old new turn → (r : ℕ) → new.feeds ≡ old.feeds ++ Fed r ∷ [] → IsAhead xs (length rows) old.row old.issued
+pub fed_told : (setup : SetupView) (xs : List ℕ) (rows : List Row) (old new : FeederIs) (turn : FeedTurn) → Steps setup xs rows old new turn → (r : ℕ) → new.feeds ≡ old.feeds ++ Fed r ∷ [] → IsAhead xs (length rows) old.row old.issued
 fed_told setup xs rows old new turn (inl h) r e = absurd (no_more old.feeds (Fed r) (sym (ap (λ f. f.feeds) h.1) ∙ e))
 fed_told setup xs rows old new Moved (inr (inl h)) r e = let s = one_last old.feeds (Issued (old.issued + 1)) (Fed r) (sym (ap (λ f. f.feeds) h.2.3) ∙ e) in absurd (cc)
 fed_told setup xs rows old new Idle (inr (inl h)) r e = absurd (no_more old.feeds (Fed r) (sym (ap (λ f. f.feeds) h.2.4) ∙ e))
@@ -221,7 +221,7 @@ fed_told setup xs rows old new NoMemory (inr (inr (inr h))) r e = absurd (no_mor
 not_more : {m n : ℕ} → n ≡ m → m < n → ⊥
 not_more e lt = absurd (omega (arith, e, lt))
 
-pub ended_told : (setup : Outline) (xs : List ℕ) (rows : List Row) (old new : FeederIs) (turn : FeedTurn) → Steps setup xs rows old new turn → old.ended < new.ended → IsAhead xs (length rows) old.row old.issued
+pub ended_told : (setup : SetupView) (xs : List ℕ) (rows : List Row) (old new : FeederIs) (turn : FeedTurn) → Steps setup xs rows old new turn → old.ended < new.ended → IsAhead xs (length rows) old.row old.issued
 ended_told setup xs rows old new turn (inl h) lt = absurd (not_more (ap (λ f. f.ended) h.1) lt)
 ended_told setup xs rows old new Moved (inr (inl h)) lt = absurd (not_more (ap (λ f. f.ended) h.2.3) lt)
 ended_told setup xs rows old new Idle (inr (inl h)) lt = absurd (not_more (ap (λ f. f.ended) h.2.4) lt)
@@ -238,28 +238,28 @@ ended_told setup xs rows old new NoMemory (inr (inr (inr h))) lt = absurd (not_m
 
 -- ---- the law and what is due, at a feeder that isn't live
 
-pub is_feeder : (setup : Outline) (begin : Begin) (rows : List Row) (f : FeederIs) → IsFeeding setup begin (afters setup.requests) rows f → IsFeeder false setup begin rows f
+pub is_feeder : (setup : SetupView) (begin : Begin) (rows : List Row) (f : FeederIs) → IsFeeding setup begin (afters setup.requests) rows f → IsFeeder false setup begin rows f
 is_feeder setup begin rows f law = record {
   feeding = law;
   not_before = λ k a b g h. (let e = same_some a b (sym g ∙ h) in omega (arith, e));
   released = λ e. absurd (cc);
 }
 
-due_now : (setup : Outline) (rows : List Row) (loads : List ℕ) (f : FeederIs) → IsReached (afters setup.requests) (length rows) f.row f.issued → IsDue false setup rows loads f
+due_now : (setup : SetupView) (rows : List Row) (loads : List ℕ) (f : FeederIs) → IsReached (afters setup.requests) (length rows) f.row f.issued → IsDue false setup rows loads f
 due_now setup rows loads f h = (h.0, h.1, inl (tt, h.2))
 
 below_both : (row a n : ℕ) → row < min a n → row < n
 below_both row a n lt = omega (arith, lt)
 
-none_due : (setup : Outline) (rows : List Row) (loads : List ℕ) (f : FeederIs) → IsAhead (afters setup.requests) (length rows) f.row f.issued → NoneIsDue false setup rows loads f
+none_due : (setup : SetupView) (rows : List Row) (loads : List ℕ) (f : FeederIs) → IsAhead (afters setup.requests) (length rows) f.row f.issued → NoneIsDue false setup rows loads f
 none_due setup rows loads f h = λ a g. (below_both f.row a (length rows) (h a g), λ _. h a g)
 
-none_heard : (setup : Outline) (rows : List Row) (old new : FeederIs) → IsAhead (afters setup.requests) (length rows) old.row old.issued → HasHeard setup rows old new
+none_heard : (setup : SetupView) (rows : List Row) (old new : FeederIs) → IsAhead (afters setup.requests) (length rows) old.row old.issued → HasHeard setup rows old new
 none_heard setup rows old new h = λ a g le. absurd (let lt = h a g in omega (arith, lt, le))
 
 -- ---- what waits
 
-pub idle_waits : (setup : Outline) (rows : List Row) (old new : FeederIs) → Steps setup (afters setup.requests) rows old new Idle → (new.feeds ≡ old.feeds) × Waits false setup rows old new
+pub idle_waits : (setup : SetupView) (rows : List Row) (old new : FeederIs) → Steps setup (afters setup.requests) rows old new Idle → (new.feeds ≡ old.feeds) × Waits false setup rows old new
 idle_waits setup rows old new (inl h) = let e = h.2 in absurd (cc)
 idle_waits setup rows old new (inr (inl h)) = (ap (λ f. f.feeds) h.2.4, inl (due_now setup rows new.loads old h.1, h.2.0))
 idle_waits setup rows old new (inr (inr (inl h))) =
@@ -291,7 +291,7 @@ idle_waits setup rows old new (inr (inr (inr h))) =
 as_before : (old new : FeederIs) → new ≡ old → new ≡ record old { loads = new.loads }
 as_before old new e = subst (λ (z : FeederIs). z ≡ record old { loads = z.loads }) (sym e) refl
 
-pub is_turn : (setup : Outline) (rows : List Row) (old new : FeederIs) (turn : FeedTurn) → Steps setup (afters setup.requests) rows old new turn → IsTurn false setup rows turn old new
+pub is_turn : (setup : SetupView) (rows : List Row) (old new : FeederIs) (turn : FeedTurn) → Steps setup (afters setup.requests) rows old new turn → IsTurn false setup rows turn old new
 is_turn setup rows old new turn s =
     let xs : List ℕ = afters setup.requests in
     record {

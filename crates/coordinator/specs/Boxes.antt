@@ -2,8 +2,8 @@
 use Rattle.std.specs.Prelude.{◌≡◌, ℕ, true, ◌+◌, ◌-◌, ◌<◌, ◌≤◌, List, [], ◌∷◌, ◌++◌, length, Some, slice_get, if◌then◌else◌}
 use Rattle.control_box.specs.Ends.{HasShownReady, PosterIs}
 use Rattle.flow_model.specs.Covers.{covers, is_head}
-use Rattle.flow_model.specs.Outline.{Outline}
-use Rattle.flow_model.specs.Workers.{posts}
+use Rattle.flow_model.specs.SetupView.{SetupView}
+use Rattle.flow_model.specs.Workers.{workers_in}
 use Rattle.coordinator.specs.Numbers.{node_at, number_of}
 use Rattle.coordinator.specs.Views.{BoxesIs}
 
@@ -46,7 +46,7 @@ IsUnready covered k old new =
     × (slice_get old k ≡ Some p) × (slice_get new k ≡ Some q) × LoadedBelow n p.loads q.loads
 
 -- the numbers once this request is counted at each worker that it covers
-abbrev pub AreCountedWith : Outline → ℕ → List ℕ → List ℕ → Type 0
+abbrev pub AreCountedWith : SetupView → ℕ → List ℕ → List ℕ → Type 0
 AreCountedWith setup request old new =
     (length new ≡ length old)
     × ((w m n : ℕ) → slice_get old w ≡ Some m → slice_get new w ≡ Some n
@@ -59,14 +59,14 @@ AreReached covered posters =
     → HasShownReady (n + 1) p.loads × (p.posted ≤ n)
 
 -- the request may be posted to each worker of its heads, under these numbers
-abbrev pub MayPost : Outline → ℕ → List ℕ → List PosterIs → Type 0
+abbrev pub MayPost : SetupView → ℕ → List ℕ → List PosterIs → Type 0
 MayPost setup request covered posters =
     (w n : ℕ) (p : PosterIs) → is_head setup request (node_at setup w) ≡ true
     → slice_get covered w ≡ Some n → slice_get posters w ≡ Some p
     → HasShownReady n p.loads × (p.posted < n)
 
 -- the request is posted to each worker of its heads, under these numbers, and to no other worker
-abbrev pub ArePosted : Outline → ℕ → List ℕ → List PosterIs → List PosterIs → Type 0
+abbrev pub ArePosted : SetupView → ℕ → List ℕ → List PosterIs → List PosterIs → Type 0
 ArePosted setup request covered old new =
     (w n : ℕ) (p q : PosterIs) → slice_get covered w ≡ Some n → slice_get old w ≡ Some p
     → slice_get new w ≡ Some q
@@ -74,8 +74,8 @@ ArePosted setup request covered old new =
 
 -- The boxes once these requests are issued: how many of them cover each worker is known, no worker
 -- has a post of a later one, and the first boxes are ready for the next one.
-pub record AreBoxes (setup : Outline) (turned issued : ℕ) (boxes : BoxesIs) : Type 0 where
-  pub one_each : length boxes.posters ≡ length (posts setup.job)
+pub record AreBoxes (setup : SetupView) (turned issued : ℕ) (boxes : BoxesIs) : Type 0 where
+  pub one_each : length boxes.posters ≡ length (workers_in setup.job)
   pub one_number_each : length boxes.covered ≡ length boxes.posters
   pub counted :
       (w n : ℕ) → slice_get boxes.covered w ≡ Some n → n ≡ number_of setup turned w issued
@@ -86,7 +86,7 @@ pub record AreBoxes (setup : Outline) (turned issued : ℕ) (boxes : BoxesIs) : 
   pub ready_are : AreReady boxes.covered boxes.ready boxes.posters
 
 -- a worker hasn't turned all requests so far that cover it, as its box loaded
-abbrev pub SomeBelow : Outline → ℕ → ℕ → List PosterIs → List PosterIs → Type 0
+abbrev pub SomeBelow : SetupView → ℕ → ℕ → List PosterIs → List PosterIs → Type 0
 SomeBelow setup turned issued old new =
     (w : ℕ) × (p : PosterIs) × (q : PosterIs) × (slice_get old w ≡ Some p)
     × (slice_get new w ≡ Some q) × LoadedBelow (number_of setup turned w issued) p.loads q.loads
@@ -94,7 +94,7 @@ SomeBelow setup turned issued old new =
 -- A request is issued: the last load of each box shows that its worker turned all earlier requests
 -- that cover it. The request is posted to each worker of its heads, under its number there, and to
 -- no other worker.
-abbrev pub AsIssued : Outline → ℕ → ℕ → List PosterIs → List PosterIs → Type 0
+abbrev pub AsIssued : SetupView → ℕ → ℕ → List PosterIs → List PosterIs → Type 0
 AsIssued setup turned request old new =
     (w : ℕ) (p q : PosterIs) → slice_get old w ≡ Some p → slice_get new w ≡ Some q →
     LastAtLeast (number_of setup turned w (request - 1)) q.loads

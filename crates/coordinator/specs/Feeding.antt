@@ -2,7 +2,7 @@
 use Rattle.std.specs.Prelude.{◌≡◌, ℕ, suc, ◌+◌, ◌-◌, ◌<◌, ◌≤◌, ⊤, Bool, true, false, Contains, List, [], ◌∷◌, ◌++◌, filter, length, min, nat_lt, None, Some, replicate, slice_get, take, if◌then◌else◌}
 use Rattle.flow_dag.specs.declared.edge.Edge.{Edge}
 use Rattle.flow_dag.specs.declared.graph.Graph.{Graph}
-use Rattle.jobs.specs.Written.{Written}
+use Rattle.jobs.specs.JobView.{JobView}
 use Rattle.sink_journal.specs.declared.journal.Feed.{Feed}
 use Rattle.sink_journal.specs.declared.journal.Feed.TheVariants as feed
 use Rattle.tuple_trace.specs.declared.row.Row.{Row}
@@ -13,14 +13,14 @@ use Rattle.flow_model.specs.Agreement.{IsGraphOf}
 use Rattle.flow_model.specs.Begin.{Begin}
 use Rattle.flow_model.specs.Feeding.{fed, fed_tuple, feed_from}
 use Rattle.flow_model.specs.Lanes.{is_same_sender, lanes}
-use Rattle.flow_model.specs.Outline.{Outline}
+use Rattle.flow_model.specs.SetupView.{SetupView}
 use Rattle.flow_model.specs.declared.topology.Lane.{Lane}
 use Rattle.flow_model.specs.Requests.{afters}
 use Rattle.coordinator.specs.Boxes.{AreBoxes, LastAtLeast}
 use Rattle.coordinator.specs.Views.{FeederIs, OutIs}
 
 -- the lanes on which the feeder sends: those out of the sources, in the order of their numbers
-abbrev pub fed_lanes : Written → List Lane
+abbrev pub fed_lanes : JobView → List Lane
 fed_lanes job = filter (λ (lane : Lane). is_same_sender None lane.sender) (lanes job)
 
 -- For each of these lanes, how many earlier ones begin at a source, if so many come before them.
@@ -30,7 +30,7 @@ places_after k [] = []
 places_after k (lane ∷ more) =
     k ∷ places_after (if is_same_sender None lane.sender then suc k else k) more
 
-abbrev pub places_of : Written → List ℕ
+abbrev pub places_of : JobView → List ℕ
 places_of job = places_after 0 (lanes job)
 
 -- each of these rows is this one or a later one, and no row is before its predecessor
@@ -54,7 +54,7 @@ issue_rows row (feed.Stopped ∷ more) = issue_rows row more
 
 -- The rows that the requests wait for. At a live feeder a request that is issued has the row after
 -- which it was issued, and any later request has the last row.
-abbrev pub waits : Bool → Outline → ℕ → FeederIs → List ℕ
+abbrev pub waits : Bool → SetupView → ℕ → FeederIs → List ℕ
 waits false setup rows f = afters setup.requests
 waits true setup rows f =
     take f.begin_turned (afters setup.requests) ++ issue_rows f.begin_row f.feeds
@@ -66,7 +66,7 @@ end_at place ended = if nat_lt place ended then item.Last ∷ [] else []
 
 -- The endpoint of a lane of a source: it begins at the source, and has sent what the feed so far
 -- puts there, followed by the end of the stream if the lane was ended.
-pub record IsOut (setup : Outline) (begin : Begin) (rows : List Row) (graph : Graph)
+pub record IsOut (setup : SetupView) (begin : Begin) (rows : List Row) (graph : Graph)
     (feeds : List Feed) (ended place : ℕ) (lane : Lane) (out : OutIs) : Type 0 where
   pub edge : Edge
   pub numbered : slice_get (lanes setup.job) out.number ≡ Some lane
@@ -75,7 +75,7 @@ pub record IsOut (setup : Outline) (begin : Begin) (rows : List Row) (graph : Gr
   pub sent_is : out.sent ≡ fed setup.job rows begin.turned lane feeds ++ end_at place ended
 
 -- The law of a feeder from a beginning on, if the requests wait for these rows.
-pub record IsFeeding (setup : Outline) (begin : Begin) (afters : List ℕ) (rows : List Row)
+pub record IsFeeding (setup : SetupView) (begin : Begin) (afters : List ℕ) (rows : List Row)
     (f : FeederIs) : Type 0 where
   pub row_begun : f.begin_row ≡ begin.row
   pub turned_begun : f.begin_turned ≡ begin.turned
@@ -109,7 +109,7 @@ pub record IsFeeding (setup : Outline) (begin : Begin) (afters : List ℕ) (rows
 -- The law of a feeder, live or not: it holds for the rows that its requests wait for; none of these
 -- is before the row that the setup asks for; and while rows are left, a live feeder has loaded that
 -- each request of its feed was released.
-pub record IsFeeder (live : Bool) (setup : Outline) (begin : Begin) (rows : List Row)
+pub record IsFeeder (live : Bool) (setup : SetupView) (begin : Begin) (rows : List Row)
     (f : FeederIs) : Type 0 where
   pub feeding : IsFeeding setup begin (waits live setup (length rows) f) rows f
   pub not_before :

@@ -6,7 +6,7 @@ use Rattle.tuple_trace.specs.declared.tuple.Item.TheVariants.{Last}
 use Rattle.flow_model.specs.Begin.{Begin}
 use Rattle.flow_model.specs.Feeding.{fed, feed_from}
 use Rattle.flow_model.specs.Lanes.{lanes}
-use Rattle.flow_model.specs.Outline.{Outline}
+use Rattle.flow_model.specs.SetupView.{SetupView}
 use Rattle.flow_model.specs.declared.topology.Lane.{Lane}
 use Rattle.coordinator.specs.Views.{FeederIs, OutIs}
 
@@ -16,7 +16,7 @@ IsFront begin afters rows f = (more : List Feed)
     × (feed_from begin.row begin.turned afters (length rows) ≡ f.feeds ++ more)
 
 -- what a lane's end has sent is what the feed so far puts there, with at most one end behind it
-abbrev pub SendsTheFeed : Outline → Begin → List Row → FeederIs → Type 0
+abbrev pub SendsTheFeed : SetupView → Begin → List Row → FeederIs → Type 0
 SendsTheFeed setup begin rows f =
     (k : ℕ) (out : OutIs) → slice_get f.outs k ≡ Some out → (lane : Lane)
     × (slice_get (lanes setup.job) out.number ≡ Some lane)
@@ -24,7 +24,7 @@ SendsTheFeed setup begin rows f =
     ⊎ (out.sent ≡ fed setup.job rows begin.turned lane f.feeds ++ Last ∷ []))
 
 -- each lane's end has sent what the feed puts there, and the end
-abbrev pub HasSentAll : Outline → Begin → List Row → FeederIs → Type 0
+abbrev pub HasSentAll : SetupView → Begin → List Row → FeederIs → Type 0
 HasSentAll setup begin rows f =
     (k : ℕ) (out : OutIs) → slice_get f.outs k ≡ Some out → (lane : Lane)
     × (slice_get (lanes setup.job) out.number ≡ Some lane)

@@ -1,25 +1,25 @@
 -- The numbers of requests in the boxes of workers.
 use Rattle.std.specs.Prelude.{ℕ, zero, suc, ◌-◌, Option, Some, None, slice_get, if◌then◌else◌}
 use Rattle.flow_model.specs.Covers.{covers}
-use Rattle.flow_model.specs.Outline.{Outline, Post}
-use Rattle.flow_model.specs.Workers.{posts}
+use Rattle.flow_model.specs.SetupView.{SetupView, Worker}
+use Rattle.flow_model.specs.Workers.{workers_in}
 
-abbrev pub node_in : Option Post → ℕ
+abbrev pub node_in : Option Worker → ℕ
 node_in None = 0
 node_in (Some post) = post.node
 
 -- the node of a worker
-abbrev pub node_at : Outline → ℕ → ℕ
-node_at setup worker = node_in (slice_get (posts setup.job) worker)
+abbrev pub node_at : SetupView → ℕ → ℕ
+node_at setup worker = node_in (slice_get (workers_in setup.job) worker)
 
 -- how many of the first requests cover a node
-abbrev pub covered_to : Outline → ℕ → ℕ → ℕ
+abbrev pub covered_to : SetupView → ℕ → ℕ → ℕ
 covered_to setup node zero = 0
 covered_to setup node (suc r) =
     if covers setup (suc r) node then suc (covered_to setup node r) else covered_to setup node r
 
 -- How many of the requests up to this one cover a worker, without those that were turned before the
 -- beginning. It is the number of the last of them in the worker's box.
-abbrev pub number_of : Outline → ℕ → ℕ → ℕ → ℕ
+abbrev pub number_of : SetupView → ℕ → ℕ → ℕ → ℕ
 number_of setup turned worker request =
     covered_to setup (node_at setup worker) request - covered_to setup (node_at setup worker) turned

@@ -3,16 +3,16 @@ use Rattle.std.specs.Prelude.{◌≡◌, ℕ, List, [], length, map, None, Some,
 use Rattle.control_box.specs.Ends.{PosterIs}
 use Rattle.flow_dag.specs.declared.edge.Edge.{Edge}
 use Rattle.flow_dag.specs.declared.graph.Graph.{Graph}
-use Rattle.jobs.specs.Written.{Written}
+use Rattle.jobs.specs.JobView.{JobView}
 use Rattle.flow_model.specs.Agreement.{IsGraphOf}
 use Rattle.flow_model.specs.Lanes.{is_same_sender, lanes, lanes_that}
-use Rattle.flow_model.specs.Outline.{Outline}
+use Rattle.flow_model.specs.SetupView.{SetupView}
 use Rattle.flow_model.specs.declared.topology.Lane.{Lane}
-use Rattle.flow_model.specs.Workers.{posts}
+use Rattle.flow_model.specs.Workers.{workers_in}
 use Rattle.coordinator.specs.Views.{OutIs}
 
 -- the end of a lane with this number, which begins at the node of its edge and has sent nothing
-pub record IsNewOut (job : Written) (graph : Graph) (out : OutIs) : Type 0 where
+pub record IsNewOut (job : JobView) (graph : Graph) (out : OutIs) : Type 0 where
   pub lane : Lane
   pub edge : Edge
   pub numbered : slice_get (lanes job) out.number ≡ Some lane
@@ -21,7 +21,7 @@ pub record IsNewOut (job : Written) (graph : Graph) (out : OutIs) : Type 0 where
   pub empty : out.sent ≡ []
 
 -- the ends of a new feeder: those of the lanes of all sources, in the order of their numbers
-pub record AreNewOuts (job : Written) (outs : List OutIs) : Type 0 where
+pub record AreNewOuts (job : JobView) (outs : List OutIs) : Type 0 where
   pub graph : Graph
   pub graph_is : IsGraphOf job graph
   pub numbers_are : map (λ (out : OutIs). out.number) outs ≡ lanes_that (λ (lane : Lane).
@@ -29,7 +29,7 @@ pub record AreNewOuts (job : Written) (outs : List OutIs) : Type 0 where
   pub new : (k : ℕ) (out : OutIs) → slice_get outs k ≡ Some out → IsNewOut job graph out
 
 -- the boxes of all workers, to which nothing was posted and of which nothing was loaded
-abbrev pub AreUnused : Outline → List PosterIs → Type 0
+abbrev pub AreUnused : SetupView → List PosterIs → Type 0
 AreUnused setup posters =
-    (length posters ≡ length (posts setup.job)) × ((w : ℕ) (p : PosterIs)
+    (length posters ≡ length (workers_in setup.job)) × ((w : ℕ) (p : PosterIs)
     → slice_get posters w ≡ Some p → (p.posted ≡ 0) × (p.loads ≡ []))

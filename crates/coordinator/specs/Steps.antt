@@ -1,13 +1,13 @@
 -- The steps of a feeder that isn't live, each with the whole next state.
 use Rattle.std.specs.Prelude.{◌≡◌, ◌⊎◌, ℕ, ◌+◌, ◌<◌, ◌≤◌, true, false, List, [], ◌∷◌, ◌++◌, length, min, None, Some, slice_get, slice_set}
-use Rattle.jobs.specs.Written.{Written}
+use Rattle.jobs.specs.JobView.{JobView}
 use Rattle.sink_journal.specs.declared.journal.Feed.TheVariants as feed
 use Rattle.tuple_trace.specs.Counts.{Rose}
 use Rattle.tuple_trace.specs.declared.row.Row.{Row}
 use Rattle.tuple_trace.specs.declared.tuple.Item.{Item}
 use Rattle.tuple_trace.specs.declared.tuple.Item.TheVariants as item
 use Rattle.flow_model.specs.Feeding.{fed_tuple}
-use Rattle.flow_model.specs.Outline.{Outline}
+use Rattle.flow_model.specs.SetupView.{SetupView}
 use Rattle.coordinator.specs.declared.feeding.FeedTurn.{FeedTurn}
 use Rattle.coordinator.specs.declared.feeding.FeedTurn.TheVariants as turn
 use Rattle.coordinator.specs.Boxes.{AreBoxes, AsIssued, SameBoxes, SamePosts, SomeBelow}
@@ -25,7 +25,7 @@ IsAhead afters rows row issued =
     (after : ℕ) → slice_get afters issued ≡ Some after → row < min after rows
 
 -- the step for a request that is due
-abbrev pub Issues : Outline → FeederIs → FeederIs → FeedTurn → Type 0
+abbrev pub Issues : SetupView → FeederIs → FeederIs → FeedTurn → Type 0
 Issues setup old new turn.Moved =
     AsIssued setup old.begin_turned (old.issued + 1) old.boxes.posters new.boxes.posters
     × SameBoxes old.boxes.posters new.boxes.posters
@@ -48,7 +48,7 @@ abbrev pub fed_item : ℕ → Row → Item
 fed_item issued row = item.Carry (fed_tuple issued row)
 
 -- the step for the next row
-abbrev pub Feeds : Written → List Row → FeederIs → FeederIs → FeedTurn → Type 0
+abbrev pub Feeds : JobView → List Row → FeederIs → FeederIs → FeedTurn → Type 0
 Feeds job rows old new turn.Moved =
     (row : Row) × (k : ℕ) × (o : OutIs) × (slice_get rows old.row ≡ Some row)
     × IsLaneOfRow job row k × (slice_get old.outs k ≡ Some o)
@@ -84,7 +84,7 @@ Stops old new turn.Done =
     × (new ≡ record old { feeds = old.feeds ++ feed.Stopped ∷ []; stopped = true })
 Stops old new turn.NoMemory = new ≡ old
 
-abbrev pub Steps : Outline → List ℕ → List Row → FeederIs → FeederIs → FeedTurn → Type 0
+abbrev pub Steps : SetupView → List ℕ → List Row → FeederIs → FeederIs → FeedTurn → Type 0
 Steps setup afters rows old new answer =
     ((old.stopped ≡ true) × (new ≡ old) × (answer ≡ turn.Done))
     ⊎ (((old.stopped ≡ false) × IsReached afters (length rows) old.row old.issued

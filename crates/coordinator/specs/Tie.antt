@@ -4,16 +4,16 @@ use Rattle.sink_journal.specs.declared.journal.Entry.{Entry}
 use Rattle.tuple_trace.specs.declared.row.Row.{Row}
 use Rattle.tuple_trace.specs.declared.tuple.Item.{Item}
 use Rattle.flow_model.specs.Begin.{Begin}
-use Rattle.flow_model.specs.Outline.{Post}
+use Rattle.flow_model.specs.SetupView.{Worker}
 use Rattle.flow_model.specs.declared.topology.Lane.{Lane}
 use Rattle.flow_model.specs.Replay.{shown}
 use Rattle.flow_model.specs.Run.{IsFinishedFrom, Ran, put_by}
-use Rattle.flow_model.specs.Workers.{posts}
+use Rattle.flow_model.specs.Workers.{workers_in}
 
 -- the journal of each worker is finished
 abbrev pub AreFinished : Begin → Ran → Type 0
 AreFinished begin ran =
-    (w : ℕ) (post : Post) (journal : List Entry) → slice_get (posts ran.setup.job) w ≡ Some post
+    (w : ℕ) (post : Worker) (journal : List Entry) → slice_get (workers_in ran.setup.job) w ≡ Some post
     → slice_get ran.journals w ≡ Some journal → IsFinishedFrom ran.setup begin post journal
 
 -- a lane that was settled: nothing is left on it, and it shows what was put on it

@@ -1,6 +1,6 @@
 -- What a turn of the feeder does.
 use Rattle.std.specs.Prelude.{◌≡◌, ◌≢◌, ◌⊎◌, ◌↔◌, ℕ, ◌<◌, ◌≤◌, Bool, true, List, [], ◌∷◌, ◌++◌, length, map, None, Some, slice_get}
-use Rattle.jobs.specs.Written.{Written}
+use Rattle.jobs.specs.JobView.{JobView}
 use Rattle.sink_journal.specs.declared.journal.Feed.{Feed}
 use Rattle.sink_journal.specs.declared.journal.Feed.TheVariants as feed
 use Rattle.tuple_trace.specs.Counts.{Rose}
@@ -8,7 +8,7 @@ use Rattle.tuple_trace.specs.declared.row.Row.{Row}
 use Rattle.tuple_trace.specs.declared.tuple.Item.{Item}
 use Rattle.flow_model.specs.Begin.{Begin}
 use Rattle.flow_model.specs.Lanes.{lane_of}
-use Rattle.flow_model.specs.Outline.{Outline}
+use Rattle.flow_model.specs.SetupView.{SetupView}
 use Rattle.flow_model.specs.declared.topology.Lane.{Lane}
 use Rattle.coordinator.specs.declared.feeding.FeedTurn.{FeedTurn}
 use Rattle.coordinator.specs.declared.feeding.FeedTurn.TheVariants as turn
@@ -24,31 +24,31 @@ FoundFull place old new =
     × Rose o.full q.full
 
 -- a request is due, and a worker hasn't turned all earlier ones that cover it
-abbrev pub RequestWaits : Bool → Outline → List Row → FeederIs → FeederIs → Type 0
+abbrev pub RequestWaits : Bool → SetupView → List Row → FeederIs → FeederIs → Type 0
 RequestWaits live setup rows old new =
     IsDue live setup rows new.loads old
     × SomeBelow setup old.begin_turned old.issued old.boxes.posters new.boxes.posters
 
 -- the place of the lane of a row
-abbrev pub IsLaneOfRow : Written → Row → ℕ → Type 0
+abbrev pub IsLaneOfRow : JobView → Row → ℕ → Type 0
 IsLaneOfRow job row place =
     (lane : Lane) × (lane_of job None row.source 0 row.tuple ≡ Some lane)
     × (slice_get (fed_lanes job) place ≡ Some lane)
 
 -- no request is due, and the lane of the next row was full
-abbrev pub RowWaits : Bool → Outline → List Row → FeederIs → FeederIs → Type 0
+abbrev pub RowWaits : Bool → SetupView → List Row → FeederIs → FeederIs → Type 0
 RowWaits live setup rows old new =
     (row : Row) × (place : ℕ) × (slice_get rows old.row ≡ Some row)
     × NoneIsDue live setup rows new.loads old × HasHeard setup rows old new
     × IsLaneOfRow setup.job row place × FoundFull place old.outs new.outs
 
 -- no request is due, no row is left, and a lane that isn't ended was full
-abbrev pub EndWaits : Bool → Outline → List Row → FeederIs → FeederIs → Type 0
+abbrev pub EndWaits : Bool → SetupView → List Row → FeederIs → FeederIs → Type 0
 EndWaits live setup rows old new =
     NoneIsDue live setup rows new.loads old × (length rows ≤ old.row)
     × (old.ended < length old.outs) × FoundFull old.ended old.outs new.outs
 
-abbrev pub Waits : Bool → Outline → List Row → FeederIs → FeederIs → Type 0
+abbrev pub Waits : Bool → SetupView → List Row → FeederIs → FeederIs → Type 0
 Waits live setup rows old new =
     RequestWaits live setup rows old new
     ⊎ (RowWaits live setup rows old new ⊎ EndWaits live setup rows old new)
@@ -68,7 +68,7 @@ LoadsOnce old new = (new ≡ old) ⊎ ((load : ℕ) × (new ≡ old ++ load ∷ 
 -- boxes stay what they are. A request is issued only once it is due and as it has to be, and
 -- otherwise nothing is posted. A row is fed, and a lane ended, only if no request is due. Each
 -- outcome has its cause.
-pub record IsTurn (live : Bool) (setup : Outline) (rows : List Row) (answer : FeedTurn)
+pub record IsTurn (live : Bool) (setup : SetupView) (rows : List Row) (answer : FeedTurn)
     (old new : FeederIs) : Type 0 where
   pub law :
       (begin : Begin) → IsFeeder live setup begin rows old → IsFeeder live setup begin rows new

@@ -1,7 +1,9 @@
-ghost use Rattle.std.specs.Prelude.{◌≡◌, ◌<◌, ◌≤◌, ◌-◌, ◌^◌, ℕ, IfOk, IsTrue, Some, false, length, replicate, slice_get};
-ghost use Rattle.flow_model.specs.Setup.{outline};
-ghost use Rattle.flow_model.specs.Workers.{posts};
-ghost use Rattle.coordinator.specs.Boxes.{AreCountedWith, ArePosted, AreReached, AreReady, IsUnready, MayPost, SameBoxes, SameLoads, SamePosts};
+ghost use Rattle.std.specs.Prelude.{◌≡◌, ◌<◌, ◌≤◌, ◌-◌, ◌^◌, ℕ, IfOk, IsTrue, Some, false, length};
+ghost use Rattle.std.specs.Prelude.{replicate, slice_get};
+ghost use Rattle.flow_model.specs.Setup.{setup_view};
+ghost use Rattle.flow_model.specs.Workers.{workers_in};
+ghost use Rattle.coordinator.specs.Boxes.{AreCountedWith, ArePosted, AreReached, AreReady};
+ghost use Rattle.coordinator.specs.Boxes.{IsUnready, MayPost, SameBoxes, SameLoads, SamePosts};
 
 use control_box::Poster;
 use flow_model::Setup;
@@ -17,7 +19,7 @@ fn ask(posters: &mut [Poster], covered: &[u64], first: usize) -> usize
     requires few { (w n : ℕ) → slice_get covered.now w ≡ Some n → n < 2 ^ 64 - 1 }
     requires ready { AreReady covered.now first posters.old }
     ensures boxes { SameBoxes posters.old posters.new }
-    ensures posts { SamePosts posters.old posters.new }
+    ensures workers_in { SamePosts posters.old posters.new }
     ensures within { result ≤ length posters.new }
     ensures ready { AreReady covered.now result posters.new }
     ensures waits { result < length posters.new
@@ -33,9 +35,9 @@ fn ask(posters: &mut [Poster], covered: &[u64], first: usize) -> usize
 
 // Counts the request at each worker that it covers.
 fn count(covered: &mut [u64], setup: &Setup, request: u64)
-    requires one_each { length covered.old ≡ length (posts (outline setup.now).job) }
+    requires one_each { length covered.old ≡ length (workers_in (setup_view setup.now).job) }
     requires few { (w n : ℕ) → slice_get covered.old w ≡ Some n → n < 2 ^ 64 - 1 }
-    ensures { AreCountedWith (outline setup.now) request covered.old covered.new }
+    ensures { AreCountedWith (setup_view setup.now) request covered.old covered.new }
 {
     for worker in 0..setup.workers() {
         if setup.covers(worker, request) {
@@ -46,12 +48,12 @@ fn count(covered: &mut [u64], setup: &Setup, request: u64)
 
 // Posts the request to the workers of its heads, under its number at each.
 fn post_all(posters: &mut [Poster], covered: &[u64], setup: &Setup, request: u64)
-    requires boxes { length posters.old ≡ length (posts (outline setup.now).job) }
+    requires boxes { length posters.old ≡ length (workers_in (setup_view setup.now).job) }
     requires one_each { length covered.now ≡ length posters.old }
-    requires ready { MayPost (outline setup.now) request covered.now posters.old }
+    requires ready { MayPost (setup_view setup.now) request covered.now posters.old }
     ensures boxes { SameBoxes posters.old posters.new }
     ensures loads { SameLoads posters.old posters.new }
-    ensures posted { ArePosted (outline setup.now) request covered.now posters.old posters.new }
+    ensures posted { ArePosted (setup_view setup.now) request covered.now posters.old posters.new }
 {
     for worker in 0..setup.workers() {
         if setup.is_head(worker, request) {
@@ -62,14 +64,14 @@ fn post_all(posters: &mut [Poster], covered: &[u64], setup: &Setup, request: u64
 
 // Counts the request at each worker that it covers, and posts it to the workers of its heads.
 fn issue_all(posters: &mut [Poster], covered: &mut [u64], setup: &Setup, request: u64)
-    requires boxes { length posters.old ≡ length (posts (outline setup.now).job) }
+    requires boxes { length posters.old ≡ length (workers_in (setup_view setup.now).job) }
     requires one_each { length covered.old ≡ length posters.old }
     requires few { (w n : ℕ) → slice_get covered.old w ≡ Some n → n < 2 ^ 64 - 1 }
     requires ready { AreReached covered.old posters.old }
-    ensures counted { AreCountedWith (outline setup.now) request covered.old covered.new }
+    ensures counted { AreCountedWith (setup_view setup.now) request covered.old covered.new }
     ensures boxes { SameBoxes posters.old posters.new }
     ensures loads { SameLoads posters.old posters.new }
-    ensures posted { ArePosted (outline setup.now) request covered.new posters.old posters.new }
+    ensures posted { ArePosted (setup_view setup.now) request covered.new posters.old posters.new }
 {
     count(covered, setup, request);
     post_all(posters, covered, setup, request);
@@ -123,7 +125,7 @@ impl Boxes {
         requires ready { AreReady self.old.covered self.old.ready self.old.posters }
         ensures covered { self.new.covered ≡ self.old.covered }
         ensures boxes { SameBoxes self.old.posters self.new.posters }
-        ensures posts { SamePosts self.old.posters self.new.posters }
+        ensures workers_in { SamePosts self.old.posters self.new.posters }
         ensures within { self.new.ready ≤ length self.new.posters }
         ensures ready { AreReady self.old.covered self.new.ready self.new.posters }
         ensures all { IsTrue result → self.new.ready ≡ length self.new.posters }
@@ -137,15 +139,15 @@ impl Boxes {
 
     /// Posts the request to the workers of its heads, under its number at each.
     pub fn post(&mut self, setup: &Setup, request: u64)
-        requires boxes { length self.old.posters ≡ length (posts (outline setup.now).job) }
+        requires boxes { length self.old.posters ≡ length (workers_in (setup_view setup.now).job) }
         requires one_each { length self.old.covered ≡ length self.old.posters }
         requires few { (w n : ℕ) → slice_get self.old.covered w ≡ Some n → n < 2 ^ 64 - 1 }
         requires ready { AreReached self.old.covered self.old.posters }
-        ensures counted { AreCountedWith (outline setup.now) request self.old.covered
+        ensures counted { AreCountedWith (setup_view setup.now) request self.old.covered
             self.new.covered }
         ensures boxes { SameBoxes self.old.posters self.new.posters }
         ensures loads { SameLoads self.old.posters self.new.posters }
-        ensures posted { ArePosted (outline setup.now) request self.new.covered
+        ensures posted { ArePosted (setup_view setup.now) request self.new.covered
             self.old.posters self.new.posters }
         ensures ready { self.new.ready ≡ 0 }
     {

@@ -1,7 +1,7 @@
 ghost use Rattle.std.specs.Prelude.{◌≡◌, ◌≤◌, IfOk, List, false, length, ⊤};
 ghost use Rattle.tuple_trace.specs.declared.row.Row.{Row as RowIs};
 ghost use Rattle.flow_model.specs.Begin.{at_first};
-ghost use Rattle.flow_model.specs.Setup.{outline};
+ghost use Rattle.flow_model.specs.Setup.{setup_view};
 ghost use Rattle.coordinator.specs.Feeding.{IsFeeder};
 ghost use Rattle.coordinator.specs.Starts.{AreNewOuts, AreUnused};
 ghost use Rattle.coordinator.specs.Views.{FeederIs, outs_of};
@@ -43,12 +43,12 @@ impl<L: Lanes> Feeder<L> {
         posters: Vec<Poster>,
         start: &Start,
     ) -> Result<Feeder<L>, NoMemory>
-        requires turned { start.now.turned ≤ length (outline setup.now).requests }
-        requires outs { AreNewOuts (outline setup.now).job (outs_of L.Tx.lane L.Tx.number
+        requires turned { start.now.turned ≤ length (setup_view setup.now).requests }
+        requires outs { AreNewOuts (setup_view setup.now).job (outs_of L.Tx.lane L.Tx.number
             L.Tx.origin L.Tx.capacity L.Tx.sent L.Tx.full outs.items) }
-        requires boxes { AreUnused (outline setup.now) posters.items }
+        requires boxes { AreUnused (setup_view setup.now) posters.items }
         ensures law { IfOk result (λ (f : FeederIs). (rows : List RowIs)
-            → IsFeeder false (outline setup.now) start.now rows f) }
+            → IsFeeder false (setup_view setup.now) start.now rows f) }
         ensures outs { IfOk result (λ (f : FeederIs). f.outs ≡ outs_of L.Tx.lane L.Tx.number
             L.Tx.origin L.Tx.capacity L.Tx.sent L.Tx.full outs.items) }
         ensures boxes { IfOk result (λ (f : FeederIs). f.boxes.posters ≡ posters.items) }
@@ -81,11 +81,11 @@ impl<L: Lanes> Feeding<L> for Feeder<L> {
         posters: Vec<Poster>,
         _seed: (),
     ) -> Result<Feeder<L>, NoMemory>
-        requires outs { AreNewOuts (outline setup.now).job (outs_of L.Tx.lane L.Tx.number
+        requires outs { AreNewOuts (setup_view setup.now).job (outs_of L.Tx.lane L.Tx.number
             L.Tx.origin L.Tx.capacity L.Tx.sent L.Tx.full outs.items) }
-        requires boxes { AreUnused (outline setup.now) posters.items }
+        requires boxes { AreUnused (setup_view setup.now) posters.items }
         ensures law { IfOk result (λ (f : FeederIs). (rows : List RowIs)
-            → IsFeeder false (outline setup.now) (at_first (outline setup.now)) rows f) }
+            → IsFeeder false (setup_view setup.now) (at_first (setup_view setup.now)) rows f) }
         ensures kept { IfOk result (λ f. ⊤) }
         ensures outs { IfOk result (λ (f : FeederIs). f.outs ≡ outs_of L.Tx.lane L.Tx.number
             L.Tx.origin L.Tx.capacity L.Tx.sent L.Tx.full outs.items) }

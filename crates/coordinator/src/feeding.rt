@@ -3,7 +3,7 @@ ghost use Rattle.jobs.specs.Nodes.{AreFromSources};
 ghost use Rattle.sink_journal.specs.declared.journal.Feed.{Feed as FeedIs};
 ghost use Rattle.tuple_trace.specs.declared.row.Row.{Row as RowIs};
 ghost use Rattle.flow_model.specs.Begin.{Begin, at_first};
-ghost use Rattle.flow_model.specs.Setup.{outline};
+ghost use Rattle.flow_model.specs.Setup.{setup_view};
 ghost use Rattle.coordinator.specs.Feeding.{IsFeeder};
 ghost use Rattle.coordinator.specs.Starts.{AreNewOuts, AreUnused};
 ghost use Rattle.coordinator.specs.Turning.{IsTurn};
@@ -69,11 +69,12 @@ pub trait Feeding<L: Lanes>: Sized {
         posters: Vec<Poster>,
         seed: Self::Seed,
     ) -> Result<Self, NoMemory>
-        requires outs { AreNewOuts (outline setup.now).job (outs_of L.Tx.lane L.Tx.number
+        requires outs { AreNewOuts (setup_view setup.now).job (outs_of L.Tx.lane L.Tx.number
             L.Tx.origin L.Tx.capacity L.Tx.sent L.Tx.full outs.items) }
-        requires boxes { AreUnused (outline setup.now) posters.items }
+        requires boxes { AreUnused (setup_view setup.now) posters.items }
         ensures law { IfOk result (λ f. (rows : List RowIs)
-            → IsFeeder LIVE (outline setup.now) (at_first (outline setup.now)) rows (feeder f)) }
+            → IsFeeder LIVE (setup_view setup.now) (at_first (setup_view setup.now)) rows
+            (feeder f)) }
         ensures kept { IfOk result (λ f. kept seed (feeder f).feeds (rest f)) }
         ensures outs { IfOk result (λ f. (feeder f).outs ≡ outs_of L.Tx.lane L.Tx.number
             L.Tx.origin L.Tx.capacity L.Tx.sent L.Tx.full outs.items) }
@@ -91,9 +92,9 @@ pub trait Feeding<L: Lanes>: Sized {
         gate: &G,
     ) -> FeedTurn
         requires law { (begin : Begin)
-            × IsFeeder LIVE (outline setup.now) begin rows.now (feeder self.old) }
-        requires rows { AreFromSources (outline setup.now).job rows.now }
-        ensures turn { IsTurn LIVE (outline setup.now) rows.now result (feeder self.old)
+            × IsFeeder LIVE (setup_view setup.now) begin rows.now (feeder self.old) }
+        requires rows { AreFromSources (setup_view setup.now).job rows.now }
+        ensures turn { IsTurn LIVE (setup_view setup.now) rows.now result (feeder self.old)
             (feeder self.new) }
         ensures kept { (seed : Self.Seed) → kept seed (feeder self.old).feeds (rest self.old)
             → kept seed (feeder self.new).feeds (rest self.new) };

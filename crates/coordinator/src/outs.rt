@@ -1,4 +1,5 @@
-ghost use Rattle.std.specs.Prelude.{◌≡◌, ◌<◌, ℕ, IfErr, List, OnOk, [], ◌∷◌, ◌++◌, Some, length, slice_get, slice_set};
+ghost use Rattle.std.specs.Prelude.{◌≡◌, ◌<◌, ℕ, IfErr, List, OnOk, [], ◌∷◌, ◌++◌, Some, length};
+ghost use Rattle.std.specs.Prelude.{slice_get, slice_set};
 ghost use Rattle.tuple_trace.specs.Counts.{Rose};
 ghost use Rattle.tuple_trace.specs.declared.tuple.Item.TheVariants.{Carry};
 ghost use Rattle.lane_core.specs.Steady.{MayFollow};

@@ -1,8 +1,9 @@
 // The places of the lanes of the sources among each other.
-ghost use Rattle.std.specs.Prelude.{◌≡◌, ◌<◌, ◌≤◌, ◌+◌, ◌-◌, ◌^◌, suc, IfOk, None, Some, if◌then◌else◌, slice_get};
+ghost use Rattle.std.specs.Prelude.{◌≡◌, ◌<◌, ◌≤◌, ◌+◌, ◌-◌, ◌^◌, suc, IfOk, None, Some};
+ghost use Rattle.std.specs.Prelude.{if◌then◌else◌, slice_get};
 ghost use Rattle.jobs.specs.Nodes.{IsSourceOf};
 ghost use Rattle.flow_model.specs.Lanes.{is_same_sender, lane_of as lane_to};
-ghost use Rattle.flow_model.specs.Setup.{outline};
+ghost use Rattle.flow_model.specs.Setup.{setup_view};
 ghost use Rattle.flow_model.specs.declared.topology.Lane.{Lane as LaneIs};
 ghost use Rattle.coordinator.specs.Feeding.{fed_lanes, places_after, places_of};
 
@@ -37,11 +38,11 @@ fn next_place(place: usize, lane: &Lane) -> usize
 /// The place, among the lanes of the sources, of the lane of a row that enters by this source.
 /// Takes no memory.
 pub fn place_of(setup: &Setup, places: &[usize], source: u32, tuple: &Tuple) -> usize
-    requires source { IsSourceOf (outline setup.now).job source }
-    requires places { places.now ≡ places_of (outline setup.now).job }
+    requires source { IsSourceOf (setup_view setup.now).job source }
+    requires places { places.now ≡ places_of (setup_view setup.now).job }
     ensures { (lane : LaneIs)
-        × (lane_to (outline setup.now).job None source 0 tuple.now ≡ Some lane)
-        × (slice_get (fed_lanes (outline setup.now).job) result ≡ Some lane) }
+        × (lane_to (setup_view setup.now).job None source 0 tuple.now ≡ Some lane)
+        × (slice_get (fed_lanes (setup_view setup.now).job) result ≡ Some lane) }
 {
     let feeder = WorkerAt {
         node: source,

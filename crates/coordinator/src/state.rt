@@ -1,11 +1,12 @@
-ghost use Rattle.std.specs.Prelude.{◌≡◌, ◌<◌, ◌≤◌, ℕ, IfOk, IsTrue, List, None, [], OnErr, Some, false, length, slice_get, true};
+ghost use Rattle.std.specs.Prelude.{◌≡◌, ◌<◌, ◌≤◌, ℕ, IfOk, IsTrue, List, None, [], OnErr, Some};
+ghost use Rattle.std.specs.Prelude.{false, length, slice_get, true};
 ghost use Rattle.std.specs.Option.{ForSome};
 ghost use Rattle.jobs.specs.Nodes.{AreFromSources};
 ghost use Rattle.tuple_trace.specs.declared.row.Row.{Row as RowIs};
 ghost use Rattle.flow_model.specs.Begin.{Begin, at_first};
 ghost use Rattle.flow_model.specs.Feeding.{fed_tuple};
 ghost use Rattle.flow_model.specs.Requests.{afters};
-ghost use Rattle.flow_model.specs.Setup.{outline};
+ghost use Rattle.flow_model.specs.Setup.{setup_view};
 ghost use Rattle.coordinator.specs.Feeding.{IsFeeder, IsFeeding};
 ghost use Rattle.coordinator.specs.Live.{AreHeard, Hears, IsFromFirst, released_rows};
 ghost use Rattle.coordinator.specs.Starts.{AreNewOuts, AreUnused};
@@ -78,17 +79,17 @@ impl<N, T: Tx<N> + Drop> FeederState<N, T> {
         row: usize,
         turned: usize,
     ) -> Result<FeederState<N, T>, NoMemory>
-        requires turned { turned ≤ length (outline setup.now).requests }
-        requires outs { AreNewOuts (outline setup.now).job (outs_of T.lane T.number T.origin
+        requires turned { turned ≤ length (setup_view setup.now).requests }
+        requires outs { AreNewOuts (setup_view setup.now).job (outs_of T.lane T.number T.origin
             T.capacity T.sent T.full outs.items) }
-        requires boxes { AreUnused (outline setup.now) posters.items }
+        requires boxes { AreUnused (setup_view setup.now) posters.items }
         ensures law { IfOk result (λ (f : FeederIs). (begin : Begin) (rows : List RowIs)
             → begin.row ≡ row → begin.turned ≡ turned
-            → IsFeeder false (outline setup.now) begin rows f) }
+            → IsFeeder false (setup_view setup.now) begin rows f) }
         ensures fresh { IfOk result (λ (f : FeederIs). f.feeds ≡ []) }
         ensures live { row ≡ 0 → turned ≡ 0 → IfOk result (λ (f : FeederIs). IsFromFirst f
-            × ((loads : List ℕ) (rows : List RowIs) → IsFeeder true (outline setup.now)
-            (at_first (outline setup.now)) rows (record f { loads = loads }))) }
+            × ((loads : List ℕ) (rows : List RowIs) → IsFeeder true (setup_view setup.now)
+            (at_first (setup_view setup.now)) rows (record f { loads = loads }))) }
         ensures outs { IfOk result (λ (f : FeederIs). f.outs ≡ outs_of T.lane T.number T.origin
             T.capacity T.sent T.full outs.items) }
         ensures boxes { IfOk result (λ (f : FeederIs). f.boxes.posters ≡ posters.items) }
@@ -114,10 +115,10 @@ impl<N, T: Tx<N> + Drop> FeederState<N, T> {
 
     /// One turn of a feeder that isn't live.
     pub fn turn<G: Gate>(&mut self, need: &mut N, setup: &Setup, rows: &Rows, gate: &G) -> FeedTurn
-        requires law { (begin : Begin) × IsFeeder false (outline setup.now) begin rows.now
+        requires law { (begin : Begin) × IsFeeder false (setup_view setup.now) begin rows.now
             self.old }
-        requires rows { AreFromSources (outline setup.now).job rows.now }
-        ensures { IsTurn false (outline setup.now) rows.now result self.old self.new }
+        requires rows { AreFromSources (setup_view setup.now).job rows.now }
+        ensures { IsTurn false (setup_view setup.now) rows.now result self.old self.new }
     {
         let _requests = setup.requests();
         self.step(need, setup, rows, gate, u64::MAX)
@@ -133,17 +134,18 @@ impl<N, T: Tx<N> + Drop> FeederState<N, T> {
         released: u64,
     ) -> FeedTurn
         requires first { IsFromFirst self.old }
-        requires law { (begin : Begin) × (loads : List ℕ) × IsFeeder true (outline setup.now) begin
+        requires law { (begin : Begin) × (loads : List ℕ)
+            × IsFeeder true (setup_view setup.now) begin
             rows.now (record self.old { loads = loads }) }
-        requires rows { AreFromSources (outline setup.now).job rows.now }
+        requires rows { AreFromSources (setup_view setup.now).job rows.now }
         ensures first { IsFromFirst self.new }
         ensures turn { (old new : List ℕ)
-            → Hears (length (outline setup.now).requests) released old new
-            → IsTurn true (outline setup.now) rows.now result (record self.old { loads = old })
+            → Hears (length (setup_view setup.now).requests) released old new
+            → IsTurn true (setup_view setup.now) rows.now result (record self.old { loads = old })
             (record self.new { loads = new }) }
         ensures heard { (begin : Begin) (old new : List ℕ)
-            → Hears (length (outline setup.now).requests) released old new
-            → IsFeeder true (outline setup.now) begin rows.now (record self.old { loads = old })
+            → Hears (length (setup_view setup.now).requests) released old new
+            → IsFeeder true (setup_view setup.now) begin rows.now (record self.old { loads = old })
             → AreHeard old self.old.feeds → AreHeard new self.new.feeds }
     {
         self.step(need, setup, rows, gate, released)
@@ -168,10 +170,10 @@ impl<N, T: Tx<N> + Drop> FeederState<N, T> {
         released: u64,
     ) -> FeedTurn
         requires law { (begin : Begin) × (waits : List ℕ)
-            × IsFeeding (outline setup.now) begin waits rows.now self.old }
-        requires rows { AreFromSources (outline setup.now).job rows.now }
-        ensures { Steps (outline setup.now) (released_rows released (length rows.now)
-            (afters (outline setup.now).requests)) rows.now self.old self.new result }
+            × IsFeeding (setup_view setup.now) begin waits rows.now self.old }
+        requires rows { AreFromSources (setup_view setup.now).job rows.now }
+        ensures { Steps (setup_view setup.now) (released_rows released (length rows.now)
+            (afters (setup_view setup.now).requests)) rows.now self.old self.new result }
     {
         if self.stopped {
             return FeedTurn::Done;
@@ -188,9 +190,9 @@ impl<N, T: Tx<N> + Drop> FeederState<N, T> {
     // Whether the next request is released and its row is fed, or all rows are fed.
     fn is_due(&self, setup: &Setup, rows: usize, released: u64) -> bool
         ensures due { IsTrue result → IsReached (released_rows released rows
-            (afters (outline setup.now).requests)) rows self.now.row self.now.issued }
+            (afters (setup_view setup.now).requests)) rows self.now.row self.now.issued }
         ensures undue { result ≡ false → IsAhead (released_rows released rows
-            (afters (outline setup.now).requests)) rows self.now.row self.now.issued }
+            (afters (setup_view setup.now).requests)) rows self.now.row self.now.issued }
     {
         if self.issued >= setup.requests() {
             return false;
@@ -202,8 +204,8 @@ impl<N, T: Tx<N> + Drop> FeederState<N, T> {
 
     // The row that the next request waits for: the last one, if it isn't released.
     fn row_waited_for(&self, setup: &Setup, rows: u64, released: u64) -> u64
-        requires left { self.now.issued < length (outline setup.now).requests }
-        ensures { slice_get (released_rows released rows (afters (outline setup.now).requests))
+        requires left { self.now.issued < length (setup_view setup.now).requests }
+        ensures { slice_get (released_rows released rows (afters (setup_view setup.now).requests))
             self.now.issued ≡ Some result }
     {
         if self.issued as u64 >= released {
@@ -215,9 +217,9 @@ impl<N, T: Tx<N> + Drop> FeederState<N, T> {
     // Issues the next request, once each worker has turned all earlier ones that cover it.
     fn issue_next<G: Gate>(&mut self, setup: &Setup, rows: &Rows, gate: &G) -> FeedTurn
         requires law { (begin : Begin) × (waits : List ℕ)
-            × IsFeeding (outline setup.now) begin waits rows.now self.old }
-        requires left { self.old.issued < length (outline setup.now).requests }
-        ensures { Issues (outline setup.now) self.old self.new result }
+            × IsFeeding (setup_view setup.now) begin waits rows.now self.old }
+        requires left { self.old.issued < length (setup_view setup.now).requests }
+        ensures { Issues (setup_view setup.now) self.old self.new result }
     {
         if self.feeds.reserve(1).is_err() {
             return FeedTurn::NoMemory;
@@ -237,10 +239,10 @@ impl<N, T: Tx<N> + Drop> FeederState<N, T> {
     // Feeds the next row.
     fn feed_next(&mut self, need: &mut N, setup: &Setup, rows: &Rows) -> FeedTurn
         requires law { (begin : Begin) × (waits : List ℕ)
-            × IsFeeding (outline setup.now) begin waits rows.now self.old }
-        requires rows { AreFromSources (outline setup.now).job rows.now }
+            × IsFeeding (setup_view setup.now) begin waits rows.now self.old }
+        requires rows { AreFromSources (setup_view setup.now).job rows.now }
         requires left { self.old.row < length rows.now }
-        ensures { Feeds (outline setup.now).job rows.now self.old self.new result }
+        ensures { Feeds (setup_view setup.now).job rows.now self.old self.new result }
     {
         if self.feeds.reserve(1).is_err() {
             return FeedTurn::NoMemory;
@@ -267,7 +269,7 @@ impl<N, T: Tx<N> + Drop> FeederState<N, T> {
     // Ends the next lane, or stops if each is ended.
     fn stop_next(&mut self, need: &mut N, setup: &Setup, rows: &Rows) -> FeedTurn
         requires law { (begin : Begin) × (waits : List ℕ)
-            × IsFeeding (outline setup.now) begin waits rows.now self.old }
+            × IsFeeding (setup_view setup.now) begin waits rows.now self.old }
         ensures { Stops self.old self.new result }
     {
         if self.ended < self.outs.len() {

@@ -4,8 +4,8 @@ use Rattle.std.specs.FinMap.{empty}
 use Rattle.sink_journal.specs.declared.journal.Feed.{Feed}
 use Rattle.tuple_trace.specs.declared.row.Row.{Row}
 use Rattle.flow_model.specs.Begin.{Begin, at_first}
-use Rattle.flow_model.specs.Outline.{Outline, Post}
-use Rattle.flow_model.specs.Workers.{posts}
+use Rattle.flow_model.specs.SetupView.{SetupView, Worker as WorkerOf}
+use Rattle.flow_model.specs.Workers.{workers_in}
 use Rattle.flow_worker.specs.Endpoints.{LaneInIs, LaneOutIs, SameIn, SameOut}
 use Rattle.flow_worker.specs.Pairs.{Each}
 use Rattle.flow_worker.specs.Turning.{IsDone, SameEndpoints}
@@ -26,10 +26,10 @@ same_lanes w v same = λ i. (
   pairs_keep SameOut (λ (a : LaneOutIs). (a.lane, a.number)) w.outs v.outs (λ x y s j. (s.0 j, s.1 j)) same.outs i,
 )
 
-pub each_law : (setup : Outline) (begin : Begin) (workers : List WorkerIs) → IsCrew setup begin workers → Each (IsWorker setup begin) workers
+pub each_law : (setup : SetupView) (begin : Begin) (workers : List WorkerIs) → IsCrew setup begin workers → Each (IsWorker setup begin) workers
 each_law setup begin workers crew = each_placed (IsWorker setup begin) workers crew.law
 
-pub still_crew : (setup : Outline) (begin : Begin) (workers later : List WorkerIs) → IsCrew setup begin workers → Each (IsWorker setup begin) later → map (λ (w : WorkerIs). w.number) later ≡ map (λ (w : WorkerIs). w.number) workers
+pub still_crew : (setup : SetupView) (begin : Begin) (workers later : List WorkerIs) → IsCrew setup begin workers → Each (IsWorker setup begin) later → map (λ (w : WorkerIs). w.number) later ≡ map (λ (w : WorkerIs). w.number) workers
     → IsCrew setup begin later
 still_crew setup begin workers later crew law same = record {
   many =
@@ -42,11 +42,11 @@ still_crew setup begin workers later crew law same = record {
   law = λ k w g. each_got (IsWorker setup begin) later k w law g;
 }
 
-pub over : (setup : Outline) (rows : List Row) (workers later : List WorkerIs) (outs left : List OutIs) (feeder f : FeederIs) (feeds : List Feed) → IsCrew setup (at_first setup) workers → AreMatched (map worker_side workers) (map fed_end outs) → feeder.outs ≡ outs
+pub over : (setup : SetupView) (rows : List Row) (workers later : List WorkerIs) (outs left : List OutIs) (feeder f : FeederIs) (feeds : List Feed) → IsCrew setup (at_first setup) workers → AreMatched (map worker_side workers) (map fed_end outs) → feeder.outs ≡ outs
     → Each (IsWorker setup (at_first setup)) later → Each IsDone later → map (λ (w : WorkerIs). w.number) later ≡ map (λ (w : WorkerIs). w.number) workers → map lane_ids later ≡ map lane_ids workers
     → IsFeeder false setup (at_first setup) rows f → f.stopped ≡ true → map end_of f.outs ≡ map end_of feeder.outs → feeds ≡ f.feeds → f.outs ≡ left → IsOver setup (at_first setup) rows later feeds left
 over setup rows workers later outs left feeder f feeds crew matched fed laws done number lanes law stopped ends feeds_are outs_are = record {
-  starts = length_mapped (λ (post : Post). empty) (posts setup.job);
+  starts = length_mapped (λ (post : WorkerOf). empty) (workers_in setup.job);
   crew = still_crew setup (at_first setup) workers later crew laws number;
   done = done;
   matched = matched_again workers later outs left lanes (ap (map end_of) (sym outs_are) ∙ (ends ∙ ap (map end_of) fed)) matched;

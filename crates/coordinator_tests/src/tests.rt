@@ -2,10 +2,10 @@ mod whole;
 
 ghost use Rattle.std.specs.Prelude.{◌≡◌, ℕ, [], IfOk, IfSome, Some, length, slice_get};
 ghost use Rattle.control_box.specs.Ends.{PosterIs};
-ghost use Rattle.jobs.specs.Job.{written};
+ghost use Rattle.jobs.specs.Job.{job_view};
 ghost use Rattle.jobs.specs.Nodes.{AreFromSources};
 ghost use Rattle.flow_model.specs.Begin.{Begin};
-ghost use Rattle.flow_model.specs.Setup.{outline};
+ghost use Rattle.flow_model.specs.Setup.{setup_view};
 ghost use Rattle.coordinator.specs.Feeding.{IsFeeder};
 
 use control_box::{Owner, Poster, make_box};
@@ -96,9 +96,9 @@ fn feed_of<L: Lanes, F: Feeding<L> + Drop>(
 ) -> Option<Feeds>
 where
     F::Rest: Drop,
-    requires law { (begin : Begin) × IsFeeder F.LIVE (outline setup.now) begin rows.now
+    requires law { (begin : Begin) × IsFeeder F.LIVE (setup_view setup.now) begin rows.now
         (F.feeder feeder) }
-    requires rows { AreFromSources (outline setup.now).job rows.now }
+    requires rows { AreFromSources (setup_view setup.now).job rows.now }
 {
     for _turn in 0..turns {
         match feeder.turn(need, setup, rows, &OpenGate) {
@@ -126,7 +126,7 @@ fn fed<L: Lanes, F: Feeding<L> + Drop>(
 where
     F::Rest: Drop,
     F::Seed: Drop,
-    requires { AreFromSources (outline setup.now).job rows.now }
+    requires { AreFromSources (setup_view setup.now).job rows.now }
 {
     let (posters, mut owners) = make_boxes(alloc, setup.workers())?;
     let AllEndpoints { feeder, .. } = AllEndpoints::make(alloc, form, setup, 64)?;

@@ -2,12 +2,12 @@
 use Rattle.std.proofs.Common.{◌≡◌, ◌⊎◌, ◌∙◌, ◌==◌, ◌+◌, ◌<◌, ℕ, zero, suc, List, [], ◌∷◌, ◌++◌, inl, inr, refl, sym, ap, subst, arith, length, map, Some, slice_get}
 use Rattle.std.proofs.lemmas.Bool.{eqb-true}
 use Rattle.std.proofs.lemmas.Option.{same_Some}
-use Rattle.jobs.specs.Written.{Written}
+use Rattle.jobs.specs.JobView.{JobView}
 use Rattle.flow_model.specs.Begin.{Begin, at_first}
 use Rattle.flow_model.specs.Lanes.{lanes_in}
 use Rattle.flow_model.specs.declared.topology.Lane.{Lane}
-use Rattle.flow_model.specs.Outline.{Outline, Post}
-use Rattle.flow_model.specs.Workers.{posts}
+use Rattle.flow_model.specs.SetupView.{SetupView, Worker as WorkerOf}
+use Rattle.flow_model.specs.Workers.{workers_in}
 use Rattle.flow_model.proofs.ElementLemmas.{IsIn}
 use Rattle.flow_model.proofs.LaneLemmas.{in_lanes_that}
 use Rattle.flow_worker.specs.Endpoints.{LaneInIs}
@@ -40,7 +40,7 @@ same_in [] = refl
 same_in (a ∷ ins) = ap (λ l. a.number ∷ l) (same_in ins)
 
 -- a number is in the lists of the lanes of one worker
-one_receiver : (job : Written) (n v w : ℕ) → IsIn n (lanes_in job v) → IsIn n (lanes_in job w) → v ≡ w
+one_receiver : (job : JobView) (n v w : ℕ) → IsIn n (lanes_in job v) → IsIn n (lanes_in job w) → v ≡ w
 one_receiver job n v w a b =
     let (x, at_x, into_x) = in_lanes_that (λ (lane : Lane). lane.receiver == v) job n a in
     let (y, at_y, into_y) = in_lanes_that (λ (lane : Lane). lane.receiver == w) job n b in
@@ -48,7 +48,7 @@ one_receiver job n v w a b =
     sym (eqb-true x.receiver v into_x) ∙ (ap (λ (lane : Lane). lane.receiver) same ∙ eqb-true y.receiver w into_y)
 
 -- a worker has the number of the worker into which its lanes lead
-pub has_number : (setup : Outline) (begin : Begin) (v : WorkerIs) (ends : List EndpointIs) (w : ℕ) → IsWorker setup begin v → map endpoint_in v.ins ≡ ends → numbers_of ends ≡ lanes_in setup.job w → v.number ≡ w
+pub has_number : (setup : SetupView) (begin : Begin) (v : WorkerIs) (ends : List EndpointIs) (w : ℕ) → IsWorker setup begin v → map endpoint_in v.ins ≡ ends → numbers_of ends ≡ lanes_in setup.job w → v.number ≡ w
 has_number setup begin v ends w law same are =
     go v.ins (law.placed.some_in) (sym (same_in v.ins) ∙ (ap numbers_of same ∙ are)) law.placed.ins_are
   where
@@ -92,5 +92,5 @@ all_made workers all [] are none =
 all_made workers all (x ∷ its) are none = absurd (omega (arith, none))
 
 -- the beginning of all has the counts of each worker
-pub first_has_all : (setup : Outline) (start : Begin) → start ≡ at_first setup → length start.states ≡ length (posts setup.job)
-first_has_all setup start is = ap (λ (b : Begin). length b.states) is ∙ length-map (posts setup.job) (λ (post : Post). _)
+pub first_has_all : (setup : SetupView) (start : Begin) → start ≡ at_first setup → length start.states ≡ length (workers_in setup.job)
+first_has_all setup start is = ap (λ (b : Begin). length b.states) is ∙ length-map (workers_in setup.job) (λ (who : WorkerOf). _)

@@ -3,20 +3,20 @@ use Rattle.std.proofs.Common.{◌≡◌, ◌∙◌, ◌<◌, ℕ, List, [], ◌+
 use Rattle.std.specs.Prelude.{IfSome}
 use Rattle.std.proofs.lemmas.List.{append-nil}
 use Rattle.std.proofs.lemmas.Option.{same_Some}
-use Rattle.jobs.specs.Written.{Written}
+use Rattle.jobs.specs.JobView.{JobView}
 use Rattle.keyed_state.specs.Counts.{Counts}
 use Rattle.marker_align.specs.declared.held.Hand.TheVariants.{Empty}
 use Rattle.sink_journal.specs.declared.journal.Entry.{Entry}
 use Rattle.sink_journal.specs.declared.journal.Feed.{Feed}
 use Rattle.tuple_trace.specs.declared.row.Row.{Row}
-use Rattle.flow_model.specs.Begin.{Begin, local_at}
+use Rattle.flow_model.specs.Begin.{Begin, view_at}
 use Rattle.flow_model.specs.Lanes.{lanes}
 use Rattle.flow_model.specs.declared.topology.Lane.{Lane}
-use Rattle.flow_model.specs.Outline.{Outline, Post}
+use Rattle.flow_model.specs.SetupView.{SetupView, Worker as WorkerOf}
 use Rattle.flow_model.specs.Replay.{sent, shown}
 use Rattle.flow_model.specs.Requests.{afters}
 use Rattle.flow_model.specs.Run.{IsFinishedFrom, IsRunSince, IsWorked, Ran, final_counts, put_by, sent_by}
-use Rattle.flow_model.specs.Workers.{posts}
+use Rattle.flow_model.specs.Workers.{workers_in}
 use Rattle.flow_model.proofs.WorkerLemmas.{item_at}
 use Rattle.flow_worker.specs.Endpoints.{LaneInIs, LaneOutIs, in_hand, planned}
 use Rattle.flow_worker.specs.Parts.{EndpointIs, WorkedIs, endpoint_in, endpoint_out}
@@ -47,30 +47,30 @@ out_lane workers fed w worker x g (k, h) =
     let (out, at, e) = get_map endpoint_out worker.outs k x there in
     (k, out, at, e)
 
-module _ (setup : Outline) (begin : Begin) (rows : List Row) (workers : List WorkerIs) (feeds : List Feed) (outs : List OutIs) (over : IsOver setup begin rows workers feeds outs) where
+module _ (setup : SetupView) (begin : Begin) (rows : List Row) (workers : List WorkerIs) (feeds : List Feed) (outs : List OutIs) (over : IsOver setup begin rows workers feeds outs) where
   -- ---- a worker
 
   -- what is known of the worker with a number
-  record IsAt (w : ℕ) (worker : WorkerIs) (post : Post) (counts : Counts) : Type 0 where
+  record IsAt (w : ℕ) (worker : WorkerIs) (who : WorkerOf) (counts : Counts) : Type 0 where
     there : slice_get workers w ≡ Some worker
     law : IsWorker setup begin worker
-    post_is : slice_get (posts setup.job) w ≡ Some post
-    same_post : law.post ≡ post
+    who_is : slice_get (workers_in setup.job) w ≡ Some who
+    same_who : law.who ≡ who
     begun_is : slice_get begin.states w ≡ Some counts
     same_counts : law.begun ≡ counts
     done : IsDone worker
 
-  worker_at : (w : ℕ) (worker : WorkerIs) → slice_get workers w ≡ Some worker → (post : Post) × (counts : Counts) × IsAt w worker post counts
+  worker_at : (w : ℕ) (worker : WorkerIs) → slice_get workers w ≡ Some worker → (who : WorkerOf) × (counts : Counts) × IsAt w worker who counts
   worker_at w worker g =
       let law = over.crew.law w worker g in
       let number = over.crew.number w worker g in (
-        law.post,
+        law.who,
         law.begun,
         record {
           there = g;
           law = law;
-          post_is = ap (slice_get (posts setup.job)) (sym number) ∙ law.placed.post_is;
-          same_post = refl;
+          who_is = ap (slice_get (workers_in setup.job)) (sym number) ∙ law.placed.who_is;
+          same_who = refl;
           begun_is = ap (slice_get begin.states) (sym number) ∙ law.begun_is;
           same_counts = refl;
           done = each_got IsDone workers w worker over.done g;
@@ -96,26 +96,26 @@ module _ (setup : Outline) (begin : Begin) (rows : List Row) (workers : List Wor
   at_journal w worker g = get_mapped (λ (x : WorkedIs). x.journal) (map worked_of workers) w (worked_of worker) (get_mapped worked_of workers w worker g)
 
   all_finished : AreFinished begin ran
-  all_finished w post journal at g =
+  all_finished w who journal at g =
       let (worker, there, e) = of_journal w journal g in
       let (p, counts, is) = worker_at w worker there in
-      let same : is.law.post ≡ post = is.same_post ∙ same_Some p post (sym is.post_is ∙ at) in
-      subst (IsFinishedFrom setup begin post) (sym e) (subst (λ (q : Post). IsFinishedFrom setup begin q worker.journal) same (is.law.finished is.done.0))
+      let same : is.law.who ≡ who = is.same_who ∙ same_Some p who (sym is.who_is ∙ at) in
+      subst (IsFinishedFrom setup begin who) (sym e) (subst (λ (q : WorkerOf). IsFinishedFrom setup begin q worker.journal) same (is.law.finished is.done.0))
 
-  all_worked : (w : ℕ) (post : Post) (counts : Counts) (journal : List Entry) (state : Counts) → slice_get (posts setup.job) w ≡ Some post → slice_get begin.states w ≡ Some counts → slice_get ran.journals w ≡ Some journal → slice_get ran.states w ≡ Some state
-      → IsWorked setup begin post counts journal state
-  all_worked w post counts journal state at begun g h =
+  all_worked : (w : ℕ) (who : WorkerOf) (counts : Counts) (journal : List Entry) (state : Counts) → slice_get (workers_in setup.job) w ≡ Some who → slice_get begin.states w ≡ Some counts → slice_get ran.journals w ≡ Some journal → slice_get ran.states w ≡ Some state
+      → IsWorked setup begin who counts journal state
+  all_worked w who counts journal state at begun g h =
       let (worker, there, e) = of_journal w journal g in
       let (p, c, is) = worker_at w worker there in
-      let same_post : is.law.post ≡ post = is.same_post ∙ same_Some p post (sym is.post_is ∙ at) in
+      let same_who : is.law.who ≡ who = is.same_who ∙ same_Some p who (sym is.who_is ∙ at) in
       let same_counts : is.law.begun ≡ counts = is.same_counts ∙ same_Some c counts (sym is.begun_is ∙ begun) in
       record {
-        finished = all_finished w post journal at g;
+        finished = all_finished w who journal at g;
         state_is =
             of_state w worker state there h
             ∙ (is.law.counts_is
-            ∙ (ap (λ (q : Post). final_counts setup begin q is.law.begun worker.journal) same_post
-            ∙ (ap (λ (d : Counts). final_counts setup begin post d worker.journal) same_counts ∙ ap (final_counts setup begin post counts) (sym e))));
+            ∙ (ap (λ (q : WorkerOf). final_counts setup begin q is.law.begun worker.journal) same_who
+            ∙ (ap (λ (d : Counts). final_counts setup begin who d worker.journal) same_counts ∙ ap (final_counts setup begin who counts) (sym e))));
       }
 
   -- ---- a lane
@@ -124,7 +124,7 @@ module _ (setup : Outline) (begin : Begin) (rows : List Row) (workers : List Wor
     taken : (journal : List Entry) → slice_get ran.journals lane.receiver ≡ Some journal → s.rx.items ≡ shown setup n journal
     taken journal g =
         let (worker, there, e) = of_journal lane.receiver journal g in
-        let (post, counts, is) = worker_at lane.receiver worker there in
+        let (who, counts, is) = worker_at lane.receiver worker there in
         let (k, a, among, x) = in_lane workers lane.receiver worker s.rx there s.receiver in
         let takes = each_got (ShowsTaken setup worker.journal) worker.ins k a is.law.takes among in
         let empty = each_got (λ (b : LaneInIs). b.hand ≡ Empty) worker.ins k a (is.law.put_down is.done.0) among in
@@ -134,18 +134,18 @@ module _ (setup : Outline) (begin : Begin) (rows : List Row) (workers : List Wor
         ∙ (append-nil (shown setup a.number worker.journal) ∙ (ap (λ m. shown setup m worker.journal) number ∙ ap (shown setup n) (sym e)))))
 
     put_by_worker : (w : ℕ) (worker : WorkerIs) → slice_get workers w ≡ Some worker → IsAmong (outs_at (Some w) (map worker_side workers) (map fed_end outs)) s.tx
-        → sent_by setup begin lane (slice_get (posts setup.job) w) (slice_get begin.states w) (slice_get ran.journals w) ≡ Some s.tx.items
+        → sent_by setup begin lane (slice_get (workers_in setup.job) w) (slice_get begin.states w) (slice_get ran.journals w) ≡ Some s.tx.items
     put_by_worker w worker there among =
-        let (post, counts, is) = worker_at w worker there in
+        let (who, counts, is) = worker_at w worker there in
         let (k, out, at_out, x) = out_lane workers (map fed_end outs) w worker s.tx there among in
         let number : out.number ≡ n = ap (λ (y : EndpointIs). y.number) (sym x) ∙ s.tx_number in
-        let sends = each_got (Sends setup begin is.law.post is.law.begun worker.journal) worker.outs k out is.law.sends at_out lane (ap (slice_get (lanes setup.job)) number ∙ at) in
+        let sends = each_got (Sends setup begin is.law.who is.law.begun worker.journal) worker.outs k out is.law.sends at_out lane (ap (slice_get (lanes setup.job)) number ∙ at) in
         let none = each_got (λ (o : LaneOutIs). o.waiting ≡ []) worker.outs k out is.done.1 at_out in
         let all : planned out ≡ out.sent = ap (λ l. out.sent ++ l) none ∙ append-nil out.sent in
-        let items : sent setup is.law.post (local_at setup begin.turned is.law.post is.law.begun) lane worker.journal ≡ s.tx.items = sym sends ∙ (all ∙ ap (λ (y : EndpointIs). y.items) (sym x)) in
-        ap (λ (o : Option Post). sent_by setup begin lane o (slice_get begin.states w) (slice_get ran.journals w)) (is.post_is ∙ ap Some (sym is.same_post))
-        ∙ (ap (λ (o : Option Counts). sent_by setup begin lane (Some is.law.post) o (slice_get ran.journals w)) (is.begun_is ∙ ap Some (sym is.same_counts))
-        ∙ (ap (λ (o : Option (List Entry)). sent_by setup begin lane (Some is.law.post) (Some is.law.begun) o) (at_journal w worker there) ∙ ap Some items))
+        let items : sent setup is.law.who (view_at setup begin.turned is.law.who is.law.begun) lane worker.journal ≡ s.tx.items = sym sends ∙ (all ∙ ap (λ (y : EndpointIs). y.items) (sym x)) in
+        ap (λ (o : Option WorkerOf). sent_by setup begin lane o (slice_get begin.states w) (slice_get ran.journals w)) (is.who_is ∙ ap Some (sym is.same_who))
+        ∙ (ap (λ (o : Option Counts). sent_by setup begin lane (Some is.law.who) o (slice_get ran.journals w)) (is.begun_is ∙ ap Some (sym is.same_counts))
+        ∙ (ap (λ (o : Option (List Entry)). sent_by setup begin lane (Some is.law.who) (Some is.law.begun) o) (at_journal w worker there) ∙ ap Some items))
 
     put_by_feeder : IsAmong (map fed_end outs) s.tx → put_by begin rows ran lane lane.sender ≡ Some s.tx.items
     put_by_feeder (k, h) =
@@ -158,7 +158,7 @@ module _ (setup : Outline) (begin : Begin) (rows : List Row) (workers : List Wor
     put : put_by begin rows ran lane lane.sender ≡ Some s.tx.items
     put = go lane.sender refl (lane_sender setup.job n lane at) s.sender
       where
-        go : (sender : Option ℕ) → lane.sender ≡ sender → IfSome sender (λ w. w < length (posts setup.job)) → IsAmong (outs_at sender (map worker_side workers) (map fed_end outs)) s.tx
+        go : (sender : Option ℕ) → lane.sender ≡ sender → IfSome sender (λ w. w < length (workers_in setup.job)) → IsAmong (outs_at sender (map worker_side workers) (map fed_end outs)) s.tx
             → put_by begin rows ran lane lane.sender ≡ Some s.tx.items
         go None e lt among = put_by_feeder among
         go (Some w) e lt among =
@@ -183,10 +183,10 @@ module _ (setup : Outline) (begin : Begin) (rows : List Row) (workers : List Wor
   }
 
   -- the same of the endpoints and workers as code has them
-  pub run_so : (job : Written) (all : List SideIs) (fed : List EndpointIs) (left : List WorkedIs) → setup.job ≡ job → all ≡ map worker_side workers → map fed_end outs ≡ fed → left ≡ map worked_of workers
+  pub run_so : (job : JobView) (all : List SideIs) (fed : List EndpointIs) (left : List WorkedIs) → setup.job ≡ job → all ≡ map worker_side workers → map fed_end outs ≡ fed → left ≡ map worked_of workers
       → AreSettled job all fed → IsRunSince begin setup rows (record_of setup feeds left)
   run_so job all fed left e s f l settled =
       subst (λ (ws : List WorkedIs). IsRunSince begin setup rows (record_of setup feeds ws)) (sym l)
       (is_run
       (subst (AreSettled setup.job (map worker_side workers)) (sym f)
-      (subst (λ (xs : List SideIs). AreSettled setup.job xs fed) s (subst (λ (j : Written). AreSettled j all fed) (sym e) settled))))
+      (subst (λ (xs : List SideIs). AreSettled setup.job xs fed) s (subst (λ (j : JobView). AreSettled j all fed) (sym e) settled))))

@@ -1,13 +1,13 @@
 -- Workers and a feeder with their laws have the endpoints of all lanes.
 use Rattle.std.proofs.Common.{◌≡◌, ◌∙◌, ◌+◌, ◌≤◌, ℕ, zero, suc, List, [], ◌∷◌, Bool, true, false, cond, refl, sym, ap, subst, arith, length, map, filter, Some, slice_get}
 use Rattle.std.specs.List.{enumerate_from}
-use Rattle.jobs.specs.Written.{Written}
+use Rattle.jobs.specs.JobView.{JobView}
 use Rattle.sink_journal.specs.declared.journal.Feed.{Feed}
 use Rattle.tuple_trace.specs.declared.row.Row.{Row}
 use Rattle.flow_model.specs.Begin.{Begin}
 use Rattle.flow_model.specs.Lanes.{lanes, lanes_in, lanes_that, out_numbers}
 use Rattle.flow_model.specs.declared.topology.Lane.{Lane}
-use Rattle.flow_model.specs.Outline.{Outline}
+use Rattle.flow_model.specs.SetupView.{SetupView}
 use Rattle.flow_model.proofs.ElementLemmas.{in_filter, in_of_place}
 use Rattle.flow_model.proofs.LaneLemmas.{in_enumerate, same_number}
 use Rattle.flow_worker.specs.Endpoints.{LaneOutIs}
@@ -45,7 +45,7 @@ passing test n (l ∷ ls) = go (test l) (passing test (n + 1) ls)
     go false h = h
 
 -- the numbers of the lanes of the feeder, by the lanes themselves
-fed_numbers : (job : Written) (ns : List ℕ) → length ns ≡ length (fed_lanes job) → ((k n : ℕ) (lane : Lane) → slice_get ns k ≡ Some n → slice_get (fed_lanes job) k ≡ Some lane → slice_get (lanes job) n ≡ Some lane) → ns ≡ lanes_that feeder_sends job
+fed_numbers : (job : JobView) (ns : List ℕ) → length ns ≡ length (fed_lanes job) → ((k n : ℕ) (lane : Lane) → slice_get ns k ≡ Some n → slice_get (fed_lanes job) k ≡ Some lane → slice_get (lanes job) n ≡ Some lane) → ns ≡ lanes_that feeder_sends job
 fed_numbers job ns many at = same_lists ns (lanes_that feeder_sends job) long same
   where
     among : List (ℕ × Lane)
@@ -64,7 +64,7 @@ fed_numbers job ns many at = same_lists ns (lanes_that feeder_sends job) long sa
         let e : i.0 ≡ m = omega (arith, i.1, number) in
         same_number job p.1 p.1 n m (at k n p.1 g lane) (subst (λ j. slice_get (lanes job) j ≡ Some p.1) e i.2) refl
 
-module _ (setup : Outline) (begin : Begin) (rows : List Row) (workers : List WorkerIs) (feeds : List Feed) (outs : List OutIs) (over : IsOver setup begin rows workers feeds outs) where
+module _ (setup : SetupView) (begin : Begin) (rows : List Row) (workers : List WorkerIs) (feeds : List Feed) (outs : List OutIs) (over : IsOver setup begin rows workers feeds outs) where
   pub have_all : HaveAllLanes setup.job (map worker_side workers) (map fed_end outs)
   have_all = record {
     many = length_mapped worker_side workers ∙ over.crew.many;
@@ -96,11 +96,11 @@ module _ (setup : Outline) (begin : Begin) (rows : List Row) (workers : List Wor
   room_out = each_placed (λ (w : WorkerIs). length w.outs ≤ w.spare_out) workers (λ k w g. (over.crew.law k w g).placed.room_out)
 
   -- the same of the endpoints as code has them
-  pub have_so : (job : Written) (sides : List SideIs) (fed : List EndpointIs) → setup.job ≡ job → sides ≡ map worker_side workers → map fed_end outs ≡ fed → HaveAllLanes job sides fed
+  pub have_so : (job : JobView) (sides : List SideIs) (fed : List EndpointIs) → setup.job ≡ job → sides ≡ map worker_side workers → map fed_end outs ≡ fed → HaveAllLanes job sides fed
   have_so job sides fed e s f =
       subst (HaveAllLanes job sides) f
       (subst (λ (xs : List SideIs). HaveAllLanes job xs (map fed_end outs)) (sym s)
-      (subst (λ (j : Written). HaveAllLanes j (map worker_side workers) (map fed_end outs)) e have_all))
+      (subst (λ (j : JobView). HaveAllLanes j (map worker_side workers) (map fed_end outs)) e have_all))
 
   pub matched_so : (sides : List SideIs) (fed : List EndpointIs) → sides ≡ map worker_side workers → map fed_end outs ≡ fed → AreMatched sides fed
   matched_so sides fed s f = match_so (map worker_side workers) sides (map fed_end outs) fed s (sym f) over.matched

@@ -4,14 +4,14 @@ use Rattle.std.specs.Prelude.{Err, IfOk, Ok, OnOk, Result}
 use Rattle.std.proofs.lemmas.Option.{same_Some}
 use Rattle.flow_dag.specs.declared.edge.Edge.{Edge}
 use Rattle.flow_dag.specs.declared.graph.Graph.{Graph}
-use Rattle.jobs.specs.Written.{Written}
+use Rattle.jobs.specs.JobView.{JobView}
 use Rattle.lane_core.specs.Lane.{LaneId}
 use Rattle.lane_core.specs.declared.form.Origin.{Origin}
 use Rattle.tuple_trace.specs.declared.tuple.Item.{Item}
 use Rattle.flow_model.specs.Agreement.{IsGraphOf}
 use Rattle.flow_model.specs.Lanes.{lanes}
 use Rattle.flow_model.specs.declared.topology.Lane.{Lane}
-use Rattle.flow_model.specs.Workers.{posts}
+use Rattle.flow_model.specs.Workers.{workers_in}
 use Rattle.flow_model.proofs.LaneLemmas.{lane_is}
 use Rattle.flow_model.proofs.PlaceLemmas.{append_get, get_left}
 use Rattle.flow_worker.specs.Pairs.{Each}
@@ -28,7 +28,7 @@ use Rattle.flow_ends.proofs.Sorting.{each_got, sort_in, sort_out, weaker}
 
 -- ---- an endpoint of a sorted list
 
-module _ (job : Written) (P : Option ℕ → EndpointIs → Type 0) (Q : ℕ → EndpointIs → Type 0) (i j : ℕ) (all : List SideIs) (fed : List EndpointIs) (h : HaveFirstLanes job P Q i j all fed) where
+module _ (job : JobView) (P : Option ℕ → EndpointIs → Type 0) (Q : ℕ → EndpointIs → Type 0) (i j : ℕ) (all : List SideIs) (fed : List EndpointIs) (h : HaveFirstLanes job P Q i j all fed) where
   pub out_has : (sender : Option ℕ) (x : EndpointIs) → IsAmong (outs_at sender all fed) x → P sender x
   out_has None x (k, g) = each_got (P None) fed k x h.feeder.each g
   out_has (Some w) x (k, g) = go (slice_get all w) refl g
@@ -55,7 +55,7 @@ length-replicate : {A : Type 0} (n : ℕ) (x : A) → length (replicate n x) ≡
 length-replicate zero x = refl
 length-replicate (suc n) x = ap suc (length-replicate n x)
 
-pub marked_first : (job : Written) (graph : Graph) (n : ℕ) (all : List SideIs) (fed : List EndpointIs) → n ≡ length (posts job) → all ≡ replicate n empty_side → fed ≡ [] → (marks : List LaneId) × AreMarked job graph 0 marks all fed
+pub marked_first : (job : JobView) (graph : Graph) (n : ℕ) (all : List SideIs) (fed : List EndpointIs) → n ≡ length (workers_in job) → all ≡ replicate n empty_side → fed ≡ [] → (marks : List LaneId) × AreMarked job graph 0 marks all fed
 marked_first job graph n all fed e w f = (
   [],
   (
@@ -77,7 +77,7 @@ marked_first job graph n all fed e w f = (
 
 -- ---- one lane more
 
-pub mark_lane : (job : Written) (graph : Graph) (i : ℕ) (marks : List LaneId) (lane : Lane) (tx rx : EndpointIs) (all : List SideIs) (fed : List EndpointIs) → slice_get (lanes job) i ≡ Some lane
+pub mark_lane : (job : JobView) (graph : Graph) (i : ℕ) (marks : List LaneId) (lane : Lane) (tx rx : EndpointIs) (all : List SideIs) (fed : List EndpointIs) → slice_get (lanes job) i ≡ Some lane
     → AreNewAt job graph i (tx ∷ []) → AreNewAt job graph i (rx ∷ []) → tx.lane ≡ rx.lane → AreMarked job graph i marks all fed
     → (more : List LaneId) × AreMarked job graph (i + 1) more (changed (more_in (rx ∷ [])) lane.receiver (with_out lane.sender (tx ∷ []) all)) (with_fed lane.sender (tx ∷ []) fed)
 mark_lane job graph i marks lane tx rx all fed at new_tx new_rx same (long, h) = (more, (longer, sorted))
@@ -114,7 +114,7 @@ mark_lane job graph i marks lane tx rx all fed at new_tx new_rx same (long, h) =
 
 -- ---- the end
 
-pub marked_worker : (job : Written) (graph : Graph) (i : ℕ) (marks : List LaneId) (all : List SideIs) (fed : List EndpointIs) (w : ℕ) (side : SideIs) → IsGraphOf job graph → length (lanes job) ≤ i → AreMarked job graph i marks all fed → slice_get all w ≡ Some side
+pub marked_worker : (job : JobView) (graph : Graph) (i : ℕ) (marks : List LaneId) (all : List SideIs) (fed : List EndpointIs) (w : ℕ) (side : SideIs) → IsGraphOf job graph → length (lanes job) ≤ i → AreMarked job graph i marks all fed → slice_get all w ≡ Some side
     → AreNewEndpoints job w side.ins side.outs
 marked_worker job graph i marks all fed w side is le (long, h) g = record {
   graph = graph;
@@ -125,7 +125,7 @@ marked_worker job graph i marks all fed w side is le (long, h) g = record {
   new_out = each_map (IsMarked job graph marks) (IsNewEndpoint job graph) side.outs (λ x m. m.0) (h.outs w side g).each;
 }
 
-pub marked_match : (job : Written) (graph : Graph) (i : ℕ) (marks : List LaneId) (all : List SideIs) (fed : List EndpointIs) → AreMarked job graph i marks all fed → AreMatched all fed
+pub marked_match : (job : JobView) (graph : Graph) (i : ℕ) (marks : List LaneId) (all : List SideIs) (fed : List EndpointIs) → AreMarked job graph i marks all fed → AreMatched all fed
 marked_match job graph i marks all fed (long, h) sender receiver tx rx a b same =
     let p = out_has job (λ sender. IsMarked job graph marks) (λ worker. IsMarked job graph marks) i i all fed h sender tx a in
     let q = in_has job (λ sender. IsMarked job graph marks) (λ worker. IsMarked job graph marks) i i all fed h receiver rx b in
@@ -144,14 +144,14 @@ module _ {T : Type 0} (lane : T → LaneId) (number : T → ℕ) (origin : T →
   same_numbers [] = refl
   same_numbers (t ∷ ts) = ap (λ l. number t ∷ l) (same_numbers ts)
 
-  each_new : (job : Written) (graph : Graph) (ts : List T) → Each (IsNewEndpoint job graph) (endpoints lane number origin sent ts) → (k : ℕ) (out : OutIs) → slice_get (outs_of lane number origin capacity sent full ts) k ≡ Some out → IsNewOut job graph out
+  each_new : (job : JobView) (graph : Graph) (ts : List T) → Each (IsNewEndpoint job graph) (endpoints lane number origin sent ts) → (k : ℕ) (out : OutIs) → slice_get (outs_of lane number origin capacity sent full ts) k ≡ Some out → IsNewOut job graph out
   each_new job graph [] e k out g = absurd (cc)
   each_new job graph (t ∷ ts) e zero out g =
       let same : record { lane = lane t; number = number t; origin = origin t; capacity = capacity t; sent = sent t; full = full t } ≡ out = cc in
       subst (IsNewOut job graph) same (record { lane = e.0.lane; edge = e.0.edge; numbered = e.0.numbered; edge_is = e.0.edge_is; origin_is = e.0.origin_is; empty = e.0.empty })
   each_new job graph (t ∷ ts) e (suc k) out g = each_new job graph ts e.1 k out g
 
-  pub marked_feeder : (job : Written) (graph : Graph) (i : ℕ) (marks : List LaneId) (all : List SideIs) (ts : List T) → IsGraphOf job graph → length (lanes job) ≤ i
+  pub marked_feeder : (job : JobView) (graph : Graph) (i : ℕ) (marks : List LaneId) (all : List SideIs) (ts : List T) → IsGraphOf job graph → length (lanes job) ≤ i
       → AreMarked job graph i marks all (endpoints lane number origin sent ts) → AreNewOuts job (outs_of lane number origin capacity sent full ts)
   marked_feeder job graph i marks all ts is le (long, h) = record {
     graph = graph;
@@ -162,11 +162,11 @@ module _ {T : Type 0} (lane : T → LaneId) (number : T → ℕ) (origin : T →
 
 -- ---- a new endpoint
 
-pub lane_edge : (job : Written) (i : ℕ) (lane : Lane) → slice_get (lanes job) i ≡ Some lane → (edge : Edge) × (slice_get job.edges lane.edge ≡ Some edge)
+pub lane_edge : (job : JobView) (i : ℕ) (lane : Lane) → slice_get (lanes job) i ≡ Some lane → (edge : Edge) × (slice_get job.edges lane.edge ≡ Some edge)
 lane_edge job i lane at = let is = lane_is job i lane at in (is.edge, is.edge_is)
 
 -- a new endpoint of the lane with a number
-pub new_at : (job : Written) (graph : Graph) (n : ℕ) (lane : Lane) (edge : Edge) (end : EndpointIs) → slice_get (lanes job) n ≡ Some lane → slice_get job.edges lane.edge ≡ Some edge →
+pub new_at : (job : JobView) (graph : Graph) (n : ℕ) (lane : Lane) (edge : Edge) (end : EndpointIs) → slice_get (lanes job) n ≡ Some lane → slice_get job.edges lane.edge ≡ Some edge →
     end.items ≡ [] → end.number ≡ n → end.origin ≡ record { graph = graph; from = edge.from } → AreNewAt job graph n (end ∷ [])
 new_at job graph n lane edge end at is empty number origin = (
   (

@@ -3,7 +3,7 @@ use Rattle.std.proofs.Common.{◌≡◌, ◌∙◌, ◌+◌, ◌≤◌, ℕ, Lis
 use Rattle.std.specs.Prelude.{IfNone, IfSome}
 use Rattle.std.proofs.lemmas.Bool.{cases_lt}
 use Rattle.std.proofs.lemmas.Option.{same_Some, slice_get_within}
-use Rattle.jobs.specs.Written.{Written}
+use Rattle.jobs.specs.JobView.{JobView}
 use Rattle.tuple_trace.specs.declared.tuple.Item.{Item}
 use Rattle.flow_model.specs.Lanes.{lanes}
 use Rattle.flow_model.specs.declared.topology.Lane.{Lane}
@@ -13,7 +13,7 @@ use Rattle.flow_ends.specs.Sorted.{HaveFirstLanes, changed, leads_to, leads_from
 use Rattle.flow_ends.proofs.Numbers.{first_all}
 use Rattle.flow_ends.proofs.Sorting.{each_placed, lane_receiver, lane_sender, receiver_has, sender_has, unsort_in, unsort_out}
 
-module _ (job : Written) (all : List SideIs) (fed : List EndpointIs) where
+module _ (job : JobView) (all : List SideIs) (fed : List EndpointIs) where
   -- an endpoint of a sender, or of a receiver, at the beginning
   abbrev pub Sends : Option ℕ → EndpointIs → Type 0
   Sends sender end = IsAmong (outs_at sender all fed) end

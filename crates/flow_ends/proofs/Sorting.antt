@@ -4,10 +4,10 @@ use Rattle.std.specs.Prelude.{IfSome}
 use Rattle.std.proofs.lemmas.List.{map-append}
 use Rattle.std.proofs.lemmas.Bool.{eq-eqb, eqb-true}
 use Rattle.std.proofs.lemmas.Option.{slice_get_within}
-use Rattle.jobs.specs.Written.{Written}
+use Rattle.jobs.specs.JobView.{JobView}
 use Rattle.flow_model.specs.Lanes.{is_sender, lanes, senders}
 use Rattle.flow_model.specs.declared.topology.Lane.{Lane}
-use Rattle.flow_model.specs.Workers.{posts}
+use Rattle.flow_model.specs.Workers.{workers_in}
 use Rattle.flow_model.proofs.ElementLemmas.{IsIn}
 use Rattle.flow_model.proofs.LaneLemmas.{lane_is, sender_worker}
 use Rattle.flow_model.proofs.LaneNumbers.{receiver_there}
@@ -81,7 +81,7 @@ each_got P [] k x e g = absurd (cc)
 each_got P (y ∷ ys) zero x e g = let s : y ≡ x = cc in subst P s e.0
 each_got P (y ∷ ys) (suc k) x e g = each_got P ys k x e.1 g
 
-pub weaker : {test : Lane → Bool} {job : Written} {i : ℕ} (P Q : EndpointIs → Type 0) (ends : List EndpointIs) → ((x : EndpointIs) → P x → Q x) → HasLanes test job P i ends → HasLanes test job Q i ends
+pub weaker : {test : Lane → Bool} {job : JobView} {i : ℕ} (P Q : EndpointIs → Type 0) (ends : List EndpointIs) → ((x : EndpointIs) → P x → Q x) → HasLanes test job P i ends → HasLanes test job Q i ends
 weaker P Q ends f h = record { numbers = h.numbers; each = each_map P Q ends f h.each }
 
 -- ---- tests of senders and receivers
@@ -98,7 +98,7 @@ not_leads w r n = unequal (r == w) (λ t. n (eqb-true r w t))
 
 -- ---- one lane more, or one lane less
 
-module _ (job : Written) (i : ℕ) (lane : Lane) (at : slice_get (lanes job) i ≡ Some lane) where
+module _ (job : JobView) (i : ℕ) (lane : Lane) (at : slice_get (lanes job) i ≡ Some lane) where
   take_lane : (test : Lane → Bool) (P : EndpointIs → Type 0) (ends : List EndpointIs) (end : EndpointIs) → test lane ≡ true → end.number ≡ i → P end → HasLanes test job P i ends → HasLanes test job P (i + 1) (ends ++ end ∷ [])
   take_lane test P ends end t number p h = record {
     numbers =
@@ -123,7 +123,7 @@ module _ (job : Written) (i : ℕ) (lane : Lane) (at : slice_get (lanes job) i �
   some_end : (test : Lane → Bool) (P : EndpointIs → Type 0) (ends : List EndpointIs) → test lane ≡ true → HasLanes test job P (i + 1) ends → ends ≡ [] → ⊥
   some_end test P ends t h e = not_empty (first_numbers test job i) i (sym (first_taken test job i lane at t) ∙ (sym h.numbers ∙ ap numbers_of e))
 
-module _ (job : Written) (P : Option ℕ → EndpointIs → Type 0) (Q : ℕ → EndpointIs → Type 0) (i : ℕ) (lane : Lane) (at : slice_get (lanes job) i ≡ Some lane) where
+module _ (job : JobView) (P : Option ℕ → EndpointIs → Type 0) (Q : ℕ → EndpointIs → Type 0) (i : ℕ) (lane : Lane) (at : slice_get (lanes job) i ≡ Some lane) where
   -- the sender's endpoint of the next lane
   pub sort_out : (j : ℕ) (end : EndpointIs) (sides : List SideIs) (fed : List EndpointIs) → end.number ≡ i → P lane.sender end → HaveFirstLanes job P Q i j sides fed
       → HaveFirstLanes job P Q (i + 1) j (with_out lane.sender (end ∷ []) sides) (with_fed lane.sender (end ∷ []) fed)
@@ -178,12 +178,12 @@ module _ (job : Written) (P : Option ℕ → EndpointIs → Type 0) (Q : ℕ →
           (skip_lane job i lane at (leads_to w) (Q w) was.ins (not_leads w lane.receiver a) (h.ins w was g))
 
   -- the sender's endpoint of the last lane is taken away
-  pub unsort_out : (j : ℕ) (end : EndpointIs) (sides : List SideIs) (fed : List EndpointIs) → IfSome lane.sender (λ w. w < length (posts job))
+  pub unsort_out : (j : ℕ) (end : EndpointIs) (sides : List SideIs) (fed : List EndpointIs) → IfSome lane.sender (λ w. w < length (workers_in job))
       → HaveFirstLanes job P Q (i + 1) j (with_out lane.sender (end ∷ []) sides) (with_fed lane.sender (end ∷ []) fed)
       → (end.number ≡ i) × P lane.sender end × HaveFirstLanes job P Q i j sides fed
   unsort_out j end sides fed within = go lane.sender refl within
     where
-      go : (sender : Option ℕ) → lane.sender ≡ sender → IfSome sender (λ w. w < length (posts job)) → HaveFirstLanes job P Q (i + 1) j (with_out sender (end ∷ []) sides) (with_fed sender (end ∷ []) fed)
+      go : (sender : Option ℕ) → lane.sender ≡ sender → IfSome sender (λ w. w < length (workers_in job)) → HaveFirstLanes job P Q (i + 1) j (with_out sender (end ∷ []) sides) (with_fed sender (end ∷ []) fed)
           → (end.number ≡ i) × P sender end × HaveFirstLanes job P Q i j sides fed
       go None e lt h =
           let u = give_lane job i lane at feeder_sends (P None) fed end (rw e refl) h.feeder in (
@@ -207,7 +207,7 @@ module _ (job : Written) (P : Option ℕ → EndpointIs → Type 0) (Q : ℕ →
         },
       )
         where
-          many : length sides ≡ length (posts job)
+          many : length sides ≡ length (workers_in job)
           many = sym (length-changed (more_out (end ∷ [])) sides s) ∙ h.many
 
           given : (w : ℕ) (side : SideIs) → s ≡ w → slice_get (changed (more_out (end ∷ [])) s sides) w ≡ Some (more_out (end ∷ []) side) → (end.number ≡ i) × P (Some w) end × HasLanes (leads_from w) job (P (Some w)) i side.outs
@@ -232,7 +232,7 @@ module _ (job : Written) (P : Option ℕ → EndpointIs → Type 0) (Q : ℕ →
           into_worker w side (inr (a, b)) = h.ins w side b
 
   -- the receiver's endpoint of the last lane is taken away
-  pub unsort_in : (j : ℕ) (end : EndpointIs) (sides : List SideIs) (fed : List EndpointIs) → lane.receiver < length (posts job)
+  pub unsort_in : (j : ℕ) (end : EndpointIs) (sides : List SideIs) (fed : List EndpointIs) → lane.receiver < length (workers_in job)
       → HaveFirstLanes job P Q j (i + 1) (changed (more_in (end ∷ [])) lane.receiver sides) fed → (end.number ≡ i) × Q lane.receiver end × HaveFirstLanes job P Q j i sides fed
   unsort_in j end sides fed lt h = (
     of_receiver.0,
@@ -248,7 +248,7 @@ module _ (job : Written) (P : Option ℕ → EndpointIs → Type 0) (Q : ℕ →
       r : ℕ
       r = lane.receiver
 
-      many : length sides ≡ length (posts job)
+      many : length sides ≡ length (workers_in job)
       many = sym (length-changed (more_in (end ∷ [])) sides lane.receiver) ∙ h.many
 
       given : (w : ℕ) (side : SideIs) → lane.receiver ≡ w → slice_get (changed (more_in (end ∷ [])) lane.receiver sides) w ≡ Some (more_in (end ∷ []) side) → (end.number ≡ i) × Q w end × HasLanes (leads_to w) job (Q w) i side.ins
@@ -273,17 +273,17 @@ module _ (job : Written) (P : Option ℕ → EndpointIs → Type 0) (Q : ℕ →
       into_worker w side (inr (a, b)) = pass_lane job i lane at (leads_to w) (Q w) side.ins (not_leads w lane.receiver a) (h.ins w side b)
 
   -- as long as the lane isn't settled, its two ends have its endpoints
-  pub sender_has : (j : ℕ) (sides : List SideIs) (fed : List EndpointIs) → IfSome lane.sender (λ w. w < length (posts job)) → HaveFirstLanes job P Q (i + 1) j sides fed → outs_at lane.sender sides fed ≡ [] → ⊥
+  pub sender_has : (j : ℕ) (sides : List SideIs) (fed : List EndpointIs) → IfSome lane.sender (λ w. w < length (workers_in job)) → HaveFirstLanes job P Q (i + 1) j sides fed → outs_at lane.sender sides fed ≡ [] → ⊥
   sender_has j sides fed within h = go lane.sender refl within
     where
-      go : (sender : Option ℕ) → lane.sender ≡ sender → IfSome sender (λ w. w < length (posts job)) → outs_at sender sides fed ≡ [] → ⊥
+      go : (sender : Option ℕ) → lane.sender ≡ sender → IfSome sender (λ w. w < length (workers_in job)) → outs_at sender sides fed ≡ [] → ⊥
       go None e lt none = some_end job i lane at feeder_sends (P None) fed (rw e refl) h.feeder none
       go (Some s) e lt none =
           let m = h.many in
           let there = item_at sides s (omega (arith, m, lt)) in
           some_end job i lane at (leads_from s) (P (Some s)) there.0.outs (ap (is_sender s) e ∙ eq-eqb s s refl) (h.outs s there.0 there.1) (ap side_outs (sym there.1) ∙ none)
 
-  pub receiver_has : (j : ℕ) (sides : List SideIs) (fed : List EndpointIs) → lane.receiver < length (posts job) → HaveFirstLanes job P Q j (i + 1) sides fed → ins_at lane.receiver sides ≡ [] → ⊥
+  pub receiver_has : (j : ℕ) (sides : List SideIs) (fed : List EndpointIs) → lane.receiver < length (workers_in job) → HaveFirstLanes job P Q j (i + 1) sides fed → ins_at lane.receiver sides ≡ [] → ⊥
   receiver_has j sides fed lt h none =
       let m = h.many in
       let there = item_at sides lane.receiver (omega (arith, m, lt)) in
@@ -291,15 +291,15 @@ module _ (job : Written) (P : Option ℕ → EndpointIs → Type 0) (Q : ℕ →
 
 -- ---- a lane's sender and receiver are workers of the job
 
-pub lane_receiver : (job : Written) (i : ℕ) (lane : Lane) → slice_get (lanes job) i ≡ Some lane → lane.receiver < length (posts job)
-lane_receiver job i lane at = let is = lane_is job i lane at in slice_get_within (posts job) lane.receiver is.to (receiver_there job lane is)
+pub lane_receiver : (job : JobView) (i : ℕ) (lane : Lane) → slice_get (lanes job) i ≡ Some lane → lane.receiver < length (workers_in job)
+lane_receiver job i lane at = let is = lane_is job i lane at in slice_get_within (workers_in job) lane.receiver is.to (receiver_there job lane is)
 
-pub lane_sender : (job : Written) (i : ℕ) (lane : Lane) → slice_get (lanes job) i ≡ Some lane → IfSome lane.sender (λ w. w < length (posts job))
+pub lane_sender : (job : JobView) (i : ℕ) (lane : Lane) → slice_get (lanes job) i ≡ Some lane → IfSome lane.sender (λ w. w < length (workers_in job))
 lane_sender job i lane at = go lane.sender refl
   where
-    go : (sender : Option ℕ) → lane.sender ≡ sender → IfSome sender (λ w. w < length (posts job))
+    go : (sender : Option ℕ) → lane.sender ≡ sender → IfSome sender (λ w. w < length (workers_in job))
     go None e = tt
     go (Some w) e =
         let is = lane_is job i lane at in
-        let (post, there, number, node) = sender_worker job is.edge.from w (subst (λ (o : Option ℕ). IsIn o (senders job is.edge.from)) e is.sends) in
-        slice_get_within (posts job) w post there
+        let (who, there, number, node) = sender_worker job is.edge.from w (subst (λ (o : Option ℕ). IsIn o (senders job is.edge.from)) e is.sends) in
+        slice_get_within (workers_in job) w who there

@@ -3,10 +3,10 @@ use Rattle.std.specs.Prelude.{◌≡◌, List, length, map, true}
 use Rattle.sink_journal.specs.declared.journal.Feed.{Feed}
 use Rattle.tuple_trace.specs.declared.row.Row.{Row}
 use Rattle.flow_model.specs.Begin.{Begin}
-use Rattle.flow_model.specs.Outline.{Outline}
+use Rattle.flow_model.specs.SetupView.{SetupView}
 use Rattle.flow_model.specs.Requests.{afters}
 use Rattle.flow_model.specs.Run.{Ran, ran_as}
-use Rattle.flow_model.specs.Workers.{posts}
+use Rattle.flow_model.specs.Workers.{workers_in}
 use Rattle.flow_worker.specs.Pairs.{Each}
 use Rattle.flow_worker.specs.Parts.{EndpointIs, WorkedIs}
 use Rattle.flow_worker.specs.Turning.{IsDone}
@@ -22,9 +22,9 @@ fed_end out =
     record { lane = out.lane; number = out.number; origin = out.origin; items = out.sent }
 
 -- the workers of a run are done, and its feeder has stopped and left this feed and these endpoints
-pub record IsOver (setup : Outline) (begin : Begin) (rows : List Row) (workers : List WorkerIs)
+pub record IsOver (setup : SetupView) (begin : Begin) (rows : List Row) (workers : List WorkerIs)
     (feeds : List Feed) (outs : List OutIs) : Type 0 where
-  pub starts : length begin.states ≡ length (posts setup.job)
+  pub starts : length begin.states ≡ length (workers_in setup.job)
   pub crew : IsCrew setup begin workers
   pub done : Each IsDone workers
   pub matched : AreMatched (map worker_side workers) (map fed_end outs)
@@ -40,7 +40,7 @@ worked_of worker =
     record { number = worker.number; journal = worker.journal; state = worker.counts }
 
 -- the record of a run: its feed, and the journals and the counts of its workers
-abbrev pub record_of : Outline → List Feed → List WorkedIs → Ran
+abbrev pub record_of : SetupView → List Feed → List WorkedIs → Ran
 record_of setup feeds workers =
     ran_as setup feeds (map (λ (w : WorkedIs). w.journal) workers)
     (map (λ (w : WorkedIs). w.state) workers)

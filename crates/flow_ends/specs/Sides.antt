@@ -1,11 +1,11 @@
 -- The endpoints of the workers and of the feeder.
 use Rattle.std.specs.Prelude.{◌≡◌, ℕ, Bool, List, [], ◌++◌, length, map, Option, Some, None, slice_get}
-use Rattle.jobs.specs.Written.{Written}
+use Rattle.jobs.specs.JobView.{JobView}
 use Rattle.lane_core.specs.Lane.{LaneId}
 use Rattle.tuple_trace.specs.declared.tuple.Item.{Item}
 use Rattle.flow_model.specs.Lanes.{is_same_sender, lanes, lanes_in, lanes_that, out_numbers}
 use Rattle.flow_model.specs.declared.topology.Lane.{Lane}
-use Rattle.flow_model.specs.Workers.{posts}
+use Rattle.flow_model.specs.Workers.{workers_in}
 use Rattle.flow_worker.specs.Endpoints.{LaneInIs, LaneOutIs}
 use Rattle.flow_worker.specs.Parts.{EndpointIs, endpoint_in, endpoint_out}
 use Rattle.flow_worker.specs.Worker.{WorkerIs}
@@ -38,9 +38,9 @@ abbrev pub feeder_sends : Lane → Bool
 feeder_sends lane = is_same_sender None lane.sender
 
 -- each worker and the feeder have the endpoints of all their lanes, in the order of their numbers
-pub record HaveAllLanes (job : Written) (sides : List SideIs) (fed : List EndpointIs)
+pub record HaveAllLanes (job : JobView) (sides : List SideIs) (fed : List EndpointIs)
     : Type 0 where
-  pub many : length sides ≡ length (posts job)
+  pub many : length sides ≡ length (workers_in job)
   pub ins :
       (w : ℕ) (side : SideIs) → slice_get sides w ≡ Some side →
       numbers_of side.ins ≡ lanes_in job w
@@ -91,6 +91,6 @@ pub record IsSettled (sides : List SideIs) (fed : List EndpointIs) (n : ℕ) (la
   pub settled : tx.items ≡ rx.items ++ left
 
 -- each lane of the job is settled
-abbrev pub AreSettled : Written → List SideIs → List EndpointIs → Type 0
+abbrev pub AreSettled : JobView → List SideIs → List EndpointIs → Type 0
 AreSettled job sides fed =
     (n : ℕ) (lane : Lane) → slice_get (lanes job) n ≡ Some lane → IsSettled sides fed n lane

@@ -1,8 +1,9 @@
 // The endpoints of all lanes of a job, made one lane after another.
-ghost use Rattle.std.specs.Prelude.{◌≡◌, ℕ, ◌<◌, ◌≤◌, ◌∷◌, [], IfOk, IfSome, OnOk, Some, length, replicate, slice_get};
+ghost use Rattle.std.specs.Prelude.{◌≡◌, ℕ, ◌<◌, ◌≤◌, ◌∷◌, [], IfOk, IfSome, OnOk, Some, length};
+ghost use Rattle.std.specs.Prelude.{replicate, slice_get};
 ghost use Rattle.flow_model.specs.Lanes.{lanes};
-ghost use Rattle.flow_model.specs.Setup.{outline};
-ghost use Rattle.flow_model.specs.Workers.{posts};
+ghost use Rattle.flow_model.specs.Setup.{setup_view};
+ghost use Rattle.flow_model.specs.Workers.{workers_in};
 ghost use Rattle.flow_worker.specs.Parts.{AreNewEndpoints, endpoints};
 ghost use Rattle.coordinator.specs.Starts.{AreNewOuts};
 ghost use Rattle.coordinator.specs.Views.{outs_of};
@@ -37,11 +38,11 @@ impl<L: Lanes> AllEndpoints<L> {
         requires some { 1 ≤ cap }
         requires few { cap ≤ 64 }
         ensures many { IfOk result (λ made. length made.workers.items
-            ≡ length (posts (outline setup.now).job)) }
+            ≡ length (workers_in (setup_view setup.now).job)) }
         ensures workers { IfOk result (λ made. (w : ℕ) (side : SideIs)
             → slice_get made.workers.items w ≡ Some side
-            → AreNewEndpoints (outline setup.now).job w side.ins side.outs) }
-        ensures feeder { IfOk result (λ made. AreNewOuts (outline setup.now).job
+            → AreNewEndpoints (setup_view setup.now).job w side.ins side.outs) }
+        ensures feeder { IfOk result (λ made. AreNewOuts (setup_view setup.now).job
             (outs_of L.Tx.lane L.Tx.number L.Tx.origin L.Tx.capacity L.Tx.sent L.Tx.full
             made.feeder.items)) }
         ensures matched { IfOk result (λ made. AreMatched made.workers.items
@@ -71,12 +72,12 @@ fn make_lane<L: Lanes>(
     lane: Lane,
     cap: u32,
 ) -> Result<(L::Tx, L::Rx), NoMemory>
-    requires lane { slice_get (lanes (outline setup.now).job) number ≡ Some lane }
+    requires lane { slice_get (lanes (setup_view setup.now).job) number ≡ Some lane }
     requires some { 1 ≤ cap }
     requires few { cap ≤ 64 }
-    ensures tx { IfOk result (λ (tx, rx). AreNewAt (outline setup.now).job graph number
+    ensures tx { IfOk result (λ (tx, rx). AreNewAt (setup_view setup.now).job graph number
         (endpoints L.Tx.lane L.Tx.number L.Tx.origin L.Tx.sent (tx ∷ []))) }
-    ensures rx { IfOk result (λ (tx, rx). AreNewAt (outline setup.now).job graph number
+    ensures rx { IfOk result (λ (tx, rx). AreNewAt (setup_view setup.now).job graph number
         (endpoints L.Rx.lane L.Rx.number L.Rx.origin L.Rx.taken (rx ∷ []))) }
     ensures lane { IfOk result (λ (tx, rx). L.Tx.lane tx ≡ L.Rx.lane rx) }
 {

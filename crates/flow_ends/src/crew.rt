@@ -1,8 +1,8 @@
 // The workers of a setup, each over its endpoints and with its box.
 ghost use Rattle.std.specs.Prelude.{◌≡◌, ℕ, ◌<◌, ◌≤◌, IfOk, Some, length, map, slice_get};
 ghost use Rattle.flow_model.specs.Begin.{at_first};
-ghost use Rattle.flow_model.specs.Setup.{outline};
-ghost use Rattle.flow_model.specs.Workers.{posts};
+ghost use Rattle.flow_model.specs.Setup.{setup_view};
+ghost use Rattle.flow_model.specs.Workers.{workers_in};
 ghost use Rattle.flow_worker.specs.Parts.{AreNewEndpoints};
 ghost use Rattle.coordinator.specs.Starts.{AreNewOuts, AreUnused};
 ghost use Rattle.coordinator.specs.Views.{outs_of};
@@ -35,10 +35,11 @@ impl<L: Lanes> Crew<L> {
     pub fn make(alloc: Global, form: &L, setup: &Setup, cap: u32) -> Result<Crew<L>, NoMemory>
         requires some { 1 ≤ cap }
         requires few { cap ≤ 64 }
-        ensures workers { IfOk result (λ crew. IsCrew (outline setup.now)
-            (at_first (outline setup.now)) crew.workers.items) }
-        ensures posters { IfOk result (λ crew. AreUnused (outline setup.now) crew.posters.items) }
-        ensures outs { IfOk result (λ crew. AreNewOuts (outline setup.now).job
+        ensures workers { IfOk result (λ crew. IsCrew (setup_view setup.now)
+            (at_first (setup_view setup.now)) crew.workers.items) }
+        ensures posters { IfOk result (λ crew. AreUnused (setup_view setup.now)
+            crew.posters.items) }
+        ensures outs { IfOk result (λ crew. AreNewOuts (setup_view setup.now).job
             (outs_of L.Tx.lane L.Tx.number L.Tx.origin L.Tx.capacity L.Tx.sent L.Tx.full
             crew.outs.items)) }
         ensures matched { IfOk result (λ crew. AreMatched (map worker_side crew.workers.items)
@@ -61,12 +62,13 @@ impl<L: Lanes> Crew<L> {
     ) -> Result<Crew<L>, NoMemory>
         requires some { 1 ≤ cap }
         requires few { cap ≤ 64 }
-        requires turned { start.now.turned ≤ length (outline setup.now).requests }
-        requires states { length start.now.states ≡ length (posts (outline setup.now).job) }
-        ensures workers { IfOk result (λ crew. IsCrew (outline setup.now) start.now
+        requires turned { start.now.turned ≤ length (setup_view setup.now).requests }
+        requires states { length start.now.states ≡ length (workers_in (setup_view setup.now).job) }
+        ensures workers { IfOk result (λ crew. IsCrew (setup_view setup.now) start.now
             crew.workers.items) }
-        ensures posters { IfOk result (λ crew. AreUnused (outline setup.now) crew.posters.items) }
-        ensures outs { IfOk result (λ crew. AreNewOuts (outline setup.now).job
+        ensures posters { IfOk result (λ crew. AreUnused (setup_view setup.now)
+            crew.posters.items) }
+        ensures outs { IfOk result (λ crew. AreNewOuts (setup_view setup.now).job
             (outs_of L.Tx.lane L.Tx.number L.Tx.origin L.Tx.capacity L.Tx.sent L.Tx.full
             crew.outs.items)) }
         ensures matched { IfOk result (λ crew. AreMatched (map worker_side crew.workers.items)
@@ -91,13 +93,13 @@ fn make_workers<L: Lanes>(
     sides: Vec<Side<L>>,
     start: &Start,
 ) -> Result<Made<L>, NoMemory>
-    requires many { length sides.items ≡ length (posts (outline setup.now).job) }
+    requires many { length sides.items ≡ length (workers_in (setup_view setup.now).job) }
     requires sides { (w : ℕ) (side : SideIs) → slice_get sides.items w ≡ Some side
-        → AreNewEndpoints (outline setup.now).job w side.ins side.outs }
-    requires turned { start.now.turned ≤ length (outline setup.now).requests }
-    requires states { length start.now.states ≡ length (posts (outline setup.now).job) }
-    ensures workers { IfOk result (λ made. IsCrew (outline setup.now) start.now made.0.items) }
-    ensures posters { IfOk result (λ made. AreUnused (outline setup.now) made.1.items) }
+        → AreNewEndpoints (setup_view setup.now).job w side.ins side.outs }
+    requires turned { start.now.turned ≤ length (setup_view setup.now).requests }
+    requires states { length start.now.states ≡ length (workers_in (setup_view setup.now).job) }
+    ensures workers { IfOk result (λ made. IsCrew (setup_view setup.now) start.now made.0.items) }
+    ensures posters { IfOk result (λ made. AreUnused (setup_view setup.now) made.1.items) }
     ensures sides { IfOk result (λ made. map worker_side made.0.items ≡ sides.items) }
 {
     let mut workers = Vec::new(alloc);

@@ -2,9 +2,9 @@
 ghost use Rattle.std.specs.Prelude.{◌≡◌, ◌≤◌, IfOk, List, length, map};
 ghost use Rattle.tuple_trace.specs.declared.row.Row.{Row as RowIs};
 ghost use Rattle.flow_model.specs.Begin.{Begin};
-ghost use Rattle.flow_model.specs.Outline.{Outline};
+ghost use Rattle.flow_model.specs.SetupView.{SetupView};
 ghost use Rattle.flow_model.specs.Run.{IsRunSince};
-ghost use Rattle.flow_model.specs.Setup.{outline};
+ghost use Rattle.flow_model.specs.Setup.{setup_view};
 ghost use Rattle.flow_worker.specs.Pairs.{Each};
 ghost use Rattle.flow_worker.specs.Turning.{IsDone};
 ghost use Rattle.flow_worker.specs.Worker.{WorkerIs};
@@ -31,8 +31,8 @@ pub struct Ended<L: Lanes> {
 }
 
 /// Takes apart the workers of a run, which are done, and settles each lane. `setup` is that of the
-/// run. `workers` stand in the order of their numbers. `feeder` is what the feeder leaves, which has
-/// stopped.
+/// run. `workers` stand in the order of their numbers. `feeder` is what the feeder leaves, which
+/// has stopped.
 ///
 /// The one error is out of memory. It gives workers and endpoints up.
 pub fn end_run<L: Lanes>(
@@ -43,14 +43,14 @@ pub fn end_run<L: Lanes>(
     workers: Vec<Worker<L>>,
     feeder: FeedParts<L>,
 ) -> Result<Ended<L>, NoMemory>
-    requires over { (ran : Outline) × (begin : Begin) × (rows : List RowIs)
-        × (ran.job ≡ (outline setup.now).job)
+    requires over { (ran : SetupView) × (begin : Begin) × (rows : List RowIs)
+        × (ran.job ≡ (setup_view setup.now).job)
         × IsOver ran begin rows workers.items feeder.feeds (outs_of L.Tx.lane L.Tx.number
         L.Tx.origin L.Tx.capacity L.Tx.sent L.Tx.full feeder.outs.items) }
     ensures feeds { IfOk result (λ ended. ended.feeds ≡ feeder.feeds) }
     ensures workers { IfOk result (λ ended. ended.workers.items ≡ map worked_of workers.items) }
-    ensures run { IfOk result (λ ended. (ran : Outline) (begin : Begin) (rows : List RowIs)
-        → ran.job ≡ (outline setup.now).job
+    ensures run { IfOk result (λ ended. (ran : SetupView) (begin : Begin) (rows : List RowIs)
+        → ran.job ≡ (setup_view setup.now).job
         → IsOver ran begin rows workers.items feeder.feeds (outs_of L.Tx.lane L.Tx.number
         L.Tx.origin L.Tx.capacity L.Tx.sent L.Tx.full feeder.outs.items)
         → IsRunSince begin ran rows (record_of ran ended.feeds ended.workers.items)) }

@@ -1,9 +1,9 @@
-// What turns, and other rows for requests, leave as it is. Each function proves its clause, and does
-// nothing.
+// What turns, and other rows for requests, leave as it is. Each function proves its clause, and
+// does nothing.
 ghost use Rattle.std.specs.Prelude.{◌≡◌, List, map};
 ghost use Rattle.versions.specs.declared.request.Request.{Request as RequestIs};
 ghost use Rattle.flow_model.specs.Begin.{Begin};
-ghost use Rattle.flow_model.specs.Outline.{Outline};
+ghost use Rattle.flow_model.specs.SetupView.{SetupView};
 ghost use Rattle.flow_worker.specs.Worker.{WorkerIs};
 ghost use Rattle.coordinator.specs.Views.{OutIs, end_of};
 ghost use Rattle.flow_ends.specs.Crews.{IsCrew};
@@ -18,10 +18,10 @@ pub fn endpoints_stay_matched()
         → AreMatched (map worker_side later) (map fed_end left) }
 {}
 
-/// The law of a worker doesn't read the rows that the requests wait for: a crew of a setup is a crew
-/// of any setup that differs in these rows alone.
+/// The law of a worker doesn't read the rows that the requests wait for: a crew of a setup is a
+/// crew of any setup that differs in these rows alone.
 pub fn workers_read_no_rows()
-    ensures { (setup : Outline) (begin : Begin) (requests : List RequestIs)
+    ensures { (setup : SetupView) (begin : Begin) (requests : List RequestIs)
         (workers : List WorkerIs)
         → map (λ (request : RequestIs). request.changes) requests
         ≡ map (λ (request : RequestIs). request.changes) setup.requests

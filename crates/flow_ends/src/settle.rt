@@ -1,6 +1,6 @@
 // The settling of all lanes, one after another, from the last to the first.
 ghost use Rattle.std.specs.Prelude.{◌≡◌, ◌<◌, ◌∷◌, [], IfNone, IfSome, OnOk, Some, length};
-ghost use Rattle.flow_model.specs.Setup.{outline};
+ghost use Rattle.flow_model.specs.Setup.{setup_view};
 ghost use Rattle.flow_worker.specs.Parts.{endpoints};
 ghost use Rattle.flow_ends.specs.Sides.{AreMatched, AreSettled, HaveAllLanes, ins_at, outs_at};
 ghost use Rattle.flow_ends.specs.Sorted.{changed, more_in, more_out, with_fed, with_out};
@@ -23,11 +23,11 @@ pub fn settle_all<L: Lanes>(
     sides: Vec<Side<L>>,
     feeder: Vec<L::Tx>,
 ) -> Result<(), NoMemory>
-    requires lanes { HaveAllLanes (outline setup.now).job sides.items
+    requires lanes { HaveAllLanes (setup_view setup.now).job sides.items
         (endpoints L.Tx.lane L.Tx.number L.Tx.origin L.Tx.sent feeder.items) }
     requires matched { AreMatched sides.items
         (endpoints L.Tx.lane L.Tx.number L.Tx.origin L.Tx.sent feeder.items) }
-    ensures { OnOk result (AreSettled (outline setup.now).job sides.items
+    ensures { OnOk result (AreSettled (setup_view setup.now).job sides.items
         (endpoints L.Tx.lane L.Tx.number L.Tx.origin L.Tx.sent feeder.items)) }
 {
     let mut sides = sides;

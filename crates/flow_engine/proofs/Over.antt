@@ -7,8 +7,8 @@ use Rattle.lane_core.specs.Lane.{LaneId}
 use Rattle.sink_journal.specs.declared.journal.Feed.{Feed}
 use Rattle.tuple_trace.specs.declared.row.Row.{Row}
 use Rattle.flow_model.specs.Begin.{Begin}
-use Rattle.flow_model.specs.Outline.{Outline}
-use Rattle.flow_model.specs.Workers.{posts}
+use Rattle.flow_model.specs.SetupView.{SetupView}
+use Rattle.flow_model.specs.Workers.{workers_in}
 use Rattle.flow_worker.specs.Endpoints.{LaneInIs, LaneOutIs}
 use Rattle.flow_worker.specs.Pairs.{Each}
 use Rattle.flow_worker.specs.Parts.{WorkedIs}
@@ -51,11 +51,11 @@ same_many new old same = sym (length-map new fixed_in) ∙ (ap length same ∙ l
 -- ---- crews
 
 -- a crew is made of workers in their order
-pub to_workers : (setup : Outline) (begin : Begin) (workers : List WorkerIs) → IsCrew setup begin workers → AreWorkers setup begin workers
+pub to_workers : (setup : SetupView) (begin : Begin) (workers : List WorkerIs) → IsCrew setup begin workers → AreWorkers setup begin workers
 to_workers setup begin workers crew = record { number = crew.number; law = crew.law }
 
 -- and the workers that come back are a crew again
-to_crew : (setup : Outline) (begin : Begin) (new old : List WorkerIs) → map fixed_in new ≡ map fixed_in old → IsCrew setup begin old → AreWorkers setup begin new → IsCrew setup begin new
+to_crew : (setup : SetupView) (begin : Begin) (new old : List WorkerIs) → map fixed_in new ≡ map fixed_in old → IsCrew setup begin old → AreWorkers setup begin new → IsCrew setup begin new
 to_crew setup begin new old same crew are = record { many = same_many new old same ∙ crew.many; number = are.number; law = are.law }
 
 -- a worker leaves its number
@@ -63,17 +63,17 @@ leaves_number : (ws : List WorkerIs) → map number_of (map worked_of ws) ≡ ma
 leaves_number [] = refl
 leaves_number (w ∷ ws) = ap (λ (ks : List ℕ). w.number ∷ ks) (leaves_number ws)
 
-pub numbers_after : (setup : Outline) (begin begun : Begin) (new old : List WorkerIs) (left : List WorkedIs) → map fixed_in new ≡ map fixed_in old → IsCrew setup begun old → AreWorkers setup begin new
-    → left ≡ map worked_of new → map number_of left ≡ range_with_len 0 (length (posts setup.job))
+pub numbers_after : (setup : SetupView) (begin begun : Begin) (new old : List WorkerIs) (left : List WorkedIs) → map fixed_in new ≡ map fixed_in old → IsCrew setup begun old → AreWorkers setup begin new
+    → left ≡ map worked_of new → map number_of left ≡ range_with_len 0 (length (workers_in setup.job))
 numbers_after setup begin begun new old left same crew are is =
     ap (map number_of) is ∙ (leaves_number new ∙ (in_order new are.number ∙ ap (range_with_len 0) (same_many new old same ∙ crew.many)))
 
 -- ---- the end of the turns
 
 -- what was made for a run, and what its turns leave
-pub record HasTurned (setup : Outline) (begin begun : Begin) (rows : List Row) (old new : List WorkerIs) (fed left : List OutIs) (feeds : List Feed) (f : FeederIs) : Type 0 where
+pub record HasTurned (setup : SetupView) (begin begun : Begin) (rows : List Row) (old new : List WorkerIs) (fed left : List OutIs) (feeds : List Feed) (f : FeederIs) : Type 0 where
   pub begins : begin ≡ begun
-  pub starts : length begun.states ≡ length (posts setup.job)
+  pub starts : length begun.states ≡ length (workers_in setup.job)
   pub crew : IsCrew setup begun old
   pub matched : AreMatched (map worker_side old) (map fed_end fed)
   pub are : AreWorkers setup begin new
@@ -86,7 +86,7 @@ pub record HasTurned (setup : Outline) (begin begun : Begin) (rows : List Row) (
   pub outs_are : f.outs ≡ left
 
 -- the turns of a run from its beginning on are over
-pub are_over : (setup : Outline) (begin begun : Begin) (rows : List Row) (old new : List WorkerIs) (fed left : List OutIs) (feeds : List Feed) (f : FeederIs)
+pub are_over : (setup : SetupView) (begin begun : Begin) (rows : List Row) (old new : List WorkerIs) (fed left : List OutIs) (feeds : List Feed) (f : FeederIs)
     → ((workers later : List WorkerIs) (outs left : List OutIs) → map lane_ids later ≡ map lane_ids workers → map end_of left ≡ map end_of outs
     → AreMatched (map worker_side workers) (map fed_end outs) → AreMatched (map worker_side later) (map fed_end left))
     → HasTurned setup begin begun rows old new fed left feeds f → IsOver setup begun rows new feeds left

@@ -13,8 +13,8 @@ use tuple_trace::NoMemory;
 /// What a run leaves: its setup, what the feeder did, and what each worker leaves, in the order of
 /// the workers' numbers.
 ///
-/// Only turns of a worker over lanes of the form `L` make a [`Worked`], so the journals are those of
-/// workers.
+/// Only turns of a worker over lanes of the form `L` make a [`Worked`], so the journals are those
+/// of workers.
 #[derive(Drop)]
 pub struct Flown<L: Lanes> {
     pub setup: Setup,

@@ -3,8 +3,8 @@ ghost use Rattle.std.specs.Prelude.{◌≡◌, ◌≤◌, IfOk, length, map};
 ghost use Rattle.std.specs.List.{range_with_len};
 ghost use Rattle.jobs.specs.Nodes.{AreFromSources};
 ghost use Rattle.flow_model.specs.Run.{IsRun, IsRunSince};
-ghost use Rattle.flow_model.specs.Setup.{outline};
-ghost use Rattle.flow_model.specs.Workers.{posts};
+ghost use Rattle.flow_model.specs.Setup.{setup_view};
+ghost use Rattle.flow_model.specs.Workers.{workers_in};
 ghost use Rattle.flow_ends.specs.Ended.{record_of};
 ghost use Rattle.flow_engine.specs.Flown.{number_of};
 
@@ -20,16 +20,16 @@ use std::sync::Wait;
 use std::thread::Threads;
 use tuple_trace::{Gate, NoMemory, Rows};
 
-/// Runs rows by a setup on at most `threads` threads, 1 to 16, over lanes of this form, each of which
-/// holds at most `cap` items, 1 to 64.
+/// Runs rows by a setup on at most `threads` threads, 1 to 16, over lanes of this form, each of
+/// which holds at most `cap` items, 1 to 64.
 ///
 /// Requests overtake the tuples that wait on lanes: the feeder posts each to the workers of its
 /// heads directly after its row, as in the Fries paper (Wang and others, VLDB 2022). `gate` is
 /// called before each tuple that a worker processes, and after each request that is issued.
 ///
 /// The record of what it returns is a run of the setup and the rows, however many threads there are
-/// and however they are scheduled. The one error is out of memory. A thread that can't be started is
-/// no error: the others do its work.
+/// and however they are scheduled. The one error is out of memory. A thread that can't be started
+/// is no error: the others do its work.
 pub fn run_flow<R, L: Lanes + Sync, G: Gate + Sync>(
     rt: &R,
     alloc: Global,
@@ -46,12 +46,12 @@ where
     requires few_threads { threads ≤ 16 }
     requires some_items { 1 ≤ cap }
     requires few_items { cap ≤ 64 }
-    requires rows { AreFromSources (outline setup).job rows.now }
+    requires rows { AreFromSources (setup_view setup).job rows.now }
     ensures setup { IfOk result (λ flown. flown.setup ≡ setup) }
     ensures crew { IfOk result (λ flown. map number_of flown.crew.items
-        ≡ range_with_len 0 (length (posts (outline setup).job))) }
-    ensures run { IfOk result (λ flown. IsRun (outline setup) rows.now
-        (record_of (outline setup) flown.feeds flown.crew.items)) }
+        ≡ range_with_len 0 (length (workers_in (setup_view setup).job))) }
+    ensures run { IfOk result (λ flown. IsRun (setup_view setup) rows.now
+        (record_of (setup_view setup) flown.feeds flown.crew.items)) }
 {
     let start = Start::first(alloc, &setup)?;
     run_from(rt, alloc, form, setup, rows, threads, cap, gate, &start)
@@ -80,14 +80,14 @@ where
     requires few_threads { threads ≤ 16 }
     requires some_items { 1 ≤ cap }
     requires few_items { cap ≤ 64 }
-    requires rows { AreFromSources (outline setup).job rows.now }
-    requires turned { start.now.turned ≤ length (outline setup).requests }
-    requires states { length start.now.states ≡ length (posts (outline setup).job) }
+    requires rows { AreFromSources (setup_view setup).job rows.now }
+    requires turned { start.now.turned ≤ length (setup_view setup).requests }
+    requires states { length start.now.states ≡ length (workers_in (setup_view setup).job) }
     ensures setup { IfOk result (λ flown. flown.setup ≡ setup) }
     ensures crew { IfOk result (λ flown. map number_of flown.crew.items
-        ≡ range_with_len 0 (length (posts (outline setup).job))) }
-    ensures run { IfOk result (λ flown. IsRunSince start.now (outline setup) rows.now
-        (record_of (outline setup) flown.feeds flown.crew.items)) }
+        ≡ range_with_len 0 (length (workers_in (setup_view setup).job))) }
+    ensures run { IfOk result (λ flown. IsRunSince start.now (setup_view setup) rows.now
+        (record_of (setup_view setup) flown.feeds flown.crew.items)) }
 {
     let ended = run_over::<R, L, G, Brand>(
         rt, alloc, form, &setup, rows, threads, cap, gate, start,
@@ -119,13 +119,13 @@ where
     requires few_threads { threads ≤ 16 }
     requires some_items { 1 ≤ cap }
     requires few_items { cap ≤ 64 }
-    requires rows { AreFromSources (outline setup.now).job rows.now }
-    requires turned { start.now.turned ≤ length (outline setup.now).requests }
-    requires states { length start.now.states ≡ length (posts (outline setup.now).job) }
+    requires rows { AreFromSources (setup_view setup.now).job rows.now }
+    requires turned { start.now.turned ≤ length (setup_view setup.now).requests }
+    requires states { length start.now.states ≡ length (workers_in (setup_view setup.now).job) }
     ensures crew { IfOk result (λ ended. map number_of ended.workers.items
-        ≡ range_with_len 0 (length (posts (outline setup.now).job))) }
-    ensures run { IfOk result (λ ended. IsRunSince start.now (outline setup.now) rows.now
-        (record_of (outline setup.now) ended.feeds ended.workers.items)) }
+        ≡ range_with_len 0 (length (workers_in (setup_view setup.now).job))) }
+    ensures run { IfOk result (λ ended. IsRunSince start.now (setup_view setup.now) rows.now
+        (record_of (setup_view setup.now) ended.feeds ended.workers.items)) }
 {
     let Crew {
         workers,

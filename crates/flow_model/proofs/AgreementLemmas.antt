@@ -16,9 +16,9 @@ use Rattle.tuple_trace.specs.declared.tuple.Visit.{Visit}
 use Rattle.flow_model.specs.Agreement.{AgreesWith, Agreement}
 use Rattle.flow_model.specs.Covers.{covers, covers_edge, holds_node, plan_of}
 use Rattle.flow_model.specs.Law.{IsExecution, initial}
-use Rattle.flow_model.specs.Outline.{Outline, Post}
+use Rattle.flow_model.specs.SetupView.{SetupView, Worker}
 use Rattle.flow_model.specs.Replay.{came_in, marker_by, shown}
-use Rattle.flow_model.specs.Station.{station}
+use Rattle.flow_model.specs.Duties.{duties}
 use Rattle.flow_model.proofs.ElementLemmas.{Before, IsIn, all_of_at, all_of_pairs, at_of_all, before_first, before_flat_map, before_second, flat_map_in, map_in}
 use Rattle.flow_model.proofs.LaneLemmas.{LaneIn, lane_in, marked_lane}
 use Rattle.flow_model.proofs.MarkerLemmas.{marked_before_met, met_before_marked, met_on_lane, turned_is_due}
@@ -61,31 +61,31 @@ way_further E u v (node ∷ more) c e = (walk_push E node v more c.0 (subst (λ 
 -- ---- old and new tuples
 
 -- the tuple came to each covered node before the request turned there, or after it
-abbrev pub IsOld : Outline → ℕ → Tuple → Type 0
+abbrev pub IsOld : SetupView → ℕ → Tuple → Type 0
 IsOld setup r t = (v : Visit) → IsIn v t.trace → covers setup r v.node ≡ true → v.last < r
 
-abbrev pub IsNew : Outline → ℕ → Tuple → Type 0
+abbrev pub IsNew : SetupView → ℕ → Tuple → Type 0
 IsNew setup r t = (v : Visit) → IsIn v t.trace → covers setup r v.node ≡ true → r ≤ v.last
 
-covers_has : (setup : Outline) (r node : ℕ) (plan : Plan) → plan_of setup r ≡ Some plan → covers setup r node ≡ true → Has plan.nodes node
+covers_has : (setup : SetupView) (r node : ℕ) (plan : Plan) → plan_of setup r ≡ Some plan → covers setup r node ≡ true → Has plan.nodes node
 covers_has setup r node plan e h = let k : has plan.nodes node ≡ true = rw e at h in (has-Has plan.nodes node).0 k
 
-pub has_covers_node : (setup : Outline) (r node : ℕ) (plan : Plan) → plan_of setup r ≡ Some plan → Has plan.nodes node → covers setup r node ≡ true
+pub has_covers_node : (setup : SetupView) (r node : ℕ) (plan : Plan) → plan_of setup r ≡ Some plan → Has plan.nodes node → covers setup r node ≡ true
 has_covers_node setup r node plan e h = rw e ((has-Has plan.nodes node).1 h)
 
-pub old_of_at : (setup : Outline) (r : ℕ) (plan : Plan) (t : Tuple) → plan_of setup r ≡ Some plan → IsOldAt r plan.nodes t → IsOld setup r t
+pub old_of_at : (setup : SetupView) (r : ℕ) (plan : Plan) (t : Tuple) → plan_of setup r ≡ Some plan → IsOldAt r plan.nodes t → IsOld setup r t
 old_of_at setup r plan t e o v i c = at_of_all (λ (v : Visit). Has plan.nodes v.node → v.last < r) v t.trace o i (covers_has setup r v.node plan e c)
 
-pub new_of_at : (setup : Outline) (r : ℕ) (plan : Plan) (t : Tuple) → plan_of setup r ≡ Some plan → IsNewAt r plan.nodes t → IsNew setup r t
+pub new_of_at : (setup : SetupView) (r : ℕ) (plan : Plan) (t : Tuple) → plan_of setup r ≡ Some plan → IsNewAt r plan.nodes t → IsNew setup r t
 new_of_at setup r plan t e o v i c = at_of_all (λ (v : Visit). Has plan.nodes v.node → r ≤ v.last) v t.trace o i (covers_has setup r v.node plan e c)
 
-pub at_of_old : (setup : Outline) (r : ℕ) (plan : Plan) (t : Tuple) → plan_of setup r ≡ Some plan → IsOld setup r t → IsOldAt r plan.nodes t
+pub at_of_old : (setup : SetupView) (r : ℕ) (plan : Plan) (t : Tuple) → plan_of setup r ≡ Some plan → IsOld setup r t → IsOldAt r plan.nodes t
 at_of_old setup r plan t e o = all_of_at (λ (v : Visit). Has plan.nodes v.node → v.last < r) t.trace (λ v i h. o v i (has_covers_node setup r v.node plan e h))
 
-pub at_of_new : (setup : Outline) (r : ℕ) (plan : Plan) (t : Tuple) → plan_of setup r ≡ Some plan → IsNew setup r t → IsNewAt r plan.nodes t
+pub at_of_new : (setup : SetupView) (r : ℕ) (plan : Plan) (t : Tuple) → plan_of setup r ≡ Some plan → IsNew setup r t → IsNewAt r plan.nodes t
 at_of_new setup r plan t e o = all_of_at (λ (v : Visit). Has plan.nodes v.node → r ≤ v.last) t.trace (λ v i h. o v i (has_covers_node setup r v.node plan e h))
 
-pub some_plan : (setup : Outline) (r node : ℕ) → covers setup r node ≡ true → (plan : Plan) × (plan_of setup r ≡ Some plan)
+pub some_plan : (setup : SetupView) (r node : ℕ) → covers setup r node ≡ true → (plan : Plan) × (plan_of setup r ≡ Some plan)
 some_plan setup r node h = go (plan_of setup r) h
   where
     go : (o : Option Plan) → holds_node o node ≡ true → (plan : Plan) × (o ≡ Some plan)
@@ -100,37 +100,37 @@ pub record IsSteadyList (E : ℕ → ℕ → Type 0) (from : ℕ) (items : List 
   pub agree : (x y : Item) → Before x y items → Agrees x y
 
 -- what each lane into a worker has brought is steady
-abbrev pub BringSteadily : Outline → Post → List Entry → Type 0
-BringSteadily setup post journal = (n : ℕ) (k : LaneIn setup.job post n) → IsSteadyList (HasEdge setup.job.edges) k.edge.from (shown setup n journal)
+abbrev pub BringSteadily : SetupView → Worker → List Entry → Type 0
+BringSteadily setup who journal = (n : ℕ) (k : LaneIn setup.job who n) → IsSteadyList (HasEdge setup.job.edges) k.edge.from (shown setup n journal)
 
-pub met_shown : (setup : Outline) (n : ℕ) (t : Tuple) → IsIn (item.Carry t) (came_in setup n (entry.Met n t))
+pub met_shown : (setup : SetupView) (n : ℕ) (t : Tuple) → IsIn (item.Carry t) (came_in setup n (entry.Met n t))
 met_shown setup n t = rw (eq-eqb n n refl) (inl refl)
 
-marker_shown : (setup : Outline) (n r : ℕ) (plan : Plan) → plan_of setup r ≡ Some plan → IsIn (item.Mark r plan.nodes) (came_in setup n (entry.Marked n r))
+marker_shown : (setup : SetupView) (n r : ℕ) (plan : Plan) → plan_of setup r ≡ Some plan → IsIn (item.Mark r plan.nodes) (came_in setup n (entry.Marked n r))
 marker_shown setup n r plan e = rw (eq-eqb n n refl) (subst (λ o. IsIn (item.Mark r plan.nodes) (marker_by r o)) (sym e) (inl refl))
 
 -- ---- agreement
 
 -- a tuple met before a turn is old there, and one met after it is new
-pub record HasAgreed (setup : Outline) (journal : List Entry) : Type 0 where
+pub record HasAgreed (setup : SetupView) (journal : List Entry) : Type 0 where
   pub old : (l : ℕ) (t : Tuple) (r : ℕ) → Before (entry.Met l t) (entry.Turned r) journal → IsOld setup r t
   pub new : (l : ℕ) (t : Tuple) (r : ℕ) → Before (entry.Turned r) (entry.Met l t) journal → IsNew setup r t
 
-module _ (setup : Outline) (kept : HasCovers setup) (turned : ℕ) (post : Post) (is : IsWorker setup.job post) (journal : List Entry)
-    (law : IsExecution (station setup turned post) (initial (station setup turned post)) journal)
-    (steady : BringSteadily setup post journal)
+module _ (setup : SetupView) (kept : HasCovers setup) (turned : ℕ) (who : Worker) (is : IsWorker setup.job who) (journal : List Entry)
+    (law : IsExecution (duties setup turned who) (initial (duties setup turned who)) journal)
+    (steady : BringSteadily setup who journal)
   where
-    lane : (l : ℕ) (t : Tuple) → IsIn (entry.Met l t) journal → LaneIn setup.job post l
-    lane l t i = lane_in setup.job post l is (met_on_lane (station setup turned post) (initial (station setup turned post)) journal l t law i)
+    lane : (l : ℕ) (t : Tuple) → IsIn (entry.Met l t) journal → LaneIn setup.job who l
+    lane l t i = lane_in setup.job who l is (met_on_lane (duties setup turned who) (initial (duties setup turned who)) journal l t law i)
 
-    covered_here : (r : ℕ) → IsIn (entry.Turned r) journal → covers setup r post.node ≡ true
-    covered_here r i = due_covers setup turned post.node r (turned_is_due (station setup turned post) (initial (station setup turned post)) journal r law i)
+    covered_here : (r : ℕ) → IsIn (entry.Turned r) journal → covers setup r who.node ≡ true
+    covered_here r i = due_covers setup turned who.node r (turned_is_due (duties setup turned who) (initial (duties setup turned who)) journal r law i)
 
-    way : (l : ℕ) (t : Tuple) (k : LaneIn setup.job post l) → IsIn (entry.Met l t) journal → ComesAlong (HasEdge setup.job.edges) k.edge.from (nodes_of t)
+    way : (l : ℕ) (t : Tuple) (k : LaneIn setup.job who l) → IsIn (entry.Met l t) journal → ComesAlong (HasEdge setup.job.edges) k.edge.from (nodes_of t)
     way l t k i = (steady l k).come t (flat_map_in (came_in setup l) (entry.Met l t) (item.Carry t) journal i (met_shown setup l t))
 
     -- a tuple that comes to a covered node by an edge that isn't covered was at no covered node
-    never_covered : (r l : ℕ) (t : Tuple) (k : LaneIn setup.job post l) (v : Visit) → IsIn (entry.Met l t) journal → covers setup r post.node ≡ true
+    never_covered : (r l : ℕ) (t : Tuple) (k : LaneIn setup.job who l) (v : Visit) → IsIn (entry.Met l t) journal → covers setup r who.node ≡ true
         → covers_edge setup r k.lane.edge ≡ false → IsIn v t.trace → ¬ (covers setup r v.node ≡ true)
     never_covered r l t k v i c out h d =
         let e : covers_edge setup r k.lane.edge ≡ true = kept.edges r v.node k.lane.edge k.edge k.edge_is d
@@ -140,28 +140,28 @@ module _ (setup : Outline) (kept : HasCovers setup) (turned : ℕ) (post : Post)
     old : (l : ℕ) (t : Tuple) (r : ℕ) → Before (entry.Met l t) (entry.Turned r) journal → IsOld setup r t
     old l t r b =
         let i : IsIn (entry.Met l t) journal = before_first (entry.Met l t) (entry.Turned r) journal b in
-        let c : covers setup r post.node ≡ true = covered_here r (before_second (entry.Met l t) (entry.Turned r) journal b) in
+        let c : covers setup r who.node ≡ true = covered_here r (before_second (entry.Met l t) (entry.Turned r) journal b) in
         go (lane l t i) i c (covers_edge setup r (lane l t i).lane.edge) refl
       where
-        go : (k : LaneIn setup.job post l) → IsIn (entry.Met l t) journal → covers setup r post.node ≡ true → (d : Bool) → covers_edge setup r k.lane.edge ≡ d → IsOld setup r t
+        go : (k : LaneIn setup.job who l) → IsIn (entry.Met l t) journal → covers setup r who.node ≡ true → (d : Bool) → covers_edge setup r k.lane.edge ≡ d → IsOld setup r t
         go k i c true e =
-            let (plan, p) = some_plan setup r post.node c in
+            let (plan, p) = some_plan setup r who.node c in
             old_of_at setup r plan t p ((steady l k).agree (item.Carry t) (item.Mark r plan.nodes)
             (before_flat_map (came_in setup l) (entry.Met l t) (entry.Marked l r) (item.Carry t) (item.Mark r plan.nodes) journal
-            (met_before_marked (station setup turned post) (initial (station setup turned post)) journal l t r l law (marked_lane setup post l r k e) b)
+            (met_before_marked (duties setup turned who) (initial (duties setup turned who)) journal l t r l law (marked_lane setup who l r k e) b)
             (met_shown setup l t) (marker_shown setup l r plan p)))
         go k i c false e = λ v h d. absurd (never_covered r l t k v i c e h d)
 
     new : (l : ℕ) (t : Tuple) (r : ℕ) → Before (entry.Turned r) (entry.Met l t) journal → IsNew setup r t
     new l t r b =
         let i : IsIn (entry.Met l t) journal = before_second (entry.Turned r) (entry.Met l t) journal b in
-        let c : covers setup r post.node ≡ true = covered_here r (before_first (entry.Turned r) (entry.Met l t) journal b) in
+        let c : covers setup r who.node ≡ true = covered_here r (before_first (entry.Turned r) (entry.Met l t) journal b) in
         go (lane l t i) i c (covers_edge setup r (lane l t i).lane.edge) refl
       where
-        go : (k : LaneIn setup.job post l) → IsIn (entry.Met l t) journal → covers setup r post.node ≡ true → (d : Bool) → covers_edge setup r k.lane.edge ≡ d → IsNew setup r t
+        go : (k : LaneIn setup.job who l) → IsIn (entry.Met l t) journal → covers setup r who.node ≡ true → (d : Bool) → covers_edge setup r k.lane.edge ≡ d → IsNew setup r t
         go k i c true e =
-            let (plan, p) = some_plan setup r post.node c in
-            elim (marked_before_met (station setup turned post) (initial (station setup turned post)) journal l t r l law (marked_lane setup post l r k e) b) [
+            let (plan, p) = some_plan setup r who.node c in
+            elim (marked_before_met (duties setup turned who) (initial (duties setup turned who)) journal l t r l law (marked_lane setup who l r k e) b) [
               | inl m ↦ new_of_at setup r plan t p ((steady l k).agree (item.Mark r plan.nodes) (item.Carry t)
                   (before_flat_map (came_in setup l) (entry.Marked l r) (entry.Met l t) (item.Mark r plan.nodes) (item.Carry t) journal m (marker_shown setup l r plan p) (met_shown setup l t)))
               | inr m ↦ absurd m.0
@@ -173,7 +173,7 @@ module _ (setup : Outline) (kept : HasCovers setup) (turned : ℕ) (post : Post)
 
 -- ---- agreement as it is defined
 
-pub agreement_of : (setup : Outline) (journal : List Entry) → HasAgreed setup journal → Agreement setup journal
+pub agreement_of : (setup : SetupView) (journal : List Entry) → HasAgreed setup journal → Agreement setup journal
 agreement_of setup journal a = all_of_pairs (AgreesWith setup) journal pair
   where
     old_then : (l : ℕ) (t : Tuple) (r : ℕ) → IsOld setup r t → IfSome (plan_of setup r) (λ (plan : Plan). IsOldAt r plan.nodes t)

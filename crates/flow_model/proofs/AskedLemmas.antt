@@ -5,7 +5,7 @@ use Rattle.std.proofs.lemmas.Option.{slice_get_within}
 use Rattle.cover_planner.specs.declared.cover.Plan.{Plan}
 use Rattle.flow_dag.proofs.MaskLemmas.{has-Has}
 use Rattle.versions.specs.declared.request.Request.{Request}
-use Rattle.flow_model.specs.Outline.{Outline}
+use Rattle.flow_model.specs.SetupView.{SetupView}
 use Rattle.flow_model.specs.Covers.{asks, holds_asked}
 use Rattle.flow_model.specs.Planned.{IsPlanned}
 use Rattle.flow_model.specs.Requests.{changes, names}
@@ -15,7 +15,7 @@ past [] i e = omega arith
 past (x ∷ xs) zero e = absurd (cc)
 past (x ∷ xs) (suc i) e = omega (arith, past xs i e)
 
-pub asked-changed : (setup : Outline) → IsPlanned setup → (request node : ℕ) → IsTrue (changes setup request node) → IsTrue (asks setup request node)
+pub asked-changed : (setup : SetupView) → IsPlanned setup → (request node : ℕ) → IsTrue (changes setup request node) → IsTrue (asks setup request node)
 asked-changed setup is zero node h = h
 asked-changed setup is (suc r) node h = go (slice_get setup.requests r) refl (slice_get setup.plans r) refl h
   where
@@ -28,7 +28,7 @@ asked-changed setup is (suc r) node h = go (slice_get setup.requests r) refl (sl
     go (Some q) e (Some p) ep h = (has-Has p.asked node).1 ((is.plans r q p e ep).asked node h)
 
 -- where rows and requests have one order, a plan asks what an earlier request changes
-pub asked-earlier : (setup : Outline) → IsPlanned setup → IsTrue setup.ordered → (s r node : ℕ) → s ≤ r → r ≤ length setup.requests → IsTrue (changes setup s node) → IsTrue (asks setup r node)
+pub asked-earlier : (setup : SetupView) → IsPlanned setup → IsTrue setup.ordered → (s r node : ℕ) → s ≤ r → r ≤ length setup.requests → IsTrue (changes setup s node) → IsTrue (asks setup r node)
 asked-earlier setup is o zero r node le lt h = absurd (cc)
 asked-earlier setup is o (suc s) zero node le lt h = absurd (omega arith)
 asked-earlier setup is o (suc s) (suc r) node le lt h = go (slice_get setup.requests s) refl (slice_get setup.plans r) refl h

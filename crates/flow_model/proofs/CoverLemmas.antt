@@ -16,17 +16,17 @@ use Rattle.cover_planner.specs.declared.cover.Plan.{Plan}
 use Rattle.cover_planner.specs.Cover.{IsCoveredEdge, LiesOn, StandNext}
 use Rattle.jobs.specs.Law.{IsLawful}
 use Rattle.jobs.specs.Nodes.{is_source_node}
-use Rattle.jobs.specs.Written.{Written}
+use Rattle.jobs.specs.JobView.{JobView}
 use Rattle.versions.specs.declared.request.Request.{Request}
 use Rattle.flow_model.specs.Covers.{covers, covers_edge, holds_edge}
 use Rattle.flow_model.specs.Lanes.{lanes_in}
-use Rattle.flow_model.specs.Outline.{Outline}
+use Rattle.flow_model.specs.SetupView.{SetupView}
 use Rattle.flow_model.specs.Planned.{IsPlanFor, IsPlanned}
-use Rattle.flow_model.specs.Workers.{post_at, posts}
+use Rattle.flow_model.specs.Workers.{nth_worker, workers_in}
 use Rattle.flow_model.proofs.AgreementLemmas.{has_covers_node}
 use Rattle.flow_model.proofs.ElementLemmas.{IsIn, in_of_place}
 use Rattle.flow_model.proofs.JobLemmas.{reached_worker, unentered}
-use Rattle.flow_model.proofs.PostPlaces.{get-post_at, worker_at}
+use Rattle.flow_model.proofs.WorkerPlaces.{get-nth_worker, worker_at}
 
 -- ---- paths
 
@@ -50,7 +50,7 @@ path_start E a b from to (x ∷ y ∷ rest) leads lies = elim (walk_start E a b 
 -- ---- covered edges
 
 -- the plan of a request that covers an edge
-pub record IsCoveredBy (setup : Outline) (r i : ℕ) (edge : Edge) : Type 0 where
+pub record IsCoveredBy (setup : SetupView) (r i : ℕ) (edge : Edge) : Type 0 where
   pub place : ℕ
   pub number : r ≡ suc place
   pub plan : Plan
@@ -59,7 +59,7 @@ pub record IsCoveredBy (setup : Outline) (r i : ℕ) (edge : Edge) : Type 0 wher
   pub request : Request
   pub planned : IsPlanFor setup.job setup.splits request plan
 
-covered_by : (setup : Outline) (r i : ℕ) (edge : Edge) → IsPlanned setup → slice_get setup.job.edges i ≡ Some edge → covers_edge setup r i ≡ true → IsCoveredBy setup r i edge
+covered_by : (setup : SetupView) (r i : ℕ) (edge : Edge) → IsPlanned setup → slice_get setup.job.edges i ≡ Some edge → covers_edge setup r i ≡ true → IsCoveredBy setup r i edge
 covered_by setup zero i edge is e h = absurd (cc)
 covered_by setup (suc p) i edge is e h = go (slice_get setup.plans p) refl h
   where
@@ -82,25 +82,25 @@ covered_by setup (suc p) i edge is e h = go (slice_get setup.plans p) refl h
           planned = for;
         }
 
-covers_from : (setup : Outline) (r i : ℕ) (edge : Edge) → IsPlanned setup → slice_get setup.job.edges i ≡ Some edge → covers_edge setup r i ≡ true → covers setup r edge.from ≡ true
+covers_from : (setup : SetupView) (r i : ℕ) (edge : Edge) → IsPlanned setup → slice_get setup.job.edges i ≡ Some edge → covers_edge setup r i ≡ true → covers setup r edge.from ≡ true
 covers_from setup r i edge is e h =
     let by = covered_by setup r i edge is e h in
     let has : Has by.plan.nodes edge.from = (by.planned.planned.cover.nodes edge.from).1 (inr (edge.to, inl by.covered)) in
     ap (λ (k : ℕ). covers setup k edge.from) by.number ∙ has_covers_node setup (suc by.place) edge.from by.plan by.plan_is has
 
-covers_to : (setup : Outline) (r i : ℕ) (edge : Edge) → IsPlanned setup → slice_get setup.job.edges i ≡ Some edge → covers_edge setup r i ≡ true → covers setup r edge.to ≡ true
+covers_to : (setup : SetupView) (r i : ℕ) (edge : Edge) → IsPlanned setup → slice_get setup.job.edges i ≡ Some edge → covers_edge setup r i ≡ true → covers setup r edge.to ≡ true
 covers_to setup r i edge is e h =
     let by = covered_by setup r i edge is e h in
     let has : Has by.plan.nodes edge.to = (by.planned.planned.cover.nodes edge.to).1 (inr (edge.from, inr by.covered)) in
     ap (λ (k : ℕ). covers setup k edge.to) by.number ∙ has_covers_node setup (suc by.place) edge.to by.plan by.plan_is has
 
 -- a node into which an edge leads isn't a source
-entered_node : (job : Written) (c a : ℕ) → IsLawful job → HasEdge job.edges c a → is_source_node (slice_get job.nodes a) ≡ false
+entered_node : (job : JobView) (c a : ℕ) → IsLawful job → HasEdge job.edges c a → is_source_node (slice_get job.nodes a) ≡ false
 entered_node job c a law h =
     let (i, edge, e, joins) = HasEdge-place job.edges c a h in
     ap (λ (n : ℕ). is_source_node (slice_get job.nodes n)) (sym joins.1) ∙ unentered job law i edge e
 
-source_uncovered : (setup : Outline) (r i : ℕ) (edge : Edge) → IsLawful setup.job → IsPlanned setup → slice_get setup.job.edges i ≡ Some edge → is_source_node (slice_get setup.job.nodes edge.from) ≡ true
+source_uncovered : (setup : SetupView) (r i : ℕ) (edge : Edge) → IsLawful setup.job → IsPlanned setup → slice_get setup.job.edges i ≡ Some edge → is_source_node (slice_get setup.job.nodes edge.from) ≡ true
     → covers_edge setup r i ≡ false
 source_uncovered setup r i edge law is e source = false_from_ne_true (covers_edge setup r i) (λ h. wrong (covered_by setup r i edge is e h))
   where
@@ -115,21 +115,21 @@ source_uncovered setup r i edge law is e source = false_from_ne_true (covers_edg
 -- ---- what plans and lanes give
 
 -- covered edges have covered ends, and none leaves a source; each worker has a lane in; each request has its plan
-pub record AreCovering (setup : Outline) : Type 0 where
+pub record AreCovering (setup : SetupView) : Type 0 where
   pub from : (r i : ℕ) (edge : Edge) → slice_get setup.job.edges i ≡ Some edge → covers_edge setup r i ≡ true → covers setup r edge.from ≡ true
   pub to : (r i : ℕ) (edge : Edge) → slice_get setup.job.edges i ≡ Some edge → covers_edge setup r i ≡ true → covers setup r edge.to ≡ true
   pub no_source : (r i : ℕ) (edge : Edge) → slice_get setup.job.edges i ≡ Some edge → is_source_node (slice_get setup.job.nodes edge.from) ≡ true → covers_edge setup r i ≡ false
-  pub reached : (w : ℕ) → w < length (posts setup.job) → (n : ℕ) × IsIn n (lanes_in setup.job w)
+  pub reached : (w : ℕ) → w < length (workers_in setup.job) → (n : ℕ) × IsIn n (lanes_in setup.job w)
   pub plan_each : length setup.plans ≡ length setup.requests
 
 -- a lane leads into every worker
-lane_into : (job : Written) (w : ℕ) → IsLawful job → w < length (posts job) → (n : ℕ) × IsIn n (lanes_in job w)
+lane_into : (job : JobView) (w : ℕ) → IsLawful job → w < length (workers_in job) → (n : ℕ) × IsIn n (lanes_in job w)
 lane_into job w law lt =
     let (number, is) = worker_at job w lt in
-    let (n, among) = reached_worker job law (post_at job w) is (in_of_place (post_at job w) (posts job) w (get-post_at job w lt)) in
+    let (n, among) = reached_worker job law (nth_worker job w) is (in_of_place (nth_worker job w) (workers_in job) w (get-nth_worker job w lt)) in
     (n, subst (λ (v : ℕ). IsIn n (lanes_in job v)) number among)
 
-pub covering : (setup : Outline) → IsLawful setup.job → ∥ IsPlanned setup ∥₁ → AreCovering setup
+pub covering : (setup : SetupView) → IsLawful setup.job → ∥ IsPlanned setup ∥₁ → AreCovering setup
 covering setup law planned = record {
   from = λ r i edge e h. ∥∥₁_elim planned (Bool-set _ _) (λ is. covers_from setup r i edge is e h);
   to = λ r i edge e h. ∥∥₁_elim planned (Bool-set _ _) (λ is. covers_to setup r i edge is e h);

@@ -3,7 +3,7 @@ use Rattle.std.proofs.Common.{◌≡◌, ◌∙◌, ◌⊎◌, inl, inr, take, g
 use Rattle.std.specs.Prelude.{◌↔◌, IsTrue, filter}
 use Rattle.std.specs.List.{enumerate_from}
 use Rattle.std.proofs.lemmas.Option.{same_Some, slice_get-get_or, slice_get_within}
-use Rattle.jobs.specs.Written.{Written}
+use Rattle.jobs.specs.JobView.{JobView}
 use Rattle.std.specs.Int.{bit_at}
 use Rattle.std.proofs.lemmas.Bool.{cases_eq, eq-eqb, eqb-true}
 use Rattle.flow_dag.specs.Masks.{Has, has}
@@ -11,32 +11,32 @@ use Rattle.cover_planner.specs.declared.cover.Plan.{Plan}
 use Rattle.marker_align.specs.declared.decision.Due.{Due}
 use Rattle.tuple_trace.specs.declared.tuple.Item.TheVariants as item
 use Rattle.flow_model.specs.Covers.{covers, heads, holds_edge, holds_node, plan_of}
-use Rattle.flow_model.specs.Outline.{Outline}
+use Rattle.flow_model.specs.SetupView.{SetupView}
 use Rattle.flow_model.specs.Replay.{marker_by}
-use Rattle.flow_model.specs.Station.{dues_after}
+use Rattle.flow_model.specs.Duties.{dues_after}
 use Rattle.flow_model.specs.declared.topology.Lane.{Lane}
 use Rattle.flow_model.specs.Dues.{IsDueAfter, edges_in, is_on}
 use Rattle.flow_model.specs.Lanes.{lanes, lanes_in}
 use Rattle.flow_model.proofs.LaneLemmas.{in_enumerate}
 use Rattle.flow_model.proofs.ElementLemmas.{in_filter, in_of_place}
 
-pub dues_none : (setup : Outline) (node k : ℕ) → length setup.plans ≤ k → dues_after setup k node ≡ []
+pub dues_none : (setup : SetupView) (node k : ℕ) → length setup.plans ≤ k → dues_after setup k node ≡ []
 dues_none setup node k l = let e : length setup.plans - k ≡ 0 = omega arith in rw e refl
 
-pub dues_next : (setup : Outline) (node k : ℕ) → k < length setup.plans → dues_after setup k node ≡ cond (covers setup (k + 1) node) ((k + 1) ∷ dues_after setup (k + 1) node) (dues_after setup (k + 1) node)
+pub dues_next : (setup : SetupView) (node k : ℕ) → k < length setup.plans → dues_after setup k node ≡ cond (covers setup (k + 1) node) ((k + 1) ∷ dues_after setup (k + 1) node) (dues_after setup (k + 1) node)
 dues_next setup node k l = let e : length setup.plans - k ≡ suc (length setup.plans - (k + 1)) = omega arith in rw e refl
 
-pub plan_at : (setup : Outline) (k : ℕ) → plan_of setup (k + 1) ≡ slice_get setup.plans k
+pub plan_at : (setup : SetupView) (k : ℕ) → plan_of setup (k + 1) ≡ slice_get setup.plans k
 plan_at setup k = rw add-one refl
 
-pub dues_skip : (setup : Outline) (node last k : ℕ) (plan : Plan) → slice_get setup.plans k ≡ Some plan → has plan.nodes node ≡ false → k < length setup.plans → dues_after setup last node ≡ dues_after setup k node
+pub dues_skip : (setup : SetupView) (node last k : ℕ) (plan : Plan) → slice_get setup.plans k ≡ Some plan → has plan.nodes node ≡ false → k < length setup.plans → dues_after setup last node ≡ dues_after setup k node
     → dues_after setup last node ≡ dues_after setup (k + 1) node
 dues_skip setup node last k plan g none l same =
     let no : covers setup (k + 1) node ≡ false = ap (λ (o : Option Plan). holds_node o node) (plan_at setup k ∙ g) ∙ none in
     same ∙ (dues_next setup node k l ∙ ap (λ b. cond b ((k + 1) ∷ dues_after setup (k + 1) node) (dues_after setup (k + 1) node)) no)
 
 -- the due that was found
-pub due_here : (setup : Outline) (node last k : ℕ) (edges : List ℕ) (plan : Plan) (due : Due) → slice_get setup.plans k ≡ Some plan → k < length setup.plans → last ≤ k
+pub due_here : (setup : SetupView) (node last k : ℕ) (edges : List ℕ) (plan : Plan) (due : Due) → slice_get setup.plans k ≡ Some plan → k < length setup.plans → last ≤ k
     → dues_after setup last node ≡ dues_after setup k node → has plan.nodes node ≡ true → due.request ≡ k + 1 → due.head ≡ has plan.heads node → due.cover ≡ plan.nodes
     → ((place edge : ℕ) → slice_get edges place ≡ Some edge → has due.lanes place ≡ has plan.edges edge)
     → IsDueAfter setup node edges last (Some due)
@@ -55,7 +55,7 @@ due_here setup node last k edges plan due g l le same holds request head cover l
       later = omega (arith, request);
     }
 
-pub due_none : (setup : Outline) (node last k : ℕ) (edges : List ℕ) → length setup.plans ≤ k → dues_after setup last node ≡ dues_after setup k node → IsDueAfter setup node edges last None
+pub due_none : (setup : SetupView) (node last k : ℕ) (edges : List ℕ) → length setup.plans ≤ k → dues_after setup last node ≡ dues_after setup k node → IsDueAfter setup node edges last None
 due_none setup node last k edges l same = record { dues = same ∙ dues_none setup node k l; is_due = tt; later = tt }
 
 -- ---- masks
@@ -125,7 +125,7 @@ places_same mask edges i edge all at off before k = rw add-one (go (cases_eq k i
 -- ---- the edges of the lanes in
 
 -- a place of the lanes in is that of a lane
-pub lane_at_place : (job : Written) (worker i number : ℕ) → slice_get (lanes_in job worker) i ≡ Some number
+pub lane_at_place : (job : JobView) (worker i number : ℕ) → slice_get (lanes_in job worker) i ≡ Some number
     → (lane : Lane) × (slice_get (lanes job) number ≡ Some lane) × (slice_get (edges_in job worker) i ≡ Some lane.edge)
 lane_at_place job worker i number e =
     let (p, at, is) = get_map (λ (p : ℕ × Lane). p.0) all i number e in
@@ -146,14 +146,14 @@ lane_at_place job worker i number e =
     map_get f (y ∷ xs) (suc k) x g = map_get f xs k x g
 
 -- a number among the lanes in is that of a lane
-pub number_within : (job : Written) (worker i : ℕ) (numbers : List ℕ) → numbers ≡ lanes_in job worker → i < length numbers → get_or numbers i 0 < length (lanes job)
+pub number_within : (job : JobView) (worker i : ℕ) (numbers : List ℕ) → numbers ≡ lanes_in job worker → i < length numbers → get_or numbers i 0 < length (lanes job)
 number_within job worker i numbers is lt =
     let at : slice_get (lanes_in job worker) i ≡ Some (get_or numbers i 0) = ap (λ (l : List ℕ). slice_get l i) (sym is) ∙ slice_get-get_or numbers i 0 lt in
     let (lane, there, edge) = lane_at_place job worker i (get_or numbers i 0) at in
     slice_get_within (lanes job) (get_or numbers i 0) lane there
 
 -- the edge of a lane in that the code reads
-pub edge_at_place : (job : Written) (worker i : ℕ) (numbers : List ℕ) (lane : Lane) → numbers ≡ lanes_in job worker → i < length numbers → slice_get (lanes job) (get_or numbers i 0) ≡ Some lane
+pub edge_at_place : (job : JobView) (worker i : ℕ) (numbers : List ℕ) (lane : Lane) → numbers ≡ lanes_in job worker → i < length numbers → slice_get (lanes job) (get_or numbers i 0) ≡ Some lane
     → slice_get (edges_in job worker) i ≡ Some lane.edge
 edge_at_place job worker i numbers lane is lt there =
     let at : slice_get (lanes_in job worker) i ≡ Some (get_or numbers i 0) = ap (λ (l : List ℕ). slice_get l i) (sym is) ∙ slice_get-get_or numbers i 0 lt in

@@ -11,11 +11,11 @@ use Rattle.flow_model.specs.Lanes.{lanes}
 use Rattle.flow_model.specs.Law.{IsFinished}
 use Rattle.flow_model.specs.Run.{IsRun}
 use Rattle.flow_model.specs.TwoLanes.{joined, joining}
-use Rattle.flow_model.specs.Workers.{posts}
+use Rattle.flow_model.specs.Workers.{workers_in}
 use Rattle.flow_model.proofs.EachLemmas.{OfEach, OfEachLane, Tied, Worked, run-by_parts}
 use Rattle.flow_model.proofs.LawChecks.{finished-by_check}
 
-all_worked : OfEach (Worked four_setup) (posts chain) (at_first four_setup).states four_ran.journals four_ran.states
+all_worked : OfEach (Worked four_setup) (workers_in chain) (at_first four_setup).states four_ran.journals four_ran.states
 all_worked = (
   record { finished = finished-by_check _ big refl; state_is = refl },
   (record { finished = finished-by_check _ alerts refl; state_is = refl }, tt),

@@ -7,16 +7,16 @@ use Rattle.std.proofs.lemmas.Option.{get_or_from_slice_get, same_Some, slice_get
 use Rattle.flow_dag.specs.declared.edge.Edge.{Edge}
 use Rattle.jobs.specs.Law.{IsLawful}
 use Rattle.jobs.specs.Nodes.{is_source, is_source_node}
-use Rattle.jobs.specs.Written.{Written}
+use Rattle.jobs.specs.JobView.{JobView}
 use Rattle.jobs.proofs.EdgeLemmas.{IsRepeated-ports, get_or-take}
 use Rattle.flow_model.specs.Lanes.{lanes, lanes_in, senders}
 use Rattle.flow_model.specs.declared.topology.Lane.{Lane}
-use Rattle.flow_model.specs.Outline.{Post}
-use Rattle.flow_model.specs.Workers.{posts}
+use Rattle.flow_model.specs.SetupView.{Worker}
+use Rattle.flow_model.specs.Workers.{workers_in}
 use Rattle.flow_model.proofs.ElementLemmas.{AreDistinct, IsIn, distinct_filter, distinct_map, in_filter, in_map, in_of_place, place_of_in, same_place}
 use Rattle.flow_model.proofs.JobLemmas.{inside_edge, reached_worker}
 use Rattle.flow_model.proofs.LaneLemmas.{LaneIn, enumerate_distinct, in_enumerate, lane_into, lanes_distinct, sender_source, sender_worker}
-use Rattle.flow_model.proofs.PostLemmas.{length-posts_from}
+use Rattle.flow_model.proofs.WorkerListLemmas.{length-workers_from}
 use Rattle.flow_model.proofs.WorkerLemmas.{IsWorker, worker_with}
 
 -- ---- so many different numbers below a number
@@ -65,26 +65,26 @@ abbrev from_of : Option Edge → ℕ
 from_of None = 0
 from_of (Some edge) = edge.from
 
-abbrev code_of : Written → ℕ × Lane → ℕ
+abbrev code_of : JobView → ℕ × Lane → ℕ
 code_of job p = code p.1.sender (from_of (slice_get job.edges p.1.edge))
 
 -- what is known of one lane
-record Into (job : Written) (post : Post) (p : ℕ × Lane) : Type 0 where
+record Into (job : JobView) (who : Worker) (p : ℕ × Lane) : Type 0 where
   numbered : slice_get (lanes job) p.0 ≡ Some p.1
-  receiver : p.1.receiver ≡ post.number
+  receiver : p.1.receiver ≡ who.number
   edge : Edge
   edge_is : slice_get job.edges p.1.edge ≡ Some edge
-  to : edge.to ≡ post.node
+  to : edge.to ≡ who.node
   sends : IsIn p.1.sender (senders job edge.from)
 
-module _ (job : Written) (post : Post) (law : IsLawful job) (is : IsWorker job post) where
-  into : (p : ℕ × Lane) → IsIn p (filter (λ (p : ℕ × Lane). p.1.receiver == post.number) (enumerate_from 0 (lanes job))) → Into job post p
+module _ (job : JobView) (who : Worker) (law : IsLawful job) (is : IsWorker job who) where
+  into : (p : ℕ × Lane) → IsIn p (filter (λ (p : ℕ × Lane). p.1.receiver == who.number) (enumerate_from 0 (lanes job))) → Into job who p
   into p i =
-      let f = in_filter (λ (p : ℕ × Lane). p.1.receiver == post.number) p (enumerate_from 0 (lanes job)) i in
+      let f = in_filter (λ (p : ℕ × Lane). p.1.receiver == who.number) p (enumerate_from 0 (lanes job)) i in
       let q = in_enumerate 0 (lanes job) p f.0 in
       let at : slice_get (lanes job) p.0 ≡ Some p.1 = subst (λ n. slice_get (lanes job) n ≡ Some p.1) (let a = q.1 in omega arith) q.2 in
-      let receiver = eqb-true p.1.receiver post.number f.1 in
-      let k : LaneIn job post p.0 = lane_into job post p.0 p.1 is at receiver in
+      let receiver = eqb-true p.1.receiver who.number f.1 in
+      let k : LaneIn job who p.0 = lane_into job who p.0 p.1 is at receiver in
       let same : k.lane ≡ p.1 = same_Some k.lane p.1 (sym k.numbered ∙ at) in
       record {
         numbered = at;
@@ -101,8 +101,8 @@ module _ (job : Written) (post : Post) (law : IsLawful job) (is : IsWorker job p
   sender_low : (node s : ℕ) → IsIn (Some s) (senders job node) → s < 64
   sender_low node s i =
       let r = sender_worker job node s i in
-      let l = slice_get_within (posts job) s r.0 r.1 in
-      let m = length-posts_from 0 0 job.nodes in
+      let l = slice_get_within (workers_in job) s r.0 r.1 in
+      let m = length-workers_from 0 0 job.nodes in
       let k = law.limits.all_workers in
       omega (arith, l, m, k)
 
@@ -110,11 +110,11 @@ module _ (job : Written) (post : Post) (law : IsLawful job) (is : IsWorker job p
   code_low None i edge g s = let l = node_low edge.from i edge g refl in let e : from_of (slice_get job.edges i) ≡ edge.from = ap from_of g in omega (arith, l, e)
   code_low (Some w) i edge g s = let l = sender_low edge.from w s in omega (arith, l)
 
-  code_other : (sender : Option ℕ) (i : ℕ) (edge : Edge) → slice_get job.edges i ≡ Some edge → IsIn sender (senders job edge.from) → 64 + post.node ≡ code sender (from_of (slice_get job.edges i)) → ⊥
+  code_other : (sender : Option ℕ) (i : ℕ) (edge : Edge) → slice_get job.edges i ≡ Some edge → IsIn sender (senders job edge.from) → 64 + who.node ≡ code sender (from_of (slice_get job.edges i)) → ⊥
   code_other None i edge g s e =
       let f : from_of (slice_get job.edges i) ≡ edge.from = ap from_of g in
-      let same : edge.from ≡ post.node = omega (arith, e, f) in
-      let source : is_source_node (slice_get job.nodes post.node) ≡ true = subst (λ n. is_source_node (slice_get job.nodes n) ≡ true) same (sender_source job edge.from s) in
+      let same : edge.from ≡ who.node = omega (arith, e, f) in
+      let source : is_source_node (slice_get job.nodes who.node) ≡ true = subst (λ n. is_source_node (slice_get job.nodes n) ≡ true) same (sender_source job edge.from s) in
       let known : is_source is.def.func ≡ true = sym (ap is_source_node is.node_is) ∙ source in
       let clash : true ≡ false = sym known ∙ is.no_source in
       cc
@@ -132,9 +132,9 @@ module _ (job : Written) (post : Post) (law : IsLawful job) (is : IsWorker job p
   told (Some v) (Some w) i j x y g h s t e =
       let p = sender_worker job x.from v s in
       let q = sender_worker job y.from w t in
-      let there : slice_get (posts job) v ≡ Some q.0 = subst (λ n. slice_get (posts job) n ≡ Some q.0) (sym e) q.1 in
+      let there : slice_get (workers_in job) v ≡ Some q.0 = subst (λ n. slice_get (workers_in job) n ≡ Some q.0) (sym e) q.1 in
       let same : p.0 ≡ q.0 = same_Some p.0 q.0 (sym p.1 ∙ there) in
-      (ap Some e, sym p.3 ∙ (ap (λ (o : Post). o.node) same ∙ q.3))
+      (ap Some e, sym p.3 ∙ (ap (λ (o : Worker). o.node) same ∙ q.3))
 
   -- two edges of one node lead to different nodes
   later : (i j : ℕ) (x y : Edge) → slice_get job.edges i ≡ Some x → slice_get job.edges j ≡ Some y → x.from ≡ y.from → x.to ≡ y.to → i < j → ⊥
@@ -152,7 +152,7 @@ module _ (job : Written) (post : Post) (law : IsLawful job) (is : IsWorker job p
       between : (i j : ℕ) → (i < j → ⊥) → (j < i → ⊥) → i ≡ j
       between i j a b = omega (arith, a, b)
 
-  codes_apart : (p q : ℕ × Lane) → Into job post p → Into job post q → code_of job p ≡ code_of job q → p ≡ q
+  codes_apart : (p q : ℕ × Lane) → Into job who p → Into job who q → code_of job p ≡ code_of job q → p ≡ q
   codes_apart p q k m e =
       let t = told p.1.sender q.1.sender p.1.edge q.1.edge k.edge m.edge k.edge_is m.edge_is k.sends m.sends e in
       let edge : p.1.edge ≡ q.1.edge = one_edge p.1.edge q.1.edge k.edge m.edge k.edge_is m.edge_is t.1 (k.to ∙ sym m.to) in
@@ -162,37 +162,37 @@ module _ (job : Written) (post : Post) (law : IsLawful job) (is : IsWorker job p
       let number : p.0 ≡ q.0 = same_place p.1 p.0 q.0 (lanes job) (lanes_distinct job) k.numbered (m.numbered ∙ ap Some (sym lane)) in
       λ i. (number i, lane i)
 
-  few : length (filter (λ (p : ℕ × Lane). p.1.receiver == post.number) (enumerate_from 0 (lanes job))) ≤ 127
+  few : length (filter (λ (p : ℕ × Lane). p.1.receiver == who.number) (enumerate_from 0 (lanes job))) ≤ 127
   few =
-      let ps : List (ℕ × Lane) = filter (λ (p : ℕ × Lane). p.1.receiver == post.number) (enumerate_from 0 (lanes job)) in
+      let ps : List (ℕ × Lane) = filter (λ (p : ℕ × Lane). p.1.receiver == who.number) (enumerate_from 0 (lanes job)) in
       let apart : AreDistinct (map (code_of job) ps) =
-      distinct_map (code_of job) ps (λ p q i j e. codes_apart p q (into p i) (into q j) e) (distinct_filter (λ (p : ℕ × Lane). p.1.receiver == post.number) (enumerate_from 0 (lanes job)) (enumerate_distinct (lanes job))) in
-      let no : ¬ IsIn (64 + post.node) (map (code_of job) ps) =
-      λ i. (let r = in_map (code_of job) (64 + post.node) ps i in let k = into r.0 r.1 in code_other r.0.1.sender r.0.1.edge k.edge k.edge_is k.sends r.2) in
-      let low : (x : ℕ) → IsIn x ((64 + post.node) ∷ map (code_of job) ps) → x < 128 = λ x i. below x i in
-      let many = few_below 128 ((64 + post.node) ∷ map (code_of job) ps) (no, apart) low in
+      distinct_map (code_of job) ps (λ p q i j e. codes_apart p q (into p i) (into q j) e) (distinct_filter (λ (p : ℕ × Lane). p.1.receiver == who.number) (enumerate_from 0 (lanes job)) (enumerate_distinct (lanes job))) in
+      let no : ¬ IsIn (64 + who.node) (map (code_of job) ps) =
+      λ i. (let r = in_map (code_of job) (64 + who.node) ps i in let k = into r.0 r.1 in code_other r.0.1.sender r.0.1.edge k.edge k.edge_is k.sends r.2) in
+      let low : (x : ℕ) → IsIn x ((64 + who.node) ∷ map (code_of job) ps) → x < 128 = λ x i. below x i in
+      let many = few_below 128 ((64 + who.node) ∷ map (code_of job) ps) (no, apart) low in
       let long = length-map ps (code_of job) in
       omega (arith, many, long)
     where
-      below : (x : ℕ) → IsIn x ((64 + post.node) ∷ map (code_of job) (filter (λ (p : ℕ × Lane). p.1.receiver == post.number) (enumerate_from 0 (lanes job)))) → x < 128
-      below x (inl e) = let l = slice_get_within job.nodes post.node is.def is.node_is in let m = law.limits.nodes.1 in omega (arith, e, l, m)
+      below : (x : ℕ) → IsIn x ((64 + who.node) ∷ map (code_of job) (filter (λ (p : ℕ × Lane). p.1.receiver == who.number) (enumerate_from 0 (lanes job)))) → x < 128
+      below x (inl e) = let l = slice_get_within job.nodes who.node is.def is.node_is in let m = law.limits.nodes.1 in omega (arith, e, l, m)
       below x (inr i) =
-          let r = in_map (code_of job) x (filter (λ (p : ℕ × Lane). p.1.receiver == post.number) (enumerate_from 0 (lanes job))) i in
+          let r = in_map (code_of job) x (filter (λ (p : ℕ × Lane). p.1.receiver == who.number) (enumerate_from 0 (lanes job))) i in
           let k = into r.0 r.1 in
           let l = code_low r.0.1.sender r.0.1.edge k.edge k.edge_is k.sends in
           let e = r.2 in
           omega (arith, e, l)
 
-pub few_lanes : (job : Written) (w : ℕ) (post : Post) → IsLawful job → slice_get (posts job) w ≡ Some post → length (lanes_in job w) ≤ 127
-few_lanes job w post law there =
-    let is = worker_with job w post there in
-    let few = few job post law is.1 in
+pub few_lanes : (job : JobView) (w : ℕ) (who : Worker) → IsLawful job → slice_get (workers_in job) w ≡ Some who → length (lanes_in job w) ≤ 127
+few_lanes job w who law there =
+    let is = worker_with job w who there in
+    let few = few job who law is.1 in
     subst (λ n. length (lanes_in job n) ≤ 127) is.0
-    (let long = length-map (filter (λ (p : ℕ × Lane). p.1.receiver == post.number) (enumerate_from 0 (lanes job))) (λ (p : ℕ × Lane). p.0) in omega (arith, long, few))
+    (let long = length-map (filter (λ (p : ℕ × Lane). p.1.receiver == who.number) (enumerate_from 0 (lanes job))) (λ (p : ℕ × Lane). p.0) in omega (arith, long, few))
 
-pub some_lane : (job : Written) (w : ℕ) (post : Post) → IsLawful job → slice_get (posts job) w ≡ Some post → 1 ≤ length (lanes_in job w)
-some_lane job w post law there =
-    let (number, is) = worker_with job w post there in
-    let (n, among) = reached_worker job law post is (in_of_place post (posts job) w there) in
-    let (place, at) = place_of_in n (lanes_in job post.number) among in
-    subst (λ k. 1 ≤ length (lanes_in job k)) number (let l = slice_get_within (lanes_in job post.number) place n at in omega (arith, l))
+pub some_lane : (job : JobView) (w : ℕ) (who : Worker) → IsLawful job → slice_get (workers_in job) w ≡ Some who → 1 ≤ length (lanes_in job w)
+some_lane job w who law there =
+    let (number, is) = worker_with job w who there in
+    let (n, among) = reached_worker job law who is (in_of_place who (workers_in job) w there) in
+    let (place, at) = place_of_in n (lanes_in job who.number) among in
+    subst (λ k. 1 ≤ length (lanes_in job k)) number (let l = slice_get_within (lanes_in job who.number) place n at in omega (arith, l))

@@ -5,7 +5,7 @@ use Rattle.std.proofs.lemmas.Bool.{and_parts, eqb-true, leb-true}
 use Rattle.flow_dag.specs.declared.edge.Edge.{Edge}
 use Rattle.jobs.specs.Nodes.{is_source, is_source_node, workers_of}
 use Rattle.jobs.specs.Ports.{are_ports, has_port, has_ports, out_count}
-use Rattle.jobs.specs.Written.{Written}
+use Rattle.jobs.specs.JobView.{JobView}
 use Rattle.jobs.specs.declared.func.Func.{Func}
 use Rattle.jobs.specs.declared.func.Func.TheVariants as func
 use Rattle.jobs.specs.declared.func.NodeDef.{NodeDef}
@@ -14,12 +14,12 @@ use Rattle.operators.specs.Lanes.{worker_among}
 use Rattle.tuple_trace.specs.declared.tuple.Tuple.{Tuple}
 use Rattle.flow_model.specs.Lanes.{first_on, lane_along, lane_of, lanes, receiver_of, senders}
 use Rattle.flow_model.specs.declared.topology.Lane.{Lane}
-use Rattle.flow_model.specs.Outline.{Post}
-use Rattle.flow_model.specs.Workers.{posts_of}
+use Rattle.flow_model.specs.SetupView.{Worker}
+use Rattle.flow_model.specs.Workers.{workers_at_node}
 use Rattle.flow_model.proofs.ElementLemmas.{IsIn, in_of_place}
 use Rattle.flow_model.proofs.JobLemmas.{IsWired, ports_by_kind}
 use Rattle.flow_model.proofs.LaneLemmas.{lane_of_edge}
-use Rattle.flow_model.proofs.PostLemmas.{length-posts_of}
+use Rattle.flow_model.proofs.WorkerListLemmas.{length-workers_at_node}
 use Rattle.flow_model.proofs.WorkerLemmas.{all_workers, item_at, source_is}
 
 -- ---- the edge of a port
@@ -60,7 +60,7 @@ source_port edges node f s all =
 
 -- ---- the worker that a tuple reaches
 
-pub among_within : (job : Written) (f : Func) (workers : ℕ) (t : Tuple) → 0 < workers → worker_among job.columns f workers t < workers
+pub among_within : (job : JobView) (f : Func) (workers : ℕ) (t : Tuple) → 0 < workers → worker_among job.columns f workers t < workers
 among_within job func.Source workers t lt = omega arith
 among_within job (func.Filter conds) workers t lt = omega arith
 among_within job (func.Map steps) workers t lt = omega arith
@@ -74,25 +74,25 @@ some_in : {A : Type 0} (xs : List A) (x : A) → IsIn x xs → 0 < length xs
 some_in [] x i = absurd i
 some_in (y ∷ ys) x i = omega arith
 
-pub receiver_there : (job : Written) (wired : IsWired job) (i : ℕ) (edge : Edge) (t : Tuple) → slice_get job.edges i ≡ Some edge
-    → (post : Post) × (receiver_of job edge t ≡ Some post) × IsIn post (posts_of job edge.to)
+pub receiver_there : (job : JobView) (wired : IsWired job) (i : ℕ) (edge : Edge) (t : Tuple) → slice_get job.edges i ≡ Some edge
+    → (who : Worker) × (receiver_of job edge t ≡ Some who) × IsIn who (workers_at_node job edge.to)
 receiver_there job wired i edge t g =
     let to = item_at job.nodes edge.to (wired.ends i edge g).1 in
     let def : NodeDef = to.0 in
     let into : is_source_node (slice_get job.nodes edge.to) ≡ false = wired.into i edge g in
     let no_source : is_source def.func ≡ false = rw to.1 at into in
-    let count : length (posts_of job edge.to) ≡ workers_of def = length-posts_of job edge.to def to.1 in
+    let count : length (workers_at_node job edge.to) ≡ workers_of def = length-workers_at_node job edge.to def to.1 in
     let workers : workers_of def ≡ def.workers = all_workers def no_source in
     let m = wired.manned edge.to def to.1 no_source in
-    let some : 0 < length (posts_of job edge.to) = some_in (posts_of job edge.to) m.0 m.1 in
+    let some : 0 < length (workers_at_node job edge.to) = some_in (workers_at_node job edge.to) m.0 m.1 in
     let within : worker_among job.columns def.func def.workers t < def.workers = among_within job def.func def.workers t (omega (arith, count, workers, some)) in
-    let p = item_at (posts_of job edge.to) (worker_among job.columns def.func def.workers t) (omega (arith, count, workers, within)) in
-    (p.0, rw to.1 p.1, in_of_place p.0 (posts_of job edge.to) (worker_among job.columns def.func def.workers t) p.1)
+    let p = item_at (workers_at_node job edge.to) (worker_among job.columns def.func def.workers t) (omega (arith, count, workers, within)) in
+    (p.0, rw to.1 p.1, in_of_place p.0 (workers_at_node job edge.to) (worker_among job.columns def.func def.workers t) p.1)
 
 -- ---- the lane of a tuple
 
 -- the lane that a sender's tuple goes on: along the port's edge, to a worker of the node at its end
-pub record GoesOn (job : Written) (sender : Option ℕ) (node port : ℕ) (t : Tuple) : Type 0 where
+pub record GoesOn (job : JobView) (sender : Option ℕ) (node port : ℕ) (t : Tuple) : Type 0 where
   pub lane : Lane
   pub lane_is : lane_of job sender node port t ≡ Some lane
   pub n : ℕ
@@ -105,7 +105,7 @@ pub record GoesOn (job : Written) (sender : Option ℕ) (node port : ℕ) (t : T
   pub edge_number : lane.edge ≡ number
   pub from : edge.from ≡ node
 
-pub goes_on : (job : Written) (wired : IsWired job) (sender : Option ℕ) (node port : ℕ) (t : Tuple) → has_port job.edges node port ≡ true → IsIn sender (senders job node) → GoesOn job sender node port t
+pub goes_on : (job : JobView) (wired : IsWired job) (sender : Option ℕ) (node port : ℕ) (t : Tuple) → has_port job.edges node port ≡ true → IsIn sender (senders job node) → GoesOn job sender node port t
 goes_on job wired sender node port t h s =
     let p : HasPortEdge job.edges node port 0 = port_edge job.edges node port 0 h in
     let at : p.at ≡ p.number = omega (arith, p.number_is) in
@@ -114,7 +114,7 @@ goes_on job wired sender node port t h s =
     let l = lane_of_edge job p.number p.edge sender r.0 edge_is (subst (λ v. IsIn sender (senders job v)) (sym p.from) s) r.2 in
     record {
       lane = record { edge = p.number; sender = sender; receiver = r.0.number };
-      lane_is = ap (λ o. lane_along job sender o t) p.found ∙ ap (option_map (λ (post : Post). record { edge = p.number; sender = sender; receiver = post.number })) r.1;
+      lane_is = ap (λ o. lane_along job sender o t) p.found ∙ ap (option_map (λ (who : Worker). record { edge = p.number; sender = sender; receiver = who.number })) r.1;
       n = l.0;
       there = l.1;
       sent_by = refl;

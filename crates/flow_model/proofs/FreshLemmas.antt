@@ -3,7 +3,7 @@ use Rattle.std.proofs.Common.{◌≡◌, ◌∙◌, ◌<◌, ◌≤◌, ◌+◌,
 use Rattle.std.proofs.lemmas.Bool.{cases_lt, le-leb}
 use Rattle.std.proofs.lemmas.Bool.Decides.{nat_tests}
 use Rattle.std.proofs.lemmas.Option.{slice_get_within}
-use Rattle.jobs.specs.Written.{Written}
+use Rattle.jobs.specs.JobView.{JobView}
 use Rattle.cover_planner.specs.declared.cover.Plan.{Plan}
 use Rattle.sink_journal.specs.Alerts.{met}
 use Rattle.sink_journal.specs.declared.journal.Entry.{Entry}
@@ -19,19 +19,19 @@ use Rattle.flow_model.specs.Covers.{covers, heads, is_head}
 use Rattle.flow_model.specs.Feeding.{fed_put, fed_puts, fed_tuple, feed_after, feed_from, issued_after, issued_at_first, issued_where, row_at}
 use Rattle.flow_model.specs.Fresh.{AreFreshFrom, IsFresh, IsFreshAt, IsFreshBefore, IsFreshUnder, IsHeadBefore, IsUpTo}
 use Rattle.flow_model.specs.Law.{IsEnabled, IsExecution, IsInTime, Progress, after_entry, initial, later_dues, next_due}
-use Rattle.flow_model.specs.Outline.{Outline, Post}
+use Rattle.flow_model.specs.SetupView.{SetupView, Worker}
 use Rattle.flow_model.specs.Replay.{Put}
 use Rattle.flow_model.specs.Requests.{afters, request_at}
 use Rattle.flow_model.specs.Run.{Ran}
-use Rattle.flow_model.specs.Station.{station}
+use Rattle.flow_model.specs.Duties.{duties}
 use Rattle.flow_model.specs.Whole.{before_turn, is_turn, met_tuples}
-use Rattle.flow_model.specs.Workers.{posts}
+use Rattle.flow_model.specs.Workers.{workers_in}
 use Rattle.flow_model.proofs.ElementLemmas.{Before, IsIn, all_of_at, in_cases, in_filter_map, in_of_place, place_of_in}
-use Rattle.flow_model.proofs.WorkerLemmas.{item_at, journal_is, journal_of, post_is, post_of}
+use Rattle.flow_model.proofs.WorkerLemmas.{item_at, journal_is, journal_of, who_is, worker_no}
 use Rattle.flow_model.proofs.PlannedLemmas.{HasCovers, due_covers, dues_rise}
 use Rattle.flow_model.proofs.StoryLemmas.{IsRising, rising_from}
 use Rattle.flow_model.proofs.MarkerLemmas.{turned_is_due}
-use Rattle.flow_model.proofs.RunLemmas.{HasWorker, Running, execution, row_is, start_of, station_of}
+use Rattle.flow_model.proofs.RunLemmas.{HasWorker, Running, execution, row_is, start_of, duties_of}
 use Rattle.flow_model.proofs.KinLemmas.{Address, Passed, passed}
 use Rattle.flow_model.proofs.RootLemmas.{Root, Rooted, rooted}
 use Rattle.flow_model.proofs.TurnLemmas.{met_is, rest_has}
@@ -84,7 +84,7 @@ count_next row rows r (after ∷ waits) =
     go false e false f false k h = h
 
 -- what is issued raises the count of what is fed later
-pub past_issued : (job : Written) (rows : List Row) (test : ℕ → Bool) (total r issued : ℕ) (waits : List ℕ) (more : List Feed)
+pub past_issued : (job : JobView) (rows : List Row) (test : ℕ → Bool) (total r issued : ℕ) (waits : List ℕ) (more : List Feed)
     → fed_puts job rows issued (issued_where test total r waits ++ more) ≡ fed_puts job rows (issued + length (issued_where test total r waits)) more
 past_issued job rows test total r issued [] more = let e : issued ≡ issued + 0 = omega arith in ap (λ n. fed_puts job rows n more) e
 past_issued job rows test total r issued (after ∷ waits) more = go (test (min after total)) (past_issued job rows test total (r + 1) (issued + 1) waits more) (past_issued job rows test total (r + 1) issued waits more)
@@ -106,7 +106,7 @@ record CountsIssued (rows : List Row) (total : ℕ) (waits : List ℕ) (p : Put)
   there : row_at rows (before + 1) ≡ Some row
   item_is : p.item ≡ item.Carry (fed_tuple (count_to before total waits) row)
 
-after_counts : (job : Written) (rows : List Row) (waits : List ℕ) (r row total left : ℕ) (p : Put)
+after_counts : (job : JobView) (rows : List Row) (waits : List ℕ) (r row total left : ℕ) (p : Put)
     → IsIn p (fed_puts job rows (count_to row total waits) (feed_after waits r row total left)) → CountsIssued rows total waits p
 after_counts job rows waits r row total zero p h = absurd h
 after_counts job rows waits r row total (suc left) p h =
@@ -123,7 +123,7 @@ after_counts job rows waits r row total (suc left) p h =
     here (Some x) e (inr n) = absurd n
 
 -- each put of a run's feed does
-feed_counts : (job : Written) (rows : List Row) (waits : List ℕ) (total : ℕ) (p : Put) → IsIn p (fed_puts job rows 0 (feed_from 0 0 waits total)) → CountsIssued rows total waits p
+feed_counts : (job : JobView) (rows : List Row) (waits : List ℕ) (total : ℕ) (p : Put) → IsIn p (fed_puts job rows 0 (feed_from 0 0 waits total)) → CountsIssued rows total waits p
 feed_counts job rows waits total p h =
     let e : 0 + length (issued_at_first 0 total 1 waits) ≡ count_to 0 total waits = omega (arith, count_at_first total 1 waits) in
     after_counts job rows waits 1 0 total (total - 0) p (
@@ -161,7 +161,7 @@ counted k total row (suc i) request (q ∷ later) o g le =
 -- ---- fresh
 
 -- a tuple that was fed under fewer requests than r is of a row up to the one after which r is issued
-abbrev IsTimely : Outline → ℕ → Tuple → Type 0
+abbrev IsTimely : SetupView → ℕ → Tuple → Type 0
 IsTimely setup rows t = (r : ℕ) (request : Request) → request_at setup r ≡ Some request → t.issued < r → t.row ≤ min request.after rows
 
 -- the tuple at a root is of the row behind some number of rows, and was fed under the requests that wait for one of those
@@ -198,7 +198,7 @@ met_timely rows ran g w l t lt h r request e lr =
     omega arith
 
 -- a head's request is one of the setup
-head_request : (setup : Outline) → HasCovers setup → (r node : ℕ) → is_head setup r node ≡ true → (request : Request) × (request_at setup r ≡ Some request)
+head_request : (setup : SetupView) → HasCovers setup → (r node : ℕ) → is_head setup r node ≡ true → (request : Request) × (request_at setup r ≡ Some request)
 head_request setup kept zero node h = absurd (cc)
 head_request setup kept (suc r) node h = go (slice_get setup.plans r) refl h
   where
@@ -206,41 +206,41 @@ head_request setup kept (suc r) node h = go (slice_get setup.plans r) refl h
     go None e h = absurd (cc)
     go (Some plan) e h = let lt = slice_get_within setup.plans r plan e in item_at setup.requests r (omega (arith, lt, kept.one_each))
 
-up_to : (setup : Outline) → HasCovers setup → (rows r node : ℕ) (t : Tuple) → is_head setup r node ≡ true → IsTimely setup rows t → t.issued < r → IsUpTo rows (request_at setup r) t.row
+up_to : (setup : SetupView) → HasCovers setup → (rows r node : ℕ) (t : Tuple) → is_head setup r node ≡ true → IsTimely setup rows t → t.issued < r → IsUpTo rows (request_at setup r) t.row
 up_to setup kept rows r node t h timely lt = let (request, e) = head_request setup kept r node h in rw e (timely r request e lt)
 
-fresh_along : (setup : Outline) → HasCovers setup → (rows : ℕ) (post : Post) (progress : Progress) (journal : List Entry) → IsExecution (station setup 0 post) progress journal
-    → ((l : ℕ) (t : Tuple) → IsIn (entry.Met l t) journal → IsTimely setup rows t) → AreFreshFrom setup rows post progress journal
-fresh_along setup kept rows post progress [] f h = tt
-fresh_along setup kept rows post progress (e ∷ journal) f h =
-    (one e f.0 (λ l t p. h l t (inl p)), fresh_along setup kept rows post (after_entry progress e) journal f.1 (λ l t i. h l t (inr i)))
+fresh_along : (setup : SetupView) → HasCovers setup → (rows : ℕ) (who : Worker) (progress : Progress) (journal : List Entry) → IsExecution (duties setup 0 who) progress journal
+    → ((l : ℕ) (t : Tuple) → IsIn (entry.Met l t) journal → IsTimely setup rows t) → AreFreshFrom setup rows who progress journal
+fresh_along setup kept rows who progress [] f h = tt
+fresh_along setup kept rows who progress (e ∷ journal) f h =
+    (one e f.0 (λ l t p. h l t (inl p)), fresh_along setup kept rows who (after_entry progress e) journal f.1 (λ l t i. h l t (inr i)))
   where
-    one : (e : Entry) → IsEnabled (station setup 0 post) progress e → ((l : ℕ) (t : Tuple) → entry.Met l t ≡ e → IsTimely setup rows t) → IsFreshAt setup rows post progress e
+    one : (e : Entry) → IsEnabled (duties setup 0 who) progress e → ((l : ℕ) (t : Tuple) → entry.Met l t ≡ e → IsTimely setup rows t) → IsFreshAt setup rows who progress e
     one (entry.Met l t) a h = under (next_due progress.dues) a.3
       where
-        under : (o : Option ℕ) → IsInTime (station setup 0 post) t o → IsFreshUnder setup rows post o t
+        under : (o : Option ℕ) → IsInTime (duties setup 0 who) t o → IsFreshUnder setup rows who o t
         under None a = tt
-        under (Some due) a = λ head. up_to setup kept rows due post.node t head (h l t refl) (a head)
+        under (Some due) a = λ head. up_to setup kept rows due who.node t head (h l t refl) (a head)
     one (entry.Marked l r) a h = tt
     one (entry.Turned r) a h = tt
     one (entry.Ended l) a h = tt
 
 fresh_worker : (rows : List Row) (ran : Ran) (g : Running rows ran) (w : ℕ) → HasWorker ran w
-    → AreFreshFrom ran.setup (length rows) (post_of ran.setup w) (start_of ran w) (journal_of ran w)
+    → AreFreshFrom ran.setup (length rows) (worker_no ran.setup w) (start_of ran w) (journal_of ran w)
 fresh_worker rows ran g w lt =
-    fresh_along ran.setup g.kept (length rows) (post_of ran.setup w) (start_of ran w) (journal_of ran w) (execution rows ran g w lt)
+    fresh_along ran.setup g.kept (length rows) (worker_no ran.setup w) (start_of ran w) (journal_of ran w) (execution rows ran g w lt)
     (λ l t h. met_timely rows ran g w l t lt h)
 
 pub is_fresh : (rows : List Row) (ran : Ran) (g : Running rows ran) → IsFresh (length rows) ran
-is_fresh rows ran g w post journal p j =
-    let lt : HasWorker ran w = slice_get_within (posts ran.setup.job) w post p in
-    subst (λ (x : Post). AreFreshFrom ran.setup (length rows) x (initial (station ran.setup 0 x)) journal) (post_is ran.setup w post p)
-    (subst (λ (x : List Entry). AreFreshFrom ran.setup (length rows) (post_of ran.setup w) (start_of ran w) x) (journal_is ran w journal j)
+is_fresh rows ran g w who journal p j =
+    let lt : HasWorker ran w = slice_get_within (workers_in ran.setup.job) w who p in
+    subst (λ (x : Worker). AreFreshFrom ran.setup (length rows) x (initial (duties ran.setup 0 x)) journal) (who_is ran.setup w who p)
+    (subst (λ (x : List Entry). AreFreshFrom ran.setup (length rows) (worker_no ran.setup w) (start_of ran w) x) (journal_is ran w journal j)
     (fresh_worker rows ran g w lt))
 
 -- ---- fresh before the turn
 
-up_to_later : (setup : Outline) (rows d r row : ℕ) → AreInOrder 0 setup.requests → d ≤ r → (request : Request) → request_at setup r ≡ Some request → IsUpTo rows (request_at setup d) row
+up_to_later : (setup : SetupView) (rows d r row : ℕ) → AreInOrder 0 setup.requests → d ≤ r → (request : Request) → request_at setup r ≡ Some request → IsUpTo rows (request_at setup d) row
     → row ≤ min request.after rows
 up_to_later setup rows zero r row order le request e up = absurd up
 up_to_later setup rows (suc d) zero row order le request e up = absurd (omega arith)
@@ -250,10 +250,10 @@ up_to_later setup rows (suc d) (suc r) row order le request e up = go (slice_get
     go None g up = absurd up
     go (Some earlier) g up = let k = order_rises 0 d r earlier request setup.requests order (omega arith) g e in omega (arith, k, up)
 
-module _ (setup : Outline) (kept : HasCovers setup) (order : AreInOrder 0 setup.requests) (rows : ℕ) (post : Post) (r : ℕ) (head : is_head setup r post.node ≡ true)
-    (before : IsHeadBefore setup r post)
+module _ (setup : SetupView) (kept : HasCovers setup) (order : AreInOrder 0 setup.requests) (rows : ℕ) (who : Worker) (r : ℕ) (head : is_head setup r who.node ≡ true)
+    (before : IsHeadBefore setup r who)
   where
-    head_too : (d : ℕ) → d ≤ r → covers setup d post.node ≡ true → is_head setup d post.node ≡ true
+    head_too : (d : ℕ) → d ≤ r → covers setup d who.node ≡ true → is_head setup d who.node ≡ true
     head_too d le c =
         elim (cases_lt d r) [
           | inl lt ↦ before d lt c
@@ -261,26 +261,26 @@ module _ (setup : Outline) (kept : HasCovers setup) (order : AreInOrder 0 setup.
         ]
 
     -- what a head meets while an earlier request is the next due is of an earlier row, too
-    under : (t : Tuple) (k : ℕ) (dues : List ℕ) → IsRising k dues → ((q : ℕ) → IsIn q dues → covers setup q post.node ≡ true) → IsFreshUnder setup rows post (next_due dues) t → IsIn r dues
+    under : (t : Tuple) (k : ℕ) (dues : List ℕ) → IsRising k dues → ((q : ℕ) → IsIn q dues → covers setup q who.node ≡ true) → IsFreshUnder setup rows who (next_due dues) t → IsIn r dues
         → IsUpTo rows (request_at setup r) t.row
     under t k [] up c fresh i = absurd i
     under t k (d ∷ dues) up c fresh i =
         let le : d ≤ r = rising_from k d r dues up i in
-        let (request, e) = head_request setup kept r post.node head in
+        let (request, e) = head_request setup kept r who.node head in
         rw e (up_to_later setup rows d r t.row order le request e (fresh (head_too d le (c d (inl refl)))))
 
-    later_covered : (dues : List ℕ) → ((q : ℕ) → IsIn q dues → covers setup q post.node ≡ true) → (q : ℕ) → IsIn q (later_dues dues) → covers setup q post.node ≡ true
+    later_covered : (dues : List ℕ) → ((q : ℕ) → IsIn q dues → covers setup q who.node ≡ true) → (q : ℕ) → IsIn q (later_dues dues) → covers setup q who.node ≡ true
     later_covered [] c q i = absurd i
     later_covered (d ∷ dues) c q i = c q (inr i)
 
-    along : (progress : Progress) (k : ℕ) (journal : List Entry) (l : ℕ) (t : Tuple) → IsExecution (station setup 0 post) progress journal → IsRising k progress.dues
-        → ((q : ℕ) → IsIn q progress.dues → covers setup q post.node ≡ true) → AreFreshFrom setup rows post progress journal → Before (entry.Met l t) (entry.Turned r) journal
+    along : (progress : Progress) (k : ℕ) (journal : List Entry) (l : ℕ) (t : Tuple) → IsExecution (duties setup 0 who) progress journal → IsRising k progress.dues
+        → ((q : ℕ) → IsIn q progress.dues → covers setup q who.node ≡ true) → AreFreshFrom setup rows who progress journal → Before (entry.Met l t) (entry.Turned r) journal
         → IsUpTo rows (request_at setup r) t.row
     along progress k [] l t f up c fresh b = absurd b
-    along progress k (e ∷ journal) l t f up c fresh (inl h) = here e h.0 fresh.0 (turned_is_due (station setup 0 post) progress (e ∷ journal) r f (inr h.1))
+    along progress k (e ∷ journal) l t f up c fresh (inl h) = here e h.0 fresh.0 (turned_is_due (duties setup 0 who) progress (e ∷ journal) r f (inr h.1))
       where
-        here : (e : Entry) → entry.Met l t ≡ e → IsFreshAt setup rows post progress e → IsIn r progress.dues → IsUpTo rows (request_at setup r) t.row
-        here (entry.Met n u) p fr i = let q : t ≡ u = cc in under t k progress.dues up c (subst (λ (x : Tuple). IsFreshUnder setup rows post (next_due progress.dues) x) (sym q) fr) i
+        here : (e : Entry) → entry.Met l t ≡ e → IsFreshAt setup rows who progress e → IsIn r progress.dues → IsUpTo rows (request_at setup r) t.row
+        here (entry.Met n u) p fr i = let q : t ≡ u = cc in under t k progress.dues up c (subst (λ (x : Tuple). IsFreshUnder setup rows who (next_due progress.dues) x) (sym q) fr) i
         here (entry.Marked n q) p fr i = absurd (cc)
         here (entry.Turned q) p fr i = absurd (cc)
         here (entry.Ended n) p fr i = absurd (cc)
@@ -306,7 +306,7 @@ module _ (setup : Outline) (kept : HasCovers setup) (order : AreInOrder 0 setup.
         next_rises (entry.Turned q) = tail_rises progress.dues up
         next_rises (entry.Ended n) = up
 
-        next_covered : (e : Entry) → (q : ℕ) → IsIn q (after_entry progress e).dues → covers setup q post.node ≡ true
+        next_covered : (e : Entry) → (q : ℕ) → IsIn q (after_entry progress e).dues → covers setup q who.node ≡ true
         next_covered (entry.Met n u) = c
         next_covered (entry.Marked n q) = c
         next_covered (entry.Turned q) = later_covered progress.dues c
@@ -324,20 +324,20 @@ before_turn_before r e (x ∷ journal) t i = go (is_turn r x) refl i (before_tur
     go false p (inr j) f = inr (f (rest_has r x journal p t) j)
 
 pub is_fresh_before : (rows : List Row) (ran : Ran) (g : Running rows ran) → IsFreshBefore (length rows) ran
-is_fresh_before rows ran g w r post journal p j head before =
-    let lt : HasWorker ran w = slice_get_within (posts ran.setup.job) w post p in
-    let at : post_of ran.setup w ≡ post = post_is ran.setup w post p in
+is_fresh_before rows ran g w r who journal p j head before =
+    let lt : HasWorker ran w = slice_get_within (workers_in ran.setup.job) w who p in
+    let at : worker_no ran.setup w ≡ who = who_is ran.setup w who p in
     let there : journal_of ran w ≡ journal = journal_is ran w journal j in
-    let law : IsExecution (station ran.setup 0 post) (initial (station ran.setup 0 post)) journal =
-    subst (λ (x : Post). IsExecution (station ran.setup 0 x) (initial (station ran.setup 0 x)) journal) at
-    (subst (λ (x : List Entry). IsExecution (station_of ran w) (start_of ran w) x) there (execution rows ran g w lt)) in
+    let law : IsExecution (duties ran.setup 0 who) (initial (duties ran.setup 0 who)) journal =
+    subst (λ (x : Worker). IsExecution (duties ran.setup 0 x) (initial (duties ran.setup 0 x)) journal) at
+    (subst (λ (x : List Entry). IsExecution (duties_of ran w) (start_of ran w) x) there (execution rows ran g w lt)) in
     let turned : IsIn (entry.Turned r) journal =
-    subst (λ (x : List Entry). IsIn (entry.Turned r) x) there (covered_turns rows ran g w r lt (rw at (g.kept.heads r post.node head))) in
+    subst (λ (x : List Entry). IsIn (entry.Turned r) x) there (covered_turns rows ran g w r lt (rw at (g.kept.heads r who.node head))) in
     all_of_at (λ (tuple : Tuple). IsUpTo (length rows) (request_at ran.setup r) tuple.row) (met_tuples (before_turn r journal))
     (λ t i.
     let m = in_filter_map met t (before_turn r journal) i in
     let l = met_is m.0 t m.2 in
     let e : IsIn (entry.Met l.0 t) (before_turn r journal) = subst (λ (x : Entry). IsIn x (before_turn r journal)) l.1 m.1 in
-    along ran.setup g.kept g.order (length rows) post r head before (initial (station ran.setup 0 post)) 0 journal l.0 t law
-    (dues_rise ran.setup 0 post.node 0 (omega arith)) (λ q h. due_covers ran.setup 0 post.node q h) (is_fresh rows ran g w post journal p j)
+    along ran.setup g.kept g.order (length rows) who r head before (initial (duties ran.setup 0 who)) 0 journal l.0 t law
+    (dues_rise ran.setup 0 who.node 0 (omega arith)) (λ q h. due_covers ran.setup 0 who.node q h) (is_fresh rows ran g w who journal p j)
     (before_turn_before r (entry.Met l.0 t) journal turned e))

@@ -11,11 +11,11 @@ use Rattle.flow_dag.specs.Masks.{Has}
 use Rattle.flow_dag.specs.declared.edge.Edge.{Edge}
 use Rattle.flow_dag.proofs.MaskLemmas.{has-Has}
 use Rattle.flow_model.specs.Covers.{covers_edge, heads, holds_edge, is_head}
-use Rattle.flow_model.specs.Outline.{Outline, splits_of}
+use Rattle.flow_model.specs.SetupView.{SetupView, splits_of}
 use Rattle.flow_model.specs.Planned.{IsPlanFor, IsPlanned}
 use Rattle.flow_model.proofs.PlannedLemmas.{plan_for}
 
-no_edge : (setup : Outline) → IsPlanned setup → (r node i : ℕ) (edge : Edge) → is_head setup r node ≡ true → slice_get setup.job.edges i ≡ Some edge → edge.to ≡ node
+no_edge : (setup : SetupView) → IsPlanned setup → (r node i : ℕ) (edge : Edge) → is_head setup r node ≡ true → slice_get setup.job.edges i ≡ Some edge → edge.to ≡ node
     → covers_edge setup r i ≡ true → ⊥
 no_edge setup is zero node i edge h g to c = cc
 no_edge setup is (suc r) node i edge h g to c = go (slice_get setup.plans r) refl h c
@@ -29,7 +29,7 @@ no_edge setup is (suc r) node i edge h g to c = go (slice_get setup.plans r) ref
         let same : found ≡ edge = same_Some found edge (sym there ∙ g) in
         none found.from (subst (λ n. IsCoveredEdge (HasEdge setup.job.edges) (Has plan.members) found.from n) (ap (λ (x : Edge). x.to) same ∙ to) covered)
 
-pub head_unentered : (setup : Outline) → ∥ IsPlanned setup ∥₁ → (r node i : ℕ) (edge : Edge) → is_head setup r node ≡ true → slice_get setup.job.edges i ≡ Some edge → edge.to ≡ node
+pub head_unentered : (setup : SetupView) → ∥ IsPlanned setup ∥₁ → (r node i : ℕ) (edge : Edge) → is_head setup r node ≡ true → slice_get setup.job.edges i ≡ Some edge → edge.to ≡ node
     → covers_edge setup r i ≡ false
 head_unentered setup planned r node i edge h g to =
     ∥∥₁_elim planned (Bool-set _ _) (λ is. false_from_ne_true (covers_edge setup r i) (no_edge setup is r node i edge h g to))

@@ -12,32 +12,32 @@ use Rattle.flow_dag.proofs.PlaceLemmas.{place_of-below, place_of-forward}
 use Rattle.jobs.specs.Law.{IsLawful}
 use Rattle.jobs.specs.Nodes.{is_source, is_source_node, most_workers}
 use Rattle.jobs.specs.Ports.{are_ports, has_edge, has_ports, is_entered, leads_twice, leaves, may_enter, may_leave, out_count}
-use Rattle.jobs.specs.Written.{Written}
+use Rattle.jobs.specs.JobView.{JobView}
 use Rattle.jobs.specs.declared.func.Func.{Func}
 use Rattle.jobs.specs.declared.func.Func.TheVariants as func
 use Rattle.jobs.specs.declared.func.NodeDef.{NodeDef}
 use Rattle.flow_model.specs.Lanes.{lanes_in, senders}
 use Rattle.flow_model.specs.declared.topology.Lane.{Lane}
-use Rattle.flow_model.specs.Outline.{Post}
-use Rattle.flow_model.specs.Workers.{posts, posts_of}
+use Rattle.flow_model.specs.SetupView.{Worker}
+use Rattle.flow_model.specs.Workers.{workers_in, workers_at_node}
 use Rattle.flow_model.proofs.ElementLemmas.{IsIn, at_of_all, in_any, in_of_place, map_in}
-use Rattle.flow_model.proofs.PostLemmas.{length-posts_of}
-use Rattle.flow_model.proofs.WorkerLemmas.{IsWorker, all_workers, item_at, posts_of_in, source_is}
+use Rattle.flow_model.proofs.WorkerListLemmas.{length-workers_at_node}
+use Rattle.flow_model.proofs.WorkerLemmas.{IsWorker, all_workers, item_at, workers_at_node_in, source_is}
 use Rattle.flow_model.proofs.LaneLemmas.{lane_of_edge, lanes_that_in}
 
 -- What the laws of runs use of a job: its edges lead from lower ranks to higher ones, none into a source; every other node has a worker, each
 -- worker has a lane in, and the edges of each node are those of its kind.
-pub record IsWired (job : Written) : Type 0 where
+pub record IsWired (job : JobView) : Type 0 where
   pub rank : ℕ → ℕ
   pub below : (node : ℕ) → node < length job.nodes → rank node < length job.nodes
   pub forward : (i : ℕ) (edge : Edge) → slice_get job.edges i ≡ Some edge → rank edge.from < rank edge.to
   pub ends : (i : ℕ) (edge : Edge) → slice_get job.edges i ≡ Some edge → IsInside (length job.nodes) edge
   pub into : (i : ℕ) (edge : Edge) → slice_get job.edges i ≡ Some edge → is_source_node (slice_get job.nodes edge.to) ≡ false
   pub ports : (node : ℕ) (def : NodeDef) → slice_get job.nodes node ≡ Some def → are_ports job.edges node def.func ≡ true
-  pub manned : (node : ℕ) (def : NodeDef) → slice_get job.nodes node ≡ Some def → is_source def.func ≡ false → (post : Post) × IsIn post (posts_of job node)
-  pub reached : (post : Post) → IsWorker job post → (n : ℕ) × IsIn n (lanes_in job post.number)
+  pub manned : (node : ℕ) (def : NodeDef) → slice_get job.nodes node ≡ Some def → is_source def.func ≡ false → (who : Worker) × IsIn who (workers_at_node job node)
+  pub reached : (who : Worker) → IsWorker job who → (n : ℕ) × IsIn n (lanes_in job who.number)
 
-pub inside_edge : (job : Written) → IsLawful job → (i : ℕ) (edge : Edge) → slice_get job.edges i ≡ Some edge → IsInside (length job.nodes) edge
+pub inside_edge : (job : JobView) → IsLawful job → (i : ℕ) (edge : Edge) → slice_get job.edges i ≡ Some edge → IsInside (length job.nodes) edge
 inside_edge job is i edge g =
     at_of_all (IsInside (length job.nodes)) edge job.edges is.ends (in_of_place edge job.edges i g)
 
@@ -100,39 +100,39 @@ edge_into edges node h =
 
 -- ---- each node but a source has a worker
 
-pub one_worker : (job : Written) → IsLawful job → (node : ℕ) (def : NodeDef) → slice_get job.nodes node ≡ Some def → 1 ≤ def.workers
+pub one_worker : (job : JobView) → IsLawful job → (node : ℕ) (def : NodeDef) → slice_get job.nodes node ≡ Some def → 1 ≤ def.workers
 one_worker job is node def g =
     (at_of_all (λ (n : NodeDef). (1 ≤ n.workers) × (n.workers ≤ most_workers n.func)) def job.nodes is.limits.workers (in_of_place def job.nodes node g)).0
 
-manned_node : (job : Written) → IsLawful job → (node : ℕ) (def : NodeDef) → slice_get job.nodes node ≡ Some def → is_source def.func ≡ false → (post : Post) × IsIn post (posts_of job node)
+manned_node : (job : JobView) → IsLawful job → (node : ℕ) (def : NodeDef) → slice_get job.nodes node ≡ Some def → is_source def.func ≡ false → (who : Worker) × IsIn who (workers_at_node job node)
 manned_node job is node def g e =
-    let (post, first) = item_at (posts_of job node) 0 (omega (arith, length-posts_of job node def g, all_workers def e, one_worker job is node def g)) in
-    (post, in_of_place post (posts_of job node) 0 first)
+    let (who, first) = item_at (workers_at_node job node) 0 (omega (arith, length-workers_at_node job node def g, all_workers def e, one_worker job is node def g)) in
+    (who, in_of_place who (workers_at_node job node) 0 first)
 
 -- ---- each worker has a lane in
 
-some_sender : (job : Written) → IsLawful job → (node : ℕ) (def : NodeDef) → slice_get job.nodes node ≡ Some def → (sender : Option ℕ) × IsIn sender (senders job node)
+some_sender : (job : JobView) → IsLawful job → (node : ℕ) (def : NodeDef) → slice_get job.nodes node ≡ Some def → (sender : Option ℕ) × IsIn sender (senders job node)
 some_sender job is node def g = rw g (go (is_source def.func) refl)
   where
-    go : (b : Bool) → is_source def.func ≡ b → (sender : Option ℕ) × IsIn sender (cond b (None ∷ []) (map (λ (post : Post). Some post.number) (posts_of job node)))
+    go : (b : Bool) → is_source def.func ≡ b → (sender : Option ℕ) × IsIn sender (cond b (None ∷ []) (map (λ (who : Worker). Some who.number) (workers_at_node job node)))
     go true e = (None, inl refl)
-    go false e = let r = manned_node job is node def g e in (Some r.0.number, map_in (λ (post : Post). Some post.number) r.0 (posts_of job node) r.1)
+    go false e = let r = manned_node job is node def g e in (Some r.0.number, map_in (λ (who : Worker). Some who.number) r.0 (workers_at_node job node) r.1)
 
-pub reached_worker : (job : Written) → IsLawful job → (post : Post) → IsWorker job post → IsIn post (posts job) → (n : ℕ) × IsIn n (lanes_in job post.number)
-reached_worker job is post w here =
-    let ports : are_ports job.edges post.node w.def.func ≡ true = is.ports post.node w.def w.node_is in
-    let r = edge_into job.edges post.node (other_entered w.def.func (is_entered job.edges post.node) w.no_source (ports_by_kind job.edges post.node w.def.func ports).0) in
+pub reached_worker : (job : JobView) → IsLawful job → (who : Worker) → IsWorker job who → IsIn who (workers_in job) → (n : ℕ) × IsIn n (lanes_in job who.number)
+reached_worker job is who w here =
+    let ports : are_ports job.edges who.node w.def.func ≡ true = is.ports who.node w.def w.node_is in
+    let r = edge_into job.edges who.node (other_entered w.def.func (is_entered job.edges who.node) w.no_source (ports_by_kind job.edges who.node w.def.func ports).0) in
     let edge : Edge = r.1 in
     let inside : IsInside (length job.nodes) edge = inside_edge job is r.0 edge r.2 in
     let from = item_at job.nodes edge.from inside.0 in
     let s = some_sender job is edge.from from.0 from.1 in
-    let l = lane_of_edge job r.0 edge s.0 post r.2 s.1 (posts_of_in job edge.to post here (sym r.3)) in
-    (l.0, lanes_that_in (λ (lane : Lane). lane.receiver == post.number) job l.0 (record { edge = r.0; sender = s.0; receiver = post.number }) l.1 (eq-eqb post.number post.number refl))
+    let l = lane_of_edge job r.0 edge s.0 who r.2 s.1 (workers_at_node_in job edge.to who here (sym r.3)) in
+    (l.0, lanes_that_in (λ (lane : Lane). lane.receiver == who.number) job l.0 (record { edge = r.0; sender = s.0; receiver = who.number }) l.1 (eq-eqb who.number who.number refl))
 
 -- ---- what a lawful job keeps
 
 -- no edge leads into a source
-pub unentered : (job : Written) → IsLawful job → (i : ℕ) (edge : Edge) → slice_get job.edges i ≡ Some edge → is_source_node (slice_get job.nodes edge.to) ≡ false
+pub unentered : (job : JobView) → IsLawful job → (i : ℕ) (edge : Edge) → slice_get job.edges i ≡ Some edge → is_source_node (slice_get job.nodes edge.to) ≡ false
 unentered job is i edge g =
     let to = item_at job.nodes edge.to (inside_edge job is i edge g).1 in
     rw to.1 (go to.0 (is_source to.0.func) refl (ports_by_kind job.edges edge.to to.0.func (is.ports edge.to to.0 to.1)).0)
@@ -141,7 +141,7 @@ unentered job is i edge g =
     go def true e may = let none = source_unentered def.func (is_entered job.edges edge.to) e may in let some = edge_enters job.edges i edge g in absurd (cc)
     go def false e may = e
 
-pub wired_by_rank : (job : Written) (rank : ℕ → ℕ) → IsLawful job → ((node : ℕ) → node < length job.nodes → rank node < length job.nodes)
+pub wired_by_rank : (job : JobView) (rank : ℕ → ℕ) → IsLawful job → ((node : ℕ) → node < length job.nodes → rank node < length job.nodes)
     → ((i : ℕ) (edge : Edge) → slice_get job.edges i ≡ Some edge → rank edge.from < rank edge.to) → IsWired job
 wired_by_rank job rank is below forward = record {
   rank = rank;
@@ -151,11 +151,11 @@ wired_by_rank job rank is below forward = record {
   into = unentered job is;
   ports = is.ports;
   manned = manned_node job is;
-  reached = λ post w. reached_worker job is post w (in_of_place post (posts job) post.number w.there);
+  reached = λ who w. reached_worker job is who w (in_of_place who (workers_in job) who.number w.there);
 }
 
 -- the places in an order of the nodes are ranks
-pub wired : (job : Written) (dag : DagView) → IsLawful job → dag.edges ≡ job.edges → dag.nodes ≡ length job.nodes → IsWired job
+pub wired : (job : JobView) (dag : DagView) → IsLawful job → dag.edges ≡ job.edges → dag.nodes ≡ length job.nodes → IsWired job
 wired job dag is edges nodes =
     wired_by_rank job (place_of dag.order) is (λ node lt. let k = place_of-below (HasEdge dag.edges) dag.nodes dag.order dag.lawful.ordered node (omega arith) in omega (arith, k))
     (λ i edge g.

@@ -6,26 +6,26 @@ use Rattle.sink_journal.specs.declared.journal.Entry.{Entry}
 use Rattle.sink_journal.specs.declared.journal.Entry.TheVariants as entry
 use Rattle.tuple_trace.specs.declared.tuple.Item.{Item}
 use Rattle.flow_model.specs.declared.topology.Lane.{Lane}
-use Rattle.flow_model.specs.Outline.{Outline, Post}
-use Rattle.flow_model.specs.Law.{IsEnabled, IsExecution, IsInTime, IsLawful, Progress, Station, after_entry, initial, later_dues, next_due, progress_after}
+use Rattle.flow_model.specs.SetupView.{SetupView, Worker}
+use Rattle.flow_model.specs.Law.{IsEnabled, IsExecution, IsInTime, IsLawful, Progress, Duties, after_entry, initial, later_dues, next_due, progress_after}
 use Rattle.flow_model.specs.Points.{AreOtherEnds, EndsStandLast, HasPoints, HeadsAreInTime, LeadsToTurn, MarkersLeadToTheirTurn, MayStandAtItsPlace, TurnsFirst, TurnsFollowTheirMarkers, markers, turned}
-use Rattle.flow_model.specs.Replay.{Local, after, after_all, came_in, items_on, puts, sent, shown}
+use Rattle.flow_model.specs.Replay.{StateView, after, after_all, came_in, items_on, puts, sent, shown}
 
-pub after_all-append : (setup : Outline) (post : Post) (local : Local) (xs ys : List Entry)
-    → after_all setup post local (xs ++ ys) ≡ after_all setup post (after_all setup post local xs) ys
-after_all-append setup post local [] ys = refl
-after_all-append setup post local (x ∷ xs) ys = after_all-append setup post (after setup post local x) xs ys
+pub after_all-append : (setup : SetupView) (who : Worker) (view : StateView) (xs ys : List Entry)
+    → after_all setup who view (xs ++ ys) ≡ after_all setup who (after_all setup who view xs) ys
+after_all-append setup who view [] ys = refl
+after_all-append setup who view (x ∷ xs) ys = after_all-append setup who (after setup who view x) xs ys
 
-pub sent-append : (setup : Outline) (post : Post) (local : Local) (lane : Lane) (xs ys : List Entry)
-    → sent setup post local lane (xs ++ ys) ≡ sent setup post local lane xs ++ sent setup post (after_all setup post local xs) lane ys
-sent-append setup post local lane [] ys = refl
-sent-append setup post local lane (x ∷ xs) ys =
-    let here : List Item = items_on lane (puts setup post local x) in
-    let next : Local = after setup post local x in
-    ap (λ (items : List Item). here ++ items) (sent-append setup post next lane xs ys)
-    ∙ sym (append_assoc here (sent setup post next lane xs) (sent setup post (after_all setup post next xs) lane ys))
+pub sent-append : (setup : SetupView) (who : Worker) (view : StateView) (lane : Lane) (xs ys : List Entry)
+    → sent setup who view lane (xs ++ ys) ≡ sent setup who view lane xs ++ sent setup who (after_all setup who view xs) lane ys
+sent-append setup who view lane [] ys = refl
+sent-append setup who view lane (x ∷ xs) ys =
+    let here : List Item = items_on lane (puts setup who view x) in
+    let next : StateView = after setup who view x in
+    ap (λ (items : List Item). here ++ items) (sent-append setup who next lane xs ys)
+    ∙ sym (append_assoc here (sent setup who next lane xs) (sent setup who (after_all setup who next xs) lane ys))
 
-pub shown-append : (setup : Outline) (lane : ℕ) (xs ys : List Entry) → shown setup lane (xs ++ ys) ≡ shown setup lane xs ++ shown setup lane ys
+pub shown-append : (setup : SetupView) (lane : ℕ) (xs ys : List Entry) → shown setup lane (xs ++ ys) ≡ shown setup lane xs ++ shown setup lane ys
 shown-append setup lane [] ys = refl
 shown-append setup lane (x ∷ xs) ys =
     ap (λ (items : List Item). came_in setup lane x ++ items) (shown-append setup lane xs ys)
@@ -35,52 +35,52 @@ pub progress_after-append : (progress : Progress) (xs ys : List Entry) → progr
 progress_after-append progress [] ys = refl
 progress_after-append progress (x ∷ xs) ys = progress_after-append (after_entry progress x) xs ys
 
-split : (station : Station) (progress : Progress) (xs ys : List Entry) → IsExecution station progress (xs ++ ys)
-    → IsExecution station progress xs × IsExecution station (progress_after progress xs) ys
-split station progress [] ys h = (tt, h)
-split station progress (x ∷ xs) ys h = let later = split station (after_entry progress x) xs ys h.1 in ((h.0, later.0), later.1)
+split : (duties : Duties) (progress : Progress) (xs ys : List Entry) → IsExecution duties progress (xs ++ ys)
+    → IsExecution duties progress xs × IsExecution duties (progress_after progress xs) ys
+split duties progress [] ys h = (tt, h)
+split duties progress (x ∷ xs) ys h = let later = split duties (after_entry progress x) xs ys h.1 in ((h.0, later.0), later.1)
 
-join : (station : Station) (progress : Progress) (xs ys : List Entry) → IsExecution station progress xs → IsExecution station (progress_after progress xs) ys
-    → IsExecution station progress (xs ++ ys)
-join station progress [] ys a b = b
-join station progress (x ∷ xs) ys a b = (a.0, join station (after_entry progress x) xs ys a.1 b)
+join : (duties : Duties) (progress : Progress) (xs ys : List Entry) → IsExecution duties progress xs → IsExecution duties (progress_after progress xs) ys
+    → IsExecution duties progress (xs ++ ys)
+join duties progress [] ys a b = b
+join duties progress (x ∷ xs) ys a b = (a.0, join duties (after_entry progress x) xs ys a.1 b)
 
-pub IsExecution-append : (station : Station) (progress : Progress) (xs ys : List Entry)
-    → IsExecution station progress (xs ++ ys) ↔ (IsExecution station progress xs × IsExecution station (progress_after progress xs) ys)
-IsExecution-append station progress xs ys = (split station progress xs ys, λ both. join station progress xs ys both.0 both.1)
+pub IsExecution-append : (duties : Duties) (progress : Progress) (xs ys : List Entry)
+    → IsExecution duties progress (xs ++ ys) ↔ (IsExecution duties progress xs × IsExecution duties (progress_after progress xs) ys)
+IsExecution-append duties progress xs ys = (split duties progress xs ys, λ both. join duties progress xs ys both.0 both.1)
 
-by_places : (station : Station) (progress : Progress) (journal : List Entry)
-    → ((before : List Entry) (entry : Entry) (later : List Entry) → journal ≡ before ++ entry ∷ later → IsEnabled station (progress_after progress before) entry)
-    → IsExecution station progress journal
-by_places station progress [] h = tt
-by_places station progress (x ∷ xs) h =
-    (h [] x xs refl, by_places station (after_entry progress x) xs (λ before entry later is. h (x ∷ before) entry later (ap (λ (l : List Entry). x ∷ l) is)))
+by_places : (duties : Duties) (progress : Progress) (journal : List Entry)
+    → ((before : List Entry) (entry : Entry) (later : List Entry) → journal ≡ before ++ entry ∷ later → IsEnabled duties (progress_after progress before) entry)
+    → IsExecution duties progress journal
+by_places duties progress [] h = tt
+by_places duties progress (x ∷ xs) h =
+    (h [] x xs refl, by_places duties (after_entry progress x) xs (λ before entry later is. h (x ∷ before) entry later (ap (λ (l : List Entry). x ∷ l) is)))
 
-at_place : (station : Station) (journal before : List Entry) (entry : Entry) (later : List Entry) → IsExecution station (initial station) journal
-    → journal ≡ before ++ entry ∷ later → IsEnabled station (progress_after (initial station) before) entry
-at_place station journal before entry later h is =
-    let h' = subst (λ (l : List Entry). IsExecution station (initial station) l) is h in
-    (split station (initial station) before (entry ∷ later) h').1.0
+at_place : (duties : Duties) (journal before : List Entry) (entry : Entry) (later : List Entry) → IsExecution duties (initial duties) journal
+    → journal ≡ before ++ entry ∷ later → IsEnabled duties (progress_after (initial duties) before) entry
+at_place duties journal before entry later h is =
+    let h' = subst (λ (l : List Entry). IsExecution duties (initial duties) l) is h in
+    (split duties (initial duties) before (entry ∷ later) h').1.0
 
-pub IsExecution-places : (station : Station) (journal : List Entry) → IsExecution station (initial station) journal ↔ MayStandAtItsPlace station journal
-IsExecution-places station journal =
-    (λ h before entry later is. at_place station journal before entry later h is, λ h. by_places station (initial station) journal h)
+pub IsExecution-places : (duties : Duties) (journal : List Entry) → IsExecution duties (initial duties) journal ↔ MayStandAtItsPlace duties journal
+IsExecution-places duties journal =
+    (λ h before entry later is. at_place duties journal before entry later h is, λ h. by_places duties (initial duties) journal h)
 
 pub due_first : (dues : List ℕ) (request : ℕ) → next_due dues ≡ Some request → dues ≡ request ∷ later_dues dues
 due_first [] request e = absurd (cc)
 due_first (due ∷ later) request e = let same : due ≡ request = cc in ap (λ (r : ℕ). r ∷ later) same
 
-pub dues_turned : (station : Station) (progress : Progress) (journal : List Entry) → IsExecution station progress journal
+pub dues_turned : (duties : Duties) (progress : Progress) (journal : List Entry) → IsExecution duties progress journal
     → progress.dues ≡ turned journal ++ (progress_after progress journal).dues
-dues_turned station progress [] h = refl
-dues_turned station progress (entry.Met lane tuple ∷ more) h = dues_turned station progress more h.1
-dues_turned station progress (entry.Marked lane request ∷ more) h = dues_turned station (after_entry progress (entry.Marked lane request)) more h.1
-dues_turned station progress (entry.Turned request ∷ more) h =
-    due_first progress.dues request h.0.0 ∙ ap (λ (l : List ℕ). request ∷ l) (dues_turned station (after_entry progress (entry.Turned request)) more h.1)
-dues_turned station progress (entry.Ended lane ∷ more) h = dues_turned station (after_entry progress (entry.Ended lane)) more h.1
+dues_turned duties progress [] h = refl
+dues_turned duties progress (entry.Met lane tuple ∷ more) h = dues_turned duties progress more h.1
+dues_turned duties progress (entry.Marked lane request ∷ more) h = dues_turned duties (after_entry progress (entry.Marked lane request)) more h.1
+dues_turned duties progress (entry.Turned request ∷ more) h =
+    due_first progress.dues request h.0.0 ∙ ap (λ (l : List ℕ). request ∷ l) (dues_turned duties (after_entry progress (entry.Turned request)) more h.1)
+dues_turned duties progress (entry.Ended lane ∷ more) h = dues_turned duties (after_entry progress (entry.Ended lane)) more h.1
 
-pub lawful-turns : (station : Station) (journal : List Entry) → IsExecution station (initial station) journal → TurnsFirst station.dues journal
-lawful-turns station journal h = ((progress_after (initial station) journal).dues, dues_turned station (initial station) journal h)
+pub lawful-turns : (duties : Duties) (journal : List Entry) → IsExecution duties (initial duties) journal → TurnsFirst duties.dues journal
+lawful-turns duties journal h = ((progress_after (initial duties) journal).dues, dues_turned duties (initial duties) journal h)
 
 contains_more : (l x : ℕ) (ys : List ℕ) → Contains ys x → Contains (l ∷ ys) x
 contains_more l x ys (k, lt, is) = (suc k, omega (arith, lt), is)
@@ -96,35 +96,35 @@ fewer_ends few many (entry.Marked lane request ∷ more) f h = h
 fewer_ends few many (entry.Turned request ∷ more) f h = h
 fewer_ends few many (entry.Ended lane ∷ more) f h = ((λ c. h.0 (f lane c)), fewer_ends (lane ∷ few) (lane ∷ many) more (contains_both lane few many f) h.1)
 
-ends : (station : Station) (progress : Progress) (journal : List Entry) → IsExecution station progress journal → (progress.ended ≡ [] → ⊥) → AreOtherEnds progress.ended journal
-ends station progress [] h never = tt
-ends station progress (entry.Met lane tuple ∷ more) h never = absurd (never h.0.2)
-ends station progress (entry.Marked lane request ∷ more) h never = absurd (never h.0.3)
-ends station progress (entry.Turned request ∷ more) h never = absurd (never h.0.2)
-ends station progress (entry.Ended lane ∷ more) h never = (h.0.1, ends station (after_entry progress (entry.Ended lane)) more h.1 (λ e. absurd (cc)))
+ends : (duties : Duties) (progress : Progress) (journal : List Entry) → IsExecution duties progress journal → (progress.ended ≡ [] → ⊥) → AreOtherEnds progress.ended journal
+ends duties progress [] h never = tt
+ends duties progress (entry.Met lane tuple ∷ more) h never = absurd (never h.0.2)
+ends duties progress (entry.Marked lane request ∷ more) h never = absurd (never h.0.3)
+ends duties progress (entry.Turned request ∷ more) h never = absurd (never h.0.2)
+ends duties progress (entry.Ended lane ∷ more) h never = (h.0.1, ends duties (after_entry progress (entry.Ended lane)) more h.1 (λ e. absurd (cc)))
 
 only_first : (l : ℕ) (ys : List ℕ) (x : ℕ) → Contains (l ∷ []) x → Contains (l ∷ ys) x
 only_first l ys x (zero, lt, is) = (zero, omega arith, is)
 only_first l ys x (suc k, lt, is) = absurd (omega (arith, lt))
 
-pub lawful-ends : (station : Station) (journal : List Entry) → IsExecution station (initial station) journal → EndsStandLast station journal
-lawful-ends station journal h before lane later is =
-    let h' = subst (λ (l : List Entry). IsExecution station (initial station) l) is h in
-    let both = split station (initial station) before (entry.Ended lane ∷ later) h' in
-    let progress : Progress = progress_after (initial station) before in
+pub lawful-ends : (duties : Duties) (journal : List Entry) → IsExecution duties (initial duties) journal → EndsStandLast duties journal
+lawful-ends duties journal h before lane later is =
+    let h' = subst (λ (l : List Entry). IsExecution duties (initial duties) l) is h in
+    let both = split duties (initial duties) before (entry.Ended lane ∷ later) h' in
+    let progress : Progress = progress_after (initial duties) before in
     let done : progress.dues ≡ [] = both.1.0.2 in (
       fewer_ends (lane ∷ []) (lane ∷ progress.ended) later (only_first lane progress.ended) (
-          ends station (after_entry progress (entry.Ended lane)) later both.1.1 (λ e. absurd (cc))),
-      dues_turned station (initial station) before both.0 ∙ (ap (λ (l : List ℕ). turned before ++ l) done ∙ append-nil (turned before)),
+          ends duties (after_entry progress (entry.Ended lane)) later both.1.1 (λ e. absurd (cc))),
+      dues_turned duties (initial duties) before both.0 ∙ (ap (λ (l : List ℕ). turned before ++ l) done ∙ append-nil (turned before)),
     )
 
-pub lawful-heads : (station : Station) (journal : List Entry) → IsExecution station (initial station) journal → HeadsAreInTime station journal
-lawful-heads station journal h before lane tuple later is left rest =
-    let h' = subst (λ (l : List Entry). IsExecution station (initial station) l) is h in
-    let both = split station (initial station) before (entry.Met lane tuple ∷ later) h' in
-    let progress : Progress = progress_after (initial station) before in
-    let same : progress.dues ≡ left = append_cancel_left (turned before) progress.dues left (sym (dues_turned station (initial station) before both.0) ∙ rest) in
-    subst (λ (l : List ℕ). IsInTime station tuple (next_due l)) same both.1.0.3
+pub lawful-heads : (duties : Duties) (journal : List Entry) → IsExecution duties (initial duties) journal → HeadsAreInTime duties journal
+lawful-heads duties journal h before lane tuple later is left rest =
+    let h' = subst (λ (l : List Entry). IsExecution duties (initial duties) l) is h in
+    let both = split duties (initial duties) before (entry.Met lane tuple ∷ later) h' in
+    let progress : Progress = progress_after (initial duties) before in
+    let same : progress.dues ≡ left = append_cancel_left (turned before) progress.dues left (sym (dues_turned duties (initial duties) before both.0) ∙ rest) in
+    subst (λ (l : List ℕ). IsInTime duties tuple (next_due l)) same both.1.0.3
 
 -- what a journal ends in: the markers that no turn has followed
 abbrev EndsInMarkers : Progress → List Entry → Type 0
@@ -145,32 +145,32 @@ one_more progress before lane request next ends due is =
           ∙ ap (λ (r : ℕ). old.0 ++ (markers due progress.marked ++ entry.Marked lane r ∷ [])) same),
     )
 
-open_markers : (station : Station) (progress : Progress) (before journal : List Entry) → IsExecution station progress journal → EndsInMarkers progress before
+open_markers : (duties : Duties) (progress : Progress) (before journal : List Entry) → IsExecution duties progress journal → EndsInMarkers progress before
     → EndsInMarkers (progress_after progress journal) (before ++ journal)
-open_markers station progress before [] h ends = subst (λ (l : List Entry). EndsInMarkers progress l) (sym (append-nil before)) ends
-open_markers station progress before (entry.Met lane tuple ∷ more) h ends =
+open_markers duties progress before [] h ends = subst (λ (l : List Entry). EndsInMarkers progress l) (sym (append-nil before)) ends
+open_markers duties progress before (entry.Met lane tuple ∷ more) h ends =
     let x : Entry = entry.Met lane tuple in
     subst (λ (l : List Entry). EndsInMarkers (progress_after progress (x ∷ more)) l) (append_assoc before (x ∷ []) more) (
-    open_markers station (after_entry progress x) (before ++ x ∷ []) more h.1 (none_open (after_entry progress x) (before ++ x ∷ []) h.0.1))
-open_markers station progress before (entry.Marked lane request ∷ more) h ends =
+    open_markers duties (after_entry progress x) (before ++ x ∷ []) more h.1 (none_open (after_entry progress x) (before ++ x ∷ []) h.0.1))
+open_markers duties progress before (entry.Marked lane request ∷ more) h ends =
     let x : Entry = entry.Marked lane request in
     subst (λ (l : List Entry). EndsInMarkers (progress_after progress (x ∷ more)) l) (append_assoc before (x ∷ []) more) (
-    open_markers station (after_entry progress x) (before ++ x ∷ []) more h.1 (one_more progress before lane request h.0.0 ends))
-open_markers station progress before (entry.Turned request ∷ more) h ends =
+    open_markers duties (after_entry progress x) (before ++ x ∷ []) more h.1 (one_more progress before lane request h.0.0 ends))
+open_markers duties progress before (entry.Turned request ∷ more) h ends =
     let x : Entry = entry.Turned request in
     subst (λ (l : List Entry). EndsInMarkers (progress_after progress (x ∷ more)) l) (append_assoc before (x ∷ []) more) (
-    open_markers station (after_entry progress x) (before ++ x ∷ []) more h.1 (none_open (after_entry progress x) (before ++ x ∷ []) refl))
-open_markers station progress before (entry.Ended lane ∷ more) h ends =
+    open_markers duties (after_entry progress x) (before ++ x ∷ []) more h.1 (none_open (after_entry progress x) (before ++ x ∷ []) refl))
+open_markers duties progress before (entry.Ended lane ∷ more) h ends =
     let x : Entry = entry.Ended lane in
     subst (λ (l : List Entry). EndsInMarkers (progress_after progress (x ∷ more)) l) (append_assoc before (x ∷ []) more) (
-    open_markers station (after_entry progress x) (before ++ x ∷ []) more h.1 (none_open (after_entry progress x) (before ++ x ∷ []) h.0.3))
+    open_markers duties (after_entry progress x) (before ++ x ∷ []) more h.1 (none_open (after_entry progress x) (before ++ x ∷ []) h.0.3))
 
-pub lawful-markers : (station : Station) (journal : List Entry) → IsExecution station (initial station) journal → TurnsFollowTheirMarkers station journal
-lawful-markers station journal h before request later is =
-    let h' = subst (λ (l : List Entry). IsExecution station (initial station) l) is h in
-    let both = split station (initial station) before (entry.Turned request ∷ later) h' in
-    let progress : Progress = progress_after (initial station) before in
-    let last = open_markers station (initial station) [] before both.0 (none_open (initial station) [] refl) in
+pub lawful-markers : (duties : Duties) (journal : List Entry) → IsExecution duties (initial duties) journal → TurnsFollowTheirMarkers duties journal
+lawful-markers duties journal h before request later is =
+    let h' = subst (λ (l : List Entry). IsExecution duties (initial duties) l) is h in
+    let both = split duties (initial duties) before (entry.Turned request ∷ later) h' in
+    let progress : Progress = progress_after (initial duties) before in
+    let last = open_markers duties (initial duties) [] before both.0 (none_open (initial duties) [] refl) in
     let block = last request both.1.0.0 in
     (block.0, progress.marked, block.1, both.1.0.1)
 
@@ -182,37 +182,37 @@ fewer_marks few many request (entry.Turned turned ∷ more) f h = h
 fewer_marks few many request (entry.Marked lane marked ∷ more) f h =
     (h.0, (λ c. h.1 (f lane c)), fewer_marks (lane ∷ few) (lane ∷ many) request more (contains_both lane few many f) h.2)
 
-leads : (station : Station) (progress : Progress) (request : ℕ) (journal : List Entry) → IsExecution station progress journal → next_due progress.dues ≡ Some request
+leads : (duties : Duties) (progress : Progress) (request : ℕ) (journal : List Entry) → IsExecution duties progress journal → next_due progress.dues ≡ Some request
     → (progress.marked ≡ [] → ⊥) → (progress_after progress journal).marked ≡ [] → LeadsToTurn progress.marked request journal
-leads station progress request [] h next never shut = never shut
-leads station progress request (entry.Met lane tuple ∷ more) h next never shut = never h.0.1
-leads station progress request (entry.Ended lane ∷ more) h next never shut = never h.0.3
-leads station progress request (entry.Turned turned ∷ more) h next never shut = let e : Some turned ≡ Some request = sym h.0.0 ∙ next in cc
-leads station progress request (entry.Marked lane marked ∷ more) h next never shut =
+leads duties progress request [] h next never shut = never shut
+leads duties progress request (entry.Met lane tuple ∷ more) h next never shut = never h.0.1
+leads duties progress request (entry.Ended lane ∷ more) h next never shut = never h.0.3
+leads duties progress request (entry.Turned turned ∷ more) h next never shut = let e : Some turned ≡ Some request = sym h.0.0 ∙ next in cc
+leads duties progress request (entry.Marked lane marked ∷ more) h next never shut =
     let e : Some marked ≡ Some request = sym h.0.0 ∙ next in
     let same : marked ≡ request = cc in
-    (same, h.0.2, leads station (after_entry progress (entry.Marked lane marked)) request more h.1 next (λ e. absurd (cc)) shut)
+    (same, h.0.2, leads duties (after_entry progress (entry.Marked lane marked)) request more h.1 next (λ e. absurd (cc)) shut)
 
-pub lawful-leads : (station : Station) (journal : List Entry) → IsLawful station journal → MarkersLeadToTheirTurn station journal
-lawful-leads station journal h before lane request later is =
+pub lawful-leads : (duties : Duties) (journal : List Entry) → IsLawful duties journal → MarkersLeadToTheirTurn duties journal
+lawful-leads duties journal h before lane request later is =
     let x : Entry = entry.Marked lane request in
-    let h' = subst (λ (l : List Entry). IsExecution station (initial station) l) is h.execution in
-    let both = split station (initial station) before (x ∷ later) h' in
-    let progress : Progress = progress_after (initial station) before in
-    let shut : (progress_after (initial station) (before ++ x ∷ later)).marked ≡ [] = subst (λ (l : List Entry). (progress_after (initial station) l).marked ≡ []) is h.no_open_turn in
-    let shut' : (progress_after progress (x ∷ later)).marked ≡ [] = subst (λ (p : Progress). p.marked ≡ []) (progress_after-append (initial station) before (x ∷ later)) shut in (
+    let h' = subst (λ (l : List Entry). IsExecution duties (initial duties) l) is h.execution in
+    let both = split duties (initial duties) before (x ∷ later) h' in
+    let progress : Progress = progress_after (initial duties) before in
+    let shut : (progress_after (initial duties) (before ++ x ∷ later)).marked ≡ [] = subst (λ (l : List Entry). (progress_after (initial duties) l).marked ≡ []) is h.no_open_turn in
+    let shut' : (progress_after progress (x ∷ later)).marked ≡ [] = subst (λ (p : Progress). p.marked ≡ []) (progress_after-append (initial duties) before (x ∷ later)) shut in (
       both.1.0.1,
       fewer_marks (lane ∷ []) (lane ∷ progress.marked) request later (only_first lane progress.marked) (
-          leads station (after_entry progress x) request later both.1.1 both.1.0.0 (λ e. absurd (cc)) shut'),
+          leads duties (after_entry progress x) request later both.1.1 both.1.0.0 (λ e. absurd (cc)) shut'),
     )
 
-pub points-lawful : (station : Station) (journal : List Entry) → IsLawful station journal → HasPoints station journal
-points-lawful station journal h = record {
-  tuple_lanes = λ before lane tuple later is. (at_place station journal before (entry.Met lane tuple) later h.execution is).0;
-  end_lanes = λ before lane later is. (at_place station journal before (entry.Ended lane) later h.execution is).0;
-  turns = lawful-turns station journal h.execution;
-  markers_before = lawful-markers station journal h.execution;
-  no_other_markers = lawful-leads station journal h;
-  heads = lawful-heads station journal h.execution;
-  ends = lawful-ends station journal h.execution;
+pub points-lawful : (duties : Duties) (journal : List Entry) → IsLawful duties journal → HasPoints duties journal
+points-lawful duties journal h = record {
+  tuple_lanes = λ before lane tuple later is. (at_place duties journal before (entry.Met lane tuple) later h.execution is).0;
+  end_lanes = λ before lane later is. (at_place duties journal before (entry.Ended lane) later h.execution is).0;
+  turns = lawful-turns duties journal h.execution;
+  markers_before = lawful-markers duties journal h.execution;
+  no_other_markers = lawful-leads duties journal h;
+  heads = lawful-heads duties journal h.execution;
+  ends = lawful-ends duties journal h.execution;
 }

@@ -12,15 +12,15 @@ use Rattle.tuple_trace.specs.declared.tuple.Tuple.{Tuple}
 use Rattle.tuple_trace.specs.declared.tuple.Visit.{Visit}
 use Rattle.flow_model.specs.Lanes.{lanes}
 use Rattle.flow_model.specs.declared.topology.Lane.{Lane}
-use Rattle.flow_model.specs.Outline.{Outline}
+use Rattle.flow_model.specs.SetupView.{SetupView}
 use Rattle.flow_model.specs.Replay.{Put, came_in, items_on, put_out, puts, shown, visit_at}
 use Rattle.flow_model.specs.Run.{Ran}
-use Rattle.flow_model.specs.Workers.{posts}
+use Rattle.flow_model.specs.Workers.{workers_in}
 use Rattle.flow_model.proofs.ElementLemmas.{IsIn, in_left, in_of_place, in_right}
 use Rattle.flow_model.proofs.LaneLemmas.{same_number}
 use Rattle.flow_model.proofs.StoryLemmas.{Moment, put_then, story, story_get}
 use Rattle.flow_model.proofs.SendingLemmas.{ComesOf, made, puts_come}
-use Rattle.flow_model.proofs.WorkerLemmas.{begun, journal_of, post_of}
+use Rattle.flow_model.proofs.WorkerLemmas.{begun, journal_of, worker_no}
 use Rattle.flow_model.proofs.PlaceLemmas.{flat_map_same, map_place}
 use Rattle.flow_model.proofs.KindLemmas.{birth_grows}
 
@@ -46,18 +46,18 @@ decide_address a b =
 
 -- the moments of a worker of a run
 abbrev pub story_of : Ran → ℕ → List Moment
-story_of ran w = story ran.setup (post_of ran.setup w) (begun ran.setup w) (journal_of ran w)
+story_of ran w = story ran.setup (worker_no ran.setup w) (begun ran.setup w) (journal_of ran w)
 
 -- what a worker puts at a moment
 abbrev pub puts_of : Ran → ℕ → Moment → List Put
-puts_of ran w m = puts ran.setup (post_of ran.setup w) m.local m.entry
+puts_of ran w m = puts ran.setup (worker_no ran.setup w) m.view m.entry
 
 -- how many items a lane has brought before an entry, and how many a worker has put on it before an entry, and before one of its puts
 abbrev pub brought_before : Ran → ℕ → Address → ℕ
 brought_before ran n c = length (shown ran.setup n (take c.entry (journal_of ran c.worker)))
 
 abbrev pub sent_before : Ran → Lane → Address → ℕ
-sent_before ran lane p = length (flat_map (put_then ran.setup (post_of ran.setup p.worker) lane) (take p.entry (story_of ran p.worker)))
+sent_before ran lane p = length (flat_map (put_then ran.setup (worker_no ran.setup p.worker) lane) (take p.entry (story_of ran p.worker)))
 
 abbrev pub put_before : Lane → ℕ → List Put → ℕ
 put_before lane k ps = length (items_on lane (take k ps))
@@ -66,12 +66,12 @@ put_before lane k ps = length (items_on lane (take k ps))
 
 -- what is met at c was put at p, and was brought to c by this lane
 pub record Child (ran : Ran) (p c : Address) : Type 0 where
-  pub within : p.worker < length (posts ran.setup.job)
+  pub within : p.worker < length (workers_in ran.setup.job)
   pub n : ℕ
   pub lane : Lane
   pub numbered : slice_get (lanes ran.setup.job) n ≡ Some lane
   pub receiver : lane.receiver ≡ c.worker
-  pub edge : HasEdge ran.setup.job.edges (post_of ran.setup p.worker).node (post_of ran.setup c.worker).node
+  pub edge : HasEdge ran.setup.job.edges (worker_no ran.setup p.worker).node (worker_no ran.setup c.worker).node
   pub tuple : Tuple
   pub met : slice_get (journal_of ran c.worker) c.entry ≡ Some (entry.Met n tuple)
   pub moment : Moment
@@ -99,30 +99,30 @@ pub record Born (ran : Ran) (p c : Address) (k : Child ran p c) : Type 0 where
   pub tuple : Tuple
   pub meets : Meets ran p tuple
   pub out : Output
-  pub made_so : slice_get (made ran.setup (post_of ran.setup p.worker) k.moment.local tuple) k.k ≡ Some out
+  pub made_so : slice_get (made ran.setup (worker_no ran.setup p.worker) k.moment.view tuple) k.k ≡ Some out
   pub is : k.tuple ≡ out.tuple
-  pub put_so : k.put ≡ put_out ran.setup.job (post_of ran.setup p.worker) out
-  pub made_of : IsMadeOf ran.setup.job.edges (visit_at (post_of ran.setup p.worker) k.moment.local) k.moment.local.func tuple k.k out
+  pub put_so : k.put ≡ put_out ran.setup.job (worker_no ran.setup p.worker) out
+  pub made_of : IsMadeOf ran.setup.job.edges (visit_at (worker_no ran.setup p.worker) k.moment.view) k.moment.view.func tuple k.k out
 
 pub born : (ran : Ran) (p c : Address) (k : Child ran p c) → Born ran p c k
 born ran p c k =
     go k.moment.entry refl k.put_is
-    (subst (λ x. ComesOf ran.setup (post_of ran.setup p.worker) k.moment.local k.moment.entry x) (sym k.carries)
-    (puts_come ran.setup (post_of ran.setup p.worker) k.moment.local k.moment.entry k.put (in_of_place k.put (puts_of ran p.worker k.moment) k.k k.put_is)))
+    (subst (λ x. ComesOf ran.setup (worker_no ran.setup p.worker) k.moment.view k.moment.entry x) (sym k.carries)
+    (puts_come ran.setup (worker_no ran.setup p.worker) k.moment.view k.moment.entry k.put (in_of_place k.put (puts_of ran p.worker k.moment) k.k k.put_is)))
   where
-    go : (e : Entry) → k.moment.entry ≡ e → slice_get (puts ran.setup (post_of ran.setup p.worker) k.moment.local e) k.k ≡ Some k.put
-        → ComesOf ran.setup (post_of ran.setup p.worker) k.moment.local e (item.Carry k.tuple) → Born ran p c k
+    go : (e : Entry) → k.moment.entry ≡ e → slice_get (puts ran.setup (worker_no ran.setup p.worker) k.moment.view e) k.k ≡ Some k.put
+        → ComesOf ran.setup (worker_no ran.setup p.worker) k.moment.view e (item.Carry k.tuple) → Born ran p c k
     go (entry.Met l t) e g h =
-        let r = map_place (put_out ran.setup.job (post_of ran.setup p.worker)) (made ran.setup (post_of ran.setup p.worker) k.moment.local t) k.k k.put g in
+        let r = map_place (put_out ran.setup.job (worker_no ran.setup p.worker)) (made ran.setup (worker_no ran.setup p.worker) k.moment.view t) k.k k.put g in
         let same : item.Carry k.tuple ≡ item.Carry r.0.tuple = k.carries ∙ ap (λ (p : Put). p.item) r.2 in
         record {
           tuple = t;
-          meets = (l, story_get ran.setup (post_of ran.setup p.worker) (begun ran.setup p.worker) (journal_of ran p.worker) p.entry k.moment k.there ∙ ap Some e);
+          meets = (l, story_get ran.setup (worker_no ran.setup p.worker) (begun ran.setup p.worker) (journal_of ran p.worker) p.entry k.moment k.there ∙ ap Some e);
           out = r.0;
           made_so = r.1;
           is = cc;
           put_so = r.2;
-          made_of = outputs_made ran.setup.job (visit_at (post_of ran.setup p.worker) k.moment.local) k.moment.local.func k.moment.local.counts t k.k r.0 r.1;
+          made_of = outputs_made ran.setup.job (visit_at (worker_no ran.setup p.worker) k.moment.view) k.moment.view.func k.moment.view.counts t k.k r.0 r.1;
         }
     go (entry.Marked l r) e g h = absurd h
     go (entry.Turned r) e g h = let x = h.2 in absurd (cc)
@@ -137,7 +137,7 @@ pub record Parted (ran : Ran) (p a b : Address) : Type 0 where
   pub same_moment : first.moment ≡ second.moment
   pub other_output : first.k ≢ second.k
 
-pub came_in_some : (setup : Outline) (n : ℕ) (t : Tuple) → 0 < length (came_in setup n (entry.Met n t))
+pub came_in_some : (setup : SetupView) (n : ℕ) (t : Tuple) → 0 < length (came_in setup n (entry.Met n t))
 came_in_some setup n t = rw (eq-eqb n n refl) (omega arith)
 
 pub parted : (ran : Ran) (p a b : Address) → Child ran p a → Child ran p b → a ≢ b → Parted ran p a b
@@ -201,11 +201,11 @@ pub record Passed (t u : Tuple) : Type 0 where
 passed_child : (ran : Ran) (p c : Address) (k : Child ran p c) → Passed (born ran p c k).tuple k.tuple
 passed_child ran p c k =
     let b : Born ran p c k = born ran p c k in
-    let g = birth_grows k.moment.local.func b.tuple.birth k.k b.out.port in
+    let g = birth_grows k.moment.view.func b.tuple.birth k.k b.out.port in
     record {
       row = ap (λ (t : Tuple). t.row) b.is ∙ b.made_of.row;
       issued = ap (λ (t : Tuple). t.issued) b.is ∙ b.made_of.issued;
-      later = visit_at (post_of ran.setup p.worker) k.moment.local ∷ [];
+      later = visit_at (worker_no ran.setup p.worker) k.moment.view ∷ [];
       trace = ap (λ (t : Tuple). t.trace) b.is ∙ b.made_of.trace;
       pieces = g.0;
       birth = ap (λ (t : Tuple). t.birth) b.is ∙ (b.made_of.birth ∙ g.1);
@@ -240,9 +240,9 @@ passed ran p c (a ∷ chain) t u h m n =
 
 -- the visit at p is in the trace of what came of it
 pub visit_of : (ran : Ran) (p a c : Address) (chain : List Address) (u : Tuple) (k : Child ran p a) → IsChain ran a chain c → Meets ran c u
-    → IsIn (visit_at (post_of ran.setup p.worker) k.moment.local) u.trace
+    → IsIn (visit_at (worker_no ran.setup p.worker) k.moment.view) u.trace
 visit_of ran p a c chain u k h n =
-    let v : Visit = visit_at (post_of ran.setup p.worker) k.moment.local in
+    let v : Visit = visit_at (worker_no ran.setup p.worker) k.moment.view in
     let q : Passed k.tuple u = passed ran a c chain k.tuple u h (k.n, k.met) n in
     let b : Born ran p a k = born ran p a k in
     subst (λ (l : List Visit). IsIn v l) (sym q.trace) (in_left v k.tuple.trace q.later

@@ -7,7 +7,7 @@ use Rattle.flow_dag.specs.declared.edge.Edge.{Edge}
 use Rattle.jobs.specs.Law.{IsLawful}
 use Rattle.jobs.specs.Nodes.{fan_out, is_count, is_free, is_replicate, is_split, may_emit}
 use Rattle.jobs.specs.Ports.{are_ports, is_entered, may_enter, may_leave, out_count}
-use Rattle.jobs.specs.Written.{Written}
+use Rattle.jobs.specs.JobView.{JobView}
 use Rattle.jobs.proofs.RoofLemmas.{roof_of_node}
 use Rattle.jobs.specs.declared.func.Func.{Func}
 use Rattle.jobs.specs.declared.func.Func.TheVariants as func
@@ -34,10 +34,10 @@ use Rattle.versions.specs.Judging.{is_like, leaves_once, may_replace}
 use Rattle.versions.specs.Kept.{KeepKinds, KeepsKind}
 use Rattle.versions.specs.declared.request.Change.{Change}
 use Rattle.versions.specs.declared.request.Request.{Request}
-use Rattle.flow_model.specs.Outline.{Outline, Post}
+use Rattle.flow_model.specs.SetupView.{SetupView, Worker}
 use Rattle.flow_model.specs.Alone.{is_sink}
 use Rattle.flow_model.specs.Planned.{copies_at, is_made_split, is_replicate_node, is_split_node, makes_split, splits_at}
-use Rattle.flow_model.specs.Replay.{Local, after, with_change}
+use Rattle.flow_model.specs.Replay.{StateView, after, with_change}
 use Rattle.flow_model.specs.Requests.{change_among, change_in, change_of}
 use Rattle.flow_model.proofs.ElementLemmas.{IsIn, at_of_all, in_any, in_of_place}
 use Rattle.flow_model.proofs.StoryLemmas.{Moment, story}
@@ -121,7 +121,7 @@ change_found (c ∷ more) node change h = go (c.node == node) refl (change_found
     go false e f h = let r = f h in (inr r.0, r.1)
 
 -- the change is one of a request
-pub change_there : (setup : Outline) (r node : ℕ) (change : Change) → change_of setup r node ≡ Some change
+pub change_there : (setup : SetupView) (r node : ℕ) (change : Change) → change_of setup r node ≡ Some change
     → (request : Request) × IsIn request setup.requests × IsIn change request.changes × (change.node ≡ node)
 change_there setup zero node change h = absurd (cc)
 change_there setup (suc r) node change h = go (slice_get setup.requests r) refl h
@@ -131,7 +131,7 @@ change_there setup (suc r) node change h = go (slice_get setup.requests r) refl 
     go (Some request) e h = let found = change_found request.changes node change h in (request, in_of_place request setup.requests r e, found.0, found.1)
 
 -- a change's function goes with the one that the job gives the node
-pub changed_alike : (setup : Outline) (r node : ℕ) (def : NodeDef) (change : Change) → KeepKinds setup.job setup.requests → slice_get setup.job.nodes node ≡ Some def
+pub changed_alike : (setup : SetupView) (r node : ℕ) (def : NodeDef) (change : Change) → KeepKinds setup.job setup.requests → slice_get setup.job.nodes node ≡ Some def
     → change_of setup r node ≡ Some change → AreAlike setup.job.edges node def.func change.func
 changed_alike setup r node def change kinds g h =
     let (request, asked, among, at) = change_there setup r node change h in
@@ -141,7 +141,7 @@ changed_alike setup r node def change kinds g h =
     (subst (λ n. may_replace def.func change.func def.roof (leaves_once setup.job.edges n) ≡ true) at (one def (rw at g)))
 
 -- and makes no more pieces than the node's roof
-pub changed_roof : (setup : Outline) (r node : ℕ) (def : NodeDef) (change : Change) → KeepKinds setup.job setup.requests → slice_get setup.job.nodes node ≡ Some def
+pub changed_roof : (setup : SetupView) (r node : ℕ) (def : NodeDef) (change : Change) → KeepKinds setup.job setup.requests → slice_get setup.job.nodes node ≡ Some def
     → change_of setup r node ≡ Some change → fan_out change.func ≤ def.roof
 changed_roof setup r node def change kinds g h =
     let (request, asked, among, at) = change_there setup r node change h in
@@ -152,7 +152,7 @@ changed_roof setup r node def change kinds g h =
     (and_parts (is_like def.func change.func || (is_free def.func && is_free change.func && once)) (nat_le (fan_out change.func) def.roof) (one def (rw at g))).1
 
 -- the job has the node of a change
-pub changed_node : (setup : Outline) (r node : ℕ) (change : Change) → NameNodes setup.job setup.requests → change_of setup r node ≡ Some change → (def : NodeDef) × (slice_get setup.job.nodes node ≡ Some def)
+pub changed_node : (setup : SetupView) (r node : ℕ) (change : Change) → NameNodes setup.job setup.requests → change_of setup r node ≡ Some change → (def : NodeDef) × (slice_get setup.job.nodes node ≡ Some def)
 changed_node setup r node change named h =
     let (request, asked, among, at) = change_there setup r node change h in
     let all : All (λ (change : Change). change.node < length setup.job.nodes) request.changes =
@@ -163,41 +163,41 @@ changed_node setup r node change named h =
 -- ---- the function in force
 
 -- the function is the one that the node has at first, or that of a change of it
-abbrev pub IsGiven : Outline → ℕ → Func → Func → Type 0
+abbrev pub IsGiven : SetupView → ℕ → Func → Func → Type 0
 IsGiven setup node first f = (first ≡ f) ⊎ ((r : ℕ) × (change : Change) × (change_of setup r node ≡ Some change) × (change.func ≡ f))
 
-given_after : (setup : Outline) (post : Post) (first : Func) (local : Local) (x : Entry) → IsGiven setup post.node first local.func → IsGiven setup post.node first (after setup post local x).func
-given_after setup post first local (entry.Met l t) a = a
-given_after setup post first local (entry.Marked l r) a = a
-given_after setup post first local (entry.Turned r) a = go (change_of setup r post.node) refl
+given_after : (setup : SetupView) (who : Worker) (first : Func) (view : StateView) (x : Entry) → IsGiven setup who.node first view.func → IsGiven setup who.node first (after setup who view x).func
+given_after setup who first view (entry.Met l t) a = a
+given_after setup who first view (entry.Marked l r) a = a
+given_after setup who first view (entry.Turned r) a = go (change_of setup r who.node) refl
   where
-    go : (o : Option Change) → change_of setup r post.node ≡ o → IsGiven setup post.node first (with_change o local).func
+    go : (o : Option Change) → change_of setup r who.node ≡ o → IsGiven setup who.node first (with_change o view).func
     go None e = a
     go (Some change) e = inr (r, change, e, refl)
-given_after setup post first local (entry.Ended l) a = a
+given_after setup who first view (entry.Ended l) a = a
 
 -- so it is with the function in force at each moment
-pub given_then : (setup : Outline) (post : Post) (first : Func) (local : Local) (journal : List Entry) (i : ℕ) (m : Moment)
-    → IsGiven setup post.node first local.func → slice_get (story setup post local journal) i ≡ Some m → IsGiven setup post.node first m.local.func
-given_then setup post first local [] i m a h = absurd (cc)
-given_then setup post first local (x ∷ journal) zero m a h =
-    let q : ◌≡◌ {A = Moment} (record { local = local; entry = x }) m = cc in
-    subst (λ (m : Moment). IsGiven setup post.node first m.local.func) q a
-given_then setup post first local (x ∷ journal) (suc i) m a h = given_then setup post first (after setup post local x) journal i m (given_after setup post first local x a) h
+pub given_then : (setup : SetupView) (who : Worker) (first : Func) (view : StateView) (journal : List Entry) (i : ℕ) (m : Moment)
+    → IsGiven setup who.node first view.func → slice_get (story setup who view journal) i ≡ Some m → IsGiven setup who.node first m.view.func
+given_then setup who first view [] i m a h = absurd (cc)
+given_then setup who first view (x ∷ journal) zero m a h =
+    let q : ◌≡◌ {A = Moment} (record { view = view; entry = x }) m = cc in
+    subst (λ (m : Moment). IsGiven setup who.node first m.view.func) q a
+given_then setup who first view (x ∷ journal) (suc i) m a h = given_then setup who first (after setup who view x) journal i m (given_after setup who first view x a) h
 
 -- what a node may be given goes with what the job gives it
-pub alike_given : (setup : Outline) (node : ℕ) (def : NodeDef) (f : Func) → KeepKinds setup.job setup.requests → slice_get setup.job.nodes node ≡ Some def
+pub alike_given : (setup : SetupView) (node : ℕ) (def : NodeDef) (f : Func) → KeepKinds setup.job setup.requests → slice_get setup.job.nodes node ≡ Some def
     → IsGiven setup node def.func f → AreAlike setup.job.edges node def.func f
 alike_given setup node def f kinds g (inl same) = subst (AreAlike setup.job.edges node def.func) same (alike_self setup.job.edges node def.func)
 alike_given setup node def f kinds g (inr (r, change, at, same)) = subst (AreAlike setup.job.edges node def.func) same (changed_alike setup r node def change kinds g at)
 
 -- at each moment the function in force goes with the one that the job gives the node
-pub alike_then : (setup : Outline) (post : Post) (def : NodeDef) (local : Local) (journal : List Entry) (i : ℕ) (m : Moment) → KeepKinds setup.job setup.requests
-    → slice_get setup.job.nodes post.node ≡ Some def → def.func ≡ local.func → slice_get (story setup post local journal) i ≡ Some m → AreAlike setup.job.edges post.node def.func m.local.func
-alike_then setup post def local journal i m kinds g first h = alike_given setup post.node def m.local.func kinds g (given_then setup post def.func local journal i m (inl first) h)
+pub alike_then : (setup : SetupView) (who : Worker) (def : NodeDef) (view : StateView) (journal : List Entry) (i : ℕ) (m : Moment) → KeepKinds setup.job setup.requests
+    → slice_get setup.job.nodes who.node ≡ Some def → def.func ≡ view.func → slice_get (story setup who view journal) i ≡ Some m → AreAlike setup.job.edges who.node def.func m.view.func
+alike_then setup who def view journal i m kinds g first h = alike_given setup who.node def m.view.func kinds g (given_then setup who def.func view journal i m (inl first) h)
 
 -- what a node may be given makes no more pieces than its roof
-pub given_roof : (setup : Outline) (node : ℕ) (def : NodeDef) (f : Func) → IsLawful setup.job → KeepKinds setup.job setup.requests
+pub given_roof : (setup : SetupView) (node : ℕ) (def : NodeDef) (f : Func) → IsLawful setup.job → KeepKinds setup.job setup.requests
     → slice_get setup.job.nodes node ≡ Some def → IsGiven setup node def.func f → fan_out f ≤ def.roof
 given_roof setup node def f law kinds g (inl same) = subst (λ (f : Func). fan_out f ≤ def.roof) same (roof_of_node setup.job node def law g).0
 given_roof setup node def f law kinds g (inr (r, change, at, same)) = subst (λ (f : Func). fan_out f ≤ def.roof) same (changed_roof setup r node def change kinds g at)
@@ -208,7 +208,7 @@ take_short (suc n) [] = omega arith
 take_short (suc n) (x ∷ xs) = omega (arith, take_short n xs)
 
 -- so the numbers of the pieces that are made at a node, which go into the births, stay below its roof
-pub pieces_below_roof : (setup : Outline) (node : ℕ) (def : NodeDef) (split : SplitBy) (visit : Visit) (counts : Counts) (t : Tuple) (k : ℕ) (o : Output)
+pub pieces_below_roof : (setup : SetupView) (node : ℕ) (def : NodeDef) (split : SplitBy) (visit : Visit) (counts : Counts) (t : Tuple) (k : ℕ) (o : Output)
     → IsLawful setup.job → KeepKinds setup.job setup.requests → slice_get setup.job.nodes node ≡ Some def → IsGiven setup node def.func (func.Split split)
     → slice_get (step setup.job visit (func.Split split) counts t).1 k ≡ Some o → k < def.roof
 pieces_below_roof setup node def split visit counts t k o law kinds g given h =
@@ -221,7 +221,7 @@ pieces_below_roof setup node def split visit counts t k o law kinds g given h =
     omega arith
 
 -- a node that is given a split is one of those that may make pieces
-pub splits_given : (setup : Outline) (node : ℕ) (def : NodeDef) (f : Func) → slice_get setup.job.nodes node ≡ Some def → IsGiven setup node def.func f → is_split f ≡ true
+pub splits_given : (setup : SetupView) (node : ℕ) (def : NodeDef) (f : Func) → slice_get setup.job.nodes node ≡ Some def → IsGiven setup node def.func f → is_split f ≡ true
     → splits_at setup.job.nodes setup.requests node ≡ true
 splits_given setup node def f g (inl same) s = or_left (is_split_node (slice_get setup.job.nodes node)) (is_made_split setup.requests node) (ap is_split_node g ∙ (ap is_split same ∙ s))
 splits_given setup node def f g (inr (r, change, at, same)) s =
@@ -231,7 +231,7 @@ splits_given setup node def f g (inr (r, change, at, same)) s =
     (in_any (makes_split node) change request.changes among (and_from (change.node == node) (is_split change.func) (eq-eqb change.node node here) (ap is_split same ∙ s))))
 
 -- a node that is given a replicate is one in the job
-pub copies_given : (setup : Outline) (node : ℕ) (def : NodeDef) (f : Func) → slice_get setup.job.nodes node ≡ Some def → AreAlike setup.job.edges node def.func f → is_replicate f ≡ true
+pub copies_given : (setup : SetupView) (node : ℕ) (def : NodeDef) (f : Func) → slice_get setup.job.nodes node ≡ Some def → AreAlike setup.job.edges node def.func f → is_replicate f ≡ true
     → copies_at setup.job.nodes node ≡ true
 copies_given setup node def f g a s = ap is_replicate_node g ∙ (sym a.copy ∙ s)
 
@@ -281,7 +281,7 @@ births_differ func.Replicate birth j k p q d =
 births_differ (func.Sink listed) birth j k p q d = absurd (d refl)
 
 -- two outputs for one tuple, at a node whose edges are those of the function's kind
-pub pieces_of : (job : Written) (visit : Visit) (f : Func) (counts : Counts) (t : Tuple) (j k : ℕ) (a b : Output) → are_ports job.edges visit.node f ≡ true
+pub pieces_of : (job : JobView) (visit : Visit) (f : Func) (counts : Counts) (t : Tuple) (j k : ℕ) (a b : Output) → are_ports job.edges visit.node f ≡ true
     → slice_get (step job visit f counts t).1 j ≡ Some a → slice_get (step job visit f counts t).1 k ≡ Some b → j ≢ k → ArePieces f t.birth a.tuple.birth b.tuple.birth
 pieces_of job visit f counts t j k a b ports g h d =
     let x : IsMadeOf job.edges visit f t j a = outputs_made job visit f counts t j a g in
@@ -296,7 +296,7 @@ copies_by_port func.Replicate birth j k p q r e = ap (λ n. birth ++ n ∷ []) e
 copies_by_port _ birth j k p q r e = absurd (cc)
 
 -- so two copies of one tuple leave by two ports
-pub copies_part : (job : Written) (visit : Visit) (f : Func) (counts : Counts) (t : Tuple) (j k : ℕ) (a b : Output) → are_ports job.edges visit.node f ≡ true
+pub copies_part : (job : JobView) (visit : Visit) (f : Func) (counts : Counts) (t : Tuple) (j k : ℕ) (a b : Output) → are_ports job.edges visit.node f ≡ true
     → slice_get (step job visit f counts t).1 j ≡ Some a → slice_get (step job visit f counts t).1 k ≡ Some b → j ≢ k → is_replicate f ≡ true → a.port ≢ b.port
 copies_part job visit f counts t j k a b ports g h d r same =
     let x : IsMadeOf job.edges visit f t j a = outputs_made job visit f counts t j a g in

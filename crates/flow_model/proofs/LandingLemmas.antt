@@ -4,7 +4,7 @@ use Rattle.std.specs.FinMap.{empty}
 use Rattle.std.specs.List.{enumerate_from}
 use Rattle.jobs.specs.Nodes.{is_count}
 use Rattle.jobs.specs.Ports.{are_ports}
-use Rattle.jobs.specs.Written.{Written}
+use Rattle.jobs.specs.JobView.{JobView}
 use Rattle.jobs.specs.declared.func.Func.{Func}
 use Rattle.jobs.specs.declared.func.Func.TheVariants as func
 use Rattle.jobs.specs.declared.func.NodeDef.{NodeDef}
@@ -24,7 +24,7 @@ use Rattle.flow_model.specs.Lanes.{first_on}
 use Rattle.flow_model.specs.OneTable.{HasNoCounts}
 use Rattle.flow_model.specs.Run.{Ran}
 use Rattle.flow_model.proofs.ElementLemmas.{IsIn, at_of_all, in_of_place, place_of_in}
-use Rattle.flow_model.proofs.WorkerLemmas.{item_at, journal_of, post_of}
+use Rattle.flow_model.proofs.WorkerLemmas.{item_at, journal_of, worker_no}
 use Rattle.flow_model.proofs.FitLemmas.{HasPortEdge, port_edge}
 use Rattle.flow_model.proofs.KindLemmas.{AreAlike}
 use Rattle.flow_model.proofs.RunLemmas.{HasWorker, Running}
@@ -35,7 +35,7 @@ use Rattle.flow_model.proofs.SumLemmas.{sum_over}
 -- ---- outputs but for what a flow writes on them
 
 -- every function but a count puts out the same whatever the counts are
-pub same_counts : (job : Written) (visit : Visit) (f : Func) (counts other : Counts) (t : Tuple) → is_count f ≡ false → outputs job visit f counts t ≡ outputs job visit f other t
+pub same_counts : (job : JobView) (visit : Visit) (f : Func) (counts other : Counts) (t : Tuple) → is_count f ≡ false → outputs job visit f counts t ≡ outputs job visit f other t
 same_counts job visit func.Source counts other t e = refl
 same_counts job visit (func.Filter conds) counts other t e = refl
 same_counts job visit (func.Map steps) counts other t e = refl
@@ -46,7 +46,7 @@ same_counts job visit func.Replicate counts other t e = refl
 same_counts job visit (func.Sink listed) counts other t e = refl
 
 -- the outputs for a tuple at a worker are those for one alike at its node, but for what a flow writes on them
-pub outputs_alike : (job : Written) (visit : Visit) (node : ℕ) (f : Func) (counts : Counts) (t u : Tuple) → visit.node ≡ node → is_count f ≡ false → bare_tuple t ≡ bare_tuple u
+pub outputs_alike : (job : JobView) (visit : Visit) (node : ℕ) (f : Func) (counts : Counts) (t u : Tuple) → visit.node ≡ node → is_count f ≡ false → bare_tuple t ≡ bare_tuple u
     → map bare (step job visit f counts t).1 ≡ map bare (step job (bare_visit node) f empty u).1
 outputs_alike job visit node f counts t u at none same =
     outputs_bare job visit f counts t
@@ -76,14 +76,14 @@ joined_alike F H (o ∷ os) (p ∷ ps) e h =
 -- ---- one node on
 
 -- what becomes of an output of a node, over at most so many nodes
-abbrev pub behind : Written → (ℕ → Option Func) → ℕ → ℕ → Output → List Landing
+abbrev pub behind : JobView → (ℕ → Option Func) → ℕ → ℕ → Output → List Landing
 behind job table nodes node output = onward (lands job table nodes) (first_on node output.port (enumerate_from 0 job.edges)) output.tuple
 
-pub lands-sink : (job : Written) (table : ℕ → Option Func) (nodes node : ℕ) (t : Tuple) (f : Func) → table node ≡ Some f → is_sink f ≡ true → lands job table (suc nodes) node t ≡ landing node t ∷ []
+pub lands-sink : (job : JobView) (table : ℕ → Option Func) (nodes node : ℕ) (t : Tuple) (f : Func) → table node ≡ Some f → is_sink f ≡ true → lands job table (suc nodes) node t ≡ landing node t ∷ []
 lands-sink job table nodes node t (func.Sink listed) is sink = rw is refl
 lands-sink job table nodes node t _ is sink = absurd (cc)
 
-pub lands-outputs : (job : Written) (table : ℕ → Option Func) (nodes node : ℕ) (t : Tuple) (f : Func) → table node ≡ Some f → is_sink f ≡ false
+pub lands-outputs : (job : JobView) (table : ℕ → Option Func) (nodes node : ℕ) (t : Tuple) (f : Func) → table node ≡ Some f → is_sink f ≡ false
     → lands job table (suc nodes) node t ≡ flat_map (behind job table nodes node) (step job (bare_visit node) f empty t).1
 lands-outputs job table nodes node t func.Source is sink = rw is refl
 lands-outputs job table nodes node t (func.Filter conds) is sink = rw is refl
@@ -102,7 +102,7 @@ pub record AreTables (ran : Ran) (T : ℕ → ℕ → Option Func) : Type 0 wher
   pub gives : (row node : ℕ) (def : NodeDef) → slice_get ran.setup.job.nodes node ≡ Some def → (f : Func) × (T row node ≡ Some f) × AreAlike ran.setup.job.edges node def.func f
   pub in_force :
       (w i l : ℕ) (t : Tuple) (m : Moment) → HasWorker ran w → slice_get (story_of ran w) i ≡ Some m → slice_get (journal_of ran w) i ≡ Some (entry.Met l t)
-      → T t.row (post_of ran.setup w).node ≡ Some m.local.func
+      → T t.row (worker_no ran.setup w).node ≡ Some m.view.func
 
 -- the function that a table gives a node: its edges are those of its kind, and it is no count where none of the job's is
 pub record HasFunc (ran : Ran) (T : ℕ → ℕ → Option Func) (row node : ℕ) : Type 0 where

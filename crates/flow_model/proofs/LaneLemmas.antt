@@ -5,15 +5,15 @@ use Rattle.std.proofs.lemmas.Bool.{and_parts, eq-eqb, eqb-true}
 use Rattle.std.proofs.lemmas.Option.{same_Some}
 use Rattle.flow_dag.specs.declared.edge.Edge.{Edge}
 use Rattle.jobs.specs.Nodes.{is_source_node}
-use Rattle.jobs.specs.Written.{Written}
+use Rattle.jobs.specs.JobView.{JobView}
 use Rattle.tuple_trace.specs.declared.tuple.Tuple.{Tuple}
 use Rattle.flow_model.specs.Covers.{covers_edge}
 use Rattle.flow_model.specs.Lanes.{first_on, is_same_lane, is_same_sender, is_sender, lane_along, lane_of, lanes, lanes_in, lanes_of, lanes_that, marked_lanes, receiver_of, senders}
 use Rattle.flow_model.specs.declared.topology.Lane.{Lane}
-use Rattle.flow_model.specs.Outline.{Outline, Post}
-use Rattle.flow_model.specs.Workers.{posts, posts_of}
+use Rattle.flow_model.specs.SetupView.{SetupView, Worker}
+use Rattle.flow_model.specs.Workers.{workers_in, workers_at_node}
 use Rattle.flow_model.proofs.ElementLemmas.{AreDistinct, IsIn, distinct_by_place, distinct_flat_map, distinct_map, filter_in, flat_map_in, in_filter, in_flat_map, in_map, in_of_place, map_in, place_of_in, same_place}
-use Rattle.flow_model.proofs.WorkerLemmas.{IsWorker, in_posts, in_posts_of, posts_of_distinct, same_post}
+use Rattle.flow_model.proofs.WorkerLemmas.{IsWorker, in_workers, in_workers_at_node, workers_at_node_distinct, same_who}
 
 -- ---- items with their places
 
@@ -38,29 +38,29 @@ enumerate_distinct {A} xs =
 -- ---- what a lane is
 
 -- a lane is that of an edge, to a worker of the node at its end, from a sender of the node at its beginning
-pub record LaneIs (job : Written) (lane : Lane) : Type 0 where
+pub record LaneIs (job : JobView) (lane : Lane) : Type 0 where
   pub edge : Edge
   pub edge_is : slice_get job.edges lane.edge ≡ Some edge
-  pub to : Post
-  pub receives : IsIn to (posts_of job edge.to)
+  pub to : Worker
+  pub receives : IsIn to (workers_at_node job edge.to)
   pub receiver : lane.receiver ≡ to.number
   pub sends : IsIn lane.sender (senders job edge.from)
 
 -- the lanes of an edge from one sender
-abbrev pub lanes_from : Written → ℕ → Edge → Option ℕ → List Lane
-lanes_from job number edge sender = map (λ (post : Post). record { edge = number; sender = sender; receiver = post.number }) (posts_of job edge.to)
+abbrev pub lanes_from : JobView → ℕ → Edge → Option ℕ → List Lane
+lanes_from job number edge sender = map (λ (who : Worker). record { edge = number; sender = sender; receiver = who.number }) (workers_at_node job edge.to)
 
-in_lanes_of : (job : Written) (number : ℕ) (edge : Edge) (lane : Lane) → IsIn lane (lanes_of job number edge)
-    → (lane.edge ≡ number) × IsIn lane.sender (senders job edge.from) × ((post : Post) × IsIn post (posts_of job edge.to) × (lane.receiver ≡ post.number))
+in_lanes_of : (job : JobView) (number : ℕ) (edge : Edge) (lane : Lane) → IsIn lane (lanes_of job number edge)
+    → (lane.edge ≡ number) × IsIn lane.sender (senders job edge.from) × ((who : Worker) × IsIn who (workers_at_node job edge.to) × (lane.receiver ≡ who.number))
 in_lanes_of job number edge lane i =
     let s = in_flat_map (lanes_from job number edge) lane (senders job edge.from) i in
-    let r = in_map {B = Lane} (λ (post : Post). record { edge = number; sender = s.0; receiver = post.number }) lane (posts_of job edge.to) s.2 in (
+    let r = in_map {B = Lane} (λ (who : Worker). record { edge = number; sender = s.0; receiver = who.number }) lane (workers_at_node job edge.to) s.2 in (
       ap (λ (l : Lane). l.edge) r.2,
       subst (λ x. IsIn x (senders job edge.from)) (sym (ap (λ (l : Lane). l.sender) r.2)) s.1,
       (r.0, r.1, ap (λ (l : Lane). l.receiver) r.2),
     )
 
-pub in_lanes : (job : Written) (lane : Lane) → IsIn lane (lanes job) → LaneIs job lane
+pub in_lanes : (job : JobView) (lane : Lane) → IsIn lane (lanes job) → LaneIs job lane
 in_lanes job lane i =
     let p = in_flat_map (λ (p : ℕ × Edge). lanes_of job p.0 p.1) lane (enumerate_from 0 job.edges) i in
     let q = in_enumerate 0 job.edges p.0 p.1 in
@@ -75,18 +75,18 @@ in_lanes job lane i =
       sends = r.1;
     }
 
-pub lane_is : (job : Written) (n : ℕ) (lane : Lane) → slice_get (lanes job) n ≡ Some lane → LaneIs job lane
+pub lane_is : (job : JobView) (n : ℕ) (lane : Lane) → slice_get (lanes job) n ≡ Some lane → LaneIs job lane
 lane_is job n lane g = in_lanes job lane (in_of_place lane (lanes job) n g)
 
 -- for each edge, each sender and each receiver there is a lane
-pub lane_of_edge : (job : Written) (i : ℕ) (edge : Edge) (sender : Option ℕ) (post : Post) → slice_get job.edges i ≡ Some edge → IsIn sender (senders job edge.from)
-    → IsIn post (posts_of job edge.to) → (n : ℕ) × (slice_get (lanes job) n ≡ Some (record { edge = i; sender = sender; receiver = post.number }))
-lane_of_edge job i edge sender post g s r =
-    place_of_in (record { edge = i; sender = sender; receiver = post.number }) (lanes job) (
-    flat_map_in (λ (p : ℕ × Edge). lanes_of job p.0 p.1) (i, edge) (record { edge = i; sender = sender; receiver = post.number }) (enumerate_from 0 job.edges)
+pub lane_of_edge : (job : JobView) (i : ℕ) (edge : Edge) (sender : Option ℕ) (who : Worker) → slice_get job.edges i ≡ Some edge → IsIn sender (senders job edge.from)
+    → IsIn who (workers_at_node job edge.to) → (n : ℕ) × (slice_get (lanes job) n ≡ Some (record { edge = i; sender = sender; receiver = who.number }))
+lane_of_edge job i edge sender who g s r =
+    place_of_in (record { edge = i; sender = sender; receiver = who.number }) (lanes job) (
+    flat_map_in (λ (p : ℕ × Edge). lanes_of job p.0 p.1) (i, edge) (record { edge = i; sender = sender; receiver = who.number }) (enumerate_from 0 job.edges)
     (enumerate_in 0 job.edges i i edge g (omega arith)) (
-    flat_map_in (lanes_from job i edge) sender (record { edge = i; sender = sender; receiver = post.number }) (senders job edge.from) s (
-    map_in {B = Lane} (λ (post : Post). record { edge = i; sender = sender; receiver = post.number }) post (posts_of job edge.to) r)))
+    flat_map_in (lanes_from job i edge) sender (record { edge = i; sender = sender; receiver = who.number }) (senders job edge.from) s (
+    map_in {B = Lane} (λ (who : Worker). record { edge = i; sender = sender; receiver = who.number }) who (workers_at_node job edge.to) r)))
 
 -- ---- the edge of a tuple's lane
 
@@ -107,7 +107,7 @@ first_on_is node port first (e ∷ more) found h = go (e.from == node && e.port 
     go false is f h = let r = f h in (inr r.0, r.1, r.2)
 
 -- a tuple that is put on a port goes along an edge of that port
-pub lane_by_port : (job : Written) (sender : Option ℕ) (node port : ℕ) (t : Tuple) (lane : Lane) → lane_of job sender node port t ≡ Some lane
+pub lane_by_port : (job : JobView) (sender : Option ℕ) (node port : ℕ) (t : Tuple) (lane : Lane) → lane_of job sender node port t ≡ Some lane
     → (edge : Edge) × (slice_get job.edges lane.edge ≡ Some edge) × (edge.from ≡ node) × (edge.port ≡ port)
 lane_by_port job sender node port t lane h = go (first_on node port (enumerate_from 0 job.edges)) refl h
   where
@@ -121,34 +121,34 @@ lane_by_port job sender node port t lane h = go (first_on node port (enumerate_f
         let at : q.0 ≡ lane.edge = omega (arith, q.1, number) in
         (found.1, subst (λ k. slice_get job.edges k ≡ Some found.1) at q.2, p.1, p.2)
       where
-        by_receiver : (o : Option Post) → option_map (λ (post : Post). record { edge = found.0; sender = sender; receiver = post.number }) o ≡ Some lane → found.0 ≡ lane.edge
+        by_receiver : (o : Option Worker) → option_map (λ (who : Worker). record { edge = found.0; sender = sender; receiver = who.number }) o ≡ Some lane → found.0 ≡ lane.edge
         by_receiver None h = absurd (cc)
-        by_receiver (Some post) h = ap (λ (l : Lane). l.edge) (same_Some {A = Lane} (record { edge = found.0; sender = sender; receiver = post.number }) lane h)
+        by_receiver (Some who) h = ap (λ (l : Lane). l.edge) (same_Some {A = Lane} (record { edge = found.0; sender = sender; receiver = who.number }) lane h)
 
 -- ---- no two lanes are the same
 
-same_of_node : (job : Written) (node : ℕ) (a b : Post) → IsIn a (posts_of job node) → IsIn b (posts_of job node) → a.number ≡ b.number → a ≡ b
-same_of_node job node a b i j e = same_post job a b (in_posts_of job node a i).0 (in_posts_of job node b j).0 e
+same_of_node : (job : JobView) (node : ℕ) (a b : Worker) → IsIn a (workers_at_node job node) → IsIn b (workers_at_node job node) → a.number ≡ b.number → a ≡ b
+same_of_node job node a b i j e = same_who job a b (in_workers_at_node job node a i).0 (in_workers_at_node job node b j).0 e
 
-pub senders_distinct : (job : Written) (node : ℕ) → AreDistinct (senders job node)
+pub senders_distinct : (job : JobView) (node : ℕ) → AreDistinct (senders job node)
 senders_distinct job node = go (is_source_node (slice_get job.nodes node))
   where
-    go : (b : Bool) → AreDistinct (cond b (None ∷ []) (map (λ (post : Post). Some post.number) (posts_of job node)))
+    go : (b : Bool) → AreDistinct (cond b (None ∷ []) (map (λ (who : Worker). Some who.number) (workers_at_node job node)))
     go true = ((λ i. i), tt)
-    go false = distinct_map (λ (post : Post). Some post.number) (posts_of job node)
-        (λ a b i j e. same_of_node job node a b i j (same_Some a.number b.number e)) (posts_of_distinct job node)
+    go false = distinct_map (λ (who : Worker). Some who.number) (workers_at_node job node)
+        (λ a b i j e. same_of_node job node a b i j (same_Some a.number b.number e)) (workers_at_node_distinct job node)
 
-lanes_of_distinct : (job : Written) (number : ℕ) (edge : Edge) → AreDistinct (lanes_of job number edge)
+lanes_of_distinct : (job : JobView) (number : ℕ) (edge : Edge) → AreDistinct (lanes_of job number edge)
 lanes_of_distinct job number edge =
     distinct_flat_map (lanes_from job number edge) (senders job edge.from) (senders_distinct job edge.from)
-    (λ s i. distinct_map {B = Lane} (λ (post : Post). record { edge = number; sender = s; receiver = post.number }) (posts_of job edge.to)
-    (λ a b i j e. same_of_node job edge.to a b i j (ap (λ (l : Lane). l.receiver) e)) (posts_of_distinct job edge.to))
+    (λ s i. distinct_map {B = Lane} (λ (who : Worker). record { edge = number; sender = s; receiver = who.number }) (workers_at_node job edge.to)
+    (λ a b i j e. same_of_node job edge.to a b i j (ap (λ (l : Lane). l.receiver) e)) (workers_at_node_distinct job edge.to))
     (λ s t lane i j a b.
-    let p = in_map {B = Lane} (λ (post : Post). record { edge = number; sender = s; receiver = post.number }) lane (posts_of job edge.to) a in
-    let q = in_map {B = Lane} (λ (post : Post). record { edge = number; sender = t; receiver = post.number }) lane (posts_of job edge.to) b in
+    let p = in_map {B = Lane} (λ (who : Worker). record { edge = number; sender = s; receiver = who.number }) lane (workers_at_node job edge.to) a in
+    let q = in_map {B = Lane} (λ (who : Worker). record { edge = number; sender = t; receiver = who.number }) lane (workers_at_node job edge.to) b in
     sym (ap (λ (l : Lane). l.sender) p.2) ∙ ap (λ (l : Lane). l.sender) q.2)
 
-pub lanes_distinct : (job : Written) → AreDistinct (lanes job)
+pub lanes_distinct : (job : JobView) → AreDistinct (lanes job)
 lanes_distinct job =
     distinct_flat_map (λ (p : ℕ × Edge). lanes_of job p.0 p.1) (enumerate_from 0 job.edges) (enumerate_distinct job.edges)
     (λ p i. lanes_of_distinct job p.0 p.1)
@@ -163,7 +163,7 @@ lanes_distinct job =
     λ i. (e i, f i))
 
 -- the number of a lane is its own
-pub same_number : (job : Written) (a b : Lane) (n k : ℕ) → slice_get (lanes job) n ≡ Some a → slice_get (lanes job) k ≡ Some b → a ≡ b → n ≡ k
+pub same_number : (job : JobView) (a b : Lane) (n k : ℕ) → slice_get (lanes job) n ≡ Some a → slice_get (lanes job) k ≡ Some b → a ≡ b → n ≡ k
 same_number job a b n k g h e = same_place a n k (lanes job) (lanes_distinct job) g (rw e h)
 
 -- ---- the test of lanes
@@ -193,7 +193,7 @@ lane_self lane = rw (eq-eqb lane.edge lane.edge refl, sender_self lane.sender, e
 
 -- ---- lanes by a test
 
-pub in_lanes_that : (test : Lane → Bool) (job : Written) (n : ℕ) → IsIn n (lanes_that test job) → (lane : Lane) × (slice_get (lanes job) n ≡ Some lane) × (test lane ≡ true)
+pub in_lanes_that : (test : Lane → Bool) (job : JobView) (n : ℕ) → IsIn n (lanes_that test job) → (lane : Lane) × (slice_get (lanes job) n ≡ Some lane) × (test lane ≡ true)
 in_lanes_that test job n i =
     let p = in_map (λ (p : ℕ × Lane). p.0) n (filter (λ (p : ℕ × Lane). test p.1) (enumerate_from 0 (lanes job))) i in
     let q = in_filter (λ (p : ℕ × Lane). test p.1) p.0 (enumerate_from 0 (lanes job)) p.1 in
@@ -201,7 +201,7 @@ in_lanes_that test job n i =
     let e : r.0 ≡ n = omega (arith, r.1, p.2) in
     (p.0.1, subst (λ k. slice_get (lanes job) k ≡ Some p.0.1) e r.2, q.1)
 
-pub lanes_that_in : (test : Lane → Bool) (job : Written) (n : ℕ) (lane : Lane) → slice_get (lanes job) n ≡ Some lane → test lane ≡ true → IsIn n (lanes_that test job)
+pub lanes_that_in : (test : Lane → Bool) (job : JobView) (n : ℕ) (lane : Lane) → slice_get (lanes job) n ≡ Some lane → test lane ≡ true → IsIn n (lanes_that test job)
 lanes_that_in test job n lane g t =
     map_in (λ (p : ℕ × Lane). p.0) (n, lane) (filter (λ (p : ℕ × Lane). test p.1) (enumerate_from 0 (lanes job)))
     (filter_in (λ (p : ℕ × Lane). test p.1) (n, lane) (enumerate_from 0 (lanes job)) (enumerate_in 0 (lanes job) n n lane g (omega arith)) t)
@@ -209,44 +209,44 @@ lanes_that_in test job n lane g t =
 -- ---- the lanes into a worker
 
 -- a lane into a worker: its number, and its edge, which leads to the worker's node
-pub record LaneIn (job : Written) (post : Post) (n : ℕ) : Type 0 where
+pub record LaneIn (job : JobView) (who : Worker) (n : ℕ) : Type 0 where
   pub lane : Lane
   pub numbered : slice_get (lanes job) n ≡ Some lane
-  pub receiver : lane.receiver ≡ post.number
+  pub receiver : lane.receiver ≡ who.number
   pub edge : Edge
   pub edge_is : slice_get job.edges lane.edge ≡ Some edge
-  pub to : edge.to ≡ post.node
+  pub to : edge.to ≡ who.node
   pub sends : IsIn lane.sender (senders job edge.from)
 
-pub lane_into : (job : Written) (post : Post) (n : ℕ) (lane : Lane) → IsWorker job post → slice_get (lanes job) n ≡ Some lane → lane.receiver ≡ post.number → LaneIn job post n
-lane_into job post n lane is g r =
+pub lane_into : (job : JobView) (who : Worker) (n : ℕ) (lane : Lane) → IsWorker job who → slice_get (lanes job) n ≡ Some lane → lane.receiver ≡ who.number → LaneIn job who n
+lane_into job who n lane is g r =
     let k : LaneIs job lane = lane_is job n lane g in
-    let into = in_posts_of job k.edge.to k.to k.receives in
-    let q : IsWorker job k.to = in_posts job k.to into.0 in
-    let number : k.to.number ≡ post.number = sym k.receiver ∙ r in
+    let into = in_workers_at_node job k.edge.to k.to k.receives in
+    let q : IsWorker job k.to = in_workers job k.to into.0 in
+    let number : k.to.number ≡ who.number = sym k.receiver ∙ r in
     let x = is.there in
-    let y : slice_get (posts job) post.number ≡ Some k.to = subst (λ n. slice_get (posts job) n ≡ Some k.to) number q.there in
-    let same : k.to ≡ post = cc in
+    let y : slice_get (workers_in job) who.number ≡ Some k.to = subst (λ n. slice_get (workers_in job) n ≡ Some k.to) number q.there in
+    let same : k.to ≡ who = cc in
     record {
       lane = lane;
       numbered = g;
       receiver = r;
       edge = k.edge;
       edge_is = k.edge_is;
-      to = sym into.1 ∙ ap (λ (p : Post). p.node) same;
+      to = sym into.1 ∙ ap (λ (p : Worker). p.node) same;
       sends = k.sends;
     }
 
-pub lane_in : (job : Written) (post : Post) (n : ℕ) → IsWorker job post → IsIn n (lanes_in job post.number) → LaneIn job post n
-lane_in job post n is i =
-    let r = in_lanes_that (λ (lane : Lane). lane.receiver == post.number) job n i in
-    lane_into job post n r.0 is r.1 (eqb-true r.0.receiver post.number r.2)
+pub lane_in : (job : JobView) (who : Worker) (n : ℕ) → IsWorker job who → IsIn n (lanes_in job who.number) → LaneIn job who n
+lane_in job who n is i =
+    let r = in_lanes_that (λ (lane : Lane). lane.receiver == who.number) job n i in
+    lane_into job who n r.0 is r.1 (eqb-true r.0.receiver who.number r.2)
 
 -- a covered lane brings its worker the marker
-pub marked_lane : (setup : Outline) (post : Post) (n request : ℕ) → (k : LaneIn setup.job post n) → covers_edge setup request k.lane.edge ≡ true → IsIn n (marked_lanes setup post.number request)
-marked_lane setup post n request k c =
-    lanes_that_in (λ (lane : Lane). (lane.receiver == post.number) && covers_edge setup request lane.edge) setup.job n k.lane k.numbered (
-    rw (eq-eqb k.lane.receiver post.number k.receiver) c)
+pub marked_lane : (setup : SetupView) (who : Worker) (n request : ℕ) → (k : LaneIn setup.job who n) → covers_edge setup request k.lane.edge ≡ true → IsIn n (marked_lanes setup who.number request)
+marked_lane setup who n request k c =
+    lanes_that_in (λ (lane : Lane). (lane.receiver == who.number) && covers_edge setup request lane.edge) setup.job n k.lane k.numbered (
+    rw (eq-eqb k.lane.receiver who.number k.receiver) c)
 
 -- ---- the lanes out of a worker
 
@@ -257,23 +257,23 @@ sender_is worker (Some s) e = ap Some (eqb-true s worker e)
 -- ---- senders
 
 -- the feeder sends at sources alone
-pub sender_source : (job : Written) (node : ℕ) → IsIn None (senders job node) → is_source_node (slice_get job.nodes node) ≡ true
+pub sender_source : (job : JobView) (node : ℕ) → IsIn None (senders job node) → is_source_node (slice_get job.nodes node) ≡ true
 sender_source job node = go (is_source_node (slice_get job.nodes node))
   where
-    go : (b : Bool) → IsIn None (cond b (None ∷ []) (map (λ (post : Post). Some post.number) (posts_of job node))) → b ≡ true
+    go : (b : Bool) → IsIn None (cond b (None ∷ []) (map (λ (who : Worker). Some who.number) (workers_at_node job node))) → b ≡ true
     go true i = refl
-    go false i = let r = in_map (λ (post : Post). Some post.number) None (posts_of job node) i in let e = r.2 in absurd (cc)
+    go false i = let r = in_map (λ (who : Worker). Some who.number) None (workers_at_node job node) i in let e = r.2 in absurd (cc)
 
 -- the sender that isn't the feeder is a worker of the node
-pub sender_worker : (job : Written) (node w : ℕ) → IsIn (Some w) (senders job node) → (post : Post) × (slice_get (posts job) w ≡ Some post) × (post.number ≡ w) × (post.node ≡ node)
+pub sender_worker : (job : JobView) (node w : ℕ) → IsIn (Some w) (senders job node) → (who : Worker) × (slice_get (workers_in job) w ≡ Some who) × (who.number ≡ w) × (who.node ≡ node)
 sender_worker job node w = go (is_source_node (slice_get job.nodes node))
   where
-    go : (b : Bool) → IsIn (Some w) (cond b (None ∷ []) (map (λ (post : Post). Some post.number) (posts_of job node)))
-        → (post : Post) × (slice_get (posts job) w ≡ Some post) × (post.number ≡ w) × (post.node ≡ node)
+    go : (b : Bool) → IsIn (Some w) (cond b (None ∷ []) (map (λ (who : Worker). Some who.number) (workers_at_node job node)))
+        → (who : Worker) × (slice_get (workers_in job) w ≡ Some who) × (who.number ≡ w) × (who.node ≡ node)
     go true (inl e) = absurd (cc)
     go true (inr i) = absurd i
     go false i =
-        let (post, among, is) = in_map (λ (post : Post). Some post.number) (Some w) (posts_of job node) i in
-        let of = in_posts_of job node post among in
-        let number : post.number ≡ w = sym (same_Some w post.number is) in
-        (post, subst (λ (k : ℕ). slice_get (posts job) k ≡ Some post) number (in_posts job post of.0).there, number, of.1)
+        let (who, among, is) = in_map (λ (who : Worker). Some who.number) (Some w) (workers_at_node job node) i in
+        let of = in_workers_at_node job node who among in
+        let number : who.number ≡ w = sym (same_Some w who.number is) in
+        (who, subst (λ (k : ℕ). slice_get (workers_in job) k ≡ Some who) number (in_workers job who of.0).there, number, of.1)

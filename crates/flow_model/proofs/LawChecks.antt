@@ -9,7 +9,7 @@ use Rattle.flow_dag.proofs.OrderLemmas.{Contains-from_any, any-from_Contains}
 use Rattle.sink_journal.specs.declared.journal.Entry.{Entry}
 use Rattle.sink_journal.specs.declared.journal.Entry.TheVariants as entry
 use Rattle.tuple_trace.specs.declared.tuple.Tuple.{Tuple}
-use Rattle.flow_model.specs.Law.{IsEnabled, IsExecution, IsFinished, IsInTime, Progress, Station, after_entry, initial, next_due, progress_after}
+use Rattle.flow_model.specs.Law.{IsEnabled, IsExecution, IsFinished, IsInTime, Progress, Duties, after_entry, initial, next_due, progress_after}
 
 abbrev is_in : List ℕ → ℕ → Bool
 is_in numbers number = list_any (λ (n : ℕ). n == number) numbers
@@ -26,29 +26,29 @@ abbrev is_next : List ℕ → ℕ → Bool
 is_next [] request = false
 is_next (due ∷ later) request = due == request
 
-abbrev is_in_time : Station → Tuple → Option ℕ → Bool
-is_in_time station tuple None = true
-is_in_time station tuple (Some due) = not (station.is_head due) || nat_lt tuple.issued due
+abbrev is_in_time : Duties → Tuple → Option ℕ → Bool
+is_in_time duties tuple None = true
+is_in_time duties tuple (Some due) = not (duties.is_head due) || nat_lt tuple.issued due
 
-abbrev may_come : Station → Progress → Entry → Bool
-may_come station progress (entry.Met lane tuple) =
-    is_in station.lanes lane && (is_none progress.marked && (is_none progress.ended && is_in_time station tuple (next_due progress.dues)))
-may_come station progress (entry.Marked lane request) =
-    is_next progress.dues request && (is_in (station.marked_lanes request) lane && (not (is_in progress.marked lane) && is_none progress.ended))
-may_come station progress (entry.Turned request) =
-    is_next progress.dues request && (are_in progress.marked (station.marked_lanes request) && is_none progress.ended)
-may_come station progress (entry.Ended lane) =
-    is_in station.lanes lane && (not (is_in progress.ended lane) && (is_none progress.dues && is_none progress.marked))
+abbrev may_come : Duties → Progress → Entry → Bool
+may_come duties progress (entry.Met lane tuple) =
+    is_in duties.lanes lane && (is_none progress.marked && (is_none progress.ended && is_in_time duties tuple (next_due progress.dues)))
+may_come duties progress (entry.Marked lane request) =
+    is_next progress.dues request && (is_in (duties.marked_lanes request) lane && (not (is_in progress.marked lane) && is_none progress.ended))
+may_come duties progress (entry.Turned request) =
+    is_next progress.dues request && (are_in progress.marked (duties.marked_lanes request) && is_none progress.ended)
+may_come duties progress (entry.Ended lane) =
+    is_in duties.lanes lane && (not (is_in progress.ended lane) && (is_none progress.dues && is_none progress.marked))
 
-abbrev may_all_come : Station → Progress → List Entry → Bool
-may_all_come station progress [] = true
-may_all_come station progress (entry ∷ more) = may_come station progress entry && may_all_come station (after_entry progress entry) more
+abbrev may_all_come : Duties → Progress → List Entry → Bool
+may_all_come duties progress [] = true
+may_all_come duties progress (entry ∷ more) = may_come duties progress entry && may_all_come duties (after_entry progress entry) more
 
 -- the journal is finished
-abbrev pub is_finished : Station → List Entry → Bool
-is_finished station journal =
-    may_all_come station (initial station) journal
-    && (is_none (progress_after (initial station) journal).marked && are_in (progress_after (initial station) journal).ended station.lanes)
+abbrev pub is_finished : Duties → List Entry → Bool
+is_finished duties journal =
+    may_all_come duties (initial duties) journal
+    && (is_none (progress_after (initial duties) journal).marked && are_in (progress_after (initial duties) journal).ended duties.lanes)
 
 none : (numbers : List ℕ) → is_none numbers ≡ true → numbers ≡ []
 none [] is = refl
@@ -74,46 +74,46 @@ next (due ∷ later) request is = ap Some (eqb-true due request is)
 below : (a b : ℕ) → nat_lt a b ≡ true → a < b
 below a b is = grind (arith, nat_tests)
 
-in_time : (station : Station) (tuple : Tuple) (due : Option ℕ) → is_in_time station tuple due ≡ true → IsInTime station tuple due
-in_time station tuple None is = tt
-in_time station tuple (Some due) is = λ head. go (station.is_head due) head is
+in_time : (duties : Duties) (tuple : Tuple) (due : Option ℕ) → is_in_time duties tuple due ≡ true → IsInTime duties tuple due
+in_time duties tuple None is = tt
+in_time duties tuple (Some due) is = λ head. go (duties.is_head due) head is
   where
     go : (b : Bool) → b ≡ true → (not b || nat_lt tuple.issued due) ≡ true → tuple.issued < due
     go true head is = below tuple.issued due is
     go false head is = absurd (cc)
 
-enabled : (station : Station) (progress : Progress) (entry : Entry) → may_come station progress entry ≡ true → IsEnabled station progress entry
-enabled station progress (entry.Met lane tuple) is =
+enabled : (duties : Duties) (progress : Progress) (entry : Entry) → may_come duties progress entry ≡ true → IsEnabled duties progress entry
+enabled duties progress (entry.Met lane tuple) is =
     let a = and_parts _ _ is in
     let b = and_parts _ _ a.1 in
     let c = and_parts _ _ b.1 in
-    (Contains-from_any station.lanes lane a.0, none progress.marked b.0, none progress.ended c.0, in_time station tuple (next_due progress.dues) c.1)
-enabled station progress (entry.Marked lane request) is =
+    (Contains-from_any duties.lanes lane a.0, none progress.marked b.0, none progress.ended c.0, in_time duties tuple (next_due progress.dues) c.1)
+enabled duties progress (entry.Marked lane request) is =
     let a = and_parts _ _ is in
     let b = and_parts _ _ a.1 in
     let c = and_parts _ _ b.1 in
-    (next progress.dues request a.0, Contains-from_any (station.marked_lanes request) lane b.0, not_in progress.marked lane c.0, none progress.ended c.1)
-enabled station progress (entry.Turned request) is =
+    (next progress.dues request a.0, Contains-from_any (duties.marked_lanes request) lane b.0, not_in progress.marked lane c.0, none progress.ended c.1)
+enabled duties progress (entry.Turned request) is =
     let a = and_parts _ _ is in
     let b = and_parts _ _ a.1 in
-    (next progress.dues request a.0, all_in progress.marked (station.marked_lanes request) b.0, none progress.ended b.1)
-enabled station progress (entry.Ended lane) is =
+    (next progress.dues request a.0, all_in progress.marked (duties.marked_lanes request) b.0, none progress.ended b.1)
+enabled duties progress (entry.Ended lane) is =
     let a = and_parts _ _ is in
     let b = and_parts _ _ a.1 in
     let c = and_parts _ _ b.1 in
-    (Contains-from_any station.lanes lane a.0, not_in progress.ended lane b.0, none progress.dues c.0, none progress.marked c.1)
+    (Contains-from_any duties.lanes lane a.0, not_in progress.ended lane b.0, none progress.dues c.0, none progress.marked c.1)
 
-execution : (station : Station) (progress : Progress) (journal : List Entry) → may_all_come station progress journal ≡ true → IsExecution station progress journal
-execution station progress [] is = tt
-execution station progress (entry ∷ more) is =
-    let parts = and_parts (may_come station progress entry) (may_all_come station (after_entry progress entry) more) is in
-    (enabled station progress entry parts.0, execution station (after_entry progress entry) more parts.1)
+execution : (duties : Duties) (progress : Progress) (journal : List Entry) → may_all_come duties progress journal ≡ true → IsExecution duties progress journal
+execution duties progress [] is = tt
+execution duties progress (entry ∷ more) is =
+    let parts = and_parts (may_come duties progress entry) (may_all_come duties (after_entry progress entry) more) is in
+    (enabled duties progress entry parts.0, execution duties (after_entry progress entry) more parts.1)
 
-pub finished-by_check : (station : Station) (journal : List Entry) → is_finished station journal ≡ true → IsFinished station journal
-finished-by_check station journal is =
+pub finished-by_check : (duties : Duties) (journal : List Entry) → is_finished duties journal ≡ true → IsFinished duties journal
+finished-by_check duties journal is =
     let a = and_parts _ _ is in
     let b = and_parts _ _ a.1 in
     record {
-      lawful = record { execution = execution station (initial station) journal a.0; no_open_turn = none (progress_after (initial station) journal).marked b.0 };
-      ended = all_in (progress_after (initial station) journal).ended station.lanes b.1;
+      lawful = record { execution = execution duties (initial duties) journal a.0; no_open_turn = none (progress_after (initial duties) journal).marked b.0 };
+      ended = all_in (progress_after (initial duties) journal).ended duties.lanes b.1;
     }

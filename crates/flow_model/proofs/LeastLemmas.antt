@@ -6,18 +6,18 @@ use Rattle.std.proofs.Math.Logic.{∥∥₁_elim}
 use Rattle.cover_planner.specs.Plan.{IsCover, IsLeast, HasAllPaths}
 use Rattle.cover_planner.specs.declared.cover.Plan.{Plan}
 use Rattle.cover_planner.proofs.LawLemmas.{HasAllPaths-cover, IsLeast-cover}
-use Rattle.flow_model.specs.Outline.{Outline}
+use Rattle.flow_model.specs.SetupView.{SetupView}
 use Rattle.flow_model.specs.Covers.{plan_of}
 use Rattle.flow_model.specs.Least.{ArePlansLeast}
 use Rattle.flow_model.specs.Planned.{IsPlanned}
 use Rattle.flow_model.proofs.PlannedLemmas.{plan_for}
 
-covered : (setup : Outline) → IsPlanned setup → (request : ℕ) (plan : Plan) → plan_of setup request ≡ Some plan → IsCover setup.job.edges plan
+covered : (setup : SetupView) → IsPlanned setup → (request : ℕ) (plan : Plan) → plan_of setup request ≡ Some plan → IsCover setup.job.edges plan
 covered setup is zero plan e = absurd (cc)
 covered setup is (suc r) plan e = let (request, at, p) = plan_for setup is r plan e in p.planned.cover
 
 -- bits and tests have one answer, whichever witnesses of the plans there are
-pub plans_least : (setup : Outline) → ∥ IsPlanned setup ∥₁ → ArePlansLeast setup
+pub plans_least : (setup : SetupView) → ∥ IsPlanned setup ∥₁ → ArePlansLeast setup
 plans_least setup planned request plan e = record {
   paths = record {
     members = λ a m. ∥∥₁_elim planned (ℕ_set _ _) (λ is. (paths is).members a m);

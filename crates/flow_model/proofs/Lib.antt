@@ -1,4 +1,4 @@
-pub mod PostLemmas
+pub mod WorkerListLemmas
 pub mod PlanLemmas
 pub mod GatheredLemmas
 pub mod JournalLemmas
@@ -22,7 +22,7 @@ pub mod LeastLemmas
 pub mod HeadLemmas
 pub mod FewLanes
 pub mod PieceLemmas
-pub mod PostPlaces
+pub mod WorkerPlaces
 pub mod LaneNumbers
 pub mod SizeLemmas
 pub mod TopologyLemmas

@@ -7,12 +7,12 @@ use Rattle.sink_journal.specs.declared.journal.Entry.{Entry}
 use Rattle.sink_journal.specs.declared.journal.Entry.TheVariants as entry
 use Rattle.tuple_trace.specs.declared.row.Row.{Row}
 use Rattle.tuple_trace.specs.declared.tuple.Tuple.{Tuple}
-use Rattle.flow_model.specs.Outline.{Post}
+use Rattle.flow_model.specs.SetupView.{Worker}
 use Rattle.flow_model.specs.Run.{Ran}
 use Rattle.flow_model.specs.Whole.{IsMetOnce, identities, journals_at, met_tuples}
-use Rattle.flow_model.specs.Workers.{posts_of}
+use Rattle.flow_model.specs.Workers.{workers_at_node}
 use Rattle.flow_model.proofs.ElementLemmas.{AreDistinct, IsIn, distinct_append, distinct_by_place, distinct_pairs, in_filter_map, in_flat_map, place_of_in}
-use Rattle.flow_model.proofs.WorkerLemmas.{Stands, begun, journal_is, journal_of, post_of, posts_of_distinct, in_posts_of, same_post, stands_at}
+use Rattle.flow_model.proofs.WorkerLemmas.{Stands, begun, journal_is, journal_of, worker_no, workers_at_node_distinct, in_workers_at_node, same_who, stands_at}
 use Rattle.flow_model.proofs.PlaceLemmas.{IsKeptFrom, filter_map_place, map_place}
 use Rattle.flow_model.proofs.StoryLemmas.{story_at}
 use Rattle.flow_model.proofs.KindLemmas.{ArePieces, pieces_stay_apart}
@@ -23,36 +23,36 @@ use Rattle.flow_model.proofs.WholeLemmas.{HasParted, Meeting, has_parted, kin_of
 
 -- ---- ranks rise down a chain
 
-child_rises : (rows : List Row) (ran : Ran) (g : Running rows ran) (p c : Address) → Child ran p c → g.wired.rank (post_of ran.setup p.worker).node < g.wired.rank (post_of ran.setup c.worker).node
+child_rises : (rows : List Row) (ran : Ran) (g : Running rows ran) (p c : Address) → Child ran p c → g.wired.rank (worker_no ran.setup p.worker).node < g.wired.rank (worker_no ran.setup c.worker).node
 child_rises rows ran g p c k =
     let (i, edge, lt, at, (from, to)) = k.edge in
     let up : g.wired.rank edge.from < g.wired.rank edge.to = g.wired.forward i edge (slice_get-get_or ran.setup.job.edges i edge lt ∙ ap Some at) in
-    let a : g.wired.rank edge.from ≡ g.wired.rank (post_of ran.setup p.worker).node = ap g.wired.rank from in
-    let b : g.wired.rank edge.to ≡ g.wired.rank (post_of ran.setup c.worker).node = ap g.wired.rank to in
+    let a : g.wired.rank edge.from ≡ g.wired.rank (worker_no ran.setup p.worker).node = ap g.wired.rank from in
+    let b : g.wired.rank edge.to ≡ g.wired.rank (worker_no ran.setup c.worker).node = ap g.wired.rank to in
     omega arith
 
 chain_rises : (rows : List Row) (ran : Ran) (g : Running rows ran) (p c : Address) (chain : List Address) → IsChain ran p chain c
-    → g.wired.rank (post_of ran.setup p.worker).node ≤ g.wired.rank (post_of ran.setup c.worker).node
+    → g.wired.rank (worker_no ran.setup p.worker).node ≤ g.wired.rank (worker_no ran.setup c.worker).node
 chain_rises rows ran g p c [] h =
-    let e : g.wired.rank (post_of ran.setup p.worker).node ≡ g.wired.rank (post_of ran.setup c.worker).node = ap (λ (x : Address). g.wired.rank (post_of ran.setup x.worker).node) h in omega arith
+    let e : g.wired.rank (worker_no ran.setup p.worker).node ≡ g.wired.rank (worker_no ran.setup c.worker).node = ap (λ (x : Address). g.wired.rank (worker_no ran.setup x.worker).node) h in omega arith
 chain_rises rows ran g p c (a ∷ chain) h =
     let lt = child_rises rows ran g p a h.0 in
     let le = chain_rises rows ran g a c chain h.1 in
     omega (arith, lt, le)
 
 -- down a chain to the same node there is no step
-stays : (rows : List Row) (ran : Ran) (g : Running rows ran) (p c : Address) (chain : List Address) → (post_of ran.setup p.worker).node ≡ (post_of ran.setup c.worker).node → IsChain ran p chain c → p ≡ c
+stays : (rows : List Row) (ran : Ran) (g : Running rows ran) (p c : Address) (chain : List Address) → (worker_no ran.setup p.worker).node ≡ (worker_no ran.setup c.worker).node → IsChain ran p chain c → p ≡ c
 stays rows ran g p c [] e h = h
 stays rows ran g p c (a ∷ chain) e h =
     let lt = child_rises rows ran g p a h.0 in
     let le = chain_rises rows ran g a c chain h.1 in
-    let q : g.wired.rank (post_of ran.setup p.worker).node ≡ g.wired.rank (post_of ran.setup c.worker).node = ap g.wired.rank e in
+    let q : g.wired.rank (worker_no ran.setup p.worker).node ≡ g.wired.rank (worker_no ran.setup c.worker).node = ap g.wired.rank e in
     absurd (omega (arith, lt, le))
 
 -- ---- two entries with one identity at one node are one
 
 module _ (rows : List Row) (ran : Ran) (g : Running rows ran) (row : ℕ) (c d : Address) (m : Meeting ran row c) (n : Meeting ran row d)
-    (node : (post_of ran.setup c.worker).node ≡ (post_of ran.setup d.worker).node) (birth : m.tuple.birth ≡ n.tuple.birth)
+    (node : (worker_no ran.setup c.worker).node ≡ (worker_no ran.setup d.worker).node) (birth : m.tuple.birth ≡ n.tuple.birth)
   where
     between : (p a b : Address) → Child ran p a → Child ran p b → a ≢ b → (s t : List Address) → IsChain ran a s c → IsChain ran b t d → ⊥
     between p a b x y differ s t u v =
@@ -97,8 +97,8 @@ same_identity : (rows : List Row) (ran : Ran) (g : Running rows ran) (node w v i
 same_identity rows ran g node w v i j x sw sv a b =
     let p : IsNamed (journal_of ran w) i x = named (journal_of ran w) i x a in
     let q : IsNamed (journal_of ran v) j x = named (journal_of ran v) j x b in
-    let mw = story_at ran.setup (post_of ran.setup w) (begun ran.setup w) (journal_of ran w) p.i (entry.Met p.lane p.tuple) p.met_there in
-    let mv = story_at ran.setup (post_of ran.setup v) (begun ran.setup v) (journal_of ran v) q.i (entry.Met q.lane q.tuple) q.met_there in
+    let mw = story_at ran.setup (worker_no ran.setup w) (begun ran.setup w) (journal_of ran w) p.i (entry.Met p.lane p.tuple) p.met_there in
+    let mv = story_at ran.setup (worker_no ran.setup v) (begun ran.setup v) (journal_of ran v) q.i (entry.Met q.lane q.tuple) q.met_there in
     let row : q.tuple.row ≡ p.tuple.row = ap (λ (x : ℕ × List ℕ). x.0) (sym q.is ∙ p.is) in
     let birth : p.tuple.birth ≡ q.tuple.birth = ap (λ (x : ℕ × List ℕ). x.1) (sym p.is ∙ q.is) in
     let one : ◌≡◌ {A = Address} (record { worker = w; entry = p.i }) (record { worker = v; entry = q.i }) =
@@ -112,9 +112,9 @@ same_identity rows ran g node w v i j x sw sv a b =
 
 pub met_once : (rows : List Row) (ran : Ran) (g : Running rows ran) (node : ℕ) → IsMetOnce ran node
 met_once rows ran g node =
-    distinct_pairs (flat_map identities (journals_at ran.journals (posts_of ran.setup.job node))) (each (posts_of ran.setup.job node) (λ p h. h) (posts_of_distinct ran.setup.job node))
+    distinct_pairs (flat_map identities (journals_at ran.journals (workers_at_node ran.setup.job node))) (each (workers_at_node ran.setup.job node) (λ p h. h) (workers_at_node_distinct ran.setup.job node))
   where
-    each : (ps : List Post) → ((p : Post) → IsIn p ps → IsIn p (posts_of ran.setup.job node)) → AreDistinct ps → AreDistinct (flat_map identities (journals_at ran.journals ps))
+    each : (ps : List Worker) → ((p : Worker) → IsIn p ps → IsIn p (workers_at_node ran.setup.job node)) → AreDistinct ps → AreDistinct (flat_map identities (journals_at ran.journals ps))
     each [] h d = tt
     each (p ∷ ps) h d = go (slice_get ran.journals p.number) refl (each ps (λ q k. h q (inr k)) d.1)
       where
@@ -131,11 +131,11 @@ met_once rows ran g node =
             rest
             (λ x a b.
             let f = in_flat_map identities x (journals_at ran.journals ps) b in
-            let q = in_filter_map (λ (post : Post). slice_get ran.journals post.number) f.0 ps f.1 in
+            let q = in_filter_map (λ (who : Worker). slice_get ran.journals who.number) f.0 ps f.1 in
             let there : journal_of ran q.0.number ≡ f.0 = journal_is ran q.0.number f.0 q.2 in
             let sq : Stands ran.setup node q.0.number = (stands_at ran.setup node q.0 (h q.0 (inr q.1))).1 in
             let i = place_of_in x (identities journal) a in
             let j = place_of_in x (identities f.0) f.2 in
             let e = same_identity rows ran g node p.number q.0.number i.0 j.0 x st sq (in_here i.0 x i.1)
             (subst (λ (l : List Entry). slice_get (identities l) j.0 ≡ Some x) (sym there) j.1) in
-            d.0 (subst (λ (y : Post). IsIn y ps) (same_post ran.setup.job q.0 p (in_posts_of ran.setup.job node q.0 (h q.0 (inr q.1))).0 (in_posts_of ran.setup.job node p (h p (inl refl))).0 (sym e.0)) q.1))
+            d.0 (subst (λ (y : Worker). IsIn y ps) (same_who ran.setup.job q.0 p (in_workers_at_node ran.setup.job node q.0 (h q.0 (inr q.1))).0 (in_workers_at_node ran.setup.job node p (h p (inl refl))).0 (sym e.0)) q.1))

@@ -6,7 +6,7 @@ use Rattle.std.proofs.lemmas.Bool.{eq-eqb}
 use Rattle.std.proofs.lemmas.Option.{same_Some, slice_get_within}
 use Rattle.jobs.specs.Nodes.{AreFromSources, IsSourceOf, is_source_node}
 use Rattle.jobs.specs.Ports.{are_ports}
-use Rattle.jobs.specs.Written.{Written}
+use Rattle.jobs.specs.JobView.{JobView}
 use Rattle.jobs.specs.declared.func.Func.{Func}
 use Rattle.jobs.specs.declared.func.Func.TheVariants as func
 use Rattle.jobs.specs.declared.func.NodeDef.{NodeDef}
@@ -30,14 +30,14 @@ use Rattle.flow_model.specs.Feeding.{fed_put, fed_puts, fed_tuple, feed_after, i
 use Rattle.flow_model.specs.Lanes.{first_on, is_sender, lane_of, lanes, senders}
 use Rattle.flow_model.specs.OneTable.{HasNoCounts, IsOneTable, landings, landings_by}
 use Rattle.flow_model.specs.declared.topology.Lane.{Lane}
-use Rattle.flow_model.specs.Outline.{Outline, Post}
-use Rattle.flow_model.specs.Replay.{Local, Put, after, put_out, puts, visit_at}
+use Rattle.flow_model.specs.SetupView.{SetupView, Worker}
+use Rattle.flow_model.specs.Replay.{StateView, Put, after, put_out, puts, visit_at}
 use Rattle.flow_model.specs.Requests.{afters, change_of, func_with}
 use Rattle.flow_model.specs.Run.{Ran}
 use Rattle.flow_model.specs.Whole.{is_new, journals_at, met_tuples}
-use Rattle.flow_model.specs.Workers.{posts, posts_of}
+use Rattle.flow_model.specs.Workers.{workers_in, workers_at_node}
 use Rattle.flow_model.proofs.ElementLemmas.{IsIn, at_of_all, in_flat_map, in_map, in_of_place, map_in, place_of_in}
-use Rattle.flow_model.proofs.WorkerLemmas.{IsWorker, begun, in_posts, journal_of, post_is, post_of, posts_of_in, worker_is}
+use Rattle.flow_model.proofs.WorkerLemmas.{IsWorker, begun, in_workers, journal_of, who_is, worker_no, workers_at_node_in, worker_is}
 use Rattle.flow_model.proofs.StoryLemmas.{Moment, story, story_get}
 use Rattle.flow_model.proofs.SendingLemmas.{ComesOf, made, puts_come}
 use Rattle.flow_model.proofs.KindLemmas.{AreAlike, alike_self, alike_then, changed_alike}
@@ -50,10 +50,10 @@ use Rattle.flow_model.proofs.FlowLemmas.{PutsFit, all_puts, entry_weight, flow, 
 use Rattle.flow_model.proofs.LandingLemmas.{AreTables, HasFunc, behind, has_func, lands-outputs, lands-sink, lands_same, outputs_alike, sum_alike}
 use Rattle.flow_model.proofs.TableLemmas.{by_table}
 
-sinks_make_none : (job : Written) (post : Post) (local : Local) (t : Tuple) → is_sink local.func ≡ true → (step job (visit_at post local) local.func local.counts t).1 ≡ []
-sinks_make_none job post local t s = go local.func s
+sinks_make_none : (job : JobView) (who : Worker) (view : StateView) (t : Tuple) → is_sink view.func ≡ true → (step job (visit_at who view) view.func view.counts t).1 ≡ []
+sinks_make_none job who view t s = go view.func s
   where
-    go : (f : Func) → is_sink f ≡ true → outputs job (visit_at post local) f local.counts t ≡ []
+    go : (f : Func) → is_sink f ≡ true → outputs job (visit_at who view) f view.counts t ≡ []
     go func.Source s = refl
     go (func.Filter conds) s = absurd (cc)
     go (func.Map steps) s = absurd (cc)
@@ -64,7 +64,7 @@ sinks_make_none job post local t s = go local.func s
     go (func.Sink listed) s = refl
 
 -- what goes on a lane weighs what its item weighs at the node to which the lane leads
-weight_on : (V : ℕ → Tuple → ℕ) (job : Written) (sender : Option ℕ) (node port : ℕ) (t u : Tuple) → (k : GoesOn job sender node port t)
+weight_on : (V : ℕ → Tuple → ℕ) (job : JobView) (sender : Option ℕ) (node port : ℕ) (t u : Tuple) → (k : GoesOn job sender node port t)
     → put_weight V job (record { lane = lane_of job sender node port t; item = item.Carry u }) ≡ V k.edge.to u
 weight_on V job sender node port t u k =
     let to : lane_to job k.lane ≡ k.edge.to = ap node_to (ap (slice_get job.edges) k.edge_number ∙ k.edge_is) in
@@ -90,73 +90,73 @@ module _ (rows : List Row) (ran : Ran) (g : Running rows ran) (none : HasNoCount
 
   -- a worker of the run, with what is in force at one of its moments
   record AtWork (w : ℕ) (m : Moment) : Type 0 where
-    is : IsWorker ran.setup.job (post_of ran.setup w)
+    is : IsWorker ran.setup.job (worker_no ran.setup w)
     within : HasWorker ran w
-    number : (post_of ran.setup w).number ≡ w
+    number : (worker_no ran.setup w).number ≡ w
     i : ℕ
     there : slice_get (story_of ran w) i ≡ Some m
-    alike : AreAlike ran.setup.job.edges (post_of ran.setup w).node (post_of ran.setup w).func m.local.func
-    ports : are_ports ran.setup.job.edges (post_of ran.setup w).node m.local.func ≡ true
+    alike : AreAlike ran.setup.job.edges (worker_no ran.setup w).node (worker_no ran.setup w).func m.view.func
+    ports : are_ports ran.setup.job.edges (worker_no ran.setup w).node m.view.func ≡ true
 
   at_work : (w : ℕ) (m : Moment) → HasWorker ran w → IsIn m (story_of ran w) → AtWork w m
   at_work w m lt h =
-      let is : IsWorker ran.setup.job (post_of ran.setup w) = (worker_is ran.setup w lt).1 in
+      let is : IsWorker ran.setup.job (worker_no ran.setup w) = (worker_is ran.setup w lt).1 in
       let i = place_of_in m (story_of ran w) h in
-      let alike : AreAlike ran.setup.job.edges (post_of ran.setup w).node is.def.func m.local.func =
-      alike_then ran.setup (post_of ran.setup w) is.def (begun ran.setup w) (journal_of ran w) i.0 m g.kinds is.node_is (sym is.func_is) i.1 in
+      let alike : AreAlike ran.setup.job.edges (worker_no ran.setup w).node is.def.func m.view.func =
+      alike_then ran.setup (worker_no ran.setup w) is.def (begun ran.setup w) (journal_of ran w) i.0 m g.kinds is.node_is (sym is.func_is) i.1 in
       record {
         is = is;
         within = lt;
         number = (worker_is ran.setup w lt).0;
         i = i.0;
         there = i.1;
-        alike = subst (λ (f : Func). AreAlike ran.setup.job.edges (post_of ran.setup w).node f m.local.func) (sym is.func_is) alike;
-        ports = alike.ports (g.wired.ports (post_of ran.setup w).node is.def is.node_is);
+        alike = subst (λ (f : Func). AreAlike ran.setup.job.edges (worker_no ran.setup w).node f m.view.func) (sym is.func_is) alike;
+        ports = alike.ports (g.wired.ports (worker_no ran.setup w).node is.def is.node_is);
       }
 
-  sends : (w : ℕ) → IsWorker ran.setup.job (post_of ran.setup w) → IsIn (Some (post_of ran.setup w).number) (senders ran.setup.job (post_of ran.setup w).node)
+  sends : (w : ℕ) → IsWorker ran.setup.job (worker_no ran.setup w) → IsIn (Some (worker_no ran.setup w).number) (senders ran.setup.job (worker_no ran.setup w).node)
   sends w is =
-      let source : is_source_node (slice_get ran.setup.job.nodes (post_of ran.setup w).node) ≡ false = ap is_source_node is.node_is ∙ is.no_source in
-      rw source (map_in (λ (post : Post). Some post.number) (post_of ran.setup w) (posts_of ran.setup.job (post_of ran.setup w).node)
-      (posts_of_in ran.setup.job (post_of ran.setup w).node (post_of ran.setup w) (in_of_place (post_of ran.setup w) (posts ran.setup.job) (post_of ran.setup w).number is.there) refl))
+      let source : is_source_node (slice_get ran.setup.job.nodes (worker_no ran.setup w).node) ≡ false = ap is_source_node is.node_is ∙ is.no_source in
+      rw source (map_in (λ (who : Worker). Some who.number) (worker_no ran.setup w) (workers_at_node ran.setup.job (worker_no ran.setup w).node)
+      (workers_at_node_in ran.setup.job (worker_no ran.setup w).node (worker_no ran.setup w) (in_of_place (worker_no ran.setup w) (workers_in ran.setup.job) (worker_no ran.setup w).number is.there) refl))
 
   -- the lane of an output
-  out_goes : (w : ℕ) (m : Moment) (u : Tuple) (o : Output) → AtWork w m → IsIn o (made ran.setup (post_of ran.setup w) m.local u)
-      → GoesOn ran.setup.job (Some (post_of ran.setup w).number) (post_of ran.setup w).node o.port o.tuple
+  out_goes : (w : ℕ) (m : Moment) (u : Tuple) (o : Output) → AtWork w m → IsIn o (made ran.setup (worker_no ran.setup w) m.view u)
+      → GoesOn ran.setup.job (Some (worker_no ran.setup w).number) (worker_no ran.setup w).node o.port o.tuple
   out_goes w m u o a i =
-      let k = place_of_in o (made ran.setup (post_of ran.setup w) m.local u) i in
-      goes_on ran.setup.job g.wired (Some (post_of ran.setup w).number) (post_of ran.setup w).node o.port o.tuple
-      (outputs_leave ran.setup.job (visit_at (post_of ran.setup w) m.local) m.local.func m.local.counts u a.ports k.0 o k.1) (sends w a.is)
+      let k = place_of_in o (made ran.setup (worker_no ran.setup w) m.view u) i in
+      goes_on ran.setup.job g.wired (Some (worker_no ran.setup w).number) (worker_no ran.setup w).node o.port o.tuple
+      (outputs_leave ran.setup.job (visit_at (worker_no ran.setup w) m.view) m.view.func m.view.counts u a.ports k.0 o k.1) (sends w a.is)
 
   -- ---- what is put fits
 
   moment_fits : (w : ℕ) (m : Moment) (p : Put) (t : Tuple) → AtWork w m → IsIn p (puts_of ran w m) → p.item ≡ item.Carry t
-      → (n : ℕ) × (lane : Lane) × (p.lane ≡ Some lane) × (slice_get (lanes ran.setup.job) n ≡ Some lane) × (is_sender (post_of ran.setup w).number lane.sender ≡ true)
-  moment_fits w m p t a h c = go m.entry h (puts_come ran.setup (post_of ran.setup w) m.local m.entry p h)
+      → (n : ℕ) × (lane : Lane) × (p.lane ≡ Some lane) × (slice_get (lanes ran.setup.job) n ≡ Some lane) × (is_sender (worker_no ran.setup w).number lane.sender ≡ true)
+  moment_fits w m p t a h c = go m.entry h (puts_come ran.setup (worker_no ran.setup w) m.view m.entry p h)
     where
-      go : (e : Entry) → IsIn p (puts ran.setup (post_of ran.setup w) m.local e) → ComesOf ran.setup (post_of ran.setup w) m.local e p.item
-          → (n : ℕ) × (lane : Lane) × (p.lane ≡ Some lane) × (slice_get (lanes ran.setup.job) n ≡ Some lane) × (is_sender (post_of ran.setup w).number lane.sender ≡ true)
+      go : (e : Entry) → IsIn p (puts ran.setup (worker_no ran.setup w) m.view e) → ComesOf ran.setup (worker_no ran.setup w) m.view e p.item
+          → (n : ℕ) × (lane : Lane) × (p.lane ≡ Some lane) × (slice_get (lanes ran.setup.job) n ≡ Some lane) × (is_sender (worker_no ran.setup w).number lane.sender ≡ true)
       go (entry.Met l u) h k =
-          let o = in_map (put_out ran.setup.job (post_of ran.setup w)) p (made ran.setup (post_of ran.setup w) m.local u) h in
-          let on : GoesOn ran.setup.job (Some (post_of ran.setup w).number) (post_of ran.setup w).node o.0.port o.0.tuple = out_goes w m u o.0 a o.1 in (
+          let o = in_map (put_out ran.setup.job (worker_no ran.setup w)) p (made ran.setup (worker_no ran.setup w) m.view u) h in
+          let on : GoesOn ran.setup.job (Some (worker_no ran.setup w).number) (worker_no ran.setup w).node o.0.port o.0.tuple = out_goes w m u o.0 a o.1 in (
             on.n,
             on.lane,
             ap (λ (p : Put). p.lane) o.2 ∙ on.lane_is,
             on.there,
-            ap (is_sender (post_of ran.setup w).number) on.sent_by ∙ eq-eqb (post_of ran.setup w).number (post_of ran.setup w).number refl,
+            ap (is_sender (worker_no ran.setup w).number) on.sent_by ∙ eq-eqb (worker_no ran.setup w).number (worker_no ran.setup w).number refl,
           )
       go (entry.Marked l r) h k = absurd k
       go (entry.Turned r) h k = let x = k.2 in absurd (cc)
       go (entry.Ended l) h k = absurd (cc)
 
-  worker_fits : (post : Post) → IsIn post (posts ran.setup.job) → PutsFit ran.setup.job (λ (lane : Lane). is_sender post.number lane.sender) (all_puts ran post.number)
-  worker_fits post i p t h c =
-      let is : IsWorker ran.setup.job post = in_posts ran.setup.job post i in
-      let lt : HasWorker ran post.number = slice_get_within (posts ran.setup.job) post.number post is.there in
-      let same : post_of ran.setup post.number ≡ post = post_is ran.setup post.number post is.there in
-      let m = in_flat_map (puts_of ran post.number) p (story_of ran post.number) h in
-      let fit = moment_fits post.number m.0 p t (at_work post.number m.0 lt m.1) m.2 c in
-      (fit.0, fit.1, fit.2, fit.3, subst (λ (x : Post). is_sender x.number fit.1.sender ≡ true) same fit.4)
+  worker_fits : (who : Worker) → IsIn who (workers_in ran.setup.job) → PutsFit ran.setup.job (λ (lane : Lane). is_sender who.number lane.sender) (all_puts ran who.number)
+  worker_fits who i p t h c =
+      let is : IsWorker ran.setup.job who = in_workers ran.setup.job who i in
+      let lt : HasWorker ran who.number = slice_get_within (workers_in ran.setup.job) who.number who is.there in
+      let same : worker_no ran.setup who.number ≡ who = who_is ran.setup who.number who is.there in
+      let m = in_flat_map (puts_of ran who.number) p (story_of ran who.number) h in
+      let fit = moment_fits who.number m.0 p t (at_work who.number m.0 lt m.1) m.2 c in
+      (fit.0, fit.1, fit.2, fit.3, subst (λ (x : Worker). is_sender x.number fit.1.sender ≡ true) same fit.4)
 
   -- the lane of a row
   row_goes : (number : ℕ) (row : Row) → row_at rows number ≡ Some row → GoesOn ran.setup.job None row.source 0 row.tuple
@@ -180,7 +180,7 @@ module _ (rows : List Row) (ran : Ran) (g : Running rows ran) (none : HasNoCount
   -- ---- a worker that is no sink makes what it met, and a sink makes nothing
 
   abbrev kept_at : ℕ → Entry → ℕ
-  kept_at w e = cond (is_sink (post_of ran.setup w).func) 0 (entry_weight V (post_of ran.setup w).node e)
+  kept_at w e = cond (is_sink (worker_no ran.setup w).func) 0 (entry_weight V (worker_no ran.setup w).node e)
 
   -- a put that carries no tuple weighs nothing
   no_tuple : (ps : List Put) → ((p : Put) → IsIn p ps → (node : ℕ) → weigh V node p.item ≡ 0) → sum_over (put_weight V ran.setup.job) ps ≡ 0
@@ -191,65 +191,65 @@ module _ (rows : List Row) (ran : Ran) (g : Running rows ran) (none : HasNoCount
       go p i (Some lane) = h p i (lane_to ran.setup.job lane)
 
   -- an output weighs what becomes of it
-  out_weighs : (w l : ℕ) (m : Moment) (u : Tuple) (n : ℕ) (o p : Output) → AtWork w m → length ran.setup.job.nodes ≤ suc n + g.wired.rank (post_of ran.setup w).node
-      → IsIn o (made ran.setup (post_of ran.setup w) m.local u) → bare o ≡ bare p
-      → put_weight V ran.setup.job (put_out ran.setup.job (post_of ran.setup w) o) ≡ count_by test (behind ran.setup.job (T u.row) n (post_of ran.setup w).node p)
+  out_weighs : (w l : ℕ) (m : Moment) (u : Tuple) (n : ℕ) (o p : Output) → AtWork w m → length ran.setup.job.nodes ≤ suc n + g.wired.rank (worker_no ran.setup w).node
+      → IsIn o (made ran.setup (worker_no ran.setup w) m.view u) → bare o ≡ bare p
+      → put_weight V ran.setup.job (put_out ran.setup.job (worker_no ran.setup w) o) ≡ count_by test (behind ran.setup.job (T u.row) n (worker_no ran.setup w).node p)
   out_weighs w l m u n o p a le i b =
-      let on : GoesOn ran.setup.job (Some (post_of ran.setup w).number) (post_of ran.setup w).node o.port o.tuple = out_goes w m u o a i in
-      let k = place_of_in o (made ran.setup (post_of ran.setup w) m.local u) i in
-      let of : IsMadeOf ran.setup.job.edges (visit_at (post_of ran.setup w) m.local) m.local.func u k.0 o =
-      outputs_made ran.setup.job (visit_at (post_of ran.setup w) m.local) m.local.func m.local.counts u k.0 o k.1 in
+      let on : GoesOn ran.setup.job (Some (worker_no ran.setup w).number) (worker_no ran.setup w).node o.port o.tuple = out_goes w m u o a i in
+      let k = place_of_in o (made ran.setup (worker_no ran.setup w) m.view u) i in
+      let of : IsMadeOf ran.setup.job.edges (visit_at (worker_no ran.setup w) m.view) m.view.func u k.0 o =
+      outputs_made ran.setup.job (visit_at (worker_no ran.setup w) m.view) m.view.func m.view.counts u k.0 o k.1 in
       let up : g.wired.rank on.edge.from < g.wired.rank on.edge.to = g.wired.forward on.number on.edge on.edge_is in
-      let from : g.wired.rank on.edge.from ≡ g.wired.rank (post_of ran.setup w).node = ap g.wired.rank on.from in
+      let from : g.wired.rank on.edge.from ≡ g.wired.rank (worker_no ran.setup w).node = ap g.wired.rank on.from in
       let port : o.port ≡ p.port = ap (λ (x : Output). x.port) b in
-      let found : first_on (post_of ran.setup w).node p.port (enumerate_from 0 ran.setup.job.edges) ≡ Some (on.number, on.edge) =
-      ap (λ x. first_on (post_of ran.setup w).node x (enumerate_from 0 ran.setup.job.edges)) (sym port) ∙ on.found in
-      weight_on V ran.setup.job (Some (post_of ran.setup w).number) (post_of ran.setup w).node o.port o.tuple o.tuple on
+      let found : first_on (worker_no ran.setup w).node p.port (enumerate_from 0 ran.setup.job.edges) ≡ Some (on.number, on.edge) =
+      ap (λ x. first_on (worker_no ran.setup w).node x (enumerate_from 0 ran.setup.job.edges)) (sym port) ∙ on.found in
+      weight_on V ran.setup.job (Some (worker_no ran.setup w).number) (worker_no ran.setup w).node o.port o.tuple o.tuple on
       ∙ (V_is u.row n on.edge.to o.tuple p.tuple of.row (ap (λ (x : Output). x.tuple) b) (g.wired.ends on.number on.edge on.edge_is).1 (omega arith)
       ∙ ap (λ f. count_by test (onward (lands ran.setup.job (T u.row) n) f p.tuple)) (sym found))
 
   met_keeps : (w l : ℕ) (m : Moment) (u : Tuple) → AtWork w m → m.entry ≡ entry.Met l u
-      → sum_over (put_weight V ran.setup.job) (puts ran.setup (post_of ran.setup w) m.local (entry.Met l u)) ≡ kept_at w (entry.Met l u)
+      → sum_over (put_weight V ran.setup.job) (puts ran.setup (worker_no ran.setup w) m.view (entry.Met l u)) ≡ kept_at w (entry.Met l u)
   met_keeps w l m u a e =
-      sum_map (put_out ran.setup.job (post_of ran.setup w)) (put_weight V ran.setup.job) (made ran.setup (post_of ran.setup w) m.local u)
-      ∙ by_kind (is_sink (post_of ran.setup w).func) refl (left_at (post_of ran.setup w).node) refl
+      sum_map (put_out ran.setup.job (worker_no ran.setup w)) (put_weight V ran.setup.job) (made ran.setup (worker_no ran.setup w) m.view u)
+      ∙ by_kind (is_sink (worker_no ran.setup w).func) refl (left_at (worker_no ran.setup w).node) refl
     where
-      post : Post
-      post = post_of ran.setup w
+      who : Worker
+      who = worker_no ran.setup w
 
-      inside : (post_of ran.setup w).node < length ran.setup.job.nodes
-      inside = slice_get_within ran.setup.job.nodes (post_of ran.setup w).node a.is.def a.is.node_is
+      inside : (worker_no ran.setup w).node < length ran.setup.job.nodes
+      inside = slice_get_within ran.setup.job.nodes (worker_no ran.setup w).node a.is.def a.is.node_is
 
-      has : HasFunc ran T u.row (post_of ran.setup w).node
-      has = has_func rows ran g none T tables u.row (post_of ran.setup w).node inside
+      has : HasFunc ran T u.row (worker_no ran.setup w).node
+      has = has_func rows ran g none T tables u.row (worker_no ran.setup w).node inside
 
-      table_func : m.local.func ≡ has.func
+      table_func : m.view.func ≡ has.func
       table_func =
-          let x = tables.in_force w a.i l u m a.within a.there (story_get ran.setup (post_of ran.setup w) (begun ran.setup w) (journal_of ran w) a.i m a.there ∙ ap Some e) in
+          let x = tables.in_force w a.i l u m a.within a.there (story_get ran.setup (worker_no ran.setup w) (begun ran.setup w) (journal_of ran w) a.i m a.there ∙ ap Some e) in
           let y = has.func_is in
-          same_Some m.local.func has.func (sym x ∙ y)
+          same_Some m.view.func has.func (sym x ∙ y)
 
-      by_kind : (b : Bool) → is_sink (post_of ran.setup w).func ≡ b → (n : ℕ) → left_at (post_of ran.setup w).node ≡ n
-          → sum_over (λ (o : Output). put_weight V ran.setup.job (put_out ran.setup.job (post_of ran.setup w) o)) (made ran.setup (post_of ran.setup w) m.local u)
-          ≡ cond b 0 (V (post_of ran.setup w).node u)
+      by_kind : (b : Bool) → is_sink (worker_no ran.setup w).func ≡ b → (n : ℕ) → left_at (worker_no ran.setup w).node ≡ n
+          → sum_over (λ (o : Output). put_weight V ran.setup.job (put_out ran.setup.job (worker_no ran.setup w) o)) (made ran.setup (worker_no ran.setup w) m.view u)
+          ≡ cond b 0 (V (worker_no ran.setup w).node u)
       by_kind true s n d =
-          ap (sum_over (λ (o : Output). put_weight V ran.setup.job (put_out ran.setup.job (post_of ran.setup w) o))) (sinks_make_none ran.setup.job (post_of ran.setup w) m.local u (a.alike.sink ∙ s))
-      by_kind false s zero d = let low = g.wired.below (post_of ran.setup w).node inside in absurd (omega arith)
+          ap (sum_over (λ (o : Output). put_weight V ran.setup.job (put_out ran.setup.job (worker_no ran.setup w) o))) (sinks_make_none ran.setup.job (worker_no ran.setup w) m.view u (a.alike.sink ∙ s))
+      by_kind false s zero d = let low = g.wired.below (worker_no ran.setup w).node inside in absurd (omega arith)
       by_kind false s (suc n) d =
           let f : Func = has.func in
           let no_sink : is_sink f ≡ false = ap is_sink (sym table_func) ∙ (a.alike.sink ∙ s) in
-          let these : map bare (made ran.setup (post_of ran.setup w) m.local u) ≡ map bare (step ran.setup.job (bare_visit (post_of ran.setup w).node) f empty u).1 =
-          subst (λ (h : Func). map bare (step ran.setup.job (visit_at (post_of ran.setup w) m.local) h m.local.counts u).1 ≡ map bare (step ran.setup.job (bare_visit (post_of ran.setup w).node) f empty u).1) (sym table_func)
-          (outputs_alike ran.setup.job (visit_at (post_of ran.setup w) m.local) (post_of ran.setup w).node f m.local.counts u u refl has.no_count refl) in
-          let below = g.wired.below (post_of ran.setup w).node inside in
-          let enough : length ran.setup.job.nodes ≤ suc n + g.wired.rank (post_of ran.setup w).node = omega arith in
-          sum_alike (λ (o : Output). put_weight V ran.setup.job (put_out ran.setup.job (post_of ran.setup w) o))
-          (λ (p : Output). count_by test (behind ran.setup.job (T u.row) n (post_of ran.setup w).node p))
-          (made ran.setup (post_of ran.setup w) m.local u) (step ran.setup.job (bare_visit (post_of ran.setup w).node) f empty u).1 these
+          let these : map bare (made ran.setup (worker_no ran.setup w) m.view u) ≡ map bare (step ran.setup.job (bare_visit (worker_no ran.setup w).node) f empty u).1 =
+          subst (λ (h : Func). map bare (step ran.setup.job (visit_at (worker_no ran.setup w) m.view) h m.view.counts u).1 ≡ map bare (step ran.setup.job (bare_visit (worker_no ran.setup w).node) f empty u).1) (sym table_func)
+          (outputs_alike ran.setup.job (visit_at (worker_no ran.setup w) m.view) (worker_no ran.setup w).node f m.view.counts u u refl has.no_count refl) in
+          let below = g.wired.below (worker_no ran.setup w).node inside in
+          let enough : length ran.setup.job.nodes ≤ suc n + g.wired.rank (worker_no ran.setup w).node = omega arith in
+          sum_alike (λ (o : Output). put_weight V ran.setup.job (put_out ran.setup.job (worker_no ran.setup w) o))
+          (λ (p : Output). count_by test (behind ran.setup.job (T u.row) n (worker_no ran.setup w).node p))
+          (made ran.setup (worker_no ran.setup w) m.view u) (step ran.setup.job (bare_visit (worker_no ran.setup w).node) f empty u).1 these
           (λ o p i b. out_weighs w l m u n o p a enough i b)
-          ∙ (sym (count_flat_map test (behind ran.setup.job (T u.row) n (post_of ran.setup w).node) (step ran.setup.job (bare_visit (post_of ran.setup w).node) f empty u).1)
-          ∙ (ap (count_by test) (sym (lands-outputs ran.setup.job (T u.row) n (post_of ran.setup w).node u f has.func_is no_sink))
-          ∙ ap (λ k. count_by test (lands ran.setup.job (T u.row) k (post_of ran.setup w).node u)) (sym d)))
+          ∙ (sym (count_flat_map test (behind ran.setup.job (T u.row) n (worker_no ran.setup w).node) (step ran.setup.job (bare_visit (worker_no ran.setup w).node) f empty u).1)
+          ∙ (ap (count_by test) (sym (lands-outputs ran.setup.job (T u.row) n (worker_no ran.setup w).node u f has.func_is no_sink))
+          ∙ ap (λ k. count_by test (lands ran.setup.job (T u.row) k (worker_no ran.setup w).node u)) (sym d)))
 
   no_mark : (r cover node : ℕ) (x : Item) → x ≡ item.Mark r cover → weigh V node x ≡ 0
   no_mark r cover node x e = ap (weigh V node) e
@@ -260,37 +260,37 @@ module _ (rows : List Row) (ran : Ran) (g : Running rows ran) (none : HasNoCount
   keeps : (w : ℕ) (m : Moment) → AtWork w m → sum_over (put_weight V ran.setup.job) (puts_of ran w m) ≡ kept_at w m.entry
   keeps w m a = go m.entry refl
     where
-      go : (e : Entry) → m.entry ≡ e → sum_over (put_weight V ran.setup.job) (puts ran.setup (post_of ran.setup w) m.local e) ≡ kept_at w e
+      go : (e : Entry) → m.entry ≡ e → sum_over (put_weight V ran.setup.job) (puts ran.setup (worker_no ran.setup w) m.view e) ≡ kept_at w e
       go (entry.Met l u) e = met_keeps w l m u a e
-      go (entry.Marked l r) e = sym (if_none (is_sink (post_of ran.setup w).func))
+      go (entry.Marked l r) e = sym (if_none (is_sink (worker_no ran.setup w).func))
       go (entry.Turned r) e =
-          no_tuple (puts ran.setup (post_of ran.setup w) m.local (entry.Turned r))
-          (λ p i node. let c = puts_come ran.setup (post_of ran.setup w) m.local (entry.Turned r) p i in no_mark r c.0.nodes node p.item c.2)
-          ∙ sym (if_none (is_sink (post_of ran.setup w).func))
+          no_tuple (puts ran.setup (worker_no ran.setup w) m.view (entry.Turned r))
+          (λ p i node. let c = puts_come ran.setup (worker_no ran.setup w) m.view (entry.Turned r) p i in no_mark r c.0.nodes node p.item c.2)
+          ∙ sym (if_none (is_sink (worker_no ran.setup w).func))
       go (entry.Ended l) e =
-          no_tuple (puts ran.setup (post_of ran.setup w) m.local (entry.Ended l)) (λ p i node. no_last node p.item (puts_come ran.setup (post_of ran.setup w) m.local (entry.Ended l) p i))
-          ∙ sym (if_none (is_sink (post_of ran.setup w).func))
+          no_tuple (puts ran.setup (worker_no ran.setup w) m.view (entry.Ended l)) (λ p i node. no_last node p.item (puts_come ran.setup (worker_no ran.setup w) m.view (entry.Ended l) p i))
+          ∙ sym (if_none (is_sink (worker_no ran.setup w).func))
 
-  sum_entries : (setup : Outline) (post : Post) (local : Local) (journal : List Entry) (F : Entry → ℕ) → sum_over (λ (m : Moment). F m.entry) (story setup post local journal) ≡ sum_over F journal
-  sum_entries setup post local [] F = refl
-  sum_entries setup post local (x ∷ journal) F = omega (arith, sum_entries setup post (after setup post local x) journal F)
+  sum_entries : (setup : SetupView) (who : Worker) (view : StateView) (journal : List Entry) (F : Entry → ℕ) → sum_over (λ (m : Moment). F m.entry) (story setup who view journal) ≡ sum_over F journal
+  sum_entries setup who view [] F = refl
+  sum_entries setup who view (x ∷ journal) F = omega (arith, sum_entries setup who (after setup who view x) journal F)
 
   if_sum_zero : (b : Bool) (F : Entry → ℕ) (journal : List Entry) → sum_over (λ (x : Entry). cond b 0 (F x)) journal ≡ cond b 0 (sum_over F journal)
   if_sum_zero true F journal = sum_none (λ (x : Entry). 0) journal (λ x i. refl)
   if_sum_zero false F journal = refl
 
-  worker_keeps : (post : Post) → IsIn post (posts ran.setup.job)
-      → sum_over (put_weight V ran.setup.job) (all_puts ran post.number) ≡ cond (is_sink post.func) 0 (sum_over (entry_weight V post.node) (journal_of ran post.number))
-  worker_keeps post i =
-      let is : IsWorker ran.setup.job post = in_posts ran.setup.job post i in
-      let lt : HasWorker ran post.number = slice_get_within (posts ran.setup.job) post.number post is.there in
-      let same : post_of ran.setup post.number ≡ post = post_is ran.setup post.number post is.there in
-      sum_flat_map (puts_of ran post.number) (put_weight V ran.setup.job) (story_of ran post.number)
-      ∙ (sum_same (λ (m : Moment). sum_over (put_weight V ran.setup.job) (puts_of ran post.number m)) (λ (m : Moment). kept_at post.number m.entry) (story_of ran post.number)
-      (λ m h. keeps post.number m (at_work post.number m lt h))
-      ∙ (sum_entries ran.setup (post_of ran.setup post.number) (begun ran.setup post.number) (journal_of ran post.number) (kept_at post.number)
-      ∙ (if_sum_zero (is_sink (post_of ran.setup post.number).func) (entry_weight V (post_of ran.setup post.number).node) (journal_of ran post.number)
-      ∙ ap (λ (p : Post). cond (is_sink p.func) 0 (sum_over (entry_weight V p.node) (journal_of ran post.number))) same)))
+  worker_keeps : (who : Worker) → IsIn who (workers_in ran.setup.job)
+      → sum_over (put_weight V ran.setup.job) (all_puts ran who.number) ≡ cond (is_sink who.func) 0 (sum_over (entry_weight V who.node) (journal_of ran who.number))
+  worker_keeps who i =
+      let is : IsWorker ran.setup.job who = in_workers ran.setup.job who i in
+      let lt : HasWorker ran who.number = slice_get_within (workers_in ran.setup.job) who.number who is.there in
+      let same : worker_no ran.setup who.number ≡ who = who_is ran.setup who.number who is.there in
+      sum_flat_map (puts_of ran who.number) (put_weight V ran.setup.job) (story_of ran who.number)
+      ∙ (sum_same (λ (m : Moment). sum_over (put_weight V ran.setup.job) (puts_of ran who.number m)) (λ (m : Moment). kept_at who.number m.entry) (story_of ran who.number)
+      (λ m h. keeps who.number m (at_work who.number m lt h))
+      ∙ (sum_entries ran.setup (worker_no ran.setup who.number) (begun ran.setup who.number) (journal_of ran who.number) (kept_at who.number)
+      ∙ (if_sum_zero (is_sink (worker_no ran.setup who.number).func) (entry_weight V (worker_no ran.setup who.number).node) (journal_of ran who.number)
+      ∙ ap (λ (p : Worker). cond (is_sink p.func) 0 (sum_over (entry_weight V p.node) (journal_of ran who.number))) same)))
 
   -- ---- what is fed weighs what the rows make by themselves
 
@@ -354,49 +354,49 @@ module _ (rows : List Row) (ran : Ran) (g : Running rows ran) (none : HasNoCount
 
   -- ---- what came to the sinks
 
-  sink_weighs : (row_sink : Post) → IsWorker ran.setup.job row_sink → (t : Tuple) → is_sink row_sink.func ≡ true → V row_sink.node t ≡ cond (test (landing row_sink.node t)) 1 0
-  sink_weighs post is t s = go (has_func rows ran g none T tables t.row post.node inside) (left_at post.node) refl
+  sink_weighs : (row_sink : Worker) → IsWorker ran.setup.job row_sink → (t : Tuple) → is_sink row_sink.func ≡ true → V row_sink.node t ≡ cond (test (landing row_sink.node t)) 1 0
+  sink_weighs who is t s = go (has_func rows ran g none T tables t.row who.node inside) (left_at who.node) refl
     where
-      inside : post.node < length ran.setup.job.nodes
-      inside = slice_get_within ran.setup.job.nodes post.node is.def is.node_is
+      inside : who.node < length ran.setup.job.nodes
+      inside = slice_get_within ran.setup.job.nodes who.node is.def is.node_is
 
-      go : HasFunc ran T t.row post.node → (n : ℕ) → left_at post.node ≡ n → count_by test (lands ran.setup.job (T t.row) (left_at post.node) post.node t) ≡ cond (test (landing post.node t)) 1 0
-      go h zero e = let low = g.wired.below post.node inside in absurd (omega arith)
+      go : HasFunc ran T t.row who.node → (n : ℕ) → left_at who.node ≡ n → count_by test (lands ran.setup.job (T t.row) (left_at who.node) who.node t) ≡ cond (test (landing who.node t)) 1 0
+      go h zero e = let low = g.wired.below who.node inside in absurd (omega arith)
       go h (suc n) e =
           let x = h.node_is in
           let y = is.node_is in
           let same : is.def ≡ h.def = cc in
           let sink : is_sink h.func ≡ true =
           h.alike.sink ∙ (ap (λ (d : NodeDef). is_sink d.func) (sym same) ∙ (ap is_sink (sym is.func_is) ∙ s)) in
-          ap (λ k. count_by test (lands ran.setup.job (T t.row) k post.node t)) e
-          ∙ (ap (count_by test) (lands-sink ran.setup.job (T t.row) n post.node t h.func h.func_is sink)
-          ∙ count_one test (landing post.node t))
+          ap (λ k. count_by test (lands ran.setup.job (T t.row) k who.node t)) e
+          ∙ (ap (count_by test) (lands-sink ran.setup.job (T t.row) n who.node t h.func h.func_is sink)
+          ∙ count_one test (landing who.node t))
 
-  sink_counts : (post : Post) → IsWorker ran.setup.job post → (journal : List Entry) → is_sink post.func ≡ true
-      → count_by test (map (landing post.node) (met_tuples journal)) ≡ sum_over (entry_weight V post.node) journal
-  sink_counts post is journal s =
-      count_sum test (map (landing post.node) (met_tuples journal))
-      ∙ (sum_map (landing post.node) (λ (x : Landing). cond (test x) 1 0) (met_tuples journal)
-      ∙ (sum_filter_map met (λ (t : Tuple). cond (test (landing post.node t)) 1 0) journal
-      ∙ sum_same (λ (x : Entry). of_some (λ (t : Tuple). cond (test (landing post.node t)) 1 0) (met x)) (entry_weight V post.node) journal (λ x i. one x)))
+  sink_counts : (who : Worker) → IsWorker ran.setup.job who → (journal : List Entry) → is_sink who.func ≡ true
+      → count_by test (map (landing who.node) (met_tuples journal)) ≡ sum_over (entry_weight V who.node) journal
+  sink_counts who is journal s =
+      count_sum test (map (landing who.node) (met_tuples journal))
+      ∙ (sum_map (landing who.node) (λ (x : Landing). cond (test x) 1 0) (met_tuples journal)
+      ∙ (sum_filter_map met (λ (t : Tuple). cond (test (landing who.node t)) 1 0) journal
+      ∙ sum_same (λ (x : Entry). of_some (λ (t : Tuple). cond (test (landing who.node t)) 1 0) (met x)) (entry_weight V who.node) journal (λ x i. one x)))
     where
-      one : (x : Entry) → of_some (λ (t : Tuple). cond (test (landing post.node t)) 1 0) (met x) ≡ entry_weight V post.node x
-      one (entry.Met l t) = sym (sink_weighs post is t s)
+      one : (x : Entry) → of_some (λ (t : Tuple). cond (test (landing who.node t)) 1 0) (met x) ≡ entry_weight V who.node x
+      one (entry.Met l t) = sym (sink_weighs who is t s)
       one (entry.Marked l r) = refl
       one (entry.Turned r) = refl
       one (entry.Ended l) = refl
 
-  worker_lands : (post : Post) → IsIn post (posts ran.setup.job)
-      → count_by test (flat_map (landings_by post) (journals_at ran.journals (post ∷ []))) ≡ cond (is_sink post.func) (sum_over (entry_weight V post.node) (journal_of ran post.number)) 0
-  worker_lands post i =
-      let is : IsWorker ran.setup.job post = in_posts ran.setup.job post i in
-      let lt : HasWorker ran post.number = slice_get_within (posts ran.setup.job) post.number post is.there in
-      ap (λ o. count_by test (flat_map (landings_by post) (cons_option o []))) (journal_here rows ran g post.number lt)
-      ∙ (count_append test (landings_by post (journal_of ran post.number)) [] ∙ by_kind is (is_sink post.func) refl)
+  worker_lands : (who : Worker) → IsIn who (workers_in ran.setup.job)
+      → count_by test (flat_map (landings_by who) (journals_at ran.journals (who ∷ []))) ≡ cond (is_sink who.func) (sum_over (entry_weight V who.node) (journal_of ran who.number)) 0
+  worker_lands who i =
+      let is : IsWorker ran.setup.job who = in_workers ran.setup.job who i in
+      let lt : HasWorker ran who.number = slice_get_within (workers_in ran.setup.job) who.number who is.there in
+      ap (λ o. count_by test (flat_map (landings_by who) (cons_option o []))) (journal_here rows ran g who.number lt)
+      ∙ (count_append test (landings_by who (journal_of ran who.number)) [] ∙ by_kind is (is_sink who.func) refl)
     where
-      by_kind : IsWorker ran.setup.job post → (b : Bool) → is_sink post.func ≡ b
-          → count_by test (cond b (map (landing post.node) (met_tuples (journal_of ran post.number))) []) + 0 ≡ cond b (sum_over (entry_weight V post.node) (journal_of ran post.number)) 0
-      by_kind is true s = omega (arith, sink_counts post is (journal_of ran post.number) s)
+      by_kind : IsWorker ran.setup.job who → (b : Bool) → is_sink who.func ≡ b
+          → count_by test (cond b (map (landing who.node) (met_tuples (journal_of ran who.number))) []) + 0 ≡ cond b (sum_over (entry_weight V who.node) (journal_of ran who.number)) 0
+      by_kind is true s = omega (arith, sink_counts who is (journal_of ran who.number) s)
       by_kind is false s = refl
 
   halves : (b : Bool) (x : ℕ) → x ≡ cond b x 0 + cond b 0 x
@@ -405,18 +405,18 @@ module _ (rows : List Row) (ran : Ran) (g : Running rows ran) (none : HasNoCount
 
   pub same_count : count_by test (landings ran) ≡ count_by test (flat_map (λ (row : Row). alone ran.setup.job (T row.tuple.row) row) rows)
   same_count =
-      let met_at : Post → ℕ = λ (post : Post). sum_over (entry_weight V post.node) (journal_of ran post.number) in
-      let at_sink : Post → ℕ = λ (post : Post). cond (is_sink post.func) (sum_over (entry_weight V post.node) (journal_of ran post.number)) 0 in
-      let elsewhere : Post → ℕ = λ (post : Post). cond (is_sink post.func) 0 (sum_over (entry_weight V post.node) (journal_of ran post.number)) in
-      let all : List Post = posts ran.setup.job in
+      let met_at : Worker → ℕ = λ (who : Worker). sum_over (entry_weight V who.node) (journal_of ran who.number) in
+      let at_sink : Worker → ℕ = λ (who : Worker). cond (is_sink who.func) (sum_over (entry_weight V who.node) (journal_of ran who.number)) 0 in
+      let elsewhere : Worker → ℕ = λ (who : Worker). cond (is_sink who.func) 0 (sum_over (entry_weight V who.node) (journal_of ran who.number)) in
+      let all : List Worker = workers_in ran.setup.job in
       let flows = flow rows ran g V feeder_fits worker_fits in
-      let made_is : sum_over (λ (post : Post). sum_over (put_weight V ran.setup.job) (all_puts ran post.number)) all ≡ sum_over elsewhere all =
-      sum_same (λ (post : Post). sum_over (put_weight V ran.setup.job) (all_puts ran post.number)) elsewhere all worker_keeps in
+      let made_is : sum_over (λ (who : Worker). sum_over (put_weight V ran.setup.job) (all_puts ran who.number)) all ≡ sum_over elsewhere all =
+      sum_same (λ (who : Worker). sum_over (put_weight V ran.setup.job) (all_puts ran who.number)) elsewhere all worker_keeps in
       let parts : sum_over met_at all ≡ sum_over at_sink all + sum_over elsewhere all =
-      sum_same met_at (λ (post : Post). at_sink post + elsewhere post) all (λ post i. halves (is_sink post.func) (met_at post)) ∙ sum_add at_sink elsewhere all in
+      sum_same met_at (λ (who : Worker). at_sink who + elsewhere who) all (λ who i. halves (is_sink who.func) (met_at who)) ∙ sum_add at_sink elsewhere all in
       let lands_is : count_by test (landings ran) ≡ sum_over at_sink all =
-      count_flat_map test (λ (post : Post). flat_map (landings_by post) (journals_at ran.journals (post ∷ []))) all
-      ∙ sum_same (λ (post : Post). count_by test (flat_map (landings_by post) (journals_at ran.journals (post ∷ [])))) at_sink all worker_lands in
+      count_flat_map test (λ (who : Worker). flat_map (landings_by who) (journals_at ran.journals (who ∷ []))) all
+      ∙ sum_same (λ (who : Worker). count_by test (flat_map (landings_by who) (journals_at ran.journals (who ∷ [])))) at_sink all worker_lands in
       let alone_is : count_by test (flat_map (λ (row : Row). alone ran.setup.job (T row.tuple.row) row) rows) ≡ sum_over row_weight rows = count_flat_map test (λ (row : Row). alone ran.setup.job (T row.tuple.row) row) rows in
       omega (arith, flows, made_is, parts, lands_is, alone_is, feed_weighs)
 
@@ -441,9 +441,9 @@ met_tables rows ran g = record {
   gives = λ row node def there.
       (func_for ran row node def.func (length ran.setup.requests), ap (func_for_node ran row node) there, table_alike rows ran g row node def (length ran.setup.requests) there);
   in_force = λ w i l t m lt at met.
-      let is : IsWorker ran.setup.job (post_of ran.setup w) = (worker_is ran.setup w lt).1 in
-      ap (func_for_node ran t.row (post_of ran.setup w).node) is.node_is
-      ∙ ap Some (ap (λ (f : Func). func_for ran t.row (post_of ran.setup w).node f (length ran.setup.requests)) (sym is.func_is) ∙ sym (by_table rows ran g w lt i l t m at met));
+      let is : IsWorker ran.setup.job (worker_no ran.setup w) = (worker_is ran.setup w lt).1 in
+      ap (func_for_node ran t.row (worker_no ran.setup w).node) is.node_is
+      ∙ ap Some (ap (λ (f : Func). func_for ran t.row (worker_no ran.setup w).node f (length ran.setup.requests)) (sym is.func_is) ∙ sym (by_table rows ran g w lt i l t m at met));
 }
 
 pub one_table : (rows : List Row) (ran : Ran) (g : Running rows ran) → HasNoCounts ran.setup.job → AreFromSources ran.setup.job rows → IsOneTable rows ran

@@ -18,9 +18,9 @@ use Rattle.jobs.specs.declared.func.Func.TheVariants as func
 use Rattle.jobs.specs.declared.func.NodeDef.{NodeDef}
 use Rattle.flow_dag.specs.Masks.{Has}
 use Rattle.cover_planner.specs.Plan.{IsPlan}
-use Rattle.jobs.specs.Written.{Written}
+use Rattle.jobs.specs.JobView.{JobView}
 use Rattle.versions.specs.Book.{is_named}
-use Rattle.flow_model.specs.Outline.{outline_of}
+use Rattle.flow_model.specs.SetupView.{setup_view_of}
 use Rattle.flow_model.proofs.ElementLemmas.{IsIn, any_in, at_of_all, in_any, in_of_place}
 use Rattle.flow_model.proofs.PlaceLemmas.{append_get, get_left}
 use Rattle.flow_model.proofs.WorkerLemmas.{item_at, source_is}
@@ -78,7 +78,7 @@ planned_by false requests r node h = go (slice_get requests r) refl h
 
 -- ---- one more plan
 
-pub ArePlansOf-push : (job : Written) (splits : ℕ) (ordered : Bool) (requests : List Request) (plans : List Plan) (request : Request) (plan : Plan)
+pub ArePlansOf-push : (job : JobView) (splits : ℕ) (ordered : Bool) (requests : List Request) (plans : List Plan) (request : Request) (plan : Plan)
     → ArePlansOf job splits ordered requests plans → IsPlanOf job splits (is_planned ordered (requests ++ request ∷ []) (length requests)) plan
     → ArePlansOf job splits ordered (requests ++ request ∷ []) (plans ++ plan ∷ [])
 ArePlansOf-push job splits ordered requests plans request plan are is = record {
@@ -104,7 +104,7 @@ members_alike E asked splits copies others a f (inr (inl m)) = inr (inl m)
 members_alike E asked splits copies others a f (inr (inr m)) = inr (inr (f a m.0, m.1))
 
 -- the planner's plan for the set of a request
-pub IsPlanOf-plan : (job : Written) (splits copies asked so_far changed : ℕ) (ordered : Bool) (requests : List Request) (request : Request) (plan : Plan)
+pub IsPlanOf-plan : (job : JobView) (splits copies asked so_far changed : ℕ) (ordered : Bool) (requests : List Request) (request : Request) (plan : Plan)
     → ((n : ℕ) → Has copies n ↔ IsTrue (copies_at job.nodes n)) → IsPlan job.edges (Has splits) (Has copies) asked plan
     → asked ≡ (if ordered then so_far else changed)
     → ((node : ℕ) → Has so_far node ↔ IsTrue (list_any (names_node node) (requests ++ request ∷ [])))
@@ -140,14 +140,14 @@ no_source_copies None is copies = cc
 no_source_copies (Some def) is copies = let no : is_replicate func.Source ≡ true = subst (λ (g : Func). is_replicate g ≡ true) (source_is def.func is) copies in cc
 
 -- a request that keeps the kinds of the job's functions changes no source
-no_source_changed : (job : Written) (change : Change) (node : ℕ) → change.node ≡ node → KeepsKind job change → IsSourceOf job node → ⊥
+no_source_changed : (job : JobView) (change : Change) (node : ℕ) → change.node ≡ node → KeepsKind job change → IsSourceOf job node → ⊥
 no_source_changed job change node at kept source = go (slice_get job.nodes node) refl source
   where
     go : (o : Option NodeDef) → slice_get job.nodes node ≡ o → is_source_node o ≡ true → ⊥
     go None is source = cc
     go (Some def) is source = no_source_replaced def change.func def.roof (leaves_once job.edges change.node) source (kept def (ap (slice_get job.nodes) at ∙ is))
 
-module _ (job : Written) (requests : List Request) (kept : KeepKinds job requests) where
+module _ (job : JobView) (requests : List Request) (kept : KeepKinds job requests) where
   kept_in : (request : Request) (change : Change) → IsIn request requests → IsIn change request.changes → KeepsKind job change
   kept_in request change i j =
       at_of_all (KeepsKind job) change request.changes (at_of_all (λ (request : Request). All (KeepsKind job) request.changes) request requests kept i) j
@@ -178,9 +178,9 @@ module _ (job : Written) (requests : List Request) (kept : KeepKinds job request
           ]
       go (inr (inr copy)) = no_source_copies (slice_get job.nodes node) source copy.0
 
-pub IsPlanned-exact : (job : Written) (requests : List Request) (plans : List Plan) (splits : ℕ) (ordered : Bool)
+pub IsPlanned-exact : (job : JobView) (requests : List Request) (plans : List Plan) (splits : ℕ) (ordered : Bool)
     → ((node : ℕ) → Has splits node ↔ IsTrue (splits_at job.nodes requests node)) → KeepKinds job requests → ArePlansOf job splits ordered requests plans
-    → IsPlanned (outline_of job requests plans splits ordered)
+    → IsPlanned (setup_view_of job requests plans splits ordered)
 IsPlanned-exact job requests plans splits ordered has kept are = record {
   splits = λ node h. (has node).1 h;
   one_each = are.one_each;

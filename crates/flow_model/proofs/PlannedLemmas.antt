@@ -19,10 +19,10 @@ use Rattle.flow_dag.proofs.MaskLemmas.{has-Has}
 use Rattle.flow_dag.proofs.PathLemmas.{IsOrReaches-cases, IsOrReaches-here}
 use Rattle.versions.specs.declared.request.Request.{Request}
 use Rattle.flow_model.specs.Covers.{asks, covers, covers_edge, heads, holds_asked, holds_edge, holds_node, is_head}
-use Rattle.flow_model.specs.Outline.{Outline, splits_of}
+use Rattle.flow_model.specs.SetupView.{SetupView, splits_of}
 use Rattle.flow_model.specs.Planned.{IsPlanFor, IsPlanned, copies_at, splits_at}
 use Rattle.flow_model.specs.Requests.{changes}
-use Rattle.flow_model.specs.Station.{dues_after, numbers_from}
+use Rattle.flow_model.specs.Duties.{dues_after, numbers_from}
 use Rattle.flow_model.proofs.AskedLemmas.{asked-changed, asked-earlier}
 use Rattle.flow_model.proofs.ElementLemmas.{IsIn, filter_in, in_filter}
 use Rattle.flow_model.proofs.WorkerLemmas.{item_at}
@@ -31,7 +31,7 @@ use Rattle.flow_model.proofs.StoryLemmas.{IsRising}
 -- What the laws of runs use of plans. An edge on a way from a covered node to a covered node is covered; so is every asked node, every node
 -- that may make pieces of a tuple and from which a path leads to one, every node whose copies come to asked ones along two edges, and every head.
 -- Every node that a request changes is asked, and also by later requests where rows and requests have one order.
-pub record HasCovers (setup : Outline) : Type 0 where
+pub record HasCovers (setup : SetupView) : Type 0 where
   pub edges :
       (r a i : ℕ) (edge : Edge) → slice_get setup.job.edges i ≡ Some edge → covers setup r a ≡ true
       → IsOrReaches (HasEdge setup.job.edges) a edge.from → covers setup r edge.to ≡ true → covers_edge setup r i ≡ true
@@ -49,14 +49,14 @@ pub record HasCovers (setup : Outline) : Type 0 where
   pub heads : (r node : ℕ) → is_head setup r node ≡ true → covers setup r node ≡ true
   pub one_each : length setup.plans ≡ length setup.requests
 
-pub plan_for : (setup : Outline) → IsPlanned setup → (r : ℕ) (plan : Plan) → slice_get setup.plans r ≡ Some plan
+pub plan_for : (setup : SetupView) → IsPlanned setup → (r : ℕ) (plan : Plan) → slice_get setup.plans r ≡ Some plan
     → (request : Request) × (slice_get setup.requests r ≡ Some request) × IsPlanFor setup.job (splits_of setup) request plan
 plan_for setup is r plan e =
     let within : r < length setup.plans = slice_get_within setup.plans r plan e in
     let q = item_at setup.requests r (omega (arith, is.one_each)) in
     (q.0, q.1, is.plans r q.0 plan q.1 e)
 
-edges_covered : (setup : Outline) → IsPlanned setup → (r a i : ℕ) (edge : Edge) → slice_get setup.job.edges i ≡ Some edge → covers setup r a ≡ true
+edges_covered : (setup : SetupView) → IsPlanned setup → (r a i : ℕ) (edge : Edge) → slice_get setup.job.edges i ≡ Some edge → covers setup r a ≡ true
     → IsOrReaches (HasEdge setup.job.edges) a edge.from → covers setup r edge.to ≡ true → covers_edge setup r i ≡ true
 edges_covered setup is zero a i edge g c w d = absurd (cc)
 edges_covered setup is (suc r) a i edge g c w d = go (slice_get setup.plans r) refl c d
@@ -71,7 +71,7 @@ edges_covered setup is (suc r) a i edge g c w d = go (slice_get setup.plans r) r
         ((cover.nodes edge.to).0 ((has-Has plan.nodes edge.to).0 d)) w (HasEdge-at setup.job.edges i edge g) (IsOrReaches-here (HasEdge setup.job.edges) edge.to edge.to refl) in
         (has-Has plan.edges i).1 ((cover.covered i).1 (edge, g, between))
 
-asked_covered : (setup : Outline) → IsPlanned setup → (r node : ℕ) → asks setup r node ≡ true → covers setup r node ≡ true
+asked_covered : (setup : SetupView) → IsPlanned setup → (r node : ℕ) → asks setup r node ≡ true → covers setup r node ≡ true
 asked_covered setup is zero node h = absurd (cc)
 asked_covered setup is (suc r) node h = go (slice_get setup.plans r) refl h
   where
@@ -81,7 +81,7 @@ asked_covered setup is (suc r) node h = go (slice_get setup.plans r) refl h
         let (request, at, p) = plan_for setup is r plan e in
         (has-Has plan.nodes node).1 ((p.planned.cover.nodes node).1 (inl ((p.planned.members node).1 (inl ((has-Has plan.asked node).0 h)))))
 
-splits_covered : (setup : Outline) → IsPlanned setup → (r node to : ℕ) → splits_at setup.job.nodes setup.requests node ≡ true → Reaches (HasEdge setup.job.edges) node to
+splits_covered : (setup : SetupView) → IsPlanned setup → (r node to : ℕ) → splits_at setup.job.nodes setup.requests node ≡ true → Reaches (HasEdge setup.job.edges) node to
     → asks setup r to ≡ true → covers setup r node ≡ true
 splits_covered setup is zero node to m l h = absurd (cc)
 splits_covered setup is (suc r) node to m l h = go (slice_get setup.plans r) refl h
@@ -100,7 +100,7 @@ leads_to_asked E asked a to w h =
       | inr r ↦ inr (to, h, r)
     ]
 
-copies_covered : (setup : Outline) → IsPlanned setup → (r node a b to into : ℕ) → copies_at setup.job.nodes node ≡ true → a ≢ b
+copies_covered : (setup : SetupView) → IsPlanned setup → (r node a b to into : ℕ) → copies_at setup.job.nodes node ≡ true → a ≢ b
     → HasEdge setup.job.edges node a → IsOrReaches (HasEdge setup.job.edges) a to → asks setup r to ≡ true
     → HasEdge setup.job.edges node b → IsOrReaches (HasEdge setup.job.edges) b into → asks setup r into ≡ true → covers setup r node ≡ true
 copies_covered setup is zero node a b to into m ne e v h f w k = absurd (cc)
@@ -114,7 +114,7 @@ copies_covered setup is (suc r) node a b to into m ne e v h f w k = go (slice_ge
         let second = leads_to_asked (HasEdge setup.job.edges) (Has plan.asked) b into w ((has-Has plan.asked into).0 k) in
         (has-Has plan.nodes node).1 ((p.planned.cover.nodes node).1 (inl ((p.planned.members node).1 (inr (inr (m, (a, b, ne, (e, first), (f, second))))))))
 
-heads_covered : (setup : Outline) → IsPlanned setup → (r node : ℕ) → is_head setup r node ≡ true → covers setup r node ≡ true
+heads_covered : (setup : SetupView) → IsPlanned setup → (r node : ℕ) → is_head setup r node ≡ true → covers setup r node ≡ true
 heads_covered setup is zero node h = absurd (cc)
 heads_covered setup is (suc r) node h = go (slice_get setup.plans r) refl h
   where
@@ -125,7 +125,7 @@ heads_covered setup is (suc r) node h = go (slice_get setup.plans r) refl h
         (has-Has plan.nodes node).1 ((p.planned.cover.nodes node).1 ((p.planned.cover.heads node).0 ((has-Has plan.heads node).0 h)).0)
 
 -- the tests of what is covered have one answer, whichever witnesses of the plans there are
-pub has_covers : (setup : Outline) → ∥ IsPlanned setup ∥₁ → HasCovers setup
+pub has_covers : (setup : SetupView) → ∥ IsPlanned setup ∥₁ → HasCovers setup
 has_covers setup planned = record {
   edges = λ r a i edge g c w d. ∥∥₁_elim planned (Bool-set _ _) (λ is. edges_covered setup is r a i edge g c w d);
   asked = λ r node h. ∥∥₁_elim planned (Bool-set _ _) (λ is. asked_covered setup is r node h);
@@ -156,13 +156,13 @@ filter_rises test k first (suc count) lt = go (test first) (filter_rises test fi
     go true a b = (lt, a)
     go false a b = b
 
-pub dues_rise : (setup : Outline) (turned node k : ℕ) → k ≤ turned → IsRising k (dues_after setup turned node)
+pub dues_rise : (setup : SetupView) (turned node k : ℕ) → k ≤ turned → IsRising k (dues_after setup turned node)
 dues_rise setup turned node k le = filter_rises (λ r. covers setup r node) k (turned + 1) (length setup.plans - turned) (omega arith)
 
-pub due_covers : (setup : Outline) (turned node r : ℕ) → IsIn r (dues_after setup turned node) → covers setup r node ≡ true
+pub due_covers : (setup : SetupView) (turned node r : ℕ) → IsIn r (dues_after setup turned node) → covers setup r node ≡ true
 due_covers setup turned node r h = (in_filter (λ r. covers setup r node) r (numbers_from (turned + 1) (length setup.plans - turned)) h).1
 
-pub covers_within : (setup : Outline) (r node : ℕ) → covers setup r node ≡ true → (1 ≤ r) × (r ≤ length setup.plans)
+pub covers_within : (setup : SetupView) (r node : ℕ) → covers setup r node ≡ true → (1 ≤ r) × (r ≤ length setup.plans)
 covers_within setup zero node h = absurd (cc)
 covers_within setup (suc r) node h = go (slice_get setup.plans r) refl h
   where
@@ -171,7 +171,7 @@ covers_within setup (suc r) node h = go (slice_get setup.plans r) refl h
     go (Some plan) e h = let lt : r < length setup.plans = slice_get_within setup.plans r plan e in (omega arith, omega arith)
 
 -- each request that covers a node is due there at first
-pub due_of_cover : (setup : Outline) (node r : ℕ) → covers setup r node ≡ true → IsIn r (dues_after setup 0 node)
+pub due_of_cover : (setup : SetupView) (node r : ℕ) → covers setup r node ≡ true → IsIn r (dues_after setup 0 node)
 due_of_cover setup node r h =
     let w = covers_within setup r node h in
     filter_in (λ r. covers setup r node) r (numbers_from (0 + 1) (length setup.plans - 0)) (numbers_in (0 + 1) (length setup.plans - 0) r (omega (arith, w.0)) (omega (arith, w.1))) h

@@ -5,13 +5,13 @@ use Rattle.std.proofs.lemmas.List.{append-nil, append_cancel_left}
 use Rattle.std.proofs.lemmas.List.Elements.{Contains-append_left, filter_map-append}
 use Rattle.sink_journal.specs.declared.journal.Entry.{Entry}
 use Rattle.sink_journal.specs.declared.journal.Entry.TheVariants as entry
-use Rattle.flow_model.specs.Law.{IsExecution, IsLawful, Progress, Station, after_entry, initial, later_dues, next_due, progress_after}
+use Rattle.flow_model.specs.Law.{IsExecution, IsLawful, Progress, Duties, after_entry, initial, later_dues, next_due, progress_after}
 use Rattle.flow_model.specs.Points.{AreOtherEnds, HasPoints, LeadsToTurn, markers, turn_in, turned}
 use Rattle.flow_model.proofs.JournalLemmas.{due_first, points-lawful, progress_after-append}
 
 -- what holds of a journal's beginning, of the progress behind it, and of what is left
-record Going (station : Station) (progress : Progress) (before rest : List Entry) : Type 0 where
-  dues : station.dues ≡ turned before ++ progress.dues
+record Going (duties : Duties) (progress : Progress) (before rest : List Entry) : Type 0 where
+  dues : duties.dues ≡ turned before ++ progress.dues
   left : (more : List ℕ) × (progress.dues ≡ turned rest ++ more)
   marks : (progress.marked ≡ []) ⊎ ((request : ℕ) × LeadsToTurn progress.marked request rest)
   ends : (progress.ended ≡ []) ⊎ AreOtherEnds progress.ended rest
@@ -35,14 +35,14 @@ marked_by progress request (lane ∷ more) =
     ap (λ (p : Progress). p.marked) (progress_after-append progress (markers request more) (entry.Marked lane request ∷ []))
     ∙ ap (λ (l : List ℕ). lane ∷ l) (marked_by progress request more)
 
-all_marked : (station : Station) (progress : Progress) (before earlier : List Entry) (request : ℕ) (lanes wanted : List ℕ)
-    → progress ≡ progress_after (initial station) before → before ≡ earlier ++ markers request lanes → All (Contains lanes) wanted → All (Contains progress.marked) wanted
-all_marked station progress before earlier request lanes wanted at is all =
-    let there : progress ≡ progress_after (progress_after (initial station) earlier) (markers request lanes) =
-    at ∙ (ap (progress_after (initial station)) is ∙ progress_after-append (initial station) earlier (markers request lanes)) in
-    let marked : progress.marked ≡ lanes ++ (progress_after (initial station) earlier).marked =
-    ap (λ (p : Progress). p.marked) there ∙ marked_by (progress_after (initial station) earlier) request lanes in
-    subst (λ (l : List ℕ). All (Contains l) wanted) (sym marked) (λ k d lt. Contains-append_left lanes (progress_after (initial station) earlier).marked _ (all k d lt))
+all_marked : (duties : Duties) (progress : Progress) (before earlier : List Entry) (request : ℕ) (lanes wanted : List ℕ)
+    → progress ≡ progress_after (initial duties) before → before ≡ earlier ++ markers request lanes → All (Contains lanes) wanted → All (Contains progress.marked) wanted
+all_marked duties progress before earlier request lanes wanted at is all =
+    let there : progress ≡ progress_after (progress_after (initial duties) earlier) (markers request lanes) =
+    at ∙ (ap (progress_after (initial duties)) is ∙ progress_after-append (initial duties) earlier (markers request lanes)) in
+    let marked : progress.marked ≡ lanes ++ (progress_after (initial duties) earlier).marked =
+    ap (λ (p : Progress). p.marked) there ∙ marked_by (progress_after (initial duties) earlier) request lanes in
+    subst (λ (l : List ℕ). All (Contains l) wanted) (sym marked) (λ k d lt. Contains-append_left lanes (progress_after (initial duties) earlier).marked _ (all k d lt))
 
 pushed : (before : List Entry) (x : Entry) → turned (before ++ x ∷ []) ≡ turned before ++ turned (x ∷ [])
 pushed before x = filter_map-append turn_in before (x ∷ [])
@@ -55,26 +55,26 @@ shut : (marked : List ℕ) → (marked ≡ []) ⊎ ((request : ℕ) × LeadsToTu
 shut marked (inl e) = e
 shut marked (inr (request, h)) = absurd h
 
-further : (station : Station) (progress : Progress) (before : List Entry) (x : Entry) → progress ≡ progress_after (initial station) before
-    → after_entry progress x ≡ progress_after (initial station) (before ++ x ∷ [])
-further station progress before x at = ap (λ (p : Progress). after_entry p x) at ∙ sym (progress_after-append (initial station) before (x ∷ []))
+further : (duties : Duties) (progress : Progress) (before : List Entry) (x : Entry) → progress ≡ progress_after (initial duties) before
+    → after_entry progress x ≡ progress_after (initial duties) (before ++ x ∷ [])
+further duties progress before x at = ap (λ (p : Progress). after_entry p x) at ∙ sym (progress_after-append (initial duties) before (x ∷ []))
 
-back : (station : Station) (journal : List Entry) → HasPoints station journal → (before rest : List Entry) (progress : Progress) → journal ≡ before ++ rest
-    → progress ≡ progress_after (initial station) before → Going station progress before rest
-    → IsExecution station progress rest × ((progress_after progress rest).marked ≡ [])
-back station journal points before [] progress is at going = (tt, shut progress.marked going.marks)
-back station journal points before (entry.Met lane tuple ∷ more) progress is at going =
+back : (duties : Duties) (journal : List Entry) → HasPoints duties journal → (before rest : List Entry) (progress : Progress) → journal ≡ before ++ rest
+    → progress ≡ progress_after (initial duties) before → Going duties progress before rest
+    → IsExecution duties progress rest × ((progress_after progress rest).marked ≡ [])
+back duties journal points before [] progress is at going = (tt, shut progress.marked going.marks)
+back duties journal points before (entry.Met lane tuple ∷ more) progress is at going =
     let x : Entry = entry.Met lane tuple in
     let none_marked : progress.marked ≡ [] = elim going.marks [ inl e ↦ e | inr w ↦ absurd w.1 ] in
     let none_ended : progress.ended ≡ [] = elim going.ends [ inl e ↦ e | inr w ↦ absurd w ] in
-    let later = back station journal points (before ++ x ∷ []) more progress (is ∙ sym (append_assoc before (x ∷ []) more)) (further station progress before x at) (record {
+    let later = back duties journal points (before ++ x ∷ []) more progress (is ∙ sym (append_assoc before (x ∷ []) more)) (further duties progress before x at) (record {
       dues = going.dues ∙ pushed_none before x progress.dues refl;
       left = going.left;
       marks = inl none_marked;
       ends = inl none_ended;
     }) in
     (((points.tuple_lanes before lane tuple more is, none_marked, none_ended, points.heads before lane tuple more is progress.dues going.dues), later.0), later.1)
-back station journal points before (entry.Marked lane request ∷ more) progress is at going =
+back duties journal points before (entry.Marked lane request ∷ more) progress is at going =
     let x : Entry = entry.Marked lane request in
     let point = points.no_other_markers before lane request more is in
     let none_ended : progress.ended ≡ [] = elim going.ends [ inl e ↦ e | inr w ↦ absurd w ] in
@@ -87,31 +87,31 @@ back station journal points before (entry.Marked lane request ∷ more) progress
     ] in
     let next : next_due progress.dues ≡ Some request =
     next_is progress.dues (turned more) going.left.0 request going.left.1 (leads_turned (lane ∷ progress.marked) request more leads.1) in
-    let later = back station journal points (before ++ x ∷ []) more (after_entry progress x) (is ∙ sym (append_assoc before (x ∷ []) more)) (further station progress before x at) (record {
+    let later = back duties journal points (before ++ x ∷ []) more (after_entry progress x) (is ∙ sym (append_assoc before (x ∷ []) more)) (further duties progress before x at) (record {
       dues = going.dues ∙ pushed_none before x progress.dues refl;
       left = going.left;
       marks = inr (request, leads.1);
       ends = inl none_ended;
     }) in
     (((next, point.0, leads.0, none_ended), later.0), later.1)
-back station journal points before (entry.Turned request ∷ more) progress is at going =
+back duties journal points before (entry.Turned request ∷ more) progress is at going =
     let x : Entry = entry.Turned request in
     let none_ended : progress.ended ≡ [] = elim going.ends [ inl e ↦ e | inr w ↦ absurd w ] in
     let next : next_due progress.dues ≡ Some request = ap next_due going.left.1 in
     let block = points.markers_before before request more is in
-    let all = all_marked station progress before block.0 request block.1 (station.marked_lanes request) at block.2 block.3 in
+    let all = all_marked duties progress before block.0 request block.1 (duties.marked_lanes request) at block.2 block.3 in
     let dues : turned before ++ progress.dues ≡ turned (before ++ x ∷ []) ++ later_dues progress.dues =
     ap (λ (l : List ℕ). turned before ++ l) (due_first progress.dues request next)
     ∙ (sym (append_assoc (turned before) (request ∷ []) (later_dues progress.dues))
     ∙ ap (λ (l : List ℕ). l ++ later_dues progress.dues) (sym (pushed before x))) in
-    let later = back station journal points (before ++ x ∷ []) more (after_entry progress x) (is ∙ sym (append_assoc before (x ∷ []) more)) (further station progress before x at) (record {
+    let later = back duties journal points (before ++ x ∷ []) more (after_entry progress x) (is ∙ sym (append_assoc before (x ∷ []) more)) (further duties progress before x at) (record {
       dues = going.dues ∙ dues;
       left = (going.left.0, ap later_dues going.left.1);
       marks = inl refl;
       ends = inl none_ended;
     }) in
     (((next, all, none_ended), later.0), later.1)
-back station journal points before (entry.Ended lane ∷ more) progress is at going =
+back duties journal points before (entry.Ended lane ∷ more) progress is at going =
     let x : Entry = entry.Ended lane in
     let point = points.ends before lane more is in
     let none_marked : progress.marked ≡ [] = elim going.marks [ inl e ↦ e | inr w ↦ absurd w.1 ] in
@@ -123,7 +123,7 @@ back station journal points before (entry.Ended lane ∷ more) progress is at go
       )
       | inr w ↦ (w.0, w.1)
     ] in
-    let later = back station journal points (before ++ x ∷ []) more (after_entry progress x) (is ∙ sym (append_assoc before (x ∷ []) more)) (further station progress before x at) (record {
+    let later = back duties journal points (before ++ x ∷ []) more (after_entry progress x) (is ∙ sym (append_assoc before (x ∷ []) more)) (further duties progress before x at) (record {
       dues = going.dues ∙ pushed_none before x progress.dues refl;
       left = going.left;
       marks = inl none_marked;
@@ -131,10 +131,10 @@ back station journal points before (entry.Ended lane ∷ more) progress is at go
     }) in
     (((points.end_lanes before lane more is, others.0, none_due, none_marked), later.0), later.1)
 
-lawful-points : (station : Station) (journal : List Entry) → HasPoints station journal → IsLawful station journal
-lawful-points station journal points =
-    let all = back station journal points [] journal (initial station) refl refl (record { dues = refl; left = points.turns; marks = inl refl; ends = inl refl }) in
+lawful-points : (duties : Duties) (journal : List Entry) → HasPoints duties journal → IsLawful duties journal
+lawful-points duties journal points =
+    let all = back duties journal points [] journal (initial duties) refl refl (record { dues = refl; left = points.turns; marks = inl refl; ends = inl refl }) in
     record { execution = all.0; no_open_turn = all.1 }
 
-pub IsLawful-points : (station : Station) (journal : List Entry) → IsLawful station journal ↔ HasPoints station journal
-IsLawful-points station journal = (points-lawful station journal, lawful-points station journal)
+pub IsLawful-points : (duties : Duties) (journal : List Entry) → IsLawful duties journal ↔ HasPoints duties journal
+IsLawful-points duties journal = (points-lawful duties journal, lawful-points duties journal)

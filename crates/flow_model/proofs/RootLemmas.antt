@@ -3,7 +3,7 @@ use Rattle.std.proofs.Common.{◌≡◌, ◌∙◌, ◌<◌, ◌+◌, ◌-◌, �
 use Rattle.std.proofs.lemmas.Bool.{eq-eqb}
 use Rattle.flow_dag.specs.Edges.{HasEdge}
 use Rattle.flow_dag.proofs.EdgeLemmas.{HasEdge-at}
-use Rattle.jobs.specs.Written.{Written}
+use Rattle.jobs.specs.JobView.{JobView}
 use Rattle.sink_journal.specs.declared.journal.Entry.{Entry}
 use Rattle.sink_journal.specs.declared.journal.Entry.TheVariants as entry
 use Rattle.sink_journal.specs.declared.journal.Feed.{Feed}
@@ -16,7 +16,7 @@ use Rattle.tuple_trace.specs.declared.tuple.Tuple.{Tuple}
 use Rattle.flow_model.specs.Feeding.{fed, fed_put, fed_puts, fed_tuple, feed_after, feed_from, issued_where, row_at}
 use Rattle.flow_model.specs.Lanes.{lane_of, lanes}
 use Rattle.flow_model.specs.declared.topology.Lane.{Lane}
-use Rattle.flow_model.specs.Outline.{Outline}
+use Rattle.flow_model.specs.SetupView.{SetupView}
 use Rattle.flow_model.specs.Replay.{Put, came_in, item_on, shown}
 use Rattle.flow_model.specs.Requests.{afters}
 use Rattle.flow_model.specs.Run.{Ran}
@@ -25,9 +25,9 @@ use Rattle.flow_model.proofs.LaneLemmas.{LaneIn, lane_in, same_number}
 use Rattle.flow_model.proofs.MarkerLemmas.{met_on_lane}
 use Rattle.flow_model.proofs.SendingLemmas.{on_lane}
 use Rattle.flow_model.proofs.StoryLemmas.{put_then, sent-story}
-use Rattle.flow_model.proofs.WorkerLemmas.{Stands, begun, get_append, journal_of, post_of, worker_is}
+use Rattle.flow_model.proofs.WorkerLemmas.{Stands, begun, get_append, journal_of, worker_no, worker_is}
 use Rattle.flow_model.proofs.PlaceLemmas.{IsFrom, IsKeptFrom, filter_map_place, flat_map_get, flat_map_place, flat_map_same}
-use Rattle.flow_model.proofs.RunLemmas.{HasWorker, Running, execution, fed_there, row_is, sender_of, sent_there, start_of, station_of}
+use Rattle.flow_model.proofs.RunLemmas.{HasWorker, Running, execution, fed_there, row_is, sender_of, sent_there, start_of, duties_of}
 use Rattle.flow_model.proofs.KinLemmas.{Address, Born, Child, IsChain, Meets, born, brought_before, chain_push, came_in_some, put_before, puts_of, same_address, sent_before, story_of}
 
 -- ---- the feeder puts each row once
@@ -40,7 +40,7 @@ FeedsRise k (feed.Issued r ∷ more) = FeedsRise k more
 FeedsRise k (feed.Stopped ∷ more) = FeedsRise k more
 
 -- every put of a rising feed carries a tuple of a row above the bound
-puts_above : (job : Written) (rows : List Row) (k issued : ℕ) (feeds : List Feed) (p : Put) (t : Tuple) → AreRows rows → FeedsRise k feeds
+puts_above : (job : JobView) (rows : List Row) (k issued : ℕ) (feeds : List Feed) (p : Put) (t : Tuple) → AreRows rows → FeedsRise k feeds
     → IsIn p (fed_puts job rows issued feeds) → p.item ≡ item.Carry t → k < t.row
 puts_above job rows k issued [] p t are f h e = absurd h
 puts_above job rows k issued (feed.Fed n ∷ more) p t are f h e =
@@ -82,7 +82,7 @@ once_behind p ps s e above once (suc i) zero a b t u g h c d same =
     absurd (omega arith)
 once_behind p ps s e above once (suc i) (suc j) a b t u g h c d same = ap suc (once i j a b t u g h c d same)
 
-once_fed : (job : Written) (rows : List Row) (k issued : ℕ) (feeds : List Feed) → AreRows rows → FeedsRise k feeds → HasRowsOnce (fed_puts job rows issued feeds)
+once_fed : (job : JobView) (rows : List Row) (k issued : ℕ) (feeds : List Feed) → AreRows rows → FeedsRise k feeds → HasRowsOnce (fed_puts job rows issued feeds)
 once_fed job rows k issued [] are f = λ i j p q t u g h c d same. absurd (cc)
 once_fed job rows k issued (feed.Fed n ∷ more) are f = go (row_at rows n) refl (once_fed job rows n issued more are f.1)
   where
@@ -162,7 +162,7 @@ pub record Parent (ran : Ran) (c : Address) (node : ℕ) : Type 0 where
   pub child : Child ran parent c
   pub stands : Stands ran.setup node parent.worker
 
-met_there : (setup : Outline) (n i : ℕ) (t : Tuple) (journal : List Entry) → slice_get journal i ≡ Some (entry.Met n t)
+met_there : (setup : SetupView) (n i : ℕ) (t : Tuple) (journal : List Entry) → slice_get journal i ≡ Some (entry.Met n t)
     → slice_get (shown setup n journal) (length (shown setup n (take i journal))) ≡ Some (item.Carry t)
 met_there setup n i t journal g =
     let h : slice_get (came_in setup n (entry.Met n t)) 0 ≡ Some (item.Carry t) = rw (eq-eqb n n refl) refl in
@@ -172,7 +172,7 @@ met_there setup n i t journal g =
 
 module _ (rows : List Row) (ran : Ran) (g : Running rows ran) where
   from_feeder : (c : Address) (n : ℕ) (t : Tuple) → HasWorker ran c.worker → slice_get (journal_of ran c.worker) c.entry ≡ Some (entry.Met n t)
-      → (k : LaneIn ran.setup.job (post_of ran.setup c.worker) n) → k.lane.sender ≡ None → Root rows ran c
+      → (k : LaneIn ran.setup.job (worker_no ran.setup c.worker) n) → k.lane.sender ≡ None → Root rows ran c
   from_feeder c n t lt met k none =
       let h : slice_get (fed ran.setup.job rows 0 k.lane ran.feeds ++ item.Last ∷ []) (brought_before ran n c) ≡ Some (item.Carry t) =
       subst (λ (xs : List Item). slice_get xs (brought_before ran n c) ≡ Some (item.Carry t)) (fed_there rows ran g n c.worker lt k none) (met_there ran.setup n c.entry t (journal_of ran c.worker) met) in
@@ -203,17 +203,17 @@ module _ (rows : List Row) (ran : Ran) (g : Running rows ran) where
       no_tuple (suc i) e = cc
 
   from_worker : (c : Address) (n : ℕ) (t : Tuple) → HasWorker ran c.worker → slice_get (journal_of ran c.worker) c.entry ≡ Some (entry.Met n t)
-      → (k : LaneIn ran.setup.job (post_of ran.setup c.worker) n) → (s : ℕ) → k.lane.sender ≡ Some s → Stands ran.setup k.edge.from s → Parent ran c k.edge.from
+      → (k : LaneIn ran.setup.job (worker_no ran.setup c.worker) n) → (s : ℕ) → k.lane.sender ≡ Some s → Stands ran.setup k.edge.from s → Parent ran c k.edge.from
   from_worker c n t lt met k s some there =
-      let same : shown ran.setup n (journal_of ran c.worker) ≡ flat_map (put_then ran.setup (post_of ran.setup s) k.lane) (story_of ran s) =
-      sent_there rows ran g n c.worker s lt there.within k some ∙ sent-story ran.setup (post_of ran.setup s) (begun ran.setup s) k.lane (journal_of ran s) in
-      let f : IsFrom (put_then ran.setup (post_of ran.setup s) k.lane) (story_of ran s) (brought_before ran n c) (item.Carry t) =
-      flat_map_place (put_then ran.setup (post_of ran.setup s) k.lane) (story_of ran s) (brought_before ran n c) (item.Carry t)
+      let same : shown ran.setup n (journal_of ran c.worker) ≡ flat_map (put_then ran.setup (worker_no ran.setup s) k.lane) (story_of ran s) =
+      sent_there rows ran g n c.worker s lt there.within k some ∙ sent-story ran.setup (worker_no ran.setup s) (begun ran.setup s) k.lane (journal_of ran s) in
+      let f : IsFrom (put_then ran.setup (worker_no ran.setup s) k.lane) (story_of ran s) (brought_before ran n c) (item.Carry t) =
+      flat_map_place (put_then ran.setup (worker_no ran.setup s) k.lane) (story_of ran s) (brought_before ran n c) (item.Carry t)
       (subst (λ (xs : List Item). slice_get xs (brought_before ran n c) ≡ Some (item.Carry t)) same (met_there ran.setup n c.entry t (journal_of ran c.worker) met)) in
       let r : IsKeptFrom (item_on k.lane) (puts_of ran s f.x) f.within (item.Carry t) = filter_map_place (item_on k.lane) (puts_of ran s f.x) f.within (item.Carry t) f.is in
       let o = on_lane k.lane r.x (item.Carry t) r.is in
-      let edge : HasEdge ran.setup.job.edges (post_of ran.setup s).node (post_of ran.setup c.worker).node =
-      subst (λ v. HasEdge ran.setup.job.edges v (post_of ran.setup c.worker).node) (sym there.node_is)
+      let edge : HasEdge ran.setup.job.edges (worker_no ran.setup s).node (worker_no ran.setup c.worker).node =
+      subst (λ v. HasEdge ran.setup.job.edges v (worker_no ran.setup c.worker).node) (sym there.node_is)
       (subst (λ v. HasEdge ran.setup.job.edges k.edge.from v) k.to (HasEdge-at ran.setup.job.edges k.lane.edge k.edge k.edge_is)) in
       let sent : ℕ = sent_before ran k.lane (record { worker = s; entry = f.i }) in
       let place : brought_before ran n c ≡ sent + put_before k.lane r.i (puts_of ran s f.x) = omega (arith, f.place, r.place) in
@@ -241,17 +241,17 @@ module _ (rows : List Row) (ran : Ran) (g : Running rows ran) where
       }
 
   -- the lane by which an entry met its tuple
-  pub lane_of_met : (c : Address) (t : Tuple) → HasWorker ran c.worker → (m : Meets ran c t) → LaneIn ran.setup.job (post_of ran.setup c.worker) m.0
+  pub lane_of_met : (c : Address) (t : Tuple) → HasWorker ran c.worker → (m : Meets ran c t) → LaneIn ran.setup.job (worker_no ran.setup c.worker) m.0
   lane_of_met c t lt m =
-      lane_in ran.setup.job (post_of ran.setup c.worker) m.0 (worker_is ran.setup c.worker lt).1
-      (met_on_lane (station_of ran c.worker) (start_of ran c.worker) (journal_of ran c.worker) m.0 t
+      lane_in ran.setup.job (worker_no ran.setup c.worker) m.0 (worker_is ran.setup c.worker lt).1
+      (met_on_lane (duties_of ran c.worker) (start_of ran c.worker) (journal_of ran c.worker) m.0 t
       (execution rows ran g c.worker lt) (in_of_place (entry.Met m.0 t) (journal_of ran c.worker) c.entry m.1))
 
   -- an entry came of the feeder, or of an entry of the sender
   pub came_from : (c : Address) (t : Tuple) → (lt : HasWorker ran c.worker) → (m : Meets ran c t) → Root rows ran c ⊎ Parent ran c (lane_of_met c t lt m).edge.from
   came_from c t lt m = go (lane_of_met c t lt m)
     where
-      go : (k : LaneIn ran.setup.job (post_of ran.setup c.worker) m.0) → Root rows ran c ⊎ Parent ran c k.edge.from
+      go : (k : LaneIn ran.setup.job (worker_no ran.setup c.worker) m.0) → Root rows ran c ⊎ Parent ran c k.edge.from
       go k =
           elim (sender_of rows ran g k.edge.from k.lane.sender k.sends) [
             | inl fed ↦ inl (from_feeder c m.0 t lt m.1 k fed.0)
@@ -265,21 +265,21 @@ pub record Rooted (rows : List Row) (ran : Ran) (c : Address) : Type 0 where
   pub chain : List Address
   pub down : IsChain ran at chain c
 
-rooted_below : (rows : List Row) (ran : Ran) (g : Running rows ran) (bound : ℕ) (c : Address) (t : Tuple) → HasWorker ran c.worker → g.wired.rank (post_of ran.setup c.worker).node < bound
+rooted_below : (rows : List Row) (ran : Ran) (g : Running rows ran) (bound : ℕ) (c : Address) (t : Tuple) → HasWorker ran c.worker → g.wired.rank (worker_no ran.setup c.worker).node < bound
     → Meets ran c t → Rooted rows ran c
 rooted_below rows ran g zero c t l lt m = absurd (omega arith)
 rooted_below rows ran g (suc bound) c t l lt m =
-    let k : LaneIn ran.setup.job (post_of ran.setup c.worker) m.0 = lane_of_met rows ran g c t l m in
+    let k : LaneIn ran.setup.job (worker_no ran.setup c.worker) m.0 = lane_of_met rows ran g c t l m in
     let up : g.wired.rank k.edge.from < g.wired.rank k.edge.to = g.wired.forward k.lane.edge k.edge k.edge_is in
-    let here : g.wired.rank k.edge.to ≡ g.wired.rank (post_of ran.setup c.worker).node = ap g.wired.rank k.to in
+    let here : g.wired.rank k.edge.to ≡ g.wired.rank (worker_no ran.setup c.worker).node = ap g.wired.rank k.to in
     elim (came_from rows ran g c t l m) [
       | inl r ↦ record { at = c; root = r; chain = []; down = refl }
       | inr q ↦
-          let e : g.wired.rank (post_of ran.setup q.parent.worker).node ≡ g.wired.rank k.edge.from = ap g.wired.rank q.stands.node_is in
+          let e : g.wired.rank (worker_no ran.setup q.parent.worker).node ≡ g.wired.rank k.edge.from = ap g.wired.rank q.stands.node_is in
           let b : Born ran q.parent c q.child = born ran q.parent c q.child in
           let r : Rooted rows ran q.parent = rooted_below rows ran g bound q.parent b.tuple q.stands.within (omega arith) b.meets in
           record { at = r.at; root = r.root; chain = r.chain ++ c ∷ []; down = chain_push ran r.at q.parent c r.chain r.down q.child }
     ]
 
 pub rooted : (rows : List Row) (ran : Ran) (g : Running rows ran) (c : Address) (t : Tuple) → HasWorker ran c.worker → Meets ran c t → Rooted rows ran c
-rooted rows ran g c t l m = rooted_below rows ran g (suc (g.wired.rank (post_of ran.setup c.worker).node)) c t l (omega arith) m
+rooted rows ran g c t l m = rooted_below rows ran g (suc (g.wired.rank (worker_no ran.setup c.worker).node)) c t l (omega arith) m

@@ -14,18 +14,18 @@ use Rattle.versions.specs.declared.request.Change.{Change}
 use Rattle.versions.specs.declared.request.Request.{Request}
 use Rattle.flow_model.specs.Covers.{asks}
 use Rattle.flow_model.specs.OneTable.{HasNoCounts}
-use Rattle.flow_model.specs.Outline.{Outline, Post}
+use Rattle.flow_model.specs.SetupView.{SetupView, Worker}
 use Rattle.flow_model.specs.Requests.{change_of, changes, func_after, func_with, names}
 use Rattle.flow_model.specs.Run.{Ran}
 use Rattle.flow_model.specs.Serial.{IsSerial, SeesPrefix, func_of_node, newest, serial, table_at}
 use Rattle.flow_model.specs.Whole.{IsOneSided, after_turn, any_before, asked_workers, before_turn, changed_workers, is_new, is_old, journals_at, meets_row}
-use Rattle.flow_model.specs.Workers.{posts}
+use Rattle.flow_model.specs.Workers.{workers_in}
 use Rattle.flow_model.proofs.ElementLemmas.{IsIn, any_in, filter_in, filter_map_in, in_any, in_filter, in_filter_map}
-use Rattle.flow_model.proofs.WorkerLemmas.{IsWorker, begun, in_posts, journal_is, journal_of, post_is, post_of, worker_is}
+use Rattle.flow_model.proofs.WorkerLemmas.{IsWorker, begun, in_workers, journal_is, journal_of, who_is, worker_no, worker_is}
 use Rattle.flow_model.proofs.PlannedLemmas.{dues_rise}
 use Rattle.flow_model.proofs.KindLemmas.{AreAlike, alike_self, changed_alike}
 use Rattle.flow_model.proofs.StoryLemmas.{Moment}
-use Rattle.flow_model.proofs.RunLemmas.{HasWorker, Running, execution, start_of, station_of}
+use Rattle.flow_model.proofs.RunLemmas.{HasWorker, Running, execution, start_of, duties_of}
 use Rattle.flow_model.proofs.KinLemmas.{story_of}
 use Rattle.flow_model.proofs.TurnLemmas.{Early}
 use Rattle.flow_model.proofs.WholeLemmas.{changed_asked, early_of, fewer_pass, one_sided}
@@ -61,7 +61,7 @@ newest_is ran row (suc n) = go (is_new ran (suc n) row) refl (newest_is ran row 
 
 -- ---- a request that changes something is there
 
-changes_within : (setup : Outline) (r node : ℕ) → changes setup r node ≡ true → (1 ≤ r) × (r ≤ length setup.requests)
+changes_within : (setup : SetupView) (r node : ℕ) → changes setup r node ≡ true → (1 ≤ r) × (r ≤ length setup.requests)
 changes_within setup zero node h = absurd (cc)
 changes_within setup (suc r) node h = go (slice_get setup.requests r) refl h
   where
@@ -71,26 +71,26 @@ changes_within setup (suc r) node h = go (slice_get setup.requests r) refl h
 
 -- the journal of a worker of a changed node
 record IsChanged (ran : Ran) (r : ℕ) (journal : List Entry) : Type 0 where
-  post : Post
-  listed : IsIn post (posts ran.setup.job)
-  there : slice_get ran.journals post.number ≡ Some journal
-  changed : changes ran.setup r post.node ≡ true
-  within : HasWorker ran post.number
-  same : post_of ran.setup post.number ≡ post
-  journal_there : journal_of ran post.number ≡ journal
+  who : Worker
+  listed : IsIn who (workers_in ran.setup.job)
+  there : slice_get ran.journals who.number ≡ Some journal
+  changed : changes ran.setup r who.node ≡ true
+  within : HasWorker ran who.number
+  same : worker_no ran.setup who.number ≡ who
+  journal_there : journal_of ran who.number ≡ journal
 
 changed_journal : (ran : Ran) (r : ℕ) (journal : List Entry) → IsIn journal (journals_at ran.journals (changed_workers ran.setup r)) → IsChanged ran r journal
 changed_journal ran r journal h =
-    let p = in_filter_map (λ (post : Post). slice_get ran.journals post.number) journal (changed_workers ran.setup r) h in
-    let q = in_filter (λ (post : Post). changes ran.setup r post.node) p.0 (posts ran.setup.job) p.1 in
-    let is : IsWorker ran.setup.job p.0 = in_posts ran.setup.job p.0 q.0 in
+    let p = in_filter_map (λ (who : Worker). slice_get ran.journals who.number) journal (changed_workers ran.setup r) h in
+    let q = in_filter (λ (who : Worker). changes ran.setup r who.node) p.0 (workers_in ran.setup.job) p.1 in
+    let is : IsWorker ran.setup.job p.0 = in_workers ran.setup.job p.0 q.0 in
     record {
-      post = p.0;
+      who = p.0;
       listed = q.0;
       there = p.2;
       changed = q.1;
-      within = slice_get_within (posts ran.setup.job) p.0.number p.0 is.there;
-      same = post_is ran.setup p.0.number p.0 is.there;
+      within = slice_get_within (workers_in ran.setup.job) p.0.number p.0 is.there;
+      same = who_is ran.setup p.0.number p.0 is.there;
       journal_there = journal_is ran p.0.number journal p.2;
     }
 
@@ -99,7 +99,7 @@ new_within : (ran : Ran) (r row : ℕ) → is_new ran r row ≡ true → (1 ≤ 
 new_within ran r row h =
     let a = any_in (λ (journal : List Entry). meets_row row (after_turn r journal)) (journals_at ran.journals (changed_workers ran.setup r)) h in
     let c : IsChanged ran r a.0 = changed_journal ran r a.0 a.1 in
-    changes_within ran.setup r c.post.node c.changed
+    changes_within ran.setup r c.who.node c.changed
 
 module _ (rows : List Row) (ran : Ran) (g : Running rows ran) (ordered : IsTrue ran.setup.ordered) where
   -- a row that an earlier request's node met before its turn was met before the turn of a later one too
@@ -108,18 +108,18 @@ module _ (rows : List Row) (ran : Ran) (g : Running rows ran) (ordered : IsTrue 
   before_later row r k le last h =
       let b = any_in (λ (journal : List Entry). meets_row row (before_turn r journal)) (journals_at ran.journals (changed_workers ran.setup r)) h in
       let c : IsChanged ran r b.0 = changed_journal ran r b.0 b.1 in
-      let w : ℕ = c.post.number in
-      let change : changes ran.setup r (post_of ran.setup w).node ≡ true = rw c.same c.changed in
-      let e : Early ran.setup (post_of ran.setup w) (begun ran.setup w) (journal_of ran w) row r =
-      early_of rows ran g w row r c.within (g.kept.asked r (post_of ran.setup w).node (g.kept.changed r (post_of ran.setup w).node change)) (rw c.journal_there b.2) in
+      let w : ℕ = c.who.number in
+      let change : changes ran.setup r (worker_no ran.setup w).node ≡ true = rw c.same c.changed in
+      let e : Early ran.setup (worker_no ran.setup w) (begun ran.setup w) (journal_of ran w) row r =
+      early_of rows ran g w row r c.within (g.kept.asked r (worker_no ran.setup w).node (g.kept.changed r (worker_no ran.setup w).node change)) (rw c.journal_there b.2) in
       let ahead : IsIn (entry.Met e.found.lane e.found.tuple) (before_turn k (journal_of ran w)) =
-      early_in ran.setup (station_of ran w) (post_of ran.setup w) (start_of ran w) (begun ran.setup w) (journal_of ran w) k e.found.i e.found.lane e.found.tuple e.found.moment
-      (execution rows ran g w c.within) (dues_rise ran.setup 0 (post_of ran.setup w).node 0 (omega arith)) e.found.there e.found.met (omega (arith, e.earlier)) in
+      early_in ran.setup (duties_of ran w) (worker_no ran.setup w) (start_of ran w) (begun ran.setup w) (journal_of ran w) k e.found.i e.found.lane e.found.tuple e.found.moment
+      (execution rows ran g w c.within) (dues_rise ran.setup 0 (worker_no ran.setup w).node 0 (omega arith)) e.found.there e.found.met (omega (arith, e.earlier)) in
       let meets : meets_row row (before_turn k (journal_of ran w)) ≡ true = meets_of row e.found.lane e.found.tuple (before_turn k (journal_of ran w)) ahead e.found.is_row in
-      let asked : asks ran.setup k c.post.node ≡ true = g.kept.ordered ordered r k c.post.node le last c.changed in
+      let asked : asks ran.setup k c.who.node ≡ true = g.kept.ordered ordered r k c.who.node le last c.changed in
       in_any (λ (journal : List Entry). meets_row row (before_turn k journal)) b.0 (journals_at ran.journals (asked_workers ran.setup k))
-      (filter_map_in (λ (post : Post). slice_get ran.journals post.number) c.post b.0 (asked_workers ran.setup k)
-      (filter_in (λ (post : Post). asks ran.setup k post.node) c.post (posts ran.setup.job) c.listed asked) c.there)
+      (filter_map_in (λ (who : Worker). slice_get ran.journals who.number) c.who b.0 (asked_workers ran.setup k)
+      (filter_in (λ (who : Worker). asks ran.setup k who.node) c.who (workers_in ran.setup.job) c.listed asked) c.there)
       (subst (λ (l : List Entry). meets_row row (before_turn k l) ≡ true) c.journal_there meets)
 
   -- so where a row is new at a request, no earlier one's nodes met it before their turns
@@ -149,7 +149,7 @@ module _ (rows : List Row) (ran : Ran) (g : Running rows ran) (ordered : IsTrue 
                 | inl none ↦
                     let b = any_in (λ (journal : List Entry). meets_row row (before_turn r journal)) (journals_at ran.journals (changed_workers ran.setup r)) old in
                     let c : IsChanged ran r b.0 = changed_journal ran r b.0 b.1 in
-                    let some = changes_within ran.setup r c.post.node c.changed in
+                    let some = changes_within ran.setup r c.who.node c.changed in
                     absurd (omega (arith, some.0))
                 | inr new ↦ absurd (none_before row r (serial ran row) le new.1 new.0 old)
               ]
@@ -164,20 +164,20 @@ module _ (rows : List Row) (ran : Ran) (g : Running rows ran) (ordered : IsTrue 
   -- ---- the function in force where a row is met is that of the requests that it comes behind
 
   in_order : (w i l : ℕ) (t : Tuple) (m : Moment) → HasWorker ran w → slice_get (story_of ran w) i ≡ Some m → slice_get (journal_of ran w) i ≡ Some (entry.Met l t)
-      → m.local.func ≡ func_after ran.setup (post_of ran.setup w).node (post_of ran.setup w).func (serial ran t.row)
-  in_order w i l t m lt at met = by_turns rows ran g w lt i l t m at met ∙ across (cases_lt m.local.last (serial ran t.row))
+      → m.view.func ≡ func_after ran.setup (worker_no ran.setup w).node (worker_no ran.setup w).func (serial ran t.row)
+  in_order w i l t m lt at met = by_turns rows ran g w lt i l t m at met ∙ across (cases_lt m.view.last (serial ran t.row))
     where
       node : ℕ
-      node = (post_of ran.setup w).node
+      node = (worker_no ran.setup w).node
 
       F : ℕ → Func
-      F r = func_after ran.setup (post_of ran.setup w).node (post_of ran.setup w).func r
+      F r = func_after ran.setup (worker_no ran.setup w).node (worker_no ran.setup w).func r
 
       -- a request up to the row's place that was turned after it doesn't change the node
-      none_late : (r : ℕ) → m.local.last < r → r ≤ serial ran t.row → changes ran.setup r (post_of ran.setup w).node ≡ false
-      none_late r low le = go (changes ran.setup r (post_of ran.setup w).node) refl
+      none_late : (r : ℕ) → m.view.last < r → r ≤ serial ran t.row → changes ran.setup r (worker_no ran.setup w).node ≡ false
+      none_late r low le = go (changes ran.setup r (worker_no ran.setup w).node) refl
         where
-          go : (b : Bool) → changes ran.setup r (post_of ran.setup w).node ≡ b → changes ran.setup r (post_of ran.setup w).node ≡ false
+          go : (b : Bool) → changes ran.setup r (worker_no ran.setup w).node ≡ b → changes ran.setup r (worker_no ran.setup w).node ≡ false
           go false e = e
           go true e =
               let old = early_before rows ran g w lt i l t m at met r e low in
@@ -187,26 +187,26 @@ module _ (rows : List Row) (ran : Ran) (g : Running rows ran) (ordered : IsTrue 
               ]
 
       -- a later request that was turned before it doesn't either
-      none_early : (r : ℕ) → serial ran t.row < r → r ≤ m.local.last → changes ran.setup r (post_of ran.setup w).node ≡ false
-      none_early r low le = go (changes ran.setup r (post_of ran.setup w).node) refl
+      none_early : (r : ℕ) → serial ran t.row < r → r ≤ m.view.last → changes ran.setup r (worker_no ran.setup w).node ≡ false
+      none_early r low le = go (changes ran.setup r (worker_no ran.setup w).node) refl
         where
-          go : (b : Bool) → changes ran.setup r (post_of ran.setup w).node ≡ b → changes ran.setup r (post_of ran.setup w).node ≡ false
+          go : (b : Bool) → changes ran.setup r (worker_no ran.setup w).node ≡ b → changes ran.setup r (worker_no ran.setup w).node ≡ false
           go false e = e
           go true e =
               let new : is_new ran r t.row ≡ true = late_new rows ran g w lt i l t m at met r e le in
               let none : is_new ran r t.row ≡ false = (sees_prefix t.row).after r low in
               absurd (cc)
 
-      across : (m.local.last < serial ran t.row) ⊎ (serial ran t.row ≤ m.local.last)
-          → func_after ran.setup (post_of ran.setup w).node (post_of ran.setup w).func m.local.last ≡ func_after ran.setup (post_of ran.setup w).node (post_of ran.setup w).func (serial ran t.row)
+      across : (m.view.last < serial ran t.row) ⊎ (serial ran t.row ≤ m.view.last)
+          → func_after ran.setup (worker_no ran.setup w).node (worker_no ran.setup w).func m.view.last ≡ func_after ran.setup (worker_no ran.setup w).node (worker_no ran.setup w).func (serial ran t.row)
       across (inl less) =
-          let k : m.local.last + (serial ran t.row - m.local.last) ≡ serial ran t.row = omega arith in
-          sym (subst (λ n. func_after ran.setup (post_of ran.setup w).node (post_of ran.setup w).func n ≡ func_after ran.setup (post_of ran.setup w).node (post_of ran.setup w).func m.local.last) k
-          (func_gap ran.setup (post_of ran.setup w).node (post_of ran.setup w).func m.local.last (serial ran t.row - m.local.last) (λ r a b. none_late r a (omega arith))))
+          let k : m.view.last + (serial ran t.row - m.view.last) ≡ serial ran t.row = omega arith in
+          sym (subst (λ n. func_after ran.setup (worker_no ran.setup w).node (worker_no ran.setup w).func n ≡ func_after ran.setup (worker_no ran.setup w).node (worker_no ran.setup w).func m.view.last) k
+          (func_gap ran.setup (worker_no ran.setup w).node (worker_no ran.setup w).func m.view.last (serial ran t.row - m.view.last) (λ r a b. none_late r a (omega arith))))
       across (inr more) =
-          let k : serial ran t.row + (m.local.last - serial ran t.row) ≡ m.local.last = omega arith in
-          subst (λ n. func_after ran.setup (post_of ran.setup w).node (post_of ran.setup w).func n ≡ func_after ran.setup (post_of ran.setup w).node (post_of ran.setup w).func (serial ran t.row)) k
-          (func_gap ran.setup (post_of ran.setup w).node (post_of ran.setup w).func (serial ran t.row) (m.local.last - serial ran t.row) (λ r a b. none_early r a (omega arith)))
+          let k : serial ran t.row + (m.view.last - serial ran t.row) ≡ m.view.last = omega arith in
+          subst (λ n. func_after ran.setup (worker_no ran.setup w).node (worker_no ran.setup w).func n ≡ func_after ran.setup (worker_no ran.setup w).node (worker_no ran.setup w).func (serial ran t.row)) k
+          (func_gap ran.setup (worker_no ran.setup w).node (worker_no ran.setup w).func (serial ran t.row) (m.view.last - serial ran t.row) (λ r a b. none_early r a (omega arith)))
 
   after_alike : (node : ℕ) (def : NodeDef) (r : ℕ) → slice_get ran.setup.job.nodes node ≡ Some def → AreAlike ran.setup.job.edges node def.func (func_after ran.setup node def.func r)
   after_alike node def zero there = alike_self ran.setup.job.edges node def.func
@@ -222,9 +222,9 @@ module _ (rows : List Row) (ran : Ran) (g : Running rows ran) (ordered : IsTrue 
     gives = λ row node def there.
         (func_after ran.setup node def.func (serial ran row), ap (func_of_node ran.setup (serial ran row) node) there, after_alike node def (serial ran row) there);
     in_force = λ w i l t m lt at met.
-        let is : IsWorker ran.setup.job (post_of ran.setup w) = (worker_is ran.setup w lt).1 in
-        ap (func_of_node ran.setup (serial ran t.row) (post_of ran.setup w).node) is.node_is
-        ∙ ap Some (ap (λ (f : Func). func_after ran.setup (post_of ran.setup w).node f (serial ran t.row)) (sym is.func_is) ∙ sym (in_order w i l t m lt at met));
+        let is : IsWorker ran.setup.job (worker_no ran.setup w) = (worker_is ran.setup w lt).1 in
+        ap (func_of_node ran.setup (serial ran t.row) (worker_no ran.setup w).node) is.node_is
+        ∙ ap Some (ap (λ (f : Func). func_after ran.setup (worker_no ran.setup w).node f (serial ran t.row)) (sym is.func_is) ∙ sym (in_order w i l t m lt at met));
   }
 
   pub is_serial : HasNoCounts ran.setup.job → AreFromSources ran.setup.job rows → IsSerial rows ran

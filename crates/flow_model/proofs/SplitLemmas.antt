@@ -6,11 +6,11 @@ use Rattle.flow_model.specs.Begin.{at_first}
 use Rattle.flow_model.specs.Lanes.{lanes}
 use Rattle.flow_model.specs.Run.{IsRun}
 use Rattle.flow_model.specs.SplitAbove.{by_g, by_m, by_out, by_s, by_x, by_y, exchanged_ran, split_ran, split_setup, two_rows, two_ways}
-use Rattle.flow_model.specs.Workers.{posts}
+use Rattle.flow_model.specs.Workers.{workers_in}
 use Rattle.flow_model.proofs.EachLemmas.{OfEach, OfEachLane, Tied, Worked, run-by_parts}
 use Rattle.flow_model.proofs.LawChecks.{finished-by_check}
 
-all_worked : OfEach (Worked split_setup) (posts two_ways) (at_first split_setup).states split_ran.journals split_ran.states
+all_worked : OfEach (Worked split_setup) (workers_in two_ways) (at_first split_setup).states split_ran.journals split_ran.states
 all_worked = (
   record { finished = finished-by_check _ by_s refl; state_is = refl },
   (

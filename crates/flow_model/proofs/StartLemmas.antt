@@ -2,11 +2,11 @@
 use Rattle.std.proofs.Common.{◌≡◌, ◌∙◌, ◌<◌, ◌≤◌, ◌+◌, ◌++◌, ℕ, List, [], ◌∷◌, ap, refl, length, map, take}
 use Rattle.std.proofs.lemmas.List.{map_more, take_all}
 use Rattle.std.specs.FinMap.{empty}
-use Rattle.jobs.specs.Written.{Written}
+use Rattle.jobs.specs.JobView.{JobView}
 use Rattle.keyed_state.specs.Counts.{Counts}
-use Rattle.flow_model.specs.Outline.{Post}
+use Rattle.flow_model.specs.SetupView.{Worker}
 use Rattle.flow_model.specs.Topology.{worker_of}
-use Rattle.flow_model.specs.Workers.{posts}
+use Rattle.flow_model.specs.Workers.{workers_in}
 use Rattle.flow_model.specs.declared.topology.WorkerAt.{WorkerAt}
 
 abbrev pub uncounted : List WorkerAt → List Counts
@@ -18,13 +18,13 @@ pub uncounted-more : (workers : List WorkerAt) (i : ℕ) → i < length workers 
 uncounted-more workers i lt =
     map_more (λ (worker : WorkerAt). empty) workers i (record { node = 0; index = 0 }) lt
 
-uncounted-of : (all : List Post) → uncounted (map worker_of all) ≡ map (λ (post : Post). empty) all
+uncounted-of : (all : List Worker) → uncounted (map worker_of all) ≡ map (λ (who : Worker). empty) all
 uncounted-of [] = refl
-uncounted-of (post ∷ all) = ap (λ (counts : List Counts). empty ∷ counts) (uncounted-of all)
+uncounted-of (who ∷ all) = ap (λ (counts : List Counts). empty ∷ counts) (uncounted-of all)
 
 -- all workers of a job
-pub uncounted-all : (job : Written) (workers : List WorkerAt) (n : ℕ) →
-    workers ≡ map worker_of (posts job) → length workers ≤ n →
-    uncounted (take n workers) ≡ map (λ (post : Post). empty) (posts job)
+pub uncounted-all : (job : JobView) (workers : List WorkerAt) (n : ℕ) →
+    workers ≡ map worker_of (workers_in job) → length workers ≤ n →
+    uncounted (take n workers) ≡ map (λ (who : Worker). empty) (workers_in job)
 uncounted-all job workers n is past =
-    ap uncounted (take_all n workers past) ∙ ap uncounted is ∙ uncounted-of (posts job)
+    ap uncounted (take_all n workers past) ∙ ap uncounted is ∙ uncounted-of (workers_in job)

@@ -9,7 +9,7 @@ use Rattle.operators.specs.declared.output.Output.{Output}
 use Rattle.sink_journal.specs.declared.journal.Entry.TheVariants.{Met}
 use Rattle.tuple_trace.specs.declared.tuple.Tuple.{Tuple}
 use Rattle.tuple_trace.specs.declared.tuple.Visit.{Visit}
-use Rattle.flow_model.specs.Outline.{Outline, Post}
+use Rattle.flow_model.specs.SetupView.{SetupView, Worker}
 use Rattle.flow_model.specs.Replay.{visit_at}
 use Rattle.flow_model.specs.WorkerState.{IsAfter, IsWorkerAt, func_at, made, state_view}
 use Rattle.flow_model.specs.declared.topology.WorkerAt.{WorkerAt}
@@ -20,46 +20,46 @@ abbrev pub visit_by : WorkerAt → ℕ → Visit
 visit_by at last = record { node = at.node; worker = at.index; last = last }
 
 -- what is known of the function that the code looks up
-abbrev pub IsFuncOf : Outline → WorkerAt → WorkerState → Func → Type 0
+abbrev pub IsFuncOf : SetupView → WorkerAt → WorkerState → Func → Type 0
 IsFuncOf setup at state f =
-    (post : Post) (def : NodeDef) → slice_get setup.job.nodes at.node ≡ Some def →
-    post.node ≡ at.node → post.func ≡ def.func → f ≡ func_at setup post state.func
+    (who : Worker) (def : NodeDef) → slice_get setup.job.nodes at.node ≡ Some def →
+    who.node ≡ at.node → who.func ≡ def.func → f ≡ func_at setup who state.func
 
-its_func : (setup : Outline) (at : WorkerAt) (post : Post) (state : WorkerState) (f : Func) →
-    IsWorkerAt setup.job at post → IsFuncOf setup at state f → f ≡ func_at setup post state.func
-its_func setup at post state f is known =
-    let (number, worker) = worker_with setup.job post.number post is.there in
-    let node : at.node ≡ post.node = ap (λ (a : WorkerAt). a.node) is.at_is in
-    known post worker.def (ap (slice_get setup.job.nodes) node ∙ worker.node_is) (sym node)
+its_func : (setup : SetupView) (at : WorkerAt) (who : Worker) (state : WorkerState) (f : Func) →
+    IsWorkerAt setup.job at who → IsFuncOf setup at state f → f ≡ func_at setup who state.func
+its_func setup at who state f is known =
+    let (number, worker) = worker_with setup.job who.number who is.there in
+    let node : at.node ≡ who.node = ap (λ (a : WorkerAt). a.node) is.at_is in
+    known who worker.def (ap (slice_get setup.job.nodes) node ∙ worker.node_is) (sym node)
     worker.func_is
 
 -- what the step makes with the visit and the function that the code hands in
-same_step : (setup : Outline) (at : WorkerAt) (post : Post) (state : WorkerState) (f : Func)
-    (tuple : Tuple) → IsWorkerAt setup.job at post → IsFuncOf setup at state f →
+same_step : (setup : SetupView) (at : WorkerAt) (who : Worker) (state : WorkerState) (f : Func)
+    (tuple : Tuple) → IsWorkerAt setup.job at who → IsFuncOf setup at state f →
     step setup.job (visit_by at state.last) f state.counts tuple
-    ≡ step setup.job (visit_at post (state_view setup post state)) (func_at setup post state.func)
+    ≡ step setup.job (visit_at who (state_view setup who state)) (func_at setup who state.func)
     state.counts tuple
-same_step setup at post state f tuple is known =
+same_step setup at who state f tuple is known =
     ap (λ (a : WorkerAt). step setup.job (visit_by a state.last) f state.counts tuple) is.at_is
     ∙ ap (λ (g : Func).
-    step setup.job (visit_at post (state_view setup post state)) g state.counts tuple)
-    (its_func setup at post state f is known)
+    step setup.job (visit_at who (state_view setup who state)) g state.counts tuple)
+    (its_func setup at who state f is known)
 
-pub processed : (setup : Outline) (at : WorkerAt) (state : WorkerState) (f : Func) (tuple : Tuple)
+pub processed : (setup : SetupView) (at : WorkerAt) (state : WorkerState) (f : Func) (tuple : Tuple)
     (counts : Counts) → IsFuncOf setup at state f →
     counts ≡ (step setup.job (visit_by at state.last) f state.counts tuple).0 →
-    (post : Post) → IsWorkerAt setup.job at post → (lane : ℕ) →
-    IsAfter setup post (Met lane tuple) state (record state { counts = counts })
-processed setup at state f tuple counts known are post is lane =
-    ap (λ (c : Counts). record (state_view setup post state) { counts = c })
+    (who : Worker) → IsWorkerAt setup.job at who → (lane : ℕ) →
+    IsAfter setup who (Met lane tuple) state (record state { counts = counts })
+processed setup at state f tuple counts known are who is lane =
+    ap (λ (c : Counts). record (state_view setup who state) { counts = c })
     (are ∙ ap (λ (s : Counts × List Output). s.0)
-    (same_step setup at post state f tuple is known))
+    (same_step setup at who state f tuple is known))
 
-pub came_out : (setup : Outline) (at : WorkerAt) (state : WorkerState) (f : Func) (tuple : Tuple)
+pub came_out : (setup : SetupView) (at : WorkerAt) (state : WorkerState) (f : Func) (tuple : Tuple)
     (old new : List Output) → IsFuncOf setup at state f →
     new ≡ old ++ (step setup.job (visit_by at state.last) f state.counts tuple).1 →
-    (post : Post) → IsWorkerAt setup.job at post →
-    new ≡ old ++ made setup post (state_view setup post state) tuple
-came_out setup at state f tuple old new known are post is =
+    (who : Worker) → IsWorkerAt setup.job at who →
+    new ≡ old ++ made setup who (state_view setup who state) tuple
+came_out setup at state f tuple old new known are who is =
     are ∙ ap (λ (s : Counts × List Output). old ++ s.1)
-    (same_step setup at post state f tuple is known)
+    (same_step setup at who state f tuple is known)

@@ -11,23 +11,23 @@ use Rattle.jobs.specs.Law.{IsLawful}
 use Rattle.jobs.specs.Nodes.{is_source, is_source_node, workers_of}
 use Rattle.jobs.specs.declared.func.Func.{Func}
 use Rattle.jobs.specs.declared.func.NodeDef.{NodeDef}
-use Rattle.jobs.specs.Written.{Written}
+use Rattle.jobs.specs.JobView.{JobView}
 use Rattle.operators.specs.Lanes.{worker_along, worker_among, worker_at, worker_for}
 use Rattle.tuple_trace.specs.declared.tuple.Tuple.{Tuple}
 use Rattle.flow_model.specs.declared.topology.Lane.{Lane}
 use Rattle.flow_model.specs.declared.topology.OutEdge.{OutEdge}
 use Rattle.flow_model.specs.declared.topology.WorkerAt.{WorkerAt}
 use Rattle.flow_model.specs.Lanes.{first_on, lane_along, lanes, lanes_of, receiver_of, senders}
-use Rattle.flow_model.specs.Outline.{Post}
+use Rattle.flow_model.specs.SetupView.{Worker}
 use Rattle.flow_model.specs.Topology.{IsNumberOf, first_lane, first_with, first_worker, lanes_along, lanes_to, out_edge, out_edges, worker_of}
-use Rattle.flow_model.specs.Workers.{post_at, posts, posts_at, posts_from, posts_of}
+use Rattle.flow_model.specs.Workers.{nth_worker, workers_in, node_workers, workers_from, workers_at_node}
 use Rattle.flow_model.proofs.ElementLemmas.{IsIn, in_of_place}
 use Rattle.flow_model.proofs.FitLemmas.{among_within}
 use Rattle.flow_model.proofs.LaneLemmas.{lane_is, lanes_from, sender_source, sender_worker}
 use Rattle.flow_model.proofs.LaneNumbers.{first_on-edge, get-lane, length-lanes_from, receiver_there}
 use Rattle.flow_model.proofs.PieceLemmas.{get-enumerate, length-all_pieces}
-use Rattle.flow_model.proofs.PostLemmas.{length-posts_of, post_by, posts_of-node}
-use Rattle.flow_model.proofs.PostPlaces.{get-post_at, get-posts_of}
+use Rattle.flow_model.proofs.WorkerListLemmas.{length-workers_at_node, who_by, workers_at_node-node}
+use Rattle.flow_model.proofs.WorkerPlaces.{get-nth_worker, get-workers_at_node}
 use Rattle.flow_model.proofs.SizeLemmas.{entered, first_worker-workers, lanes-few}
 use Rattle.flow_model.proofs.WorkerLemmas.{worker_with}
 
@@ -91,50 +91,50 @@ get-range f a (suc n) (suc i) j y e g = get-range f (a + 1) n i j y (omega arith
 
 -- ---- workers
 
-pub workers-at : (number node : ℕ) (f : Func) (place n : ℕ) → map worker_of (posts_at number node f place n) ≡ map (λ (p : ℕ). record { node = node; index = p }) (range_with_len place n)
+pub workers-at : (number node : ℕ) (f : Func) (place n : ℕ) → map worker_of (node_workers number node f place n) ≡ map (λ (p : ℕ). record { node = node; index = p }) (range_with_len place n)
 workers-at number node f place zero = refl
 workers-at number node f place (suc n) = ap (λ (l : List WorkerAt). record { node = node; index = place } ∷ l) (workers-at (number + 1) node f (place + 1) n)
 
 -- which node and index a worker has doesn't hang on its number
-pub workers-from : (a b node : ℕ) (nodes : List NodeDef) → map worker_of (posts_from a node nodes) ≡ map worker_of (posts_from b node nodes)
+pub workers-from : (a b node : ℕ) (nodes : List NodeDef) → map worker_of (workers_from a node nodes) ≡ map worker_of (workers_from b node nodes)
 workers-from a b node [] = refl
 workers-from a b node (def ∷ more) =
-    map-append worker_of (posts_at a node def.func 0 (workers_of def)) (posts_from (a + workers_of def) (node + 1) more)
-    ∙ (ap (λ (l : List WorkerAt). l ++ map worker_of (posts_from (a + workers_of def) (node + 1) more)) (workers-at a node def.func 0 (workers_of def) ∙ sym (workers-at b node def.func 0 (workers_of def)))
-    ∙ (ap (λ (l : List WorkerAt). map worker_of (posts_at b node def.func 0 (workers_of def)) ++ l) (workers-from (a + workers_of def) (b + workers_of def) (node + 1) more)
-    ∙ sym (map-append worker_of (posts_at b node def.func 0 (workers_of def)) (posts_from (b + workers_of def) (node + 1) more))))
+    map-append worker_of (node_workers a node def.func 0 (workers_of def)) (workers_from (a + workers_of def) (node + 1) more)
+    ∙ (ap (λ (l : List WorkerAt). l ++ map worker_of (workers_from (a + workers_of def) (node + 1) more)) (workers-at a node def.func 0 (workers_of def) ∙ sym (workers-at b node def.func 0 (workers_of def)))
+    ∙ (ap (λ (l : List WorkerAt). map worker_of (node_workers b node def.func 0 (workers_of def)) ++ l) (workers-from (a + workers_of def) (b + workers_of def) (node + 1) more)
+    ∙ sym (map-append worker_of (node_workers b node def.func 0 (workers_of def)) (workers_from (b + workers_of def) (node + 1) more))))
 
 -- the workers of one node more
 pub workers-next : (nodes : List NodeDef) (i workers : ℕ) (def : NodeDef) (done more all : List WorkerAt) → slice_get nodes i ≡ Some def → workers ≡ workers_of def
     → more ≡ done ++ map (λ (p : ℕ). record { node = i; index = p }) (range_with_len 0 workers)
-    → done ++ map worker_of (posts_from 0 i (drop i nodes)) ≡ all → more ++ map worker_of (posts_from 0 (i + 1) (drop (i + 1) nodes)) ≡ all
+    → done ++ map worker_of (workers_from 0 i (drop i nodes)) ≡ all → more ++ map worker_of (workers_from 0 (i + 1) (drop (i + 1) nodes)) ≡ all
 workers-next nodes i workers def done more all e w grown h =
-    ap (λ (l : List WorkerAt). l ++ map worker_of (posts_from 0 (i + 1) (drop (i + 1) nodes))) (grown ∙ ap (λ (k : ℕ). done ++ map (λ (p : ℕ). record { node = i; index = p }) (range_with_len 0 k)) w)
-    ∙ (append_assoc done (map (λ (p : ℕ). record { node = i; index = p }) (range_with_len 0 (workers_of def))) (map worker_of (posts_from 0 (i + 1) (drop (i + 1) nodes)))
-    ∙ (ap (λ (l : List WorkerAt). done ++ (l ++ map worker_of (posts_from 0 (i + 1) (drop (i + 1) nodes)))) (sym (workers-at 0 i def.func 0 (workers_of def)))
-    ∙ (ap (λ (l : List WorkerAt). done ++ (map worker_of (posts_at 0 i def.func 0 (workers_of def)) ++ l)) (workers-from 0 (0 + workers_of def) (i + 1) (drop (i + 1) nodes))
-    ∙ (ap (λ (l : List WorkerAt). done ++ l) (sym (map-append worker_of (posts_at 0 i def.func 0 (workers_of def)) (posts_from (0 + workers_of def) (i + 1) (drop (i + 1) nodes))))
-    ∙ (ap (λ (l : List NodeDef). done ++ map worker_of (posts_from 0 i l)) (sym (drop-at nodes i def e)) ∙ h)))))
+    ap (λ (l : List WorkerAt). l ++ map worker_of (workers_from 0 (i + 1) (drop (i + 1) nodes))) (grown ∙ ap (λ (k : ℕ). done ++ map (λ (p : ℕ). record { node = i; index = p }) (range_with_len 0 k)) w)
+    ∙ (append_assoc done (map (λ (p : ℕ). record { node = i; index = p }) (range_with_len 0 (workers_of def))) (map worker_of (workers_from 0 (i + 1) (drop (i + 1) nodes)))
+    ∙ (ap (λ (l : List WorkerAt). done ++ (l ++ map worker_of (workers_from 0 (i + 1) (drop (i + 1) nodes)))) (sym (workers-at 0 i def.func 0 (workers_of def)))
+    ∙ (ap (λ (l : List WorkerAt). done ++ (map worker_of (node_workers 0 i def.func 0 (workers_of def)) ++ l)) (workers-from 0 (0 + workers_of def) (i + 1) (drop (i + 1) nodes))
+    ∙ (ap (λ (l : List WorkerAt). done ++ l) (sym (map-append worker_of (node_workers 0 i def.func 0 (workers_of def)) (workers_from (0 + workers_of def) (i + 1) (drop (i + 1) nodes))))
+    ∙ (ap (λ (l : List NodeDef). done ++ map worker_of (workers_from 0 i l)) (sym (drop-at nodes i def e)) ∙ h)))))
 
 -- ---- senders
 
-pub length-senders : (job : Written) (node : ℕ) (def : NodeDef) → slice_get job.nodes node ≡ Some def → is_source def.func ≡ false → length (senders job node) ≡ workers_of def
+pub length-senders : (job : JobView) (node : ℕ) (def : NodeDef) → slice_get job.nodes node ≡ Some def → is_source def.func ≡ false → length (senders job node) ≡ workers_of def
 length-senders job node def e none =
     let t : is_source_node (slice_get job.nodes node) ≡ false = rw e none in
-    ap (λ (b : Bool). length (cond b (None ∷ []) (map (λ (post : Post). Some post.number) (posts_of job node)))) t
-    ∙ (length-map (posts_of job node) (λ (post : Post). Some post.number) ∙ length-posts_of job node def e)
+    ap (λ (b : Bool). length (cond b (None ∷ []) (map (λ (who : Worker). Some who.number) (workers_at_node job node)))) t
+    ∙ (length-map (workers_at_node job node) (λ (who : Worker). Some who.number) ∙ length-workers_at_node job node def e)
 
-pub length-feeder : (job : Written) (node : ℕ) (def : NodeDef) → slice_get job.nodes node ≡ Some def → is_source def.func ≡ true → length (senders job node) ≡ 1
+pub length-feeder : (job : JobView) (node : ℕ) (def : NodeDef) → slice_get job.nodes node ≡ Some def → is_source def.func ≡ true → length (senders job node) ≡ 1
 length-feeder job node def e is =
     let t : is_source_node (slice_get job.nodes node) ≡ true = rw e is in
-    ap (λ (b : Bool). length (cond b (None ∷ []) (map (λ (post : Post). Some post.number) (posts_of job node)))) t
+    ap (λ (b : Bool). length (cond b (None ∷ []) (map (λ (who : Worker). Some who.number) (workers_at_node job node)))) t
 
 -- ---- edges and their lanes
 
-pub length-lanes_of : (job : Written) (number : ℕ) (edge : Edge) → length (lanes_of job number edge) ≡ length (senders job edge.from) * length (posts_of job edge.to)
-length-lanes_of job number edge = length-all_pieces (lanes_from job number edge) (length (posts_of job edge.to)) (length-lanes_from job number edge) (senders job edge.from)
+pub length-lanes_of : (job : JobView) (number : ℕ) (edge : Edge) → length (lanes_of job number edge) ≡ length (senders job edge.from) * length (workers_at_node job edge.to)
+length-lanes_of job number edge = length-all_pieces (lanes_from job number edge) (length (workers_at_node job edge.to)) (length-lanes_from job number edge) (senders job edge.from)
 
-pub first_lane-next : (job : Written) (i : ℕ) (edge : Edge) → slice_get job.edges i ≡ Some edge → first_lane job (i + 1) ≡ first_lane job i + length (senders job edge.from) * length (posts_of job edge.to)
+pub first_lane-next : (job : JobView) (i : ℕ) (edge : Edge) → slice_get job.edges i ≡ Some edge → first_lane job (i + 1) ≡ first_lane job i + length (senders job edge.from) * length (workers_at_node job edge.to)
 first_lane-next job i edge e =
     let at : slice_get (enumerate_from 0 job.edges) i ≡ Some (i, edge) = get-enumerate 0 job.edges i i edge e (omega arith) in
     ap (λ (l : List (ℕ × Edge)). length (flat_map (lanes_along job) l)) (take-next (enumerate_from 0 job.edges) i (i, edge) at)
@@ -148,11 +148,11 @@ front_few f [] (suc k) = omega arith
 front_few f (x ∷ xs) zero = omega arith
 front_few f (x ∷ xs) (suc k) = let r = front_few f xs k in omega (arith, r, length-append (f x) (flat_map f (take k xs)), length-append (f x) (flat_map f xs))
 
-pub first_lane-few : (job : Written) (i : ℕ) → IsLawful job → first_lane job i < 2 ^ 32
+pub first_lane-few : (job : JobView) (i : ℕ) → IsLawful job → first_lane job i < 2 ^ 32
 first_lane-few job i law = let a = front_few (lanes_along job) (enumerate_from 0 job.edges) i in let b = lanes-few job law in omega (arith, a, b)
 
 -- the entry of one edge more
-pub out_edges-next : (job : Written) (i : ℕ) (edge : Edge) (out : OutEdge) (done more : List OutEdge) → slice_get job.edges i ≡ Some edge → out ≡ out_edge job (i, edge) → more ≡ done ++ out ∷ []
+pub out_edges-next : (job : JobView) (i : ℕ) (edge : Edge) (out : OutEdge) (done more : List OutEdge) → slice_get job.edges i ≡ Some edge → out ≡ out_edge job (i, edge) → more ≡ done ++ out ∷ []
     → done ≡ map (out_edge job) (take i (enumerate_from 0 job.edges)) → more ≡ map (out_edge job) (take (i + 1) (enumerate_from 0 job.edges))
 out_edges-next job i edge out done more e is grown h =
     let at : slice_get (enumerate_from 0 job.edges) i ≡ Some (i, edge) = get-enumerate 0 job.edges i i edge e (omega arith) in
@@ -167,24 +167,24 @@ abbrev pub lane_with : ℕ → Option ℕ → ℕ → Lane
 lane_with edge sender receiver = record { edge = edge; sender = sender; receiver = receiver }
 
 lanes-at : (edge : ℕ) (sender : Option ℕ) (first number node : ℕ) (f : Func) (place n : ℕ) → number ≡ first + place
-    → map (λ (post : Post). lane_with edge sender post.number) (posts_at number node f place n) ≡ map (λ (p : ℕ). lane_with edge sender (first + p)) (range_with_len place n)
+    → map (λ (who : Worker). lane_with edge sender who.number) (node_workers number node f place n) ≡ map (λ (p : ℕ). lane_with edge sender (first + p)) (range_with_len place n)
 lanes-at edge sender first number node f place zero e = refl
 lanes-at edge sender first number node f place (suc n) e =
     ap (λ (l : List Lane). lane_with edge sender number ∷ l) (lanes-at edge sender first (number + 1) node f (place + 1) n (omega arith))
     ∙ ap (λ (w : ℕ). lane_with edge sender w ∷ map (λ (p : ℕ). lane_with edge sender (first + p)) (range_with_len (place + 1) n)) e
 
 -- the lanes from one sender along an edge
-pub lanes_to-from : (job : Written) (number : ℕ) (edge : Edge) (sender : Option ℕ) (first workers : ℕ) → IsLawful job → slice_get job.edges number ≡ Some edge
-    → first ≡ first_worker job edge.to → workers ≡ length (posts_of job edge.to) → lanes_to number sender first workers ≡ lanes_from job number edge sender
+pub lanes_to-from : (job : JobView) (number : ℕ) (edge : Edge) (sender : Option ℕ) (first workers : ℕ) → IsLawful job → slice_get job.edges number ≡ Some edge
+    → first ≡ first_worker job edge.to → workers ≡ length (workers_at_node job edge.to) → lanes_to number sender first workers ≡ lanes_from job number edge sender
 lanes_to-from job number edge sender first workers law e f w =
     let to = entered job number edge law e in
     ap (λ (m : ℕ). lanes_to number sender m workers) f
-    ∙ (ap (lanes_to number sender (first_worker job edge.to)) (w ∙ length-posts_of job edge.to to.def to.node_is)
+    ∙ (ap (lanes_to number sender (first_worker job edge.to)) (w ∙ length-workers_at_node job edge.to to.def to.node_is)
     ∙ (sym (lanes-at number sender (first_worker job edge.to) (first_worker job edge.to) edge.to to.def.func 0 (workers_of to.def) (omega arith))
-    ∙ ap (map (λ (post : Post). lane_with number sender post.number)) (sym (posts_of-node job edge.to to.def to.node_is))))
+    ∙ ap (map (λ (who : Worker). lane_with number sender who.number)) (sym (workers_at_node-node job edge.to to.def to.node_is))))
 
 -- the lanes of one sender more
-pub senders-next : (job : Written) (number : ℕ) (edge : Edge) (place : ℕ) (sender : Option ℕ) (old now new some : List Lane) → slice_get (senders job edge.from) place ≡ Some sender
+pub senders-next : (job : JobView) (number : ℕ) (edge : Edge) (place : ℕ) (sender : Option ℕ) (old now new some : List Lane) → slice_get (senders job edge.from) place ≡ Some sender
     → now ≡ old ++ flat_map (lanes_from job number edge) (take place (senders job edge.from)) → new ≡ now ++ some → some ≡ lanes_from job number edge sender
     → new ≡ old ++ flat_map (lanes_from job number edge) (take (place + 1) (senders job edge.from))
 senders-next job number edge place sender old now new some at is grown same =
@@ -197,7 +197,7 @@ senders-next job number edge place sender old now new some at is grown same =
     ∙ ap (flat_map (lanes_from job number edge)) (sym (take-next (senders job edge.from) place sender at))))))
 
 -- the lanes of one edge more
-pub lanes-next : (job : Written) (i : ℕ) (edge : Edge) (done more : List Lane) → slice_get job.edges i ≡ Some edge → more ≡ done ++ lanes_of job i edge
+pub lanes-next : (job : JobView) (i : ℕ) (edge : Edge) (done more : List Lane) → slice_get job.edges i ≡ Some edge → more ≡ done ++ lanes_of job i edge
     → done ≡ flat_map (lanes_along job) (take i (enumerate_from 0 job.edges)) → more ≡ flat_map (lanes_along job) (take (i + 1) (enumerate_from 0 job.edges))
 lanes-next job i edge done more e grown h =
     let at : slice_get (enumerate_from 0 job.edges) i ≡ Some (i, edge) = get-enumerate 0 job.edges i i edge e (omega arith) in
@@ -209,7 +209,7 @@ lanes-next job i edge done more e grown h =
 
 -- ---- where a tuple goes
 
-first_with-first : (job : Written) (node port : ℕ) (ps : List (ℕ × Edge))
+first_with-first : (job : JobView) (node port : ℕ) (ps : List (ℕ × Edge))
     → first_with port (map (out_edge job) (filter (λ (edge : ℕ × Edge). edge.1.from == node) ps)) ≡ option_map (out_edge job) (first_on node port ps)
 first_with-first job node port [] = refl
 first_with-first job node port (p ∷ ps) = go (p.1.from == node) (p.1.port == port) (first_with-first job node port ps)
@@ -229,14 +229,14 @@ first_with-first job node port (p ∷ ps) = go (p.1.from == node) (p.1.port == p
     go false b h = h
 
 -- what is known of an edge that was found by its port
-pub record IsOutEdge (job : Written) (node port : ℕ) (out : OutEdge) : Type 0 where
+pub record IsOutEdge (job : JobView) (node port : ℕ) (out : OutEdge) : Type 0 where
   pub edge : Edge
   pub edge_is : slice_get job.edges out.edge ≡ Some edge
   pub from_is : edge.from ≡ node
   pub made : out ≡ out_edge job (out.edge, edge)
   pub first : first_on node port (enumerate_from 0 job.edges) ≡ Some (out.edge, edge)
 
-pub found_out : (job : Written) (node port : ℕ) (outs : List OutEdge) (out : OutEdge) → outs ≡ out_edges job node → Some out ≡ first_with port outs → IsOutEdge job node port out
+pub found_out : (job : JobView) (node port : ℕ) (outs : List OutEdge) (out : OutEdge) → outs ≡ out_edges job node → Some out ≡ first_with port outs → IsOutEdge job node port out
 found_out job node port outs out same is = go (first_on node port (enumerate_from 0 job.edges)) refl all
   where
     all : option_map (out_edge job) (first_on node port (enumerate_from 0 job.edges)) ≡ Some out
@@ -257,7 +257,7 @@ found_out job node port outs out same is = go (first_on node port (enumerate_fro
           first = g ∙ ap (λ (m : ℕ). Some (m, p.1)) num;
         }
 
-pub no_out : (job : Written) (node port : ℕ) (outs : List OutEdge) → outs ≡ out_edges job node → None ≡ first_with port outs → first_on node port (enumerate_from 0 job.edges) ≡ None
+pub no_out : (job : JobView) (node port : ℕ) (outs : List OutEdge) → outs ≡ out_edges job node → None ≡ first_with port outs → first_on node port (enumerate_from 0 job.edges) ≡ None
 no_out job node port outs same is = go (first_on node port (enumerate_from 0 job.edges)) (sym (first_with-first job node port (enumerate_from 0 job.edges)) ∙ (ap (first_with port) (sym same) ∙ sym is))
   where
     go : (o : Option (ℕ × Edge)) → option_map (out_edge job) o ≡ None → o ≡ None
@@ -265,13 +265,13 @@ no_out job node port outs same is = go (first_on node port (enumerate_from 0 job
     go (Some p) e = absurd (cc)
 
 -- the worker that a tuple reaches along an edge
-pub record IsReached (job : Written) (edge : Edge) (tuple : Tuple) (worker : ℕ) : Type 0 where
+pub record IsReached (job : JobView) (edge : Edge) (tuple : Tuple) (worker : ℕ) : Type 0 where
   pub def : NodeDef
   pub node_is : slice_get job.nodes edge.to ≡ Some def
   pub below : worker < workers_of def
-  pub reached : receiver_of job edge tuple ≡ Some (post_by (first_worker job edge.to + worker) edge.to def.func worker)
+  pub reached : receiver_of job edge tuple ≡ Some (who_by (first_worker job edge.to + worker) edge.to def.func worker)
 
-pub is_reached : (job : Written) (number : ℕ) (edge : Edge) (tuple : Tuple) (worker : ℕ) → IsLawful job → slice_get job.edges number ≡ Some edge → worker ≡ worker_along job number tuple
+pub is_reached : (job : JobView) (number : ℕ) (edge : Edge) (tuple : Tuple) (worker : ℕ) → IsLawful job → slice_get job.edges number ≡ Some edge → worker ≡ worker_along job number tuple
     → IsReached job edge tuple worker
 is_reached job number edge tuple worker law e is =
     let to = entered job number edge law e in
@@ -283,19 +283,19 @@ is_reached job number edge tuple worker law e is =
       node_is = to.node_is;
       below = below;
       reached =
-          ap (λ (o : Option NodeDef). slice_get (posts_of job edge.to) (worker_at job.columns o tuple)) to.node_is
-          ∙ (ap (slice_get (posts_of job edge.to)) (sym at) ∙ get-posts_of job edge.to to.def worker to.node_is below);
+          ap (λ (o : Option NodeDef). slice_get (workers_at_node job edge.to) (worker_at job.columns o tuple)) to.node_is
+          ∙ (ap (slice_get (workers_at_node job edge.to)) (sym at) ∙ get-workers_at_node job edge.to to.def worker to.node_is below);
     }
 
-pub lane_made : (job : Written) (out : OutEdge) (edge : Edge) (node place worker : ℕ) (tuple : Tuple) (sender : Option ℕ) (number : ℕ) → IsLawful job → slice_get job.edges out.edge ≡ Some edge → edge.from ≡ node
+pub lane_made : (job : JobView) (out : OutEdge) (edge : Edge) (node place worker : ℕ) (tuple : Tuple) (sender : Option ℕ) (number : ℕ) → IsLawful job → slice_get job.edges out.edge ≡ Some edge → edge.from ≡ node
     → out ≡ out_edge job (out.edge, edge) → slice_get (senders job node) place ≡ Some sender → worker ≡ worker_along job out.edge tuple
     → number ≡ out.first_lane + place * out.receivers + worker
     → IsNumberOf job (lane_along job sender (Some (out.edge, edge)) tuple) number
 lane_made job out edge node place worker tuple sender number law e from made sends is number_is = (
   record { edge = out.edge; sender = sender; receiver = first_worker job edge.to + worker },
-  ap (option_map (λ (post : Post). record { edge = out.edge; sender = sender; receiver = post.number })) reached.reached,
-  get-lane job out.edge edge place worker sender (post_by (first_worker job edge.to + worker) edge.to reached.def.func worker) number e
-      (ap (λ (n : ℕ). slice_get (senders job n) place) from ∙ sends) (get-posts_of job edge.to reached.def worker reached.node_is reached.below)
+  ap (option_map (λ (who : Worker). record { edge = out.edge; sender = sender; receiver = who.number })) reached.reached,
+  get-lane job out.edge edge place worker sender (who_by (first_worker job edge.to + worker) edge.to reached.def.func worker) number e
+      (ap (λ (n : ℕ). slice_get (senders job n) place) from ∙ sends) (get-workers_at_node job edge.to reached.def worker reached.node_is reached.below)
       (number_is ∙ ap (λ (x : OutEdge). x.first_lane + place * x.receivers + worker) made),
 )
   where
@@ -303,7 +303,7 @@ lane_made job out edge node place worker tuple sender number law e from made sen
     reached = is_reached job out.edge edge tuple worker law e is
 
 -- the number is that of a lane
-pub lane_fits : (job : Written) (out : OutEdge) (edge : Edge) (node place worker : ℕ) (tuple : Tuple) → IsLawful job → slice_get job.edges out.edge ≡ Some edge → edge.from ≡ node
+pub lane_fits : (job : JobView) (out : OutEdge) (edge : Edge) (node place worker : ℕ) (tuple : Tuple) → IsLawful job → slice_get job.edges out.edge ≡ Some edge → edge.from ≡ node
     → out ≡ out_edge job (out.edge, edge) → place < length (senders job node) → worker ≡ worker_along job out.edge tuple
     → out.first_lane + place * out.receivers + worker < 2 ^ 32
 lane_fits job out edge node place worker tuple law e from made lt is =
@@ -313,7 +313,7 @@ lane_fits job out edge node place worker tuple law e from made lt is =
     omega (arith, within, lanes-few job law)
 
 -- a node with senders is a node of the job
-pub sends_within : (job : Written) (node place : ℕ) → place < length (senders job node) → node < length job.nodes
+pub sends_within : (job : JobView) (node place : ℕ) → place < length (senders job node) → node < length job.nodes
 sends_within job node place lt =
     let there = slice_get-get_or (senders job node) place None lt in
     go (get_or (senders job node) place None) (in_of_place _ (senders job node) place there)
@@ -325,8 +325,8 @@ sends_within job node place lt =
     go : (sender : Option ℕ) → IsIn sender (senders job node) → node < length job.nodes
     go None i = found (slice_get job.nodes node) refl (sender_source job node i)
     go (Some w) i =
-        let (post, at, number, node_is) = sender_worker job node w i in
-        let is = (worker_with job w post at).1 in
+        let (who, at, number, node_is) = sender_worker job node w i in
+        let is = (worker_with job w who at).1 in
         slice_get_within job.nodes node is.def (subst (λ (n : ℕ). slice_get job.nodes n ≡ Some is.def) node_is is.node_is)
 
 -- a row of a table that the code reads
@@ -345,23 +345,23 @@ row_within f n i table all is same lt = let long = ap length (same ∙ is) ∙ l
 abbrev pub lane_read : List Lane → ℕ → Lane
 lane_read all n = get_or all n (record { edge = 0; sender = None; receiver = 0 })
 
-pub lane_limits : (job : Written) (all : List Lane) (n : ℕ) → IsLawful job → all ≡ lanes job → n < length (lanes job) → ((lane_read all n).edge < 128) × ((lane_read all n).receiver < length (posts job))
+pub lane_limits : (job : JobView) (all : List Lane) (n : ℕ) → IsLawful job → all ≡ lanes job → n < length (lanes job) → ((lane_read all n).edge < 128) × ((lane_read all n).receiver < length (workers_in job))
 lane_limits job all n law same lt =
     let at : slice_get (lanes job) n ≡ Some (lane_read all n) =
     ap (λ (l : List Lane). slice_get l n) (sym same) ∙ slice_get-get_or all n (record { edge = 0; sender = None; receiver = 0 }) (let e = ap (length {A = Lane}) same in omega (arith, lt, e)) in
     let is = lane_is job n (lane_read all n) at in (
       (let e = slice_get_within job.edges (lane_read all n).edge is.edge is.edge_is in let m = law.limits.edges in omega (arith, e, m)),
-      slice_get_within (posts job) (lane_read all n).receiver is.to (receiver_there job (lane_read all n) is),
+      slice_get_within (workers_in job) (lane_read all n).receiver is.to (receiver_there job (lane_read all n) is),
     )
 
-pub out_edge_at : (job : Written) (all : List OutEdge) (i : ℕ) (edge : Edge) (d : OutEdge) → all ≡ map (out_edge job) (enumerate_from 0 job.edges) → slice_get job.edges i ≡ Some edge
+pub out_edge_at : (job : JobView) (all : List OutEdge) (i : ℕ) (edge : Edge) (d : OutEdge) → all ≡ map (out_edge job) (enumerate_from 0 job.edges) → slice_get job.edges i ≡ Some edge
     → get_or all i d ≡ out_edge job (i, edge)
 out_edge_at job all i edge d same e =
     get_or_from_slice_get all i (out_edge job (i, edge)) d
     (ap (λ (l : List OutEdge). slice_get l i) same ∙ (slice_get-map (out_edge job) (enumerate_from 0 job.edges) i
     ∙ ap (option_map (out_edge job)) (get-enumerate 0 job.edges i i edge e (omega arith))))
 
-pub out_edges-long : (job : Written) (all : List OutEdge) → all ≡ map (out_edge job) (enumerate_from 0 job.edges) → length all ≡ length job.edges
+pub out_edges-long : (job : JobView) (all : List OutEdge) → all ≡ map (out_edge job) (enumerate_from 0 job.edges) → length all ≡ length job.edges
 out_edges-long job all same = ap (length {A = OutEdge}) same ∙ (length-map (enumerate_from 0 job.edges) (out_edge job) ∙ length-enumerate_from 0 job.edges)
 
 -- an edge that the code reads
@@ -372,18 +372,18 @@ pub get-edge_read : (xs edges : List Edge) (i : ℕ) → xs ≡ edges → i < le
 get-edge_read xs edges i same lt = ap (λ (l : List Edge). slice_get l i) (sym same) ∙ slice_get-get_or xs i (record { from = 0; port = 0; to = 0 }) lt
 
 -- what all workers of the node where an edge ends are numbered below
-pub workers_fit : (job : Written) (number : ℕ) (edge : Edge) (first workers : ℕ) → IsLawful job → slice_get job.edges number ≡ Some edge
-    → first ≡ first_worker job edge.to → workers ≡ length (posts_of job edge.to) → first + workers ≤ 64
+pub workers_fit : (job : JobView) (number : ℕ) (edge : Edge) (first workers : ℕ) → IsLawful job → slice_get job.edges number ≡ Some edge
+    → first ≡ first_worker job edge.to → workers ≡ length (workers_at_node job edge.to) → first + workers ≤ 64
 workers_fit job number edge first workers law e f w =
     let to = entered job number edge law e in
-    let long = length-posts_of job edge.to to.def to.node_is in
+    let long = length-workers_at_node job edge.to to.def to.node_is in
     omega (arith, first_worker-workers job edge.to to.def law to.node_is, long, f, w)
 
 pub take-all_edges : (edges : List Edge) (i : ℕ) → length edges ≤ i → take i (enumerate_from 0 edges) ≡ enumerate_from 0 edges
 take-all_edges edges i le = take_all i (enumerate_from 0 edges) (let l = length-enumerate_from 0 edges in omega (arith, l))
 
-pub lane_grows : (job : Written) (i : ℕ) (edge : Edge) (lane sends workers : ℕ) → slice_get job.edges i ≡ Some edge → lane ≡ first_lane job i → sends ≡ length (senders job edge.from)
-    → workers ≡ length (posts_of job edge.to) → lane + sends * workers ≡ first_lane job (i + 1)
+pub lane_grows : (job : JobView) (i : ℕ) (edge : Edge) (lane sends workers : ℕ) → slice_get job.edges i ≡ Some edge → lane ≡ first_lane job i → sends ≡ length (senders job edge.from)
+    → workers ≡ length (workers_at_node job edge.to) → lane + sends * workers ≡ first_lane job (i + 1)
 lane_grows job i edge lane sends workers e l s w =
     ap (λ (n : ℕ). n + sends * workers) l
     ∙ (ap (λ (n : ℕ). first_lane job i + n * workers) s ∙ (ap (λ (n : ℕ). first_lane job i + length (senders job edge.from) * n) w ∙ sym (first_lane-next job i edge e)))
@@ -391,23 +391,23 @@ lane_grows job i edge lane sends workers e l s w =
 abbrev pub out_edge_with : ℕ → ℕ → ℕ → ℕ → ℕ → OutEdge
 out_edge_with port edge lane worker workers = record { port = port; edge = edge; first_lane = lane; first_receiver = worker; receivers = workers }
 
-pub out_edge_made : (job : Written) (i : ℕ) (edge : Edge) (lane first workers : ℕ) → lane ≡ first_lane job i → first ≡ first_worker job edge.to → workers ≡ length (posts_of job edge.to)
+pub out_edge_made : (job : JobView) (i : ℕ) (edge : Edge) (lane first workers : ℕ) → lane ≡ first_lane job i → first ≡ first_worker job edge.to → workers ≡ length (workers_at_node job edge.to)
     → out_edge_with edge.port i lane first workers ≡ out_edge job (i, edge)
 out_edge_made job i edge lane first workers l f w =
     ap (λ (n : ℕ). out_edge_with edge.port i n first workers) l
     ∙ (ap (λ (n : ℕ). out_edge_with edge.port i (first_lane job i) n workers) f ∙ ap (λ (n : ℕ). out_edge_with edge.port i (first_lane job i) (first_worker job edge.to) n) w)
 
 -- a sender that the code makes
-pub sender_made : (job : Written) (node place first : ℕ) (def : NodeDef) → slice_get job.nodes node ≡ Some def → is_source def.func ≡ false → place < length (senders job node)
+pub sender_made : (job : JobView) (node place first : ℕ) (def : NodeDef) → slice_get job.nodes node ≡ Some def → is_source def.func ≡ false → place < length (senders job node)
     → first ≡ first_worker job node → slice_get (senders job node) place ≡ Some (Some (first + place))
 sender_made job node place first def e none lt f =
     let t : is_source_node (slice_get job.nodes node) ≡ false = rw e none in
     let within : place < workers_of def = let l = length-senders job node def e none in omega (arith, lt, l) in
-    rw t (slice_get-map (λ (post : Post). Some post.number) (posts_of job node) place
-    ∙ (ap (option_map (λ (post : Post). Some post.number)) (get-posts_of job node def place e within)
+    rw t (slice_get-map (λ (who : Worker). Some who.number) (workers_at_node job node) place
+    ∙ (ap (option_map (λ (who : Worker). Some who.number)) (get-workers_at_node job node def place e within)
     ∙ ap (λ (n : ℕ). Some (Some (n + place))) (sym f)))
 
-pub feeder_made : (job : Written) (node place : ℕ) (def : NodeDef) → slice_get job.nodes node ≡ Some def → is_source def.func ≡ true → place < length (senders job node)
+pub feeder_made : (job : JobView) (node place : ℕ) (def : NodeDef) → slice_get job.nodes node ≡ Some def → is_source def.func ≡ true → place < length (senders job node)
     → slice_get (senders job node) place ≡ Some None
 feeder_made job node place def e is lt =
     let t : is_source_node (slice_get job.nodes node) ≡ true = rw e is in
@@ -418,7 +418,7 @@ feeder_made job node place def e is lt =
 abbrev pub worker_read : List WorkerAt → ℕ → WorkerAt
 worker_read all w = get_or all w (record { node = 0; index = 0 })
 
-pub worker_is_at : (job : Written) (all : List WorkerAt) (w : ℕ) → all ≡ map worker_of (posts job) → w < length (posts job) → worker_read all w ≡ worker_of (post_at job w)
+pub worker_is_at : (job : JobView) (all : List WorkerAt) (w : ℕ) → all ≡ map worker_of (workers_in job) → w < length (workers_in job) → worker_read all w ≡ worker_of (nth_worker job w)
 worker_is_at job all w same lt =
-    get_or_from_slice_get all w (worker_of (post_at job w)) (record { node = 0; index = 0 })
-    (ap (λ (l : List WorkerAt). slice_get l w) same ∙ (slice_get-map worker_of (posts job) w ∙ ap (option_map worker_of) (get-post_at job w lt)))
+    get_or_from_slice_get all w (worker_of (nth_worker job w)) (record { node = 0; index = 0 })
+    (ap (λ (l : List WorkerAt). slice_get l w) same ∙ (slice_get-map worker_of (workers_in job) w ∙ ap (option_map worker_of) (get-nth_worker job w lt)))

@@ -5,14 +5,14 @@ use Rattle.std.specs.List.{list_any}
 use Rattle.std.specs.Option.{option_map}
 use Rattle.std.proofs.lemmas.List.{length-map}
 use Rattle.std.proofs.lemmas.Option.{slice_get-map}
-use Rattle.jobs.specs.Written.{Written}
+use Rattle.jobs.specs.JobView.{JobView}
 use Rattle.versions.specs.Book.{first_book, is_named}
 use Rattle.versions.specs.Judged.{AreAccepted}
 use Rattle.versions.specs.Kept.{AreInOrder}
 use Rattle.versions.specs.declared.request.Change.{Change}
 use Rattle.versions.specs.declared.request.Request.{Request}
 use Rattle.versions.proofs.WaitingLemmas.{accepted_like}
-use Rattle.flow_model.specs.Outline.{Outline}
+use Rattle.flow_model.specs.SetupView.{SetupView}
 use Rattle.flow_model.specs.Planned.{IsPlanned, is_split_node, makes_split, splits_at}
 use Rattle.flow_model.specs.Waiting.{changes_of, waiting_for, with_afters}
 
@@ -26,7 +26,7 @@ changes-with_afters (a ∷ bs) (q ∷ qs) = ap (λ l. q.changes ∷ l) (changes-
 
 -- ---- judging
 
-pub accepted_waiting : (job : Written) (afters : List ℕ) (requests : List Request) → AreAccepted job requests → AreInOrder 0 (with_afters afters requests) → AreAccepted job (with_afters afters requests)
+pub accepted_waiting : (job : JobView) (afters : List ℕ) (requests : List Request) → AreAccepted job requests → AreInOrder 0 (with_afters afters requests) → AreAccepted job (with_afters afters requests)
 accepted_waiting job afters requests e o = accepted_like job (first_book job.nodes) 0 0 1 requests (with_afters afters requests) (changes-with_afters afters requests) e o
 
 -- ---- plans
@@ -55,7 +55,7 @@ any_like test (q ∷ qs) (r ∷ rs) same =
     let tail : changes_of rs ≡ changes_of qs = tail_same r.changes q.changes (changes_of rs) (changes_of qs) same in
     ap (λ cs. test cs || list_any (λ (q : Request). test q.changes) rs) head ∙ ap (λ b. test q.changes || b) (any_like test qs rs tail)
 
-pub planned_waiting : (setup : Outline) (afters : List ℕ) → IsPlanned setup → IsPlanned (waiting_for afters setup)
+pub planned_waiting : (setup : SetupView) (afters : List ℕ) → IsPlanned setup → IsPlanned (waiting_for afters setup)
 planned_waiting setup afters h =
     let rs : List Request = with_afters afters setup.requests in
     let same : changes_of rs ≡ changes_of setup.requests = changes-with_afters afters setup.requests in

@@ -15,21 +15,21 @@ use Rattle.flow_model.specs.Covers.{asks, covers}
 use Rattle.flow_model.specs.Lanes.{lane_of}
 use Rattle.flow_model.proofs.JobLemmas.{one_edge_to}
 use Rattle.flow_model.proofs.LaneLemmas.{LaneIs, lane_by_port, lane_is}
-use Rattle.flow_model.specs.Outline.{Outline, Post}
+use Rattle.flow_model.specs.SetupView.{SetupView, Worker}
 use Rattle.flow_model.specs.Planned.{copies_at, splits_at}
 use Rattle.flow_model.specs.Replay.{Put, visit_at}
 use Rattle.flow_model.specs.Requests.{changes}
 use Rattle.flow_model.specs.Run.{Ran}
 use Rattle.flow_model.specs.Whole.{IsOneSided, IsWhole, after_turn, any_after, any_before, asked_workers, before_turn, changed_workers, journals_at, meets_row}
-use Rattle.flow_model.specs.Workers.{posts}
+use Rattle.flow_model.specs.Workers.{workers_in}
 use Rattle.flow_model.proofs.ElementLemmas.{IsIn, any_in, filter_in, filter_map_in, in_any, in_filter, in_filter_map}
-use Rattle.flow_model.proofs.WorkerLemmas.{IsWorker, begun, in_posts, in_posts_of, journal_is, journal_of, post_is, post_of, worker_is}
+use Rattle.flow_model.proofs.WorkerLemmas.{IsWorker, begun, in_workers, in_workers_at_node, journal_is, journal_of, who_is, worker_no, worker_is}
 use Rattle.flow_model.proofs.PlannedLemmas.{due_of_cover, dues_rise}
 use Rattle.flow_model.proofs.SendingLemmas.{made}
 use Rattle.flow_model.proofs.StoryLemmas.{Moment}
 use Rattle.flow_model.proofs.AgreementLemmas.{HasAgreed, IsNew, IsOld}
 use Rattle.flow_model.proofs.KindLemmas.{AreAlike, ArePieces, IsGiven, alike_given, copies_given, copies_part, emits_cases, given_then, pieces_of, splits_given}
-use Rattle.flow_model.proofs.RunLemmas.{HasWorker, Running, all_agree, execution, finished, start_of, station_of}
+use Rattle.flow_model.proofs.RunLemmas.{HasWorker, Running, all_agree, execution, finished, start_of, duties_of}
 use Rattle.flow_model.proofs.KinLemmas.{Address, AreKin, Born, Child, IsChain, Meets, Parted, Passed, born, kin, meets_one, parted, passed, story_of, visit_of}
 use Rattle.flow_model.proofs.RootLemmas.{Rooted, one_root, rooted}
 use Rattle.flow_model.proofs.TurnLemmas.{Early, Late, found_early, found_late, turns}
@@ -38,12 +38,12 @@ use Rattle.std.proofs.lemmas.Option.{same_Some, slice_get_within}
 -- ---- chains lead along edges
 
 pub chain_reaches : (ran : Ran) (p c : Address) (chain : List Address) → IsChain ran p chain c
-    → IsOrReaches (HasEdge ran.setup.job.edges) (post_of ran.setup p.worker).node (post_of ran.setup c.worker).node
+    → IsOrReaches (HasEdge ran.setup.job.edges) (worker_no ran.setup p.worker).node (worker_no ran.setup c.worker).node
 chain_reaches ran p c [] h =
-    IsOrReaches-here (HasEdge ran.setup.job.edges) (post_of ran.setup p.worker).node (post_of ran.setup c.worker).node (ap (λ (x : Address). (post_of ran.setup x.worker).node) h)
+    IsOrReaches-here (HasEdge ran.setup.job.edges) (worker_no ran.setup p.worker).node (worker_no ran.setup c.worker).node (ap (λ (x : Address). (worker_no ran.setup x.worker).node) h)
 chain_reaches ran p c (a ∷ chain) h =
-    IsOrReaches-trans (HasEdge ran.setup.job.edges) (post_of ran.setup p.worker).node (post_of ran.setup a.worker).node (post_of ran.setup c.worker).node
-    (IsOrReaches-edge (HasEdge ran.setup.job.edges) (post_of ran.setup p.worker).node (post_of ran.setup a.worker).node h.0.edge) (chain_reaches ran a c chain h.1)
+    IsOrReaches-trans (HasEdge ran.setup.job.edges) (worker_no ran.setup p.worker).node (worker_no ran.setup a.worker).node (worker_no ran.setup c.worker).node
+    (IsOrReaches-edge (HasEdge ran.setup.job.edges) (worker_no ran.setup p.worker).node (worker_no ran.setup a.worker).node h.0.edge) (chain_reaches ran a c chain h.1)
 
 -- ---- where two entries parted
 
@@ -62,63 +62,63 @@ pub record HasParted (ran : Ran) (p a b : Address) (k : Parted ran p a b) : Type
   pub func : Func
   pub pieces : ArePieces func tuple.birth k.first.tuple.birth k.second.tuple.birth
   pub source :
-      (splits_at ran.setup.job.nodes ran.setup.requests (post_of ran.setup p.worker).node ≡ true)
-      ⊎ ((copies_at ran.setup.job.nodes (post_of ran.setup p.worker).node ≡ true) × ((post_of ran.setup a.worker).node ≢ (post_of ran.setup b.worker).node))
+      (splits_at ran.setup.job.nodes ran.setup.requests (worker_no ran.setup p.worker).node ≡ true)
+      ⊎ ((copies_at ran.setup.job.nodes (worker_no ran.setup p.worker).node ≡ true) × ((worker_no ran.setup a.worker).node ≢ (worker_no ran.setup b.worker).node))
 
 -- the edge along which a child came
 along : (ran : Ran) (p a : Address) (k : Child ran p a) (x : Born ran p a k)
-    → (edge : Edge) × (slice_get ran.setup.job.edges k.lane.edge ≡ Some edge) × (edge.from ≡ (post_of ran.setup p.worker).node) × (edge.port ≡ x.out.port) × (edge.to ≡ (post_of ran.setup a.worker).node)
+    → (edge : Edge) × (slice_get ran.setup.job.edges k.lane.edge ≡ Some edge) × (edge.from ≡ (worker_no ran.setup p.worker).node) × (edge.port ≡ x.out.port) × (edge.to ≡ (worker_no ran.setup a.worker).node)
 along ran p a k x =
-    let post : Post = post_of ran.setup p.worker in
-    let lane : lane_of ran.setup.job (Some post.number) post.node x.out.port x.out.tuple ≡ Some k.lane = sym (ap (λ (p : Put). p.lane) x.put_so) ∙ k.on in
-    let (edge, there, from, port) = lane_by_port ran.setup.job (Some post.number) post.node x.out.port x.out.tuple k.lane lane in
+    let who : Worker = worker_no ran.setup p.worker in
+    let lane : lane_of ran.setup.job (Some who.number) who.node x.out.port x.out.tuple ≡ Some k.lane = sym (ap (λ (p : Put). p.lane) x.put_so) ∙ k.on in
+    let (edge, there, from, port) = lane_by_port ran.setup.job (Some who.number) who.node x.out.port x.out.tuple k.lane lane in
     let is : LaneIs ran.setup.job k.lane = lane_is ran.setup.job k.n k.lane k.numbered in
     let same : is.edge ≡ edge = same_Some is.edge edge (sym is.edge_is ∙ there) in
-    let into = in_posts_of ran.setup.job is.edge.to is.to is.receives in
-    let w : IsWorker ran.setup.job is.to = in_posts ran.setup.job is.to into.0 in
+    let into = in_workers_at_node ran.setup.job is.edge.to is.to is.receives in
+    let w : IsWorker ran.setup.job is.to = in_workers ran.setup.job is.to into.0 in
     let number : is.to.number ≡ a.worker = sym is.receiver ∙ k.receiver in
-    let stands : post_of ran.setup a.worker ≡ is.to = post_is ran.setup a.worker is.to (subst (λ n. slice_get (posts ran.setup.job) n ≡ Some is.to) number w.there) in
-    (edge, there, from, port, sym (ap (λ (e : Edge). e.to) same) ∙ (sym into.1 ∙ sym (ap (λ (p : Post). p.node) stands)))
+    let stands : worker_no ran.setup a.worker ≡ is.to = who_is ran.setup a.worker is.to (subst (λ n. slice_get (workers_in ran.setup.job) n ≡ Some is.to) number w.there) in
+    (edge, there, from, port, sym (ap (λ (e : Edge). e.to) same) ∙ (sym into.1 ∙ sym (ap (λ (p : Worker). p.node) stands)))
 
 -- two children that came to one node left by one port
-same_port : (ran : Ran) (p a b : Address) (k : Child ran p a) (l : Child ran p b) (x : Born ran p a k) (y : Born ran p b l) (f : Func) → are_ports ran.setup.job.edges (post_of ran.setup p.worker).node f ≡ true
-    → (post_of ran.setup a.worker).node ≡ (post_of ran.setup b.worker).node → x.out.port ≡ y.out.port
+same_port : (ran : Ran) (p a b : Address) (k : Child ran p a) (l : Child ran p b) (x : Born ran p a k) (y : Born ran p b l) (f : Func) → are_ports ran.setup.job.edges (worker_no ran.setup p.worker).node f ≡ true
+    → (worker_no ran.setup a.worker).node ≡ (worker_no ran.setup b.worker).node → x.out.port ≡ y.out.port
 same_port ran p a b k l x y f ports e =
     let (edge, there, from, port, to) = along ran p a k x in
     let (other, there', from', port', to') = along ran p b l y in
-    let same : edge ≡ other = one_edge_to ran.setup.job.edges (post_of ran.setup p.worker).node f ports k.lane.edge l.lane.edge edge other there there' from from' (to ∙ (e ∙ sym to')) in
+    let same : edge ≡ other = one_edge_to ran.setup.job.edges (worker_no ran.setup p.worker).node f ports k.lane.edge l.lane.edge edge other there there' from from' (to ∙ (e ∙ sym to')) in
     sym port ∙ (ap (λ (e : Edge). e.port) same ∙ port')
 
 pub has_parted : (rows : List Row) (ran : Ran) (g : Running rows ran) (p a b : Address) (k : Parted ran p a b) → HasParted ran p a b k
 has_parted rows ran g p a b k =
-    let setup : Outline = ran.setup in
-    let post : Post = post_of ran.setup p.worker in
-    let is : IsWorker setup.job post = (worker_is setup p.worker k.first.within).1 in
+    let setup : SetupView = ran.setup in
+    let who : Worker = worker_no ran.setup p.worker in
+    let is : IsWorker setup.job who = (worker_is setup p.worker k.first.within).1 in
     let m : Moment = k.first.moment in
     let x : Born ran p a k.first = born ran p a k.first in
     let y : Born ran p b k.second = born ran p b k.second in
     let same : y.tuple ≡ x.tuple = meets_one ran p y.tuple x.tuple y.meets x.meets in
-    let given : IsGiven setup post.node is.def.func m.local.func =
-    given_then setup post is.def.func (begun setup p.worker) (journal_of ran p.worker) p.entry m (inl (sym is.func_is)) k.first.there in
-    let alike : AreAlike setup.job.edges post.node is.def.func m.local.func = alike_given setup post.node is.def m.local.func g.kinds is.node_is given in
-    let ports : are_ports setup.job.edges post.node m.local.func ≡ true = alike.ports (g.wired.ports post.node is.def is.node_is) in
-    let second : slice_get (made setup post m.local x.tuple) k.second.k ≡ Some y.out =
-    subst (λ (n : Moment). slice_get (made setup post n.local x.tuple) k.second.k ≡ Some y.out) (sym k.same_moment)
-    (subst (λ (t : Tuple). slice_get (made setup post k.second.moment.local t) k.second.k ≡ Some y.out) same y.made_so) in
-    let pieces : ArePieces m.local.func x.tuple.birth x.out.tuple.birth y.out.tuple.birth =
-    pieces_of setup.job (visit_at post m.local) m.local.func m.local.counts x.tuple k.first.k k.second.k x.out y.out
+    let given : IsGiven setup who.node is.def.func m.view.func =
+    given_then setup who is.def.func (begun setup p.worker) (journal_of ran p.worker) p.entry m (inl (sym is.func_is)) k.first.there in
+    let alike : AreAlike setup.job.edges who.node is.def.func m.view.func = alike_given setup who.node is.def m.view.func g.kinds is.node_is given in
+    let ports : are_ports setup.job.edges who.node m.view.func ≡ true = alike.ports (g.wired.ports who.node is.def is.node_is) in
+    let second : slice_get (made setup who m.view x.tuple) k.second.k ≡ Some y.out =
+    subst (λ (n : Moment). slice_get (made setup who n.view x.tuple) k.second.k ≡ Some y.out) (sym k.same_moment)
+    (subst (λ (t : Tuple). slice_get (made setup who k.second.moment.view t) k.second.k ≡ Some y.out) same y.made_so) in
+    let pieces : ArePieces m.view.func x.tuple.birth x.out.tuple.birth y.out.tuple.birth =
+    pieces_of setup.job (visit_at who m.view) m.view.func m.view.counts x.tuple k.first.k k.second.k x.out y.out
     ports x.made_so second k.other_output in
     record {
       tuple = x.tuple;
-      func = m.local.func;
-      pieces = subst (λ (l : List ℕ). ArePieces m.local.func x.tuple.birth l k.second.tuple.birth) (sym (ap (λ (t : Tuple). t.birth) x.is))
-          (subst (λ (l : List ℕ). ArePieces m.local.func x.tuple.birth x.out.tuple.birth l) (sym (ap (λ (t : Tuple). t.birth) y.is)) pieces);
-      source = elim (emits_cases m.local.func pieces.emits) [
-        | inl split ↦ inl (splits_given setup post.node is.def m.local.func is.node_is given split)
+      func = m.view.func;
+      pieces = subst (λ (l : List ℕ). ArePieces m.view.func x.tuple.birth l k.second.tuple.birth) (sym (ap (λ (t : Tuple). t.birth) x.is))
+          (subst (λ (l : List ℕ). ArePieces m.view.func x.tuple.birth x.out.tuple.birth l) (sym (ap (λ (t : Tuple). t.birth) y.is)) pieces);
+      source = elim (emits_cases m.view.func pieces.emits) [
+        | inl split ↦ inl (splits_given setup who.node is.def m.view.func is.node_is given split)
         | inr copy ↦ inr (
-          copies_given setup post.node is.def m.local.func is.node_is alike copy,
-          λ e. copies_part setup.job (visit_at post m.local) m.local.func m.local.counts x.tuple k.first.k k.second.k x.out y.out ports x.made_so second k.other_output copy
-              (same_port ran p a b k.first k.second x y m.local.func ports e),
+          copies_given setup who.node is.def m.view.func is.node_is alike copy,
+          λ e. copies_part setup.job (visit_at who m.view) m.view.func m.view.counts x.tuple k.first.k k.second.k x.out y.out ports x.made_so second k.other_output copy
+              (same_port ran p a b k.first k.second x y m.view.func ports e),
         )
       ];
     }
@@ -134,13 +134,13 @@ kin_of_row rows ran g row c d m n =
     let one : p.at ≡ q.at = one_root rows ran p.at q.at g p.root q.root (sym a.row ∙ (m.is_row ∙ (sym n.is_row ∙ b.row))) in
     kin ran p.at c d p.chain q.chain p.down (subst (λ x. IsChain ran x q.chain d) (sym one) q.down)
 
-same_last : (ran : Ran) (p : Address) (m n : Moment) → slice_get (story_of ran p.worker) p.entry ≡ Some m → slice_get (story_of ran p.worker) p.entry ≡ Some n → m.local.last ≡ n.local.last
-same_last ran p m n x y = let z : m ≡ n = cc in ap (λ (m : Moment). m.local.last) z
+same_last : (ran : Ran) (p : Address) (m n : Moment) → slice_get (story_of ran p.worker) p.entry ≡ Some m → slice_get (story_of ran p.worker) p.entry ≡ Some n → m.view.last ≡ n.view.last
+same_last ran p m n x y = let z : m ≡ n = cc in ap (λ (m : Moment). m.view.last) z
 
 module _ (rows : List Row) (ran : Ran) (g : Running rows ran) (row r : ℕ) (c d : Address)
-    (ac : asks ran.setup r (post_of ran.setup c.worker).node ≡ true) (ad : asks ran.setup r (post_of ran.setup d.worker).node ≡ true)
+    (ac : asks ran.setup r (worker_no ran.setup c.worker).node ≡ true) (ad : asks ran.setup r (worker_no ran.setup d.worker).node ≡ true)
     (m : Meeting ran row c) (n : Meeting ran row d)
-    (late : r ≤ m.moment.local.last) (new : IsNew ran.setup r m.tuple) (early : n.moment.local.last < r) (old : IsOld ran.setup r n.tuple)
+    (late : r ≤ m.moment.view.last) (new : IsNew ran.setup r m.tuple) (early : n.moment.view.last < r) (old : IsOld ran.setup r n.tuple)
   where
     same_entry : c ≡ d → ⊥
     same_entry e =
@@ -149,13 +149,13 @@ module _ (rows : List Row) (ran : Ran) (g : Running rows ran) (row r : ℕ) (c d
 
     below : (a : Address) (chain : List Address) → Child ran c a → IsChain ran a chain d → ⊥
     below a chain k h =
-        let lt : k.moment.local.last < r = old (visit_at (post_of ran.setup c.worker) k.moment.local) (visit_of ran c a d chain n.tuple k h n.meets) (g.kept.asked r (post_of ran.setup c.worker).node ac) in
+        let lt : k.moment.view.last < r = old (visit_at (worker_no ran.setup c.worker) k.moment.view) (visit_of ran c a d chain n.tuple k h n.meets) (g.kept.asked r (worker_no ran.setup c.worker).node ac) in
         let last = same_last ran c k.moment m.moment k.there m.there in
         absurd (omega arith)
 
     above : (a : Address) (chain : List Address) → Child ran d a → IsChain ran a chain c → ⊥
     above a chain k h =
-        let le : r ≤ k.moment.local.last = new (visit_at (post_of ran.setup d.worker) k.moment.local) (visit_of ran d a c chain m.tuple k h m.meets) (g.kept.asked r (post_of ran.setup d.worker).node ad) in
+        let le : r ≤ k.moment.view.last = new (visit_at (worker_no ran.setup d.worker) k.moment.view) (visit_of ran d a c chain m.tuple k h m.meets) (g.kept.asked r (worker_no ran.setup d.worker).node ad) in
         let last = same_last ran d k.moment n.moment k.there n.there in
         absurd (omega arith)
 
@@ -164,19 +164,19 @@ module _ (rows : List Row) (ran : Ran) (g : Running rows ran) (row r : ℕ) (c d
     between p a b x y differ s t u v =
         let k : Parted ran p a b = parted ran p a b x y differ in
         let h : HasParted ran p a b k = has_parted rows ran g p a b k in
-        let post : Post = post_of ran.setup p.worker in
-        let leads : Reaches (HasEdge ran.setup.job.edges) post.node (post_of ran.setup c.worker).node =
-        Reaches-from_steps (HasEdge ran.setup.job.edges) post.node (post_of ran.setup a.worker).node (post_of ran.setup c.worker).node k.first.edge (chain_reaches ran a c s u) in
-        let cov : covers ran.setup r post.node ≡ true =
+        let who : Worker = worker_no ran.setup p.worker in
+        let leads : Reaches (HasEdge ran.setup.job.edges) who.node (worker_no ran.setup c.worker).node =
+        Reaches-from_steps (HasEdge ran.setup.job.edges) who.node (worker_no ran.setup a.worker).node (worker_no ran.setup c.worker).node k.first.edge (chain_reaches ran a c s u) in
+        let cov : covers ran.setup r who.node ≡ true =
         elim h.source [
-          | inl split ↦ g.kept.splits r post.node (post_of ran.setup c.worker).node split leads ac
+          | inl split ↦ g.kept.splits r who.node (worker_no ran.setup c.worker).node split leads ac
           | inr copy ↦
-              g.kept.copies r post.node (post_of ran.setup a.worker).node (post_of ran.setup b.worker).node (post_of ran.setup c.worker).node (post_of ran.setup d.worker).node copy.0 copy.1
+              g.kept.copies r who.node (worker_no ran.setup a.worker).node (worker_no ran.setup b.worker).node (worker_no ran.setup c.worker).node (worker_no ran.setup d.worker).node copy.0 copy.1
               k.first.edge (chain_reaches ran a c s u) ac k.second.edge (chain_reaches ran b d t v) ad
         ] in
-        let le : r ≤ k.first.moment.local.last = new (visit_at post k.first.moment.local) (visit_of ran p a c s m.tuple k.first u m.meets) cov in
-        let lt : k.second.moment.local.last < r = old (visit_at post k.second.moment.local) (visit_of ran p b d t n.tuple k.second v n.meets) cov in
-        let last : k.first.moment.local.last ≡ k.second.moment.local.last = ap (λ (m : Moment). m.local.last) k.same_moment in
+        let le : r ≤ k.first.moment.view.last = new (visit_at who k.first.moment.view) (visit_of ran p a c s m.tuple k.first u m.meets) cov in
+        let lt : k.second.moment.view.last < r = old (visit_at who k.second.moment.view) (visit_of ran p b d t n.tuple k.second v n.meets) cov in
+        let last : k.first.moment.view.last ≡ k.second.moment.view.last = ap (λ (m : Moment). m.view.last) k.same_moment in
         absurd (omega arith)
 
     torn : AreKin ran c d → ⊥
@@ -202,46 +202,46 @@ module _ (rows : List Row) (ran : Ran) (g : Running rows ran) (row r : ℕ) (c d
 record IsAsked (ran : Ran) (r : ℕ) (journal : List Entry) : Type 0 where
   w : ℕ
   within : HasWorker ran w
-  asked : asks ran.setup r (post_of ran.setup w).node ≡ true
+  asked : asks ran.setup r (worker_no ran.setup w).node ≡ true
   journal_there : journal_of ran w ≡ journal
 
 asked_journal : (ran : Ran) (r : ℕ) (journal : List Entry) → IsIn journal (journals_at ran.journals (asked_workers ran.setup r)) → IsAsked ran r journal
 asked_journal ran r journal h =
-    let p = in_filter_map (λ (post : Post). slice_get ran.journals post.number) journal (asked_workers ran.setup r) h in
-    let q = in_filter (λ (post : Post). asks ran.setup r post.node) p.0 (posts ran.setup.job) p.1 in
-    let is : IsWorker ran.setup.job p.0 = in_posts ran.setup.job p.0 q.0 in
-    let e : post_of ran.setup p.0.number ≡ p.0 = post_is ran.setup p.0.number p.0 is.there in
+    let p = in_filter_map (λ (who : Worker). slice_get ran.journals who.number) journal (asked_workers ran.setup r) h in
+    let q = in_filter (λ (who : Worker). asks ran.setup r who.node) p.0 (workers_in ran.setup.job) p.1 in
+    let is : IsWorker ran.setup.job p.0 = in_workers ran.setup.job p.0 q.0 in
+    let e : worker_no ran.setup p.0.number ≡ p.0 = who_is ran.setup p.0.number p.0 is.there in
     record {
       w = p.0.number;
-      within = slice_get_within (posts ran.setup.job) p.0.number p.0 is.there;
+      within = slice_get_within (workers_in ran.setup.job) p.0.number p.0 is.there;
       asked = rw e q.1;
       journal_there = journal_is ran p.0.number journal p.2;
     }
 
 -- a covering request is turned by every worker
-pub covered_turns : (rows : List Row) (ran : Ran) (g : Running rows ran) (w r : ℕ) → HasWorker ran w → covers ran.setup r (post_of ran.setup w).node ≡ true → IsIn (entry.Turned r) (journal_of ran w)
+pub covered_turns : (rows : List Row) (ran : Ran) (g : Running rows ran) (w r : ℕ) → HasWorker ran w → covers ran.setup r (worker_no ran.setup w).node ≡ true → IsIn (entry.Turned r) (journal_of ran w)
 covered_turns rows ran g w r lt c =
-    let lane = g.wired.reached (post_of ran.setup w) (worker_is ran.setup w lt).1 in
-    turns (station_of ran w) (journal_of ran w) lane.0 r (finished rows ran g w lt) lane.1 (due_of_cover ran.setup (post_of ran.setup w).node r c)
+    let lane = g.wired.reached (worker_no ran.setup w) (worker_is ran.setup w lt).1 in
+    turns (duties_of ran w) (journal_of ran w) lane.0 r (finished rows ran g w lt) lane.1 (due_of_cover ran.setup (worker_no ran.setup w).node r c)
 
 pub late_of : (rows : List Row) (ran : Ran) (g : Running rows ran) (w row r : ℕ) → HasWorker ran w → meets_row row (after_turn r (journal_of ran w)) ≡ true
-    → Late ran.setup (post_of ran.setup w) (begun ran.setup w) (journal_of ran w) row r
+    → Late ran.setup (worker_no ran.setup w) (begun ran.setup w) (journal_of ran w) row r
 late_of rows ran g w row r lt h =
-    found_late ran.setup (station_of ran w) (post_of ran.setup w) (start_of ran w) (begun ran.setup w) (journal_of ran w) row r
-    (execution rows ran g w lt) (dues_rise ran.setup 0 (post_of ran.setup w).node 0 (omega arith)) h
+    found_late ran.setup (duties_of ran w) (worker_no ran.setup w) (start_of ran w) (begun ran.setup w) (journal_of ran w) row r
+    (execution rows ran g w lt) (dues_rise ran.setup 0 (worker_no ran.setup w).node 0 (omega arith)) h
 
-pub early_of : (rows : List Row) (ran : Ran) (g : Running rows ran) (w row r : ℕ) → HasWorker ran w → covers ran.setup r (post_of ran.setup w).node ≡ true → meets_row row (before_turn r (journal_of ran w)) ≡ true
-    → Early ran.setup (post_of ran.setup w) (begun ran.setup w) (journal_of ran w) row r
+pub early_of : (rows : List Row) (ran : Ran) (g : Running rows ran) (w row r : ℕ) → HasWorker ran w → covers ran.setup r (worker_no ran.setup w).node ≡ true → meets_row row (before_turn r (journal_of ran w)) ≡ true
+    → Early ran.setup (worker_no ran.setup w) (begun ran.setup w) (journal_of ran w) row r
 early_of rows ran g w row r lt c h =
-    found_early ran.setup (station_of ran w) (post_of ran.setup w) (start_of ran w) (begun ran.setup w) (journal_of ran w) row r
-    (execution rows ran g w lt) (dues_rise ran.setup 0 (post_of ran.setup w).node 0 (omega arith)) (covered_turns rows ran g w r lt c) h
+    found_early ran.setup (duties_of ran w) (worker_no ran.setup w) (start_of ran w) (begun ran.setup w) (journal_of ran w) row r
+    (execution rows ran g w lt) (dues_rise ran.setup 0 (worker_no ran.setup w).node 0 (omega arith)) (covered_turns rows ran g w r lt c) h
 
 -- the row is met after the turn by one and before it by another: that can't be
 both_sides : (rows : List Row) (ran : Ran) (g : Running rows ran) (r row : ℕ) (a b : List Entry) → IsAsked ran r a → IsAsked ran r b
     → meets_row row (after_turn r a) ≡ true → meets_row row (before_turn r b) ≡ true → ⊥
 both_sides rows ran g r row a b x y h k =
     let late = late_of rows ran g x.w row r x.within (rw x.journal_there h) in
-    let early = early_of rows ran g y.w row r y.within (g.kept.asked r (post_of ran.setup y.w).node y.asked) (rw y.journal_there k) in
+    let early = early_of rows ran g y.w row r y.within (g.kept.asked r (worker_no ran.setup y.w).node y.asked) (rw y.journal_there k) in
     let p : HasAgreed ran.setup (journal_of ran x.w) = all_agree rows ran g x.w x.within in
     let q : HasAgreed ran.setup (journal_of ran y.w) = all_agree rows ran g y.w y.within in
     never_torn rows ran g row r (record { worker = x.w; entry = late.found.i }) (record { worker = y.w; entry = early.found.i }) x.asked y.asked
@@ -274,10 +274,10 @@ fewer_pass test few many f e = go (list_any test few) refl
 pub changed_asked : (rows : List Row) (ran : Ran) (g : Running rows ran) (r : ℕ) (journal : List Entry) → IsIn journal (journals_at ran.journals (changed_workers ran.setup r))
     → IsIn journal (journals_at ran.journals (asked_workers ran.setup r))
 changed_asked rows ran g r journal h =
-    let p = in_filter_map (λ (post : Post). slice_get ran.journals post.number) journal (changed_workers ran.setup r) h in
-    let q = in_filter (λ (post : Post). changes ran.setup r post.node) p.0 (posts ran.setup.job) p.1 in
-    filter_map_in (λ (post : Post). slice_get ran.journals post.number) p.0 journal (asked_workers ran.setup r)
-    (filter_in (λ (post : Post). asks ran.setup r post.node) p.0 (posts ran.setup.job) q.0 (g.kept.changed r p.0.node q.1)) p.2
+    let p = in_filter_map (λ (who : Worker). slice_get ran.journals who.number) journal (changed_workers ran.setup r) h in
+    let q = in_filter (λ (who : Worker). changes ran.setup r who.node) p.0 (workers_in ran.setup.job) p.1 in
+    filter_map_in (λ (who : Worker). slice_get ran.journals who.number) p.0 journal (asked_workers ran.setup r)
+    (filter_in (λ (who : Worker). asks ran.setup r who.node) p.0 (workers_in ran.setup.job) q.0 (g.kept.changed r p.0.node q.1)) p.2
 
 -- so do those of the nodes that the request changes
 pub whole : (rows : List Row) (ran : Ran) (g : Running rows ran) (r row : ℕ) → IsWhole ran r row

@@ -14,19 +14,19 @@ use Rattle.tuple_trace.specs.declared.row.Row.{Row}
 use Rattle.tuple_trace.specs.declared.tuple.Item.{Item}
 use Rattle.tuple_trace.specs.declared.tuple.Item.TheVariants as item
 use Rattle.flow_model.specs.Agreement.{Agreement, IsGraphOf, SendsSteadily, WorksSteadily}
-use Rattle.flow_model.specs.Begin.{Begin, at_first, last_after, local_at}
+use Rattle.flow_model.specs.Begin.{Begin, at_first, last_after, view_at}
 use Rattle.flow_model.specs.Covers.{covers}
 use Rattle.flow_model.specs.declared.topology.Lane.{Lane}
-use Rattle.flow_model.specs.Outline.{Outline, Post}
+use Rattle.flow_model.specs.SetupView.{SetupView, Worker}
 use Rattle.flow_model.specs.Replay.{sent, shown}
 use Rattle.flow_model.specs.Run.{IsLawfulFrom, Ran}
-use Rattle.flow_model.specs.Workers.{posts}
+use Rattle.flow_model.specs.Workers.{workers_in}
 use Rattle.flow_model.proofs.ElementLemmas.{IsIn, all_of_at, all_of_pairs, at_of_all, pair_of_all}
 use Rattle.flow_model.proofs.LaneLemmas.{LaneIn, lane_into}
 use Rattle.flow_model.proofs.PlannedLemmas.{HasCovers, dues_rise}
 use Rattle.flow_model.proofs.AgreementLemmas.{BringSteadily, ComesAlong, HasAgreed, IsSteadyList, agreed, agreement_of, nodes_of}
 use Rattle.flow_model.proofs.SendingLemmas.{sends_steadily}
-use Rattle.flow_model.proofs.WorkerLemmas.{IsWorker, journal_is, journal_of, post_is, post_of, worker_with}
+use Rattle.flow_model.proofs.WorkerLemmas.{IsWorker, journal_is, journal_of, who_is, worker_no, worker_with}
 use Rattle.flow_model.proofs.RunLemmas.{HasWorker, Running, all_steady, finished}
 
 -- ---- steady lists
@@ -59,7 +59,7 @@ list_steady origin E items same s = record { come = all_of_at (HasComeTo origin)
 
 -- ---- what a worker has turned before
 
-pub last_within : (setup : Outline) (node turned : ℕ) → last_after setup node turned ≤ turned
+pub last_within : (setup : SetupView) (node turned : ℕ) → last_after setup node turned ≤ turned
 last_within setup node zero = omega arith
 last_within setup node (suc r) = go (covers setup (suc r) node) (last_within setup node r)
   where
@@ -69,46 +69,46 @@ last_within setup node (suc r) = go (covers setup (suc r) node) (last_within set
 
 -- ---- the law
 
-module _ (setup : Outline) (kept : HasCovers setup) (graph : Graph) (same : IsGraphOf setup.job graph) (begin : Begin) (post : Post) (journal : List Entry)
-    (works : WorksSteadily setup graph begin post journal)
+module _ (setup : SetupView) (kept : HasCovers setup) (graph : Graph) (same : IsGraphOf setup.job graph) (begin : Begin) (who : Worker) (journal : List Entry)
+    (works : WorksSteadily setup graph begin who journal)
   where
-    is : IsWorker setup.job post
-    is = (worker_with setup.job post.number post works.works).1
+    is : IsWorker setup.job who
+    is = (worker_with setup.job who.number who works.works).1
 
-    brought : BringSteadily setup post journal
+    brought : BringSteadily setup who journal
     brought n k =
         steady_list (record { graph = graph; from = k.edge.from }) (HasEdge setup.job.edges) (shown setup n journal) same (works.steady n k.lane k.edge k.numbered k.receiver k.edge_is)
 
     has_agreed : HasAgreed setup journal
-    has_agreed = agreed setup kept begin.turned post is journal works.lawful.execution brought
+    has_agreed = agreed setup kept begin.turned who is journal works.lawful.execution brought
 
     pub worker_agrees : Agreement setup journal
     worker_agrees = agreement_of setup journal has_agreed
 
-    pub worker_sends : (counts : Counts) → SendsSteadily setup graph begin post counts journal
+    pub worker_sends : (counts : Counts) → SendsSteadily setup graph begin who counts journal
     worker_sends counts lane =
-        list_steady (record { graph = graph; from = post.node }) (HasEdge setup.job.edges) (sent setup post (local_at setup begin.turned post counts) lane journal) same
-        (sends_steadily setup begin.turned post is (local_at setup begin.turned post counts) journal works.lawful.execution
-        (dues_rise setup begin.turned post.node (last_after setup post.node begin.turned) (last_within setup post.node begin.turned)) brought has_agreed lane)
+        list_steady (record { graph = graph; from = who.node }) (HasEdge setup.job.edges) (sent setup who (view_at setup begin.turned who counts) lane journal) same
+        (sends_steadily setup begin.turned who is (view_at setup begin.turned who counts) journal works.lawful.execution
+        (dues_rise setup begin.turned who.node (last_after setup who.node begin.turned) (last_within setup who.node begin.turned)) brought has_agreed lane)
 
 -- ---- in a run
 
 -- in a run every worker's journal is lawful, and its lanes have brought it steady lists
-pub run_works : (rows : List Row) (ran : Ran) (g : Running rows ran) (graph : Graph) → IsGraphOf ran.setup.job graph → (w : ℕ) (post : Post) (journal : List Entry)
-    → slice_get (posts ran.setup.job) w ≡ Some post → slice_get ran.journals w ≡ Some journal → WorksSteadily ran.setup graph (at_first ran.setup) post journal
-run_works rows ran g graph same w post journal p j =
-    let lt : HasWorker ran w = slice_get_within (posts ran.setup.job) w post p in
-    let at : post_of ran.setup w ≡ post = post_is ran.setup w post p in
+pub run_works : (rows : List Row) (ran : Ran) (g : Running rows ran) (graph : Graph) → IsGraphOf ran.setup.job graph → (w : ℕ) (who : Worker) (journal : List Entry)
+    → slice_get (workers_in ran.setup.job) w ≡ Some who → slice_get ran.journals w ≡ Some journal → WorksSteadily ran.setup graph (at_first ran.setup) who journal
+run_works rows ran g graph same w who journal p j =
+    let lt : HasWorker ran w = slice_get_within (workers_in ran.setup.job) w who p in
+    let at : worker_no ran.setup w ≡ who = who_is ran.setup w who p in
     let there : journal_of ran w ≡ journal = journal_is ran w journal j in
-    let is : IsWorker ran.setup.job post = (worker_with ran.setup.job w post p).1 in
-    let brought : BringSteadily ran.setup post journal =
-    subst (λ (x : Post). BringSteadily ran.setup x journal) at (subst (λ (x : List Entry). BringSteadily ran.setup (post_of ran.setup w) x) there (all_steady rows ran g w lt)) in
+    let is : IsWorker ran.setup.job who = (worker_with ran.setup.job w who p).1 in
+    let brought : BringSteadily ran.setup who journal =
+    subst (λ (x : Worker). BringSteadily ran.setup x journal) at (subst (λ (x : List Entry). BringSteadily ran.setup (worker_no ran.setup w) x) there (all_steady rows ran g w lt)) in
     record {
       works = is.there;
-      lawful = subst (λ (x : Post). IsLawfulFrom ran.setup (at_first ran.setup) x journal) at
-          (subst (λ (x : List Entry). IsLawfulFrom ran.setup (at_first ran.setup) (post_of ran.setup w) x) there (finished rows ran g w lt).lawful);
+      lawful = subst (λ (x : Worker). IsLawfulFrom ran.setup (at_first ran.setup) x journal) at
+          (subst (λ (x : List Entry). IsLawfulFrom ran.setup (at_first ran.setup) (worker_no ran.setup w) x) there (finished rows ran g w lt).lawful);
       steady = λ n lane edge g r e.
-          let k : LaneIn ran.setup.job post n = lane_into ran.setup.job post n lane is g r in
+          let k : LaneIn ran.setup.job who n = lane_into ran.setup.job who n lane is g r in
           let x = k.numbered in
           let lane_is : k.lane ≡ lane = cc in
           let y : slice_get ran.setup.job.edges lane.edge ≡ Some k.edge = subst (λ (l : Lane). slice_get ran.setup.job.edges l.edge ≡ Some k.edge) lane_is k.edge_is in

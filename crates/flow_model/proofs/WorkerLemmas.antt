@@ -5,35 +5,35 @@ use Rattle.std.proofs.lemmas.Option.{get_or_from_slice_get, same_Some, slice_get
 use Rattle.std.specs.FinMap.{empty}
 use Rattle.sink_journal.specs.declared.journal.Entry.{Entry}
 use Rattle.jobs.specs.Nodes.{is_source, workers_of, workers_with}
-use Rattle.jobs.specs.Written.{Written}
+use Rattle.jobs.specs.JobView.{JobView}
 use Rattle.jobs.specs.declared.func.Func.{Func}
 use Rattle.jobs.specs.declared.func.Func.TheVariants as func
 use Rattle.jobs.specs.declared.func.NodeDef.{NodeDef}
-use Rattle.flow_model.specs.Outline.{Outline, Post}
-use Rattle.flow_model.specs.Begin.{local_at}
-use Rattle.flow_model.specs.Replay.{Local}
+use Rattle.flow_model.specs.SetupView.{SetupView, Worker}
+use Rattle.flow_model.specs.Begin.{view_at}
+use Rattle.flow_model.specs.Replay.{StateView}
 use Rattle.flow_model.specs.Run.{Ran}
-use Rattle.flow_model.specs.Workers.{posts, posts_at, posts_from, posts_of}
-use Rattle.flow_model.proofs.PostLemmas.{get-posts_at, length-posts_at, post_by}
+use Rattle.flow_model.specs.Workers.{workers_in, node_workers, workers_from, workers_at_node}
+use Rattle.flow_model.proofs.WorkerListLemmas.{get-node_workers, length-node_workers, who_by}
 use Rattle.flow_model.proofs.ElementLemmas.{AreDistinct, IsIn, distinct_by_place, distinct_filter, filter_in, in_filter, place_of_in}
 
 -- ---- what a worker is
 
 -- a worker has its number for its place, and stands at a node of the job that isn't a source, with the node's function
-pub record IsWorker (job : Written) (post : Post) : Type 0 where
-  pub there : slice_get (posts job) post.number ≡ Some post
+pub record IsWorker (job : JobView) (who : Worker) : Type 0 where
+  pub there : slice_get (workers_in job) who.number ≡ Some who
   pub def : NodeDef
-  pub node_is : slice_get job.nodes post.node ≡ Some def
-  pub func_is : post.func ≡ def.func
+  pub node_is : slice_get job.nodes who.node ≡ Some def
+  pub func_is : who.func ≡ def.func
   pub no_source : is_source def.func ≡ false
-  pub place : post.place < workers_of def
+  pub place : who.place < workers_of def
 
-posts_at_get : (number node : ℕ) (f : Func) (place left k : ℕ) (post : Post) → slice_get (posts_at number node f place left) k ≡ Some post
-    → (post.number ≡ number + k) × (post.node ≡ node) × (post.place ≡ place + k) × (post.func ≡ f) × (k < left)
-posts_at_get number node f place left k post g =
-    let lt : k < left = omega (arith, slice_get_within (posts_at number node f place left) k post g, length-posts_at number node f place left) in
-    let e : post ≡ post_by (number + k) node f (place + k) = same_Some post (post_by (number + k) node f (place + k)) (sym g ∙ get-posts_at number node f place left k lt) in
-    (ap (λ (p : Post). p.number) e, ap (λ (p : Post). p.node) e, ap (λ (p : Post). p.place) e, ap (λ (p : Post). p.func) e, lt)
+node_workers_get : (number node : ℕ) (f : Func) (place left k : ℕ) (who : Worker) → slice_get (node_workers number node f place left) k ≡ Some who
+    → (who.number ≡ number + k) × (who.node ≡ node) × (who.place ≡ place + k) × (who.func ≡ f) × (k < left)
+node_workers_get number node f place left k who g =
+    let lt : k < left = omega (arith, slice_get_within (node_workers number node f place left) k who g, length-node_workers number node f place left) in
+    let e : who ≡ who_by (number + k) node f (place + k) = same_Some who (who_by (number + k) node f (place + k)) (sym g ∙ get-node_workers number node f place left k lt) in
+    (ap (λ (p : Worker). p.number) e, ap (λ (p : Worker). p.node) e, ap (λ (p : Worker). p.place) e, ap (λ (p : Worker). p.func) e, lt)
 
 -- a place of joined lists is one of the first or of the second
 pub get_append : {A : Type 0} (xs ys : List A) (q : ℕ) (x : A) → slice_get (xs ++ ys) q ≡ Some x
@@ -71,38 +71,38 @@ all_workers def e = go def.func def.workers e
     go (func.Sink listed) n e = refl
 
 -- what stands at a place of the workers of these nodes
-pub record StandsAt (number node : ℕ) (nodes : List NodeDef) (k : ℕ) (post : Post) : Type 0 where
-  pub number_is : post.number ≡ number + k
+pub record StandsAt (number node : ℕ) (nodes : List NodeDef) (k : ℕ) (who : Worker) : Type 0 where
+  pub number_is : who.number ≡ number + k
   pub def : NodeDef
   pub at : ℕ
-  pub node_is : post.node ≡ node + at
+  pub node_is : who.node ≡ node + at
   pub there : slice_get nodes at ≡ Some def
-  pub func_is : post.func ≡ def.func
-  pub place : post.place < workers_of def
+  pub func_is : who.func ≡ def.func
+  pub place : who.place < workers_of def
 
-posts_get : (number node : ℕ) (nodes : List NodeDef) (k : ℕ) (post : Post) → slice_get (posts_from number node nodes) k ≡ Some post → StandsAt number node nodes k post
-posts_get number node [] k post g = absurd (cc)
-posts_get number node (def ∷ more) k post g =
-    elim (get_append (posts_at number node def.func 0 (workers_of def)) (posts_from (number + workers_of def) (node + 1) more) k post g) [
+workers_get : (number node : ℕ) (nodes : List NodeDef) (k : ℕ) (who : Worker) → slice_get (workers_from number node nodes) k ≡ Some who → StandsAt number node nodes k who
+workers_get number node [] k who g = absurd (cc)
+workers_get number node (def ∷ more) k who g =
+    elim (get_append (node_workers number node def.func 0 (workers_of def)) (workers_from (number + workers_of def) (node + 1) more) k who g) [
       | inl a ↦
-          let r = posts_at_get number node def.func 0 (workers_of def) k post a in
+          let r = node_workers_get number node def.func 0 (workers_of def) k who a in
           record { number_is = r.0; def = def; at = 0; node_is = omega (arith, r.1); there = refl; func_is = r.3; place = omega (arith, r.2, r.4) }
       | inr b ↦
-          let r : StandsAt (number + workers_of def) (node + 1) more b.0 post = posts_get (number + workers_of def) (node + 1) more b.0 post b.2 in
-          let l : length (posts_at number node def.func 0 (workers_of def)) ≡ workers_of def = length-posts_at number node def.func 0 (workers_of def) in
+          let r : StandsAt (number + workers_of def) (node + 1) more b.0 who = workers_get (number + workers_of def) (node + 1) more b.0 who b.2 in
+          let l : length (node_workers number node def.func 0 (workers_of def)) ≡ workers_of def = length-node_workers number node def.func 0 (workers_of def) in
           let q = b.1 in
           record { number_is = omega (arith, r.number_is); def = r.def; at = suc r.at; node_is = omega (arith, r.node_is); there = r.there; func_is = r.func_is; place = r.place }
     ]
 
 -- what stands at a place of the workers is the worker with this number
-pub worker_with : (job : Written) (w : ℕ) (post : Post) → slice_get (posts job) w ≡ Some post → (post.number ≡ w) × IsWorker job post
-worker_with job w post g =
-    let r : StandsAt 0 0 job.nodes w post = posts_get 0 0 job.nodes w post g in
-    let number : post.number ≡ w = omega (arith, r.number_is) in
-    let node : post.node ≡ r.at = omega (arith, r.node_is) in (
+pub worker_with : (job : JobView) (w : ℕ) (who : Worker) → slice_get (workers_in job) w ≡ Some who → (who.number ≡ w) × IsWorker job who
+worker_with job w who g =
+    let r : StandsAt 0 0 job.nodes w who = workers_get 0 0 job.nodes w who g in
+    let number : who.number ≡ w = omega (arith, r.number_is) in
+    let node : who.node ≡ r.at = omega (arith, r.node_is) in (
       number,
       record {
-        there = subst (λ k. slice_get (posts job) k ≡ Some post) (sym number) g;
+        there = subst (λ k. slice_get (workers_in job) k ≡ Some who) (sym number) g;
         def = r.def;
         node_is = subst (λ k. slice_get job.nodes k ≡ Some r.def) (sym node) r.there;
         func_is = r.func_is;
@@ -111,57 +111,57 @@ worker_with job w post g =
       },
     )
   where
-    manned : (def : NodeDef) → post.place < workers_of def → is_source def.func ≡ false
+    manned : (def : NodeDef) → who.place < workers_of def → is_source def.func ≡ false
     manned def lt = go (is_source def.func) refl
       where
         go : (b : Bool) → is_source def.func ≡ b → is_source def.func ≡ false
         go true e = let none : workers_of def ≡ 0 = no_workers def e in absurd (omega arith)
         go false e = e
 
-pub in_posts : (job : Written) (post : Post) → IsIn post (posts job) → IsWorker job post
-in_posts job post i = let r = place_of_in post (posts job) i in (worker_with job r.0 post r.1).1
+pub in_workers : (job : JobView) (who : Worker) → IsIn who (workers_in job) → IsWorker job who
+in_workers job who i = let r = place_of_in who (workers_in job) i in (worker_with job r.0 who r.1).1
 
 -- a worker by its number
-pub same_post : (job : Written) (a b : Post) → IsIn a (posts job) → IsIn b (posts job) → a.number ≡ b.number → a ≡ b
-same_post job a b i j e =
-    let x = (in_posts job a i).there in
-    let y : slice_get (posts job) a.number ≡ Some b = subst (λ k. slice_get (posts job) k ≡ Some b) (sym e) (in_posts job b j).there in
+pub same_who : (job : JobView) (a b : Worker) → IsIn a (workers_in job) → IsIn b (workers_in job) → a.number ≡ b.number → a ≡ b
+same_who job a b i j e =
+    let x = (in_workers job a i).there in
+    let y : slice_get (workers_in job) a.number ≡ Some b = subst (λ k. slice_get (workers_in job) k ≡ Some b) (sym e) (in_workers job b j).there in
     cc
 
-pub posts_distinct : (job : Written) → AreDistinct (posts job)
-posts_distinct job = distinct_by_place (posts job) (λ i j post g h. sym (worker_with job i post g).0 ∙ (worker_with job j post h).0)
+pub workers_distinct : (job : JobView) → AreDistinct (workers_in job)
+workers_distinct job = distinct_by_place (workers_in job) (λ i j who g h. sym (worker_with job i who g).0 ∙ (worker_with job j who h).0)
 
 -- ---- the workers of a node
 
-pub posts_of_distinct : (job : Written) (node : ℕ) → AreDistinct (posts_of job node)
-posts_of_distinct job node = distinct_filter (λ (post : Post). post.node == node) (posts job) (posts_distinct job)
+pub workers_at_node_distinct : (job : JobView) (node : ℕ) → AreDistinct (workers_at_node job node)
+workers_at_node_distinct job node = distinct_filter (λ (who : Worker). who.node == node) (workers_in job) (workers_distinct job)
 
-pub in_posts_of : (job : Written) (node : ℕ) (post : Post) → IsIn post (posts_of job node) → IsIn post (posts job) × (post.node ≡ node)
-in_posts_of job node post i =
-    let r = in_filter (λ (post : Post). post.node == node) post (posts job) i in
-    (r.0, eqb-true post.node node r.1)
+pub in_workers_at_node : (job : JobView) (node : ℕ) (who : Worker) → IsIn who (workers_at_node job node) → IsIn who (workers_in job) × (who.node ≡ node)
+in_workers_at_node job node who i =
+    let r = in_filter (λ (who : Worker). who.node == node) who (workers_in job) i in
+    (r.0, eqb-true who.node node r.1)
 
-pub posts_of_in : (job : Written) (node : ℕ) (post : Post) → IsIn post (posts job) → post.node ≡ node → IsIn post (posts_of job node)
-posts_of_in job node post i e = filter_in (λ (post : Post). post.node == node) post (posts job) i (eq-eqb post.node node e)
+pub workers_at_node_in : (job : JobView) (node : ℕ) (who : Worker) → IsIn who (workers_in job) → who.node ≡ node → IsIn who (workers_at_node job node)
+workers_at_node_in job node who i e = filter_in (λ (who : Worker). who.node == node) who (workers_in job) i (eq-eqb who.node node e)
 
 -- ---- workers and journals by numbers, where a number that is none's has a worker of nothing and an empty journal
 
-abbrev no_post : Post
-no_post = record { number = 0; node = 0; place = 0; func = func.Source }
+abbrev no_worker : Worker
+no_worker = record { number = 0; node = 0; place = 0; func = func.Source }
 
-unfoldable pub post_of : Outline → ℕ → Post
-post_of setup w = slice_index_or (posts setup.job) w no_post
+unfoldable pub worker_no : SetupView → ℕ → Worker
+worker_no setup w = slice_index_or (workers_in setup.job) w no_worker
 
 unfoldable pub journal_of : Ran → ℕ → List Entry
 journal_of ran w = slice_index_or ran.journals w []
 
 -- what is in force at a worker at first
-abbrev pub begun : Outline → ℕ → Local
-begun setup w = local_at setup 0 (post_of setup w) empty
+abbrev pub begun : SetupView → ℕ → StateView
+begun setup w = view_at setup 0 (worker_no setup w) empty
 
-pub post_is : (setup : Outline) (w : ℕ) (post : Post) → slice_get (posts setup.job) w ≡ Some post → post_of setup w ≡ post
-unfolding post_of
-post_is setup w post g = get_or_from_slice_get (posts setup.job) w post no_post g
+pub who_is : (setup : SetupView) (w : ℕ) (who : Worker) → slice_get (workers_in setup.job) w ≡ Some who → worker_no setup w ≡ who
+unfolding worker_no
+who_is setup w who g = get_or_from_slice_get (workers_in setup.job) w who no_worker g
 
 pub journal_is : (ran : Ran) (w : ℕ) (journal : List Entry) → slice_get ran.journals w ≡ Some journal → journal_of ran w ≡ journal
 unfolding journal_of
@@ -173,23 +173,23 @@ item_at [] k lt = absurd (omega arith)
 item_at (x ∷ xs) zero lt = (x, refl)
 item_at (x ∷ xs) (suc k) lt = item_at xs k (omega arith)
 
-pub post_there : (setup : Outline) (w : ℕ) → w < length (posts setup.job) → slice_get (posts setup.job) w ≡ Some (post_of setup w)
-post_there setup w lt = let r = item_at (posts setup.job) w lt in r.1 ∙ ap Some (sym (post_is setup w r.0 r.1))
+pub who_there : (setup : SetupView) (w : ℕ) → w < length (workers_in setup.job) → slice_get (workers_in setup.job) w ≡ Some (worker_no setup w)
+who_there setup w lt = let r = item_at (workers_in setup.job) w lt in r.1 ∙ ap Some (sym (who_is setup w r.0 r.1))
 
 pub journal_there : (ran : Ran) (w : ℕ) → w < length ran.journals → slice_get ran.journals w ≡ Some (journal_of ran w)
 journal_there ran w lt = let r = item_at ran.journals w lt in r.1 ∙ ap Some (sym (journal_is ran w r.0 r.1))
 
-pub worker_is : (setup : Outline) (w : ℕ) → w < length (posts setup.job) → ((post_of setup w).number ≡ w) × IsWorker setup.job (post_of setup w)
-worker_is setup w lt = worker_with setup.job w (post_of setup w) (post_there setup w lt)
+pub worker_is : (setup : SetupView) (w : ℕ) → w < length (workers_in setup.job) → ((worker_no setup w).number ≡ w) × IsWorker setup.job (worker_no setup w)
+worker_is setup w lt = worker_with setup.job w (worker_no setup w) (who_there setup w lt)
 
 -- a worker of a node, by its number
-pub record Stands (setup : Outline) (node w : ℕ) : Type 0 where
-  pub within : w < length (posts setup.job)
-  pub node_is : (post_of setup w).node ≡ node
+pub record Stands (setup : SetupView) (node w : ℕ) : Type 0 where
+  pub within : w < length (workers_in setup.job)
+  pub node_is : (worker_no setup w).node ≡ node
 
-pub stands_at : (setup : Outline) (node : ℕ) (post : Post) → IsIn post (posts_of setup.job node) → (post_of setup post.number ≡ post) × Stands setup node post.number
-stands_at setup node post i =
-    let r = in_posts_of setup.job node post i in
-    let is : IsWorker setup.job post = in_posts setup.job post r.0 in
-    let e : post_of setup post.number ≡ post = post_is setup post.number post is.there in
-    (e, record { within = slice_get_within (posts setup.job) post.number post is.there; node_is = ap (λ (p : Post). p.node) e ∙ r.1 })
+pub stands_at : (setup : SetupView) (node : ℕ) (who : Worker) → IsIn who (workers_at_node setup.job node) → (worker_no setup who.number ≡ who) × Stands setup node who.number
+stands_at setup node who i =
+    let r = in_workers_at_node setup.job node who i in
+    let is : IsWorker setup.job who = in_workers setup.job who r.0 in
+    let e : worker_no setup who.number ≡ who = who_is setup who.number who is.there in
+    (e, record { within = slice_get_within (workers_in setup.job) who.number who is.there; node_is = ap (λ (p : Worker). p.node) e ∙ r.1 })

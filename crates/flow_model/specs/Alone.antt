@@ -6,7 +6,7 @@ use Rattle.flow_dag.specs.declared.edge.Edge.{Edge}
 use Rattle.jobs.specs.declared.func.Func.{Func}
 use Rattle.jobs.specs.declared.func.Func.TheVariants as func
 use Rattle.jobs.specs.declared.func.NodeDef.{NodeDef}
-use Rattle.jobs.specs.Written.{Written}
+use Rattle.jobs.specs.JobView.{JobView}
 use Rattle.operators.specs.Meaning.{step}
 use Rattle.operators.specs.declared.output.Output.{Output}
 use Rattle.tuple_trace.specs.declared.row.Row.{Row}
@@ -43,7 +43,7 @@ onward lands None tuple = []
 onward lands (Some edge) tuple = lands edge.1.to tuple
 
 -- what a tuple at a node with this function makes at the sinks, where `lands` tells it of the nodes behind
-abbrev pub lands_by : Written → (ℕ → Tuple → List Landing) → ℕ → Option Func → Tuple → List Landing
+abbrev pub lands_by : JobView → (ℕ → Tuple → List Landing) → ℕ → Option Func → Tuple → List Landing
 lands_by job lands node None tuple = []
 lands_by job lands node (Some (func.Sink listed)) tuple = landing node tuple ∷ []
 lands_by job lands node (Some func) tuple =
@@ -51,12 +51,12 @@ lands_by job lands node (Some func) tuple =
     step job (bare_visit node) func empty tuple).1
 
 -- what a tuple at a node makes at the sinks, over at most so many nodes, each with the function of the table
-abbrev pub lands : Written → (ℕ → Option Func) → ℕ → ℕ → Tuple → List Landing
+abbrev pub lands : JobView → (ℕ → Option Func) → ℕ → ℕ → Tuple → List Landing
 lands job table zero node tuple = []
 lands job table (suc nodes) node tuple = lands_by job (lands job table nodes) node (table node) tuple
 
 -- one row sent through the job by itself, each node having the one function that the table gives it; no path has more nodes than the job
-abbrev pub alone : Written → (ℕ → Option Func) → Row → List Landing
+abbrev pub alone : JobView → (ℕ → Option Func) → Row → List Landing
 alone job table row = onward (lands job table (length job.nodes)) (first_on row.source 0 (enumerate_from 0 job.edges)) row.tuple
 
 -- the function of a node, given at first, after so many requests, of those at which the row is new

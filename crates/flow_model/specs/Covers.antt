@@ -2,10 +2,10 @@
 use Rattle.std.specs.Prelude.{ℕ, zero, suc, Bool, false, Option, Some, None, slice_get}
 use Rattle.cover_planner.specs.declared.cover.Plan.{Plan}
 use Rattle.flow_dag.specs.Masks.{has}
-use Rattle.flow_model.specs.Outline.{Outline}
+use Rattle.flow_model.specs.SetupView.{SetupView}
 
 -- the plan of a request; they are counted from 1, so request 0 has none
-abbrev pub plan_of : Outline → ℕ → Option Plan
+abbrev pub plan_of : SetupView → ℕ → Option Plan
 plan_of setup zero = None
 plan_of setup (suc r) = slice_get setup.plans r
 
@@ -22,15 +22,15 @@ heads None node = false
 heads (Some plan) node = has plan.heads node
 
 -- the request covers the node
-abbrev pub covers : Outline → ℕ → ℕ → Bool
+abbrev pub covers : SetupView → ℕ → ℕ → Bool
 covers setup request node = holds_node (plan_of setup request) node
 
 -- the request covers the edge with this number
-abbrev pub covers_edge : Outline → ℕ → ℕ → Bool
+abbrev pub covers_edge : SetupView → ℕ → ℕ → Bool
 covers_edge setup request edge = holds_edge (plan_of setup request) edge
 
 -- the node is a head of what the request covers
-abbrev pub is_head : Outline → ℕ → ℕ → Bool
+abbrev pub is_head : SetupView → ℕ → ℕ → Bool
 is_head setup request node = heads (plan_of setup request) node
 
 abbrev pub holds_asked : Option Plan → ℕ → Bool
@@ -38,5 +38,5 @@ holds_asked None node = false
 holds_asked (Some plan) node = has plan.asked node
 
 -- the plan of the request was made for the node: so it is for every node that the request changes
-abbrev pub asks : Outline → ℕ → ℕ → Bool
+abbrev pub asks : SetupView → ℕ → ℕ → Bool
 asks setup request node = holds_asked (plan_of setup request) node

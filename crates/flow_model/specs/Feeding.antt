@@ -1,6 +1,6 @@
 -- What the feeder of a run does.
 use Rattle.std.specs.Prelude.{◌+◌, ◌-◌, ◌==◌, ℕ, zero, suc, Bool, List, [], ◌∷◌, ◌++◌, drop, Option, Some, None, min, nat_le, slice_get, if◌then◌else◌}
-use Rattle.jobs.specs.Written.{Written}
+use Rattle.jobs.specs.JobView.{JobView}
 use Rattle.sink_journal.specs.declared.journal.Feed.{Feed}
 use Rattle.sink_journal.specs.declared.journal.Feed.TheVariants as feed
 use Rattle.tuple_trace.specs.declared.row.Row.{Row}
@@ -45,18 +45,18 @@ abbrev pub fed_tuple : ℕ → Row → Tuple
 fed_tuple issued row = record row.tuple { issued = issued }
 
 -- the tuple goes on the lane of the one edge of its source
-abbrev pub fed_put : Written → ℕ → Option Row → List Put
+abbrev pub fed_put : JobView → ℕ → Option Row → List Put
 fed_put job issued None = []
 fed_put job issued (Some row) =
     record { lane = lane_of job None row.source 0 row.tuple; item = item.Carry (fed_tuple issued row) } ∷ []
 
 -- what the feeder puts on its lanes, after so many requests were issued
-abbrev pub fed_puts : Written → List Row → ℕ → List Feed → List Put
+abbrev pub fed_puts : JobView → List Row → ℕ → List Feed → List Put
 fed_puts job rows issued [] = []
 fed_puts job rows issued (feed.Fed number ∷ more) = fed_put job issued (row_at rows number) ++ fed_puts job rows issued more
 fed_puts job rows issued (feed.Issued request ∷ more) = fed_puts job rows (issued + 1) more
 fed_puts job rows issued (feed.Stopped ∷ more) = fed_puts job rows issued more
 
 -- the tuples that a feed puts on a lane
-abbrev pub fed : Written → List Row → ℕ → Lane → List Feed → List Item
+abbrev pub fed : JobView → List Row → ℕ → Lane → List Feed → List Item
 fed job rows issued lane feeds = items_on lane (fed_puts job rows issued feeds)

@@ -4,7 +4,7 @@ use Rattle.std.specs.FinMap.{empty}
 use Rattle.cover_planner.specs.declared.cover.Plan.{Plan}
 use Rattle.keyed_state.specs.declared.carry.Carry.TheVariants as carry
 use Rattle.jobs.specs.Nodes.{fan_out}
-use Rattle.jobs.specs.Written.{Written, written_as}
+use Rattle.jobs.specs.JobView.{JobView, job_view_as}
 use Rattle.jobs.specs.declared.column.ColumnKind.TheVariants as kind
 use Rattle.jobs.specs.declared.func.Func.{Func}
 use Rattle.jobs.specs.declared.func.Func.TheVariants as func
@@ -18,7 +18,7 @@ use Rattle.tuple_trace.specs.declared.tuple.Tuple.{Tuple}
 use Rattle.tuple_trace.specs.declared.tuple.Visit.{Visit}
 use Rattle.tuple_trace.specs.declared.value.Value.TheVariants as value
 use Rattle.versions.specs.declared.request.Request.{Request}
-use Rattle.flow_model.specs.Outline.{Outline, Post, outline_of}
+use Rattle.flow_model.specs.SetupView.{SetupView, Worker, setup_view_of}
 use Rattle.flow_model.specs.Run.{Ran, ran_as}
 
 -- a node with one worker
@@ -30,8 +30,8 @@ abbrev pub at_least : ℤ → Func
 at_least least = func.Filter (record { column = 0; test = test.Ge; literal = value.Num least } ∷ [])
 
 -- a source, a filter and a sink in a row
-abbrev pub chain : Written
-chain = written_as
+abbrev pub chain : JobView
+chain = job_view_as
     (record { name = codes "amount"; kind = kind.Cents; own = false } ∷ [])
     (node_of (codes "card") func.Source ∷ node_of (codes "big") (at_least (pos 10000)) ∷ node_of (codes "alerts") (func.Sink (0 ∷ [])) ∷ [])
     (record { from = 0; port = 0; to = 1 } ∷ record { from = 1; port = 0; to = 2 } ∷ [])
@@ -45,12 +45,12 @@ falls_after row = record { after = row; changes = record { node = 1; from = 0; f
 abbrev pub filter_alone : Plan
 filter_alone = record { asked = 2; members = 2; nodes = 2; edges = 0; heads = 2; part = 255 ∷ 0 ∷ replicate 62 255 }
 
-abbrev pub four_setup : Outline
-four_setup = outline_of chain (falls_after 2 ∷ []) (filter_alone ∷ []) 0 false
+abbrev pub four_setup : SetupView
+four_setup = setup_view_of chain (falls_after 2 ∷ []) (filter_alone ∷ []) 0 false
 
 -- the worker of the filter
-abbrev pub filter_post : Post
-filter_post = record { number = 0; node = 1; place = 0; func = at_least (pos 10000) }
+abbrev pub filter_worker : Worker
+filter_worker = record { number = 0; node = 1; place = 0; func = at_least (pos 10000) }
 
 -- a payment that was fed under so many requests, with this trace
 abbrev pub payment : ℕ → ℤ → ℕ → List Visit → Tuple

@@ -7,7 +7,7 @@ use Rattle.versions.specs.declared.request.Change.{Change}
 use Rattle.versions.specs.declared.request.Request.{Request}
 use Rattle.flow_model.specs.declared.in_force.InForce.{InForce}
 use Rattle.flow_model.specs.declared.in_force.InForce.TheVariants.{Own, Changed}
-use Rattle.flow_model.specs.Outline.{Outline}
+use Rattle.flow_model.specs.SetupView.{SetupView}
 use Rattle.flow_model.specs.Requests.{request_at}
 
 abbrev pub change_at : Option Request → ℕ → Option Change
@@ -15,7 +15,7 @@ change_at None place = None
 change_at (Some request) place = slice_get request.changes place
 
 -- the function that stands there: the job's own of the node, or that of a change
-abbrev pub func_in : Outline → ℕ → InForce → Option Func
+abbrev pub func_in : SetupView → ℕ → InForce → Option Func
 func_in setup node Own = option_map (λ (def : NodeDef). def.func) (slice_get setup.job.nodes node)
 func_in setup node (Changed request place) = option_map (λ (change : Change). change.func) (change_at (request_at setup request) place)
 

@@ -3,39 +3,39 @@ use Rattle.std.specs.Prelude.{ℕ, ◌==◌, Bool, false, true, ◌&&◌, List, 
 use Rattle.std.specs.List.{enumerate_from, flat_map}
 use Rattle.flow_dag.specs.declared.edge.Edge.{Edge}
 use Rattle.jobs.specs.Nodes.{is_source_node}
-use Rattle.jobs.specs.Written.{Written}
+use Rattle.jobs.specs.JobView.{JobView}
 use Rattle.operators.specs.Lanes.{worker_at}
 use Rattle.tuple_trace.specs.declared.tuple.Tuple.{Tuple}
 use Rattle.flow_model.specs.declared.topology.Lane.{Lane}
-use Rattle.flow_model.specs.Outline.{Outline, Post}
+use Rattle.flow_model.specs.SetupView.{SetupView, Worker}
 use Rattle.flow_model.specs.Covers.{covers_edge}
-use Rattle.flow_model.specs.Workers.{posts_of}
+use Rattle.flow_model.specs.Workers.{workers_at_node}
 
 -- who sends at a node: the feeder alone at a source, and its workers at any other
-abbrev pub senders : Written → ℕ → List (Option ℕ)
+abbrev pub senders : JobView → ℕ → List (Option ℕ)
 senders job node =
-    if is_source_node (slice_get job.nodes node) then None ∷ [] else map (λ (post : Post). Some post.number) (posts_of job node)
+    if is_source_node (slice_get job.nodes node) then None ∷ [] else map (λ (who : Worker). Some who.number) (workers_at_node job node)
 
 -- the lanes of an edge: for each sender one to each receiver
-abbrev pub lanes_of : Written → ℕ → Edge → List Lane
+abbrev pub lanes_of : JobView → ℕ → Edge → List Lane
 lanes_of job number edge =
-    flat_map (λ (sender : Option ℕ). map (λ (post : Post). record { edge = number; sender = sender; receiver = post.number }) (posts_of job edge.to)) (
+    flat_map (λ (sender : Option ℕ). map (λ (who : Worker). record { edge = number; sender = sender; receiver = who.number }) (workers_at_node job edge.to)) (
     senders job edge.from)
 
 -- all lanes, in the order of their numbers: edge after edge, then by their senders, then by their receivers
-abbrev pub lanes : Written → List Lane
+abbrev pub lanes : JobView → List Lane
 lanes job = flat_map (λ (p : ℕ × Edge). lanes_of job p.0 p.1) (enumerate_from 0 job.edges)
 
 -- the numbers of the lanes that pass a test
-abbrev pub lanes_that : (Lane → Bool) → Written → List ℕ
+abbrev pub lanes_that : (Lane → Bool) → JobView → List ℕ
 lanes_that test job = map (λ (p : ℕ × Lane). p.0) (filter (λ (p : ℕ × Lane). test p.1) (enumerate_from 0 (lanes job)))
 
 -- the numbers of the lanes into a worker
-abbrev pub lanes_in : Written → ℕ → List ℕ
+abbrev pub lanes_in : JobView → ℕ → List ℕ
 lanes_in job worker = lanes_that (λ (lane : Lane). lane.receiver == worker) job
 
 -- the numbers of the lanes into a worker that bring it the marker of a request
-abbrev pub marked_lanes : Outline → ℕ → ℕ → List ℕ
+abbrev pub marked_lanes : SetupView → ℕ → ℕ → List ℕ
 marked_lanes setup worker request =
     lanes_that (λ (lane : Lane). (lane.receiver == worker) && covers_edge setup request lane.edge) setup.job
 
@@ -44,18 +44,18 @@ is_sender worker None = false
 is_sender worker (Some sender) = sender == worker
 
 -- the lanes out of a worker
-abbrev pub lanes_out : Written → ℕ → List Lane
+abbrev pub lanes_out : JobView → ℕ → List Lane
 lanes_out job worker = filter (λ (lane : Lane). is_sender worker lane.sender) (lanes job)
 
 -- their numbers
-abbrev pub out_numbers : Written → ℕ → List ℕ
+abbrev pub out_numbers : JobView → ℕ → List ℕ
 out_numbers job worker = lanes_that (λ (lane : Lane). is_sender worker lane.sender) job
 
 -- the lane with a number; past the last one, a lane of no edge
 abbrev pub no_lane : Lane
 no_lane = record { edge = 0; sender = None; receiver = 0 }
 
-abbrev pub lane_at : Written → ℕ → Lane
+abbrev pub lane_at : JobView → ℕ → Lane
 lane_at job n = slice_index_or (lanes job) n no_lane
 
 abbrev pub is_same_sender : Option ℕ → Option ℕ → Bool
@@ -74,14 +74,14 @@ first_on node port [] = None
 first_on node port (edge ∷ more) = if (edge.1.from == node) && (edge.1.port == port) then Some edge else first_on node port more
 
 -- the worker that a tuple reaches along an edge
-abbrev pub receiver_of : Written → Edge → Tuple → Option Post
-receiver_of job edge tuple = slice_get (posts_of job edge.to) (worker_at job.columns (slice_get job.nodes edge.to) tuple)
+abbrev pub receiver_of : JobView → Edge → Tuple → Option Worker
+receiver_of job edge tuple = slice_get (workers_at_node job edge.to) (worker_at job.columns (slice_get job.nodes edge.to) tuple)
 
-abbrev pub lane_along : Written → Option ℕ → Option (ℕ × Edge) → Tuple → Option Lane
+abbrev pub lane_along : JobView → Option ℕ → Option (ℕ × Edge) → Tuple → Option Lane
 lane_along job sender None tuple = None
 lane_along job sender (Some edge) tuple =
-    option_map (λ (post : Post). record { edge = edge.0; sender = sender; receiver = post.number }) (receiver_of job edge.1 tuple)
+    option_map (λ (who : Worker). record { edge = edge.0; sender = sender; receiver = who.number }) (receiver_of job edge.1 tuple)
 
 -- the lane of a tuple that a sender puts on a port of a node; there is none where no edge leaves on that port
-abbrev pub lane_of : Written → Option ℕ → ℕ → ℕ → Tuple → Option Lane
+abbrev pub lane_of : JobView → Option ℕ → ℕ → ℕ → Tuple → Option Lane
 lane_of job sender node port tuple = lane_along job sender (first_on node port (enumerate_from 0 job.edges)) tuple

@@ -6,7 +6,7 @@ use Rattle.tuple_trace.specs.declared.tuple.Tuple.{Tuple}
 
 -- What the law asks of a worker: its lanes in; the requests that cover it, in rising order; whether it heads the cover of a request; the
 -- lanes in that bring it the marker of a request.
-pub record Station : Type 0 where
+pub record Duties : Type 0 where
   pub lanes : List ℕ
   pub dues : List ℕ
   pub is_head : ℕ → Bool
@@ -28,24 +28,24 @@ later_dues [] = []
 later_dues (due ∷ later) = later
 
 -- at a head no tuple that was fed under the next due comes before its turn
-abbrev pub IsInTime : Station → Tuple → Option ℕ → Type 0
-IsInTime station tuple None = ⊤
-IsInTime station tuple (Some due) = IsTrue (station.is_head due) → tuple.issued < due
+abbrev pub IsInTime : Duties → Tuple → Option ℕ → Type 0
+IsInTime duties tuple None = ⊤
+IsInTime duties tuple (Some due) = IsTrue (duties.is_head due) → tuple.issued < due
 
 -- the entry may come next
-abbrev pub IsEnabled : Station → Progress → Entry → Type 0
+abbrev pub IsEnabled : Duties → Progress → Entry → Type 0
 -- a tuple comes by a lane in, not between the markers of a request, and not after an end
-IsEnabled station progress (entry.Met lane tuple) =
-    Contains station.lanes lane × (progress.marked ≡ []) × (progress.ended ≡ []) × IsInTime station tuple (next_due progress.dues)
+IsEnabled duties progress (entry.Met lane tuple) =
+    Contains duties.lanes lane × (progress.marked ≡ []) × (progress.ended ≡ []) × IsInTime duties tuple (next_due progress.dues)
 -- the marker of the next due comes once on each of its lanes
-IsEnabled station progress (entry.Marked lane request) =
-    (next_due progress.dues ≡ Some request) × Contains (station.marked_lanes request) lane × ¬ Contains progress.marked lane × (progress.ended ≡ [])
+IsEnabled duties progress (entry.Marked lane request) =
+    (next_due progress.dues ≡ Some request) × Contains (duties.marked_lanes request) lane × ¬ Contains progress.marked lane × (progress.ended ≡ [])
 -- the next due is turned once its markers stand on all of its lanes
-IsEnabled station progress (entry.Turned request) =
-    (next_due progress.dues ≡ Some request) × All (Contains progress.marked) (station.marked_lanes request) × (progress.ended ≡ [])
+IsEnabled duties progress (entry.Turned request) =
+    (next_due progress.dues ≡ Some request) × All (Contains progress.marked) (duties.marked_lanes request) × (progress.ended ≡ [])
 -- a lane ends once, after the last due was turned
-IsEnabled station progress (entry.Ended lane) =
-    Contains station.lanes lane × ¬ Contains progress.ended lane × (progress.dues ≡ []) × (progress.marked ≡ [])
+IsEnabled duties progress (entry.Ended lane) =
+    Contains duties.lanes lane × ¬ Contains progress.ended lane × (progress.dues ≡ []) × (progress.marked ≡ [])
 
 abbrev pub after_entry : Progress → Entry → Progress
 after_entry progress (entry.Met lane tuple) = progress
@@ -58,20 +58,20 @@ progress_after progress [] = progress
 progress_after progress (entry ∷ more) = progress_after (after_entry progress entry) more
 
 -- each entry may come after those before it
-abbrev pub IsExecution : Station → Progress → List Entry → Type 0
-IsExecution station progress [] = ⊤
-IsExecution station progress (entry ∷ more) = IsEnabled station progress entry × IsExecution station (after_entry progress entry) more
+abbrev pub IsExecution : Duties → Progress → List Entry → Type 0
+IsExecution duties progress [] = ⊤
+IsExecution duties progress (entry ∷ more) = IsEnabled duties progress entry × IsExecution duties (after_entry progress entry) more
 
-abbrev pub initial : Station → Progress
-initial station = record { dues = station.dues; marked = []; ended = [] }
+abbrev pub initial : Duties → Progress
+initial duties = record { dues = duties.dues; marked = []; ended = [] }
 
 -- the journal is lawful so far
-pub record IsLawful (station : Station) (journal : List Entry) : Type 0 where
-  pub execution : IsExecution station (initial station) journal
+pub record IsLawful (duties : Duties) (journal : List Entry) : Type 0 where
+  pub execution : IsExecution duties (initial duties) journal
   -- no marker stands there without its turn
-  pub no_open_turn : (progress_after (initial station) journal).marked ≡ []
+  pub no_open_turn : (progress_after (initial duties) journal).marked ≡ []
 
 -- it is finished: lawful so far, and every lane in has ended
-pub record IsFinished (station : Station) (journal : List Entry) : Type 0 where
-  pub lawful : IsLawful station journal
-  pub ended : All (Contains (progress_after (initial station) journal).ended) station.lanes
+pub record IsFinished (duties : Duties) (journal : List Entry) : Type 0 where
+  pub lawful : IsLawful duties journal
+  pub ended : All (Contains (progress_after (initial duties) journal).ended) duties.lanes

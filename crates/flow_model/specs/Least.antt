@@ -3,7 +3,7 @@ use Rattle.std.specs.Prelude.{◌≡◌, ℕ, List, Some}
 use Rattle.cover_planner.specs.Plan.{HasAllPaths, IsLeast}
 use Rattle.cover_planner.specs.declared.cover.Plan.{Plan}
 use Rattle.flow_dag.specs.declared.edge.Edge.{Edge}
-use Rattle.flow_model.specs.Outline.{Outline}
+use Rattle.flow_model.specs.SetupView.{SetupView}
 use Rattle.flow_model.specs.Covers.{plan_of}
 
 -- the plan is the least cover of its members: it holds every path between them, and whatever does
@@ -13,6 +13,6 @@ pub record IsLeastCover (edges : List Edge) (plan : Plan) : Type 0 where
   pub least : IsLeast edges plan
 
 -- the plan of each request is the least cover of its members
-abbrev pub ArePlansLeast : Outline → Type 0
+abbrev pub ArePlansLeast : SetupView → Type 0
 ArePlansLeast setup =
     (request : ℕ) (plan : Plan) → plan_of setup request ≡ Some plan → IsLeastCover setup.job.edges plan

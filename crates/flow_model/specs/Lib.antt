@@ -1,4 +1,4 @@
-pub mod Outline
+pub mod SetupView
 pub mod Planned
 pub mod Setup
 pub mod Workers
@@ -10,7 +10,7 @@ pub mod Waiting
 pub mod Least
 pub mod Law
 pub mod Points
-pub mod Station
+pub mod Duties
 pub mod Replay
 pub mod InForce
 pub mod WorkerState

@@ -2,24 +2,24 @@
 use Rattle.std.specs.Prelude.{◌≡◌, Bool, false, List, [], ◌∷◌, All, map, count_by, if◌then◌else◌}
 use Rattle.std.specs.List.{flat_map}
 use Rattle.jobs.specs.Nodes.{is_count}
-use Rattle.jobs.specs.Written.{Written}
+use Rattle.jobs.specs.JobView.{JobView}
 use Rattle.jobs.specs.declared.func.NodeDef.{NodeDef}
 use Rattle.sink_journal.specs.declared.journal.Entry.{Entry}
 use Rattle.tuple_trace.specs.declared.row.Row.{Row}
 use Rattle.flow_model.specs.declared.landing.Landing.{Landing}
-use Rattle.flow_model.specs.Outline.{Post}
+use Rattle.flow_model.specs.SetupView.{Worker}
 use Rattle.flow_model.specs.Alone.{alone, is_sink, landing, table}
 use Rattle.flow_model.specs.Run.{Ran}
 use Rattle.flow_model.specs.Whole.{journals_at, met_tuples}
-use Rattle.flow_model.specs.Workers.{posts}
+use Rattle.flow_model.specs.Workers.{workers_in}
 
 -- what a worker lands by its journal: a sink's what it met, and any other nothing
-abbrev pub landings_by : Post → List Entry → List Landing
-landings_by post journal = if is_sink post.func then map (landing post.node) (met_tuples journal) else []
+abbrev pub landings_by : Worker → List Entry → List Landing
+landings_by who journal = if is_sink who.func then map (landing who.node) (met_tuples journal) else []
 
 -- what came to the sinks of a run, worker by worker
 abbrev pub landings : Ran → List Landing
-landings ran = flat_map (λ (post : Post). flat_map (landings_by post) (journals_at ran.journals (post ∷ []))) (posts ran.setup.job)
+landings ran = flat_map (λ (who : Worker). flat_map (landings_by who) (journals_at ran.journals (who ∷ []))) (workers_in ran.setup.job)
 
 -- what these rows make by themselves, each with the functions that it met in the run
 abbrev pub landings_alone : Ran → List Row → List Landing
@@ -34,5 +34,5 @@ abbrev pub IsOneTable : List Row → Ran → Type 0
 IsOneTable rows ran = AreSameItems (landings ran) (landings_alone ran rows)
 
 -- no node counts
-abbrev pub HasNoCounts : Written → Type 0
+abbrev pub HasNoCounts : JobView → Type 0
 HasNoCounts job = All (λ (def : NodeDef). is_count def.func ≡ false) job.nodes

@@ -5,12 +5,12 @@ use Rattle.cover_planner.specs.declared.cover.Plan.{Plan}
 use Rattle.cover_planner.specs.Plan.{IsPlan}
 use Rattle.flow_dag.specs.Masks.{Has}
 use Rattle.jobs.specs.Nodes.{IsSourceOf, is_replicate, is_split}
-use Rattle.jobs.specs.Written.{Written}
+use Rattle.jobs.specs.JobView.{JobView}
 use Rattle.jobs.specs.declared.func.NodeDef.{NodeDef}
 use Rattle.versions.specs.Book.{is_named}
 use Rattle.versions.specs.declared.request.Change.{Change}
 use Rattle.versions.specs.declared.request.Request.{Request}
-use Rattle.flow_model.specs.Outline.{Outline, splits_of}
+use Rattle.flow_model.specs.SetupView.{SetupView, splits_of}
 
 -- ---- which nodes make several tuples of one
 
@@ -41,17 +41,17 @@ splits_at nodes requests node = is_split_node (slice_get nodes node) || is_made_
 -- ---- plans
 
 -- the plan is the planner's for the nodes that it asks
-abbrev pub IsPlanBy : Written → ℕ → Plan → Type 0
+abbrev pub IsPlanBy : JobView → ℕ → Plan → Type 0
 IsPlanBy job splits plan = IsPlan job.edges (Has splits) (λ (node : ℕ). IsTrue (copies_at job.nodes node)) plan.asked plan
 
 -- so it is, and it asks every node that the request changes
-pub record IsPlanFor (job : Written) (splits : ℕ) (request : Request) (plan : Plan) : Type 0 where
+pub record IsPlanFor (job : JobView) (splits : ℕ) (request : Request) (plan : Plan) : Type 0 where
   pub planned : IsPlanBy job splits plan
   pub asked : (node : ℕ) → IsTrue (is_named request.changes node) → Has plan.asked node
 
 -- the mask holds every node that may make pieces of a tuple, each request has its plan, and no plan has a source for a member; where rows and
 -- requests have one order, a plan asks every node that a request up to its own changes
-pub record IsPlanned (setup : Outline) : Type 0 where
+pub record IsPlanned (setup : SetupView) : Type 0 where
   pub splits : (node : ℕ) → IsTrue (splits_at setup.job.nodes setup.requests node) → Has (splits_of setup) node
   pub one_each : length setup.plans ≡ length setup.requests
   pub plans :
@@ -78,16 +78,16 @@ is_planned ordered requests r node =
     if ordered then list_any (names_node node) (take (r + 1) requests) else is_named_by (slice_get requests r) node
 
 -- the plan is the planner's for exactly these nodes
-pub record IsPlanOf (job : Written) (splits : ℕ) (planned : ℕ → Bool) (plan : Plan) : Type 0 where
+pub record IsPlanOf (job : JobView) (splits : ℕ) (planned : ℕ → Bool) (plan : Plan) : Type 0 where
   pub by : IsPlanBy job splits plan
   pub asked : (node : ℕ) → Has plan.asked node ↔ IsTrue (planned node)
 
 -- each request has such a plan
-pub record ArePlansOf (job : Written) (splits : ℕ) (ordered : Bool) (requests : List Request) (plans : List Plan) : Type 0 where
+pub record ArePlansOf (job : JobView) (splits : ℕ) (ordered : Bool) (requests : List Request) (plans : List Plan) : Type 0 where
   pub one_each : length plans ≡ length requests
   pub each : (r : ℕ) (plan : Plan) → slice_get plans r ≡ Some plan → IsPlanOf job splits (is_planned ordered requests r) plan
 
 -- the masks hold nothing else: the nodes that may make pieces of a tuple, and for each request the set that is planned
-pub record IsExact (setup : Outline) : Type 0 where
+pub record IsExact (setup : SetupView) : Type 0 where
   pub splits : (node : ℕ) → Has (splits_of setup) node ↔ IsTrue (splits_at setup.job.nodes setup.requests node)
   pub plans : ArePlansOf setup.job (splits_of setup) setup.ordered setup.requests setup.plans

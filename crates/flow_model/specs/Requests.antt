@@ -4,10 +4,10 @@ use Rattle.jobs.specs.declared.func.Func.{Func}
 use Rattle.versions.specs.Book.{is_named}
 use Rattle.versions.specs.declared.request.Change.{Change}
 use Rattle.versions.specs.declared.request.Request.{Request}
-use Rattle.flow_model.specs.Outline.{Outline}
+use Rattle.flow_model.specs.SetupView.{SetupView}
 
 -- a request; they are counted from 1, so there is no request 0
-abbrev pub request_at : Outline → ℕ → Option Request
+abbrev pub request_at : SetupView → ℕ → Option Request
 request_at setup zero = None
 request_at setup (suc r) = slice_get setup.requests r
 
@@ -21,7 +21,7 @@ change_in None node = None
 change_in (Some request) node = change_among request.changes node
 
 -- the change of a node by a request
-abbrev pub change_of : Outline → ℕ → ℕ → Option Change
+abbrev pub change_of : SetupView → ℕ → ℕ → Option Change
 change_of setup request node = change_in (request_at setup request) node
 
 abbrev pub names : Option Request → ℕ → Bool
@@ -29,7 +29,7 @@ names None node = false
 names (Some request) node = is_named request.changes node
 
 -- the request changes the node
-abbrev pub changes : Outline → ℕ → ℕ → Bool
+abbrev pub changes : SetupView → ℕ → ℕ → Bool
 changes setup request node = names (request_at setup request) node
 
 abbrev pub func_with : Option Change → Func → Func
@@ -37,7 +37,7 @@ func_with None func = func
 func_with (Some change) func = change.func
 
 -- the function of a node, given at first, after so many requests
-abbrev pub func_after : Outline → ℕ → Func → ℕ → Func
+abbrev pub func_after : SetupView → ℕ → Func → ℕ → Func
 func_after setup node func zero = func
 func_after setup node func (suc r) = func_with (change_of setup (suc r) node) (func_after setup node func r)
 

@@ -7,7 +7,7 @@ use Rattle.tuple_trace.specs.declared.row.Row.{Row}
 use Rattle.flow_model.specs.declared.landing.Landing.{Landing}
 use Rattle.flow_model.specs.Alone.{alone}
 use Rattle.flow_model.specs.OneTable.{AreSameItems, landings}
-use Rattle.flow_model.specs.Outline.{Outline}
+use Rattle.flow_model.specs.SetupView.{SetupView}
 use Rattle.flow_model.specs.Requests.{func_after}
 use Rattle.flow_model.specs.Run.{Ran}
 use Rattle.flow_model.specs.Whole.{is_new, is_old}
@@ -26,12 +26,12 @@ newest ran row (suc r) = if is_new ran (suc r) row then suc r else newest ran ro
 abbrev pub serial : Ran → ℕ → ℕ
 serial ran row = newest ran row (length ran.setup.requests)
 
-abbrev pub func_of_node : Outline → ℕ → ℕ → Option NodeDef → Option Func
+abbrev pub func_of_node : SetupView → ℕ → ℕ → Option NodeDef → Option Func
 func_of_node setup k node None = None
 func_of_node setup k node (Some def) = Some (func_after setup node def.func k)
 
 -- the functions after the first k requests
-abbrev pub table_at : Outline → ℕ → ℕ → Option Func
+abbrev pub table_at : SetupView → ℕ → ℕ → Option Func
 table_at setup k node = func_of_node setup k node (slice_get setup.job.nodes node)
 
 -- what these rows make by themselves, each with the functions after the requests that it comes behind

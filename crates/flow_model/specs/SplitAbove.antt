@@ -3,7 +3,7 @@ use Rattle.std.specs.Prelude.{◌-◌, ◌++◌, ℕ, List, [], ◌∷◌, false
 use Rattle.std.specs.FinMap.{empty}
 use Rattle.cover_planner.specs.declared.cover.Plan.{Plan}
 use Rattle.keyed_state.specs.declared.carry.Carry.TheVariants as carry
-use Rattle.jobs.specs.Written.{Written, written_as}
+use Rattle.jobs.specs.JobView.{JobView, job_view_as}
 use Rattle.jobs.specs.declared.column.ColumnKind.TheVariants as kind
 use Rattle.jobs.specs.declared.func.Func.{Func}
 use Rattle.jobs.specs.declared.func.Func.TheVariants as func
@@ -18,7 +18,7 @@ use Rattle.tuple_trace.specs.declared.value.Value.TheVariants as value
 use Rattle.versions.specs.declared.request.Request.{Request}
 use Rattle.flow_model.specs.declared.landing.Landing.{Landing}
 use Rattle.flow_model.specs.FourPayments.{node_of}
-use Rattle.flow_model.specs.Outline.{Outline, outline_of}
+use Rattle.flow_model.specs.SetupView.{SetupView, setup_view_of}
 use Rattle.flow_model.specs.Run.{Ran, ran_as}
 
 -- tuples with these tags pass
@@ -29,8 +29,8 @@ abbrev pub at_semicolons : Func
 at_semicolons = func.Split (record { on = 0; by = 59; most = 2 })
 
 -- a source, a split, a filter that parts the pieces, a map on either way, a filter where the ways meet, and a sink
-abbrev pub two_ways : Written
-two_ways = written_as
+abbrev pub two_ways : JobView
+two_ways = job_view_as
     (record { name = codes "tags"; kind = kind.Text; own = false } ∷ [])
     (node_of (codes "card") func.Source
     ∷ node_of (codes "s") at_semicolons
@@ -58,8 +58,8 @@ b_alone = record { after = 1; changes = record { node = 5; from = 0; func = tagg
 abbrev pub from_the_split : Plan
 from_the_split = record { asked = 32; members = 34; nodes = 62; edges = 62; heads = 2; part = 255 ∷ (replicate 5 0 ++ replicate 58 255) }
 
-abbrev pub split_setup : Outline
-split_setup = outline_of two_ways (b_alone ∷ []) (from_the_split ∷ []) 2 false
+abbrev pub split_setup : SetupView
+split_setup = setup_view_of two_ways (b_alone ∷ []) (from_the_split ∷ []) 2 false
 
 abbrev pub row_of : ℕ → Row
 row_of number = record { source = 0; tuple = record { row = number; birth = []; issued = 0; fields = value.Text (codes "a;b") ∷ []; trace = [] } }

@@ -3,9 +3,9 @@ use Rattle.std.specs.Prelude.{ℕ, pos, false, List, [], ◌∷◌}
 use Rattle.sink_journal.specs.declared.journal.Entry.{Entry}
 use Rattle.sink_journal.specs.declared.journal.Entry.TheVariants as entry
 use Rattle.flow_model.specs.FourPayments.{payment}
-use Rattle.flow_model.specs.Law.{Station}
+use Rattle.flow_model.specs.Law.{Duties}
 
-abbrev pub joining : Station
+abbrev pub joining : Duties
 joining = record { lanes = 0 ∷ 1 ∷ []; dues = 1 ∷ []; is_head = λ request. false; marked_lanes = λ request. 0 ∷ 1 ∷ [] }
 
 abbrev pub ends : List Entry

@@ -2,7 +2,7 @@
 use Rattle.std.specs.Prelude.{ℕ, List, [], ◌∷◌, map}
 use Rattle.versions.specs.declared.request.Change.{Change}
 use Rattle.versions.specs.declared.request.Request.{Request}
-use Rattle.flow_model.specs.Outline.{Outline}
+use Rattle.flow_model.specs.SetupView.{SetupView}
 
 -- the changes of each request
 abbrev pub changes_of : List Request → List (List Change)
@@ -16,5 +16,5 @@ with_afters (after ∷ later) (request ∷ more) =
     record request { after = after } ∷ with_afters later more
 
 -- a setup whose requests wait for these rows
-abbrev pub waiting_for : List ℕ → Outline → Outline
+abbrev pub waiting_for : List ℕ → SetupView → SetupView
 waiting_for afters setup = record setup { requests = with_afters afters setup.requests }

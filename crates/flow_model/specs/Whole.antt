@@ -5,15 +5,15 @@ use Rattle.sink_journal.specs.Alerts.{met}
 use Rattle.sink_journal.specs.declared.journal.Entry.{Entry}
 use Rattle.sink_journal.specs.declared.journal.Entry.TheVariants as entry
 use Rattle.tuple_trace.specs.declared.tuple.Tuple.{Tuple}
-use Rattle.flow_model.specs.Outline.{Outline, Post}
+use Rattle.flow_model.specs.SetupView.{SetupView, Worker}
 use Rattle.flow_model.specs.Covers.{asks}
 use Rattle.flow_model.specs.Requests.{changes}
 use Rattle.flow_model.specs.Run.{Ran}
-use Rattle.flow_model.specs.Workers.{posts, posts_of}
+use Rattle.flow_model.specs.Workers.{workers_in, workers_at_node}
 
 -- the journals of these workers
-abbrev pub journals_at : List (List Entry) → List Post → List (List Entry)
-journals_at journals workers = filter_map (λ (post : Post). slice_get journals post.number) workers
+abbrev pub journals_at : List (List Entry) → List Worker → List (List Entry)
+journals_at journals workers = filter_map (λ (who : Worker). slice_get journals who.number) workers
 
 -- the tuples that a journal met, in order
 abbrev pub met_tuples : List Entry → List Tuple
@@ -46,17 +46,17 @@ abbrev pub any_after : ℕ → ℕ → List (List Entry) → Bool
 any_after request row journals = list_any (λ (journal : List Entry). meets_row row (after_turn request journal)) journals
 
 -- these workers meet the row before their turns of the request alone, or after them alone
-abbrev pub IsOneSided : Ran → ℕ → ℕ → List Post → Type 0
+abbrev pub IsOneSided : Ran → ℕ → ℕ → List Worker → Type 0
 IsOneSided ran request row workers =
     (any_after request row (journals_at ran.journals workers) ≡ false) ⊎ (any_before request row (journals_at ran.journals workers) ≡ false)
 
 -- the workers of the nodes that a request changes
-abbrev pub changed_workers : Outline → ℕ → List Post
-changed_workers setup request = filter (λ (post : Post). changes setup request post.node) (posts setup.job)
+abbrev pub changed_workers : SetupView → ℕ → List Worker
+changed_workers setup request = filter (λ (who : Worker). changes setup request who.node) (workers_in setup.job)
 
 -- the workers of the nodes that the plan of a request asks: those that it changes are among them
-abbrev pub asked_workers : Outline → ℕ → List Post
-asked_workers setup request = filter (λ (post : Post). asks setup request post.node) (posts setup.job)
+abbrev pub asked_workers : SetupView → ℕ → List Worker
+asked_workers setup request = filter (λ (who : Worker). asks setup request who.node) (workers_in setup.job)
 
 -- the row is whole at the request: its nodes met the row with their old functions alone, or with their new ones alone
 abbrev pub IsWhole : Ran → ℕ → ℕ → Type 0
@@ -76,4 +76,4 @@ identities journal = map (λ (tuple : Tuple). (tuple.row, tuple.birth)) (met_tup
 
 -- the workers of a node meet no identity twice
 abbrev pub IsMetOnce : Ran → ℕ → Type 0
-IsMetOnce ran node = AllPairs (λ a b. a ≡ b → ⊥) (flat_map identities (journals_at ran.journals (posts_of ran.setup.job node)))
+IsMetOnce ran node = AllPairs (λ a b. a ≡ b → ⊥) (flat_map identities (journals_at ran.journals (workers_at_node ran.setup.job node)))

@@ -2,7 +2,7 @@ ghost use Rattle.std.specs.Prelude.{◌≡◌, Some};
 ghost use Rattle.jobs.specs.declared.func.Func.{Func as FuncIs};
 ghost use Rattle.flow_model.specs.InForce.{func_in};
 ghost use Rattle.flow_model.specs.Requests.{func_after};
-ghost use Rattle.flow_model.specs.Setup.{outline};
+ghost use Rattle.flow_model.specs.Setup.{setup_view};
 
 use crate::Setup;
 
@@ -19,9 +19,9 @@ impl Setup {
     /// memory.
     pub fn in_force_after(&self, node: u32, turned: u64) -> InForce
         ensures { (func : FuncIs)
-            → func_in (outline self.now) node InForce.Own ≡ Some func
-            → func_in (outline self.now) node result
-            ≡ Some (func_after (outline self.now) node func turned) }
+            → func_in (setup_view self.now) node InForce.Own ≡ Some func
+            → func_in (setup_view self.now) node result
+            ≡ Some (func_after (setup_view self.now) node func turned) }
     {
         let mut at = InForce::Own;
         for before in 0..turned {

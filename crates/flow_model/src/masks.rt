@@ -12,10 +12,12 @@ use flow_dag::with_bit;
 use operators::{NodeDef, is_replicate, is_split};
 use versions::{Change, Request};
 
-/// The nodes that may make pieces of a tuple: those whose function, in the job or by a request, is a split.
+/// The nodes that may make pieces of a tuple: those whose function, in the job or by a request, is
+/// a split.
 pub fn splits(nodes: &[NodeDef], requests: &[Request]) -> u64
     requires nodes { length nodes.now ≤ 64 }
-    requires inside { All (λ (request : RequestIs). All (λ (change : ChangeIs). change.node < length nodes.now) request.changes) requests.now }
+    requires inside { All (λ (request : RequestIs). All
+        (λ (change : ChangeIs). change.node < length nodes.now) request.changes) requests.now }
     ensures has { (node : ℕ) → Has result node ↔ IsTrue (splits_at nodes.now requests.now node) }
     ensures below { result < 2 ^ length nodes.now }
 {

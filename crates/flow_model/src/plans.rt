@@ -1,5 +1,5 @@
 ghost use Rattle.std.specs.Prelude.{◌≡◌, ℕ, ◌<◌, ◌^◌, All, IfOk, length, if◌then◌else◌};
-ghost use Rattle.jobs.specs.Job.{written};
+ghost use Rattle.jobs.specs.Job.{job_view};
 ghost use Rattle.versions.specs.declared.request.Change.{Change as ChangeIs};
 ghost use Rattle.versions.specs.declared.request.Request.{Request as RequestIs};
 ghost use Rattle.flow_model.specs.Planned.{ArePlansOf};
@@ -11,8 +11,9 @@ use std::alloc::Global;
 use tuple_trace::NoMemory;
 use versions::Request;
 
-/// The plan of each request, where the nodes of `splits` may make pieces of a tuple. Where rows and requests are to have one order, a plan is made
-/// for the nodes that the requests up to its own change, and else for those that its own changes.
+/// The plan of each request, where the nodes of `splits` may make pieces of a tuple. Where rows and
+/// requests are to have one order, a plan is made for the nodes that the requests up to its own
+/// change, and else for those that its own changes.
 pub fn plans_of(
     alloc: Global,
     job: &Job,
@@ -21,8 +22,10 @@ pub fn plans_of(
     requests: &[Request],
 ) -> Result<Plans, NoMemory>
     requires splits { splits < 2 ^ length job.now.nodes }
-    requires inside { All (λ (request : RequestIs). All (λ (change : ChangeIs). change.node < length job.now.nodes) request.changes) requests.now }
-    ensures { IfOk result (λ plans. ArePlansOf (written job.now) splits ordered requests.now plans) }
+    requires inside { All (λ (request : RequestIs). All
+        (λ (change : ChangeIs). change.node < length job.now.nodes) request.changes) requests.now }
+    ensures { IfOk result (λ plans. ArePlansOf (job_view job.now) splits ordered requests.now
+        plans) }
 {
     let copies = masks::copies(job.nodes.as_slice());
     let mut plans = Plans::new(alloc);

@@ -1,6 +1,6 @@
 ghost use Rattle.std.specs.Prelude.{◌≡◌, ◌<◌, ◌≤◌, ◌+◌, true, false, Some, IfOk, length, slice_get};
-ghost use Rattle.jobs.specs.Job.{written};
-ghost use Rattle.flow_model.specs.Outline.{outline_of};
+ghost use Rattle.jobs.specs.Job.{job_view};
+ghost use Rattle.flow_model.specs.SetupView.{setup_view_of};
 ghost use Rattle.versions.specs.Judged.{AreAccepted};
 ghost use Rattle.flow_model.specs.Planned.{IsExact, IsPlanned};
 ghost use Rattle.flow_model.specs.Topology.{topology_of};
@@ -29,25 +29,29 @@ pub struct Setup {
     pub topology: Topology,
     pub judged: Judged,
     pub plans: Plans,
-    /// The mask of the nodes that may make pieces of a tuple: those whose function, in the job or by a request, is a split.
+    /// The mask of the nodes that may make pieces of a tuple: those whose function, in the job or
+    /// by a request, is a split.
     pub splits: u64,
-    /// Whether rows and requests have one order: each plan is then made for all that the requests up to its own change.
+    /// Whether rows and requests have one order: each plan is then made for all that the requests
+    /// up to its own change.
     pub ordered: bool,
-    ghost topology_is: { topology ≡ topology_of (written job) },
-    ghost accepted: { AreAccepted (written job) judged.accepted },
-    ghost planned: { ∥ IsPlanned (outline_of (written job) judged.accepted plans splits ordered) ∥₁ },
+    ghost topology_is: { topology ≡ topology_of (job_view job) },
+    ghost accepted: { AreAccepted (job_view job) judged.accepted },
+    ghost planned: { ∥ IsPlanned (setup_view_of (job_view job) judged.accepted plans splits ordered)
+        ∥₁ },
 }
 
 impl Setup {
     ghost use Rattle.flow_model.specs.Requests.{afters};
-    ghost use Rattle.flow_model.specs.Setup.{outline};
+    ghost use Rattle.flow_model.specs.Setup.{setup_view};
 
-    /// The setup of a job and its judged requests, with the plan of each accepted one. A refusal gives both up.
+    /// The setup of a job and its judged requests, with the plan of each accepted one. A refusal
+    /// gives both up.
     pub fn make(alloc: Global, job: Job, judged: Judged) -> Result<Setup, NoMemory>
-        requires { AreAccepted (written job) judged.accepted }
+        requires { AreAccepted (job_view job) judged.accepted }
         ensures job { IfOk result (λ setup. setup.job ≡ job) }
         ensures judged { IfOk result (λ setup. setup.judged ≡ judged) }
-        ensures exact { IfOk result (λ setup. IsExact (outline setup)) }
+        ensures exact { IfOk result (λ setup. IsExact (setup_view setup)) }
         ensures ordered { IfOk result (λ setup. setup.ordered ≡ false) }
     {
         Setup::planned(alloc, job, judged, false)
@@ -55,10 +59,10 @@ impl Setup {
 
     /// The same, with plans under which rows and requests have one order.
     pub fn make_ordered(alloc: Global, job: Job, judged: Judged) -> Result<Setup, NoMemory>
-        requires { AreAccepted (written job) judged.accepted }
+        requires { AreAccepted (job_view job) judged.accepted }
         ensures job { IfOk result (λ setup. setup.job ≡ job) }
         ensures judged { IfOk result (λ setup. setup.judged ≡ judged) }
-        ensures exact { IfOk result (λ setup. IsExact (outline setup)) }
+        ensures exact { IfOk result (λ setup. IsExact (setup_view setup)) }
         ensures ordered { IfOk result (λ setup. setup.ordered ≡ true) }
     {
         Setup::planned(alloc, job, judged, true)
@@ -66,10 +70,10 @@ impl Setup {
 
     /// The setup with the plans of this mode.
     fn planned(alloc: Global, job: Job, judged: Judged, ordered: bool) -> Result<Setup, NoMemory>
-        requires { AreAccepted (written job) judged.accepted }
+        requires { AreAccepted (job_view job) judged.accepted }
         ensures job { IfOk result (λ setup. setup.job ≡ job) }
         ensures judged { IfOk result (λ setup. setup.judged ≡ judged) }
-        ensures exact { IfOk result (λ setup. IsExact (outline setup)) }
+        ensures exact { IfOk result (λ setup. IsExact (setup_view setup)) }
         ensures ordered { IfOk result (λ setup. setup.ordered ≡ ordered) }
     {
         accepted_requests_name_nodes();
@@ -87,12 +91,12 @@ impl Setup {
         })
     }
 
-    /// The setup with its requests, in their order, waiting for these rows. Its plans stay. Takes no
-    /// memory.
+    /// The setup with its requests, in their order, waiting for these rows. Its plans stay. Takes
+    /// no memory.
     pub fn waiting_for(self, afters: &[u64]) -> Setup
-        requires one_each { length afters.now ≡ length (outline self).requests }
-        requires in_order { AreInOrder 0 (with_afters afters.now (outline self).requests) }
-        ensures { outline result ≡ waiting_for afters.now (outline self) }
+        requires one_each { length afters.now ≡ length (setup_view self).requests }
+        requires in_order { AreInOrder 0 (with_afters afters.now (setup_view self).requests) }
+        ensures { setup_view result ≡ waiting_for afters.now (setup_view self) }
     {
         let Setup {
             job,
@@ -116,15 +120,16 @@ impl Setup {
 
     /// How many requests were accepted. Takes no memory.
     pub fn requests(&self) -> usize
-        ensures { result ≡ length (outline self.now).requests }
+        ensures { result ≡ length (setup_view self.now).requests }
     {
         self.judged.accepted.len()
     }
 
-    /// The row after which the accepted request at this place is issued; places are counted from 0. Takes no memory.
+    /// The row after which the accepted request at this place is issued; places are counted from 0.
+    /// Takes no memory.
     pub fn after(&self, place: usize) -> u64
-        requires { place < length (outline self.now).requests }
-        ensures { slice_get (afters (outline self.now).requests) place ≡ Some result }
+        requires { place < length (setup_view self.now).requests }
+        ensures { slice_get (afters (setup_view self.now).requests) place ≡ Some result }
     {
         self.judged.accepted.as_slice()[place].after
     }

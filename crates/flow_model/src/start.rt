@@ -1,6 +1,6 @@
 ghost use Rattle.std.specs.Prelude.{◌≡◌, IfOk};
 ghost use Rattle.flow_model.specs.Begin.{at_first};
-ghost use Rattle.flow_model.specs.Setup.{outline};
+ghost use Rattle.flow_model.specs.Setup.{setup_view};
 
 use crate::Setup;
 use keyed_state::Keyed;
@@ -32,10 +32,10 @@ impl Model for Start {
 }
 
 impl Start {
-    /// The beginning of all: no row was fed, no request was turned, and nothing was counted. The one
-    /// error is out of memory.
+    /// The beginning of all: no row was fed, no request was turned, and nothing was counted. The
+    /// one error is out of memory.
     pub fn first(alloc: Global, setup: &Setup) -> Result<Start, NoMemory>
-        ensures { IfOk result (λ start. start ≡ at_first (outline setup.now)) }
+        ensures { IfOk result (λ start. start ≡ at_first (setup_view setup.now)) }
     {
         let mut states = States::new(alloc);
         for _worker in setup.topology.workers.as_slice() {

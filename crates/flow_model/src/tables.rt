@@ -1,11 +1,13 @@
 // The tables of a topology, made from a job.
-ghost use Rattle.std.specs.Prelude.{◌≡◌, ◌<◌, ◌≤◌, ◌++◌, ◌+◌, ◌^◌, IfOk, OnOk, Some, length, map, slice_get};
+ghost use Rattle.std.specs.Prelude.{◌≡◌, ◌<◌, ◌≤◌, ◌++◌, ◌+◌, ◌^◌, IfOk, OnOk, Some, length, map};
+ghost use Rattle.std.specs.Prelude.{slice_get};
 ghost use Rattle.std.specs.List.{enumerate_from, range_with_len};
-ghost use Rattle.jobs.specs.Job.{written};
+ghost use Rattle.jobs.specs.Job.{job_view};
 ghost use Rattle.operators.specs.Ports.{out_ports as ports_of};
 ghost use Rattle.flow_model.specs.Lanes.{is_sender, lanes, lanes_of, senders};
-ghost use Rattle.flow_model.specs.Workers.{posts, posts_of};
-ghost use Rattle.flow_model.specs.Topology.{first_worker, numbers_out, numbers_in, lanes_to, out_edge, out_edges, worker_of};
+ghost use Rattle.flow_model.specs.Workers.{workers_in, workers_at_node};
+ghost use Rattle.flow_model.specs.Topology.{first_worker, numbers_out, numbers_in, lanes_to};
+ghost use Rattle.flow_model.specs.Topology.{out_edge, out_edges, worker_of};
 
 use crate::topology::{Lane, LaneNumbers, OutEdge, OutEdges, WorkerAt};
 use flow_dag::Edge;
@@ -15,7 +17,7 @@ use tuple_trace::{Items, NoMemory};
 
 /// The workers, by their numbers.
 pub fn workers_of(alloc: Global, job: &Job) -> Result<Items<WorkerAt>, NoMemory>
-    ensures { IfOk result (λ workers. workers ≡ map worker_of (posts (written job.now))) }
+    ensures { IfOk result (λ workers. workers ≡ map worker_of (workers_in (job_view job.now))) }
 {
     let mut workers = Items::new(alloc);
     for (node, def) in job.nodes.as_slice().iter().enumerate() {
@@ -26,7 +28,8 @@ pub fn workers_of(alloc: Global, job: &Job) -> Result<Items<WorkerAt>, NoMemory>
 
 fn push_workers(workers: &mut Items<WorkerAt>, node: u32, count: u32) -> Result<(), NoMemory>
     ensures { OnOk result (workers.new
-        ≡ workers.old ++ map (λ index. record { node = node; index = index }) (range_with_len 0 count)) }
+        ≡ workers.old ++ map (λ index. record { node = node; index = index })
+        (range_with_len 0 count)) }
 {
     for index in 0..count {
         workers.push(WorkerAt { node, index })?;
@@ -36,7 +39,7 @@ fn push_workers(workers: &mut Items<WorkerAt>, node: u32, count: u32) -> Result<
 
 /// The lanes, by their numbers.
 pub fn all_lanes(alloc: Global, job: &Job) -> Result<Items<Lane>, NoMemory>
-    ensures { IfOk result (λ all. all ≡ lanes (written job.now)) }
+    ensures { IfOk result (λ all. all ≡ lanes (job_view job.now)) }
 {
     let mut all = Items::new(alloc);
     for (number, edge) in job.dag.all_edges().iter().enumerate() {
@@ -47,8 +50,8 @@ pub fn all_lanes(alloc: Global, job: &Job) -> Result<Items<Lane>, NoMemory>
 
 // The lanes of an edge, sender after sender.
 fn push_edge(all: &mut Items<Lane>, job: &Job, number: u32, edge: &Edge) -> Result<(), NoMemory>
-    requires { slice_get (written job.now).edges number ≡ Some edge.now }
-    ensures { OnOk result (all.new ≡ all.old ++ lanes_of (written job.now) number edge.now) }
+    requires { slice_get (job_view job.now).edges number ≡ Some edge.now }
+    ensures { OnOk result (all.new ≡ all.old ++ lanes_of (job_view job.now) number edge.now) }
 {
     let first = first_worker(job, edge.to);
     let workers = receiver_count(job, edge.to);
@@ -83,9 +86,9 @@ fn push_lanes(
 
 // The sender at a place of a node: the feeder at a source, and one of its workers at any other.
 fn sender_at(job: &Job, node: u32, place: u32) -> Option<u32>
-    requires node { node < length (written job.now).nodes }
-    requires place { place < length (senders (written job.now) node) }
-    ensures { slice_get (senders (written job.now) node) place ≡ Some result }
+    requires node { node < length (job_view job.now).nodes }
+    requires place { place < length (senders (job_view job.now) node) }
+    ensures { slice_get (senders (job_view job.now) node) place ≡ Some result }
 {
     let def = &job.nodes.as_slice()[node as usize];
     if is_source(&def.func) {
@@ -97,8 +100,8 @@ fn sender_at(job: &Job, node: u32, place: u32) -> Option<u32>
 
 // The number of the first worker of a node.
 fn first_worker(job: &Job, node: u32) -> u32
-    requires { node < length (written job.now).nodes }
-    ensures { result ≡ first_worker (written job.now) node }
+    requires { node < length (job_view job.now).nodes }
+    ensures { result ≡ first_worker (job_view job.now) node }
 {
     let mut first = 0;
     for def in &job.nodes.as_slice()[..node as usize] {
@@ -109,16 +112,16 @@ fn first_worker(job: &Job, node: u32) -> u32
 
 // How many workers of a node receive.
 fn receiver_count(job: &Job, node: u32) -> u32
-    requires { node < length (written job.now).nodes }
-    ensures { result ≡ length (posts_of (written job.now) node) }
+    requires { node < length (job_view job.now).nodes }
+    ensures { result ≡ length (workers_at_node (job_view job.now) node) }
 {
     job.nodes.as_slice()[node as usize].journals()
 }
 
 // How many send from a node.
 fn sender_count(job: &Job, node: u32) -> u32
-    requires { node < length (written job.now).nodes }
-    ensures { result ≡ length (senders (written job.now) node) }
+    requires { node < length (job_view job.now).nodes }
+    ensures { result ≡ length (senders (job_view job.now) node) }
 {
     let def = &job.nodes.as_slice()[node as usize];
     if is_source(&def.func) {
@@ -201,7 +204,7 @@ fn is_from(lane: &Lane, worker: u32) -> bool
 /// All edges, as their senders see them.
 pub fn all_out_edges(alloc: Global, job: &Job) -> Result<OutEdges, NoMemory>
     ensures { IfOk result (λ all.
-        all ≡ map (out_edge (written job.now)) (enumerate_from 0 (written job.now).edges)) }
+        all ≡ map (out_edge (job_view job.now)) (enumerate_from 0 (job_view job.now).edges)) }
 {
     let mut all = OutEdges::new(alloc);
     let mut first_lane = 0;
@@ -222,9 +225,9 @@ pub fn all_out_edges(alloc: Global, job: &Job) -> Result<OutEdges, NoMemory>
 /// The edges out of each node.
 pub fn edges_by_node(alloc: Global, job: &Job, all: &[OutEdge]) -> Result<Items<OutEdges>, NoMemory>
     requires { all.now
-        ≡ map (out_edge (written job.now)) (enumerate_from 0 (written job.now).edges) }
+        ≡ map (out_edge (job_view job.now)) (enumerate_from 0 (job_view job.now).edges) }
     ensures { IfOk result (λ outs.
-        outs ≡ map (out_edges (written job.now)) (range_with_len 0 (length (written job.now).nodes))) }
+        outs ≡ map (out_edges (job_view job.now)) (range_with_len 0 (length (job_view job.now).nodes))) }
 {
     let mut outs = Items::new(alloc);
     for node in 0..job.nodes.len() {
@@ -235,8 +238,8 @@ pub fn edges_by_node(alloc: Global, job: &Job, all: &[OutEdge]) -> Result<Items<
 
 fn edges_from(alloc: Global, job: &Job, all: &[OutEdge], node: u32) -> Result<OutEdges, NoMemory>
     requires { all.now
-        ≡ map (out_edge (written job.now)) (enumerate_from 0 (written job.now).edges) }
-    ensures { IfOk result (λ outs. outs ≡ out_edges (written job.now) node) }
+        ≡ map (out_edge (job_view job.now)) (enumerate_from 0 (job_view job.now).edges) }
+    ensures { IfOk result (λ outs. outs ≡ out_edges (job_view job.now) node) }
 {
     let mut outs = OutEdges::new(alloc);
     for (number, out) in all.iter().enumerate() {
@@ -251,7 +254,8 @@ fn edges_from(alloc: Global, job: &Job, all: &[OutEdge], node: u32) -> Result<Ou
 /// The ports of the edges out of each node.
 pub fn ports_by_node(alloc: Global, job: &Job) -> Result<Items<Ports>, NoMemory>
     ensures { IfOk result (λ all. all
-        ≡ map (ports_of (written job.now).edges) (range_with_len 0 (length (written job.now).nodes))) }
+        ≡ map (ports_of (job_view job.now).edges) (range_with_len 0
+        (length (job_view job.now).nodes))) }
 {
     let mut all = Items::new(alloc);
     for node in 0..job.nodes.len() {

@@ -1,7 +1,8 @@
 // The workers and lanes of a job.
-ghost use Rattle.std.specs.Prelude.{◌≡◌, ◌<◌, ℕ, IfOk, IfSome, IfNone, Option, Some, None, length, option_copied, slice_get};
+ghost use Rattle.std.specs.Prelude.{◌≡◌, ◌<◌, ℕ, IfOk, IfSome, IfNone, Option, Some, None, length};
+ghost use Rattle.std.specs.Prelude.{option_copied, slice_get};
 ghost use Rattle.flow_dag.specs.declared.edge.Edge.{Edge as EdgeIs};
-ghost use Rattle.jobs.specs.Job.{written};
+ghost use Rattle.jobs.specs.Job.{job_view};
 ghost use Rattle.flow_model.specs.Lanes.{lane_along, lane_of as lane_to, senders};
 ghost use Rattle.flow_model.specs.Topology.{IsNumberOf, first_with, out_edge, topology_of};
 
@@ -68,7 +69,7 @@ pub struct Topology {
 impl Topology {
     /// The topology of a job.
     pub fn of(alloc: Global, job: &Job) -> Result<Topology, NoMemory>
-        ensures { IfOk result (λ topology. topology ≡ topology_of (written job.now)) }
+        ensures { IfOk result (λ topology. topology ≡ topology_of (job_view job.now)) }
     {
         let workers = tables::workers_of(alloc, job)?;
         let lanes = tables::all_lanes(alloc, job)?;
@@ -87,18 +88,18 @@ impl Topology {
         })
     }
 
-    /// Returns the number of the lane of a tuple that the sender at an index of a node puts on a port,
-    /// or `None` if no edge leaves the node by that port. A source has one sender, the feeder. Takes
-    /// no memory.
+    /// Returns the number of the lane of a tuple that the sender at an index of a node puts on a
+    /// port, or `None` if no edge leaves the node by that port. A source has one sender, the
+    /// feeder. Takes no memory.
     pub fn route(&self, job: &Job, sender: WorkerAt, port: u32, tuple: &Tuple) -> Option<u32>
-        requires topology { self.now ≡ topology_of (written job.now) }
-        requires sender { sender.index < length (senders (written job.now) sender.node) }
+        requires topology { self.now ≡ topology_of (job_view job.now) }
+        requires sender { sender.index < length (senders (job_view job.now) sender.node) }
         ensures some { IfSome result (λ number. (from : Option ℕ)
-            → slice_get (senders (written job.now) sender.node) sender.index ≡ Some from
-            → IsNumberOf (written job.now)
-            (lane_to (written job.now) from sender.node port tuple.now) number) }
+            → slice_get (senders (job_view job.now) sender.node) sender.index ≡ Some from
+            → IsNumberOf (job_view job.now)
+            (lane_to (job_view job.now) from sender.node port tuple.now) number) }
         ensures none { IfNone result ((from : Option ℕ)
-            → lane_to (written job.now) from sender.node port tuple.now ≡ None) }
+            → lane_to (job_view job.now) from sender.node port tuple.now ≡ None) }
     {
         let outs = self.out_edges.as_slice()[sender.node as usize].as_slice();
         match out_with(outs, port) {
@@ -122,14 +123,14 @@ fn out_with(outs: &[OutEdge], port: u32) -> Option<&OutEdge>
 
 // The lane of a tuple along an edge.
 fn lane_by(job: &Job, out: &OutEdge, sender: WorkerAt, tuple: &Tuple) -> u32
-    requires sender { sender.index < length (senders (written job.now) sender.node) }
-    requires there { (edge : EdgeIs) × (slice_get (written job.now).edges out.now.edge ≡ Some edge)
-        × (edge.from ≡ sender.node) × (out.now ≡ out_edge (written job.now) (out.now.edge, edge)) }
+    requires sender { sender.index < length (senders (job_view job.now) sender.node) }
+    requires there { (edge : EdgeIs) × (slice_get (job_view job.now).edges out.now.edge ≡ Some edge)
+        × (edge.from ≡ sender.node) × (out.now ≡ out_edge (job_view job.now) (out.now.edge, edge)) }
     ensures { (from : Option ℕ)
-        → slice_get (senders (written job.now) sender.node) sender.index ≡ Some from
-        → (edge : EdgeIs) → slice_get (written job.now).edges out.now.edge ≡ Some edge
-        → IsNumberOf (written job.now)
-        (lane_along (written job.now) from (Some (out.now.edge, edge)) tuple.now) result }
+        → slice_get (senders (job_view job.now) sender.node) sender.index ≡ Some from
+        → (edge : EdgeIs) → slice_get (job_view job.now).edges out.now.edge ≡ Some edge
+        → IsNumberOf (job_view job.now)
+        (lane_along (job_view job.now) from (Some (out.now.edge, edge)) tuple.now) result }
 {
     let receiver = lane_of(job, out.edge, tuple);
     out.first_lane + sender.index * out.receivers + receiver

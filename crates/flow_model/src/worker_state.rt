@@ -1,8 +1,8 @@
 // What is in force at a worker.
 ghost use Rattle.std.specs.Prelude.{◌≡◌, ◌<◌, ◌+◌, ◌-◌, ◌^◌, OnErr, OnOk, Some, length, slice_get};
 ghost use Rattle.jobs.specs.declared.func.NodeDef.{NodeDef as NodeDefIs};
-ghost use Rattle.flow_model.specs.Outline.{Post as PostIs};
-ghost use Rattle.flow_model.specs.Setup.{outline};
+ghost use Rattle.flow_model.specs.SetupView.{Worker as WorkerIs};
+ghost use Rattle.flow_model.specs.Setup.{setup_view};
 ghost use Rattle.flow_model.specs.WorkerState.{AreMade, HasEndedLane, IsProcessed, IsTurned};
 ghost use Rattle.flow_model.specs.WorkerState.{first_state, func_at};
 
@@ -48,10 +48,10 @@ impl WorkerState {
         tuple: &Tuple,
         outs: &mut Outs,
     ) -> Result<(), NoMemory>
-        requires { at.node < length (outline setup.now).job.nodes }
-        ensures state { OnOk result (IsProcessed (outline setup.now) at tuple.now self.old
+        requires { at.node < length (setup_view setup.now).job.nodes }
+        ensures state { OnOk result (IsProcessed (setup_view setup.now) at tuple.now self.old
             self.new) }
-        ensures outs { OnOk result (AreMade (outline setup.now) at tuple.now self.old outs.old
+        ensures outs { OnOk result (AreMade (setup_view setup.now) at tuple.now self.old outs.old
             outs.new) }
         ensures err { OnErr result (self.new ≡ self.old) }
         ensures err_outs { OnErr result (outs.new ≡ outs.old) }
@@ -77,7 +77,7 @@ impl WorkerState {
     /// Takes no memory.
     #[inline]
     pub fn turn(&mut self, setup: &Setup, node: u32, request: u64)
-        ensures { IsTurned (outline setup.now) node request self.old self.new }
+        ensures { IsTurned (setup_view setup.now) node request self.old self.new }
     {
         setup.put_in_force(node, request, &mut self.func, &mut self.counts);
         self.last = request;
@@ -96,11 +96,11 @@ impl WorkerState {
 // The function that stands there, or the job's own of the node if none does.
 #[inline]
 fn func_of(setup: &Setup, node: u32, at: InForce) -> &Func
-    requires { node < length (outline setup.now).job.nodes }
-    ensures { (post : PostIs) (def : NodeDefIs)
-        → slice_get (outline setup.now).job.nodes node ≡ Some def
-        → post.node ≡ node → post.func ≡ def.func
-        → result.now ≡ func_at (outline setup.now) post at }
+    requires { node < length (setup_view setup.now).job.nodes }
+    ensures { (who : WorkerIs) (def : NodeDefIs)
+        → slice_get (setup_view setup.now).job.nodes node ≡ Some def
+        → who.node ≡ node → who.func ≡ def.func
+        → result.now ≡ func_at (setup_view setup.now) who at }
 {
     match setup.func_in(node, at) {
         Some(func) => func,

@@ -1,8 +1,9 @@
-ghost use Rattle.std.specs.Prelude.{◌≡◌, ◌<◌, ◌≤◌, Some, length, option_copied, option_map, slice_get};
-ghost use Rattle.flow_model.specs.Outline.{Post as PostIs};
-ghost use Rattle.flow_model.specs.Setup.{outline};
+ghost use Rattle.std.specs.Prelude.{◌≡◌, ◌<◌, ◌≤◌, Some, length, option_copied, option_map};
+ghost use Rattle.std.specs.Prelude.{slice_get};
+ghost use Rattle.flow_model.specs.SetupView.{Worker as WorkerIs};
+ghost use Rattle.flow_model.specs.Setup.{setup_view};
 ghost use Rattle.flow_model.specs.Topology.{worker_of};
-ghost use Rattle.flow_model.specs.Workers.{post_at, posts};
+ghost use Rattle.flow_model.specs.Workers.{nth_worker, workers_in};
 ghost use Rattle.flow_model.specs.Covers.{covers, is_head, plan_of};
 
 use crate::{Setup, WorkerAt};
@@ -13,7 +14,7 @@ use jobs::worker_count;
 impl Setup {
     /// How many workers there are: those of the nodes that aren't sources. Takes no memory.
     pub fn workers(&self) -> u32
-        ensures value { result ≡ length (posts (outline self.now).job) }
+        ensures value { result ≡ length (workers_in (setup_view self.now).job) }
         ensures limit { result ≤ 64 }
     {
         worker_count(&self.job) as u32
@@ -21,18 +22,19 @@ impl Setup {
 
     /// Where a worker is. Workers are numbered through the nodes in order. Takes no memory.
     pub fn worker_at(&self, worker: u32) -> WorkerAt
-        requires { worker < length (posts (outline self.now).job) }
-        ensures at { result ≡ worker_of (post_at (outline self.now).job worker) }
-        ensures limit { result.node < length (outline self.now).job.nodes }
+        requires { worker < length (workers_in (setup_view self.now).job) }
+        ensures at { result ≡ worker_of (nth_worker (setup_view self.now).job worker) }
+        ensures limit { result.node < length (setup_view self.now).job.nodes }
     {
         self.topology.workers.as_slice()[worker as usize]
     }
 
     /// The node of a worker. Takes no memory.
     pub fn node_of(&self, worker: u32) -> u32
-        requires { worker < length (posts (outline self.now).job) }
-        ensures node { option_map (λ (post : PostIs). post.node) (slice_get (posts (outline self.now).job) worker) ≡ Some result }
-        ensures at { result ≡ (post_at (outline self.now).job worker).node }
+        requires { worker < length (workers_in (setup_view self.now).job) }
+        ensures node { option_map (λ (who : WorkerIs). who.node)
+            (slice_get (workers_in (setup_view self.now).job) worker) ≡ Some result }
+        ensures at { result ≡ (nth_worker (setup_view self.now).job worker).node }
         ensures limit { result < 64 }
     {
         self.worker_at(worker).node
@@ -40,8 +42,9 @@ impl Setup {
 
     /// Whether a request covers the node of a worker. Requests are counted from 1. Takes no memory.
     pub fn covers(&self, worker: u32, request: u64) -> bool
-        requires { worker < length (posts (outline self.now).job) }
-        ensures { option_map (λ (post : PostIs). covers (outline self.now) request post.node) (slice_get (posts (outline self.now).job) worker) ≡ Some result }
+        requires { worker < length (workers_in (setup_view self.now).job) }
+        ensures { option_map (λ (who : WorkerIs). covers (setup_view self.now) request who.node)
+            (slice_get (workers_in (setup_view self.now).job) worker) ≡ Some result }
     {
         match self.plan_of(request) {
             Some(plan) => has_bit(plan.nodes, self.node_of(worker)),
@@ -51,8 +54,9 @@ impl Setup {
 
     /// Whether the node of a worker is a head of what a request covers. Takes no memory.
     pub fn is_head(&self, worker: u32, request: u64) -> bool
-        requires { worker < length (posts (outline self.now).job) }
-        ensures { option_map (λ (post : PostIs). is_head (outline self.now) request post.node) (slice_get (posts (outline self.now).job) worker) ≡ Some result }
+        requires { worker < length (workers_in (setup_view self.now).job) }
+        ensures { option_map (λ (who : WorkerIs). is_head (setup_view self.now) request who.node)
+            (slice_get (workers_in (setup_view self.now).job) worker) ≡ Some result }
     {
         match self.plan_of(request) {
             Some(plan) => has_bit(plan.heads, self.node_of(worker)),
@@ -62,7 +66,7 @@ impl Setup {
 
     /// The plan of a request, if there is such a request. Takes no memory.
     pub fn plan_of(&self, request: u64) -> Option<&Plan>
-        ensures { option_copied result ≡ plan_of (outline self.now) request }
+        ensures { option_copied result ≡ plan_of (setup_view self.now) request }
     {
         let place = request.checked_sub(1)?;
         self.plans.as_slice().get(place as usize)

@@ -3,7 +3,7 @@ use Rattle.std.proofs.Common.{◌≡◌, ◌+◌, ◌==◌, ◌&&◌, ℕ, zero,
 use Rattle.std.specs.Prelude.{option_map, if◌then◌else◌}
 use Rattle.std.specs.List.{enumerate_from}
 use Rattle.flow_dag.specs.declared.edge.Edge.{Edge}
-use Rattle.jobs.specs.Written.{Written}
+use Rattle.jobs.specs.JobView.{JobView}
 use Rattle.jobs.specs.declared.func.Func.{Func}
 use Rattle.tuple_trace.specs.declared.tuple.Tuple.{Tuple}
 use Rattle.flow_model.specs.Alone.{lands}
@@ -29,7 +29,7 @@ found-first_on node port i (edge ∷ edges) = go ((edge.from == node) && (edge.p
     go true later = refl
     go false later = later
 
-pub lands-none : (job : Written) (table : ℕ → Option Func) (nodes node : ℕ) (tuple : Tuple) →
+pub lands-none : (job : JobView) (table : ℕ → Option Func) (nodes node : ℕ) (tuple : Tuple) →
     table node ≡ None → lands job table nodes node tuple ≡ []
 lands-none job table zero node tuple is = refl
 lands-none job table (suc nodes) node tuple is = rw is refl

@@ -7,8 +7,8 @@ use Rattle.tuple_trace.specs.declared.tuple.Item.{Item}
 use Rattle.flow_model.specs.Lanes.{lanes_out}
 use Rattle.flow_model.specs.declared.topology.Lane.{Lane}
 use Rattle.flow_model.specs.declared.worker_state.WorkerState.{WorkerState}
-use Rattle.flow_model.specs.Outline.{Outline, Post}
-use Rattle.flow_model.specs.Replay.{Local, after, after_all, items_on, puts, sent, with_change}
+use Rattle.flow_model.specs.SetupView.{SetupView, Worker}
+use Rattle.flow_model.specs.Replay.{StateView, after, after_all, items_on, puts, sent, with_change}
 use Rattle.flow_model.specs.Requests.{change_of}
 use Rattle.flow_model.specs.WorkerState.{first_state, state_view}
 use Rattle.versions.specs.declared.request.Change.{Change}
@@ -19,79 +19,79 @@ use Rattle.flow_model.proofs.JournalLemmas.{after_all-append, sent-append}
 use Rattle.flow_replay.proofs.ListLemmas.{with_puts-map}
 
 -- an entry is what it is: the lists gain what it puts, and what is in force is what it leaves
-pub entered : (setup : Outline) (post : Post) (w : ℕ) (this : Entry) (old new : Replaying) →
-    post.number ≡ w → replay_view setup post new ≡ after setup post (replay_view setup post old)
+pub entered : (setup : SetupView) (who : Worker) (w : ℕ) (this : Entry) (old new : Replaying) →
+    who.number ≡ w → replay_view setup who new ≡ after setup who (replay_view setup who old)
     this
-    → new.lists.items ≡ with_puts (lanes_out setup.job w) (puts setup post (replay_view setup post
-    old) this) old.lists.items → IsEntered setup post this old new
-entered setup post w this old new number local lists =
+    → new.lists.items ≡ with_puts (lanes_out setup.job w) (puts setup who (replay_view setup who
+    old) this) old.lists.items → IsEntered setup who this old new
+entered setup who w this old new number view lists =
     record {
-      local = local;
+      view = view;
       lists = lists ∙ ap (λ (n : ℕ). with_puts (lanes_out setup.job n) (puts
-          setup post (replay_view setup post old) this) old.lists.items) (sym number);
+          setup who (replay_view setup who old) this) old.lists.items) (sym number);
     }
 
 -- a replay that hasn't begun
-pub replayed_none : (setup : Outline) (post : Post) (replay : Replaying) → replay.state
-    ≡ first_state → replay.lists.items ≡ replicate (length (lanes_out setup.job post.number)) []
-    → IsReplayed setup post [] replay
-replayed_none setup post replay state lists = record {
-  local = ap (λ (s : WorkerState). state_view setup post s) state;
-  lists = lists ∙ none (lanes_out setup.job post.number);
+pub replayed_none : (setup : SetupView) (who : Worker) (replay : Replaying) → replay.state
+    ≡ first_state → replay.lists.items ≡ replicate (length (lanes_out setup.job who.number)) []
+    → IsReplayed setup who [] replay
+replayed_none setup who replay state lists = record {
+  view = ap (λ (s : WorkerState). state_view setup who s) state;
+  lists = lists ∙ none (lanes_out setup.job who.number);
 }
   where
     none : (xs : List Lane) → replicate (length xs) []
-        ≡ map (λ (lane : Lane). sent setup post (first_view setup post) lane []) xs
+        ≡ map (λ (lane : Lane). sent setup who (first_view setup who) lane []) xs
     none [] = refl
     none (x ∷ xs) = ap (λ (rest : List (List Item)). [] ∷ rest) (none xs)
 
 -- a replay that has gone through one entry more
-pub replayed_more : (setup : Outline) (post : Post) (journal : List Entry) (this : Entry) (old new :
-    Replaying) → IsReplayed setup post journal old → IsEntered setup post this old new →
-    IsReplayed setup post (journal ++ this ∷ []) new
-replayed_more setup post journal this old new so_far step = record {
-  local = step.local ∙ (ap (λ (l : Local). after setup post l this) so_far.local
-      ∙ sym (after_all-append setup post (first_view setup post) journal (this ∷ [])));
+pub replayed_more : (setup : SetupView) (who : Worker) (journal : List Entry) (this : Entry) (old new :
+    Replaying) → IsReplayed setup who journal old → IsEntered setup who this old new →
+    IsReplayed setup who (journal ++ this ∷ []) new
+replayed_more setup who journal this old new so_far step = record {
+  view = step.view ∙ (ap (λ (l : StateView). after setup who l this) so_far.view
+      ∙ sym (after_all-append setup who (first_view setup who) journal (this ∷ [])));
   lists =
-      step.lists ∙ (ap (λ (l : Local). with_puts (lanes_out setup.job post.number) (puts setup post
-      l this) old.lists.items) so_far.local
-      ∙ (ap (with_puts (lanes_out setup.job post.number) (puts setup post (after_all setup post
-      (first_view setup post) journal) this)) so_far.lists
-      ∙ (with_puts-map (λ (lane : Lane). sent setup post (first_view setup post) lane journal) (puts
-      setup post (after_all setup post (first_view setup post) journal) this) (lanes_out setup.job
-      post.number)
-      ∙ more (lanes_out setup.job post.number))));
+      step.lists ∙ (ap (λ (l : StateView). with_puts (lanes_out setup.job who.number) (puts setup who
+      l this) old.lists.items) so_far.view
+      ∙ (ap (with_puts (lanes_out setup.job who.number) (puts setup who (after_all setup who
+      (first_view setup who) journal) this)) so_far.lists
+      ∙ (with_puts-map (λ (lane : Lane). sent setup who (first_view setup who) lane journal) (puts
+      setup who (after_all setup who (first_view setup who) journal) this) (lanes_out setup.job
+      who.number)
+      ∙ more (lanes_out setup.job who.number))));
 }
   where
-    more : (xs : List Lane) → map (λ (lane : Lane). sent setup post (first_view setup post) lane
-        journal ++ items_on lane (puts setup post (after_all setup post (first_view setup post)
+    more : (xs : List Lane) → map (λ (lane : Lane). sent setup who (first_view setup who) lane
+        journal ++ items_on lane (puts setup who (after_all setup who (first_view setup who)
         journal) this)) xs
-        ≡ map (λ (lane : Lane). sent setup post (first_view setup post) lane (journal ++ this ∷ []))
+        ≡ map (λ (lane : Lane). sent setup who (first_view setup who) lane (journal ++ this ∷ []))
         xs
     more [] = refl
     more (x ∷ xs) =
-        rw (more xs) (ap (λ (list : List Item). list ∷ map (λ (lane : Lane). sent setup post
-        (first_view setup post) lane (journal ++ this ∷ [])) xs)
-        (sym (sent-append setup post (first_view setup post) x journal (this ∷ [])
-        ∙ ap (λ (rest : List Item). sent setup post (first_view setup post) x journal ++ rest)
-        (append-nil (items_on x (puts setup post (after_all setup post (first_view setup post)
+        rw (more xs) (ap (λ (list : List Item). list ∷ map (λ (lane : Lane). sent setup who
+        (first_view setup who) lane (journal ++ this ∷ [])) xs)
+        (sym (sent-append setup who (first_view setup who) x journal (this ∷ [])
+        ∙ ap (λ (rest : List Item). sent setup who (first_view setup who) x journal ++ rest)
+        (append-nil (items_on x (puts setup who (after_all setup who (first_view setup who)
         journal) this))))))
 
 -- an entry ends at most one lane
-pub ended_grows : (setup : Outline) (post : Post) (this : Entry) (old new : Replaying) →
-    IsEntered setup post this old new → new.state.ended ≤ old.state.ended + 1
-ended_grows setup post this old new step =
-    let same : new.state.ended ≡ (after setup post (replay_view setup post old) this).ended = ap (λ
-    (l : Local). l.ended) step.local in
+pub ended_grows : (setup : SetupView) (who : Worker) (this : Entry) (old new : Replaying) →
+    IsEntered setup who this old new → new.state.ended ≤ old.state.ended + 1
+ended_grows setup who this old new step =
+    let same : new.state.ended ≡ (after setup who (replay_view setup who old) this).ended = ap (λ
+    (l : StateView). l.ended) step.view in
     omega (arith, same, go this)
   where
-    kept : (change : Option Change) → (with_change change (replay_view setup post old)).ended
+    kept : (change : Option Change) → (with_change change (replay_view setup who old)).ended
         ≡ old.state.ended
     kept None = refl
     kept (Some change) = refl
 
-    go : (e : Entry) → (after setup post (replay_view setup post old) e).ended ≤ old.state.ended + 1
+    go : (e : Entry) → (after setup who (replay_view setup who old) e).ended ≤ old.state.ended + 1
     go (entry.Met lane tuple) = omega arith
     go (entry.Marked lane request) = omega arith
-    go (entry.Turned request) = omega (arith, kept (change_of setup request post.node))
+    go (entry.Turned request) = omega (arith, kept (change_of setup request who.node))
     go (entry.Ended lane) = omega arith

@@ -6,24 +6,24 @@ use Rattle.std.proofs.lemmas.Option.{same_Some}
 use Rattle.sink_journal.specs.declared.journal.Entry.{Entry}
 use Rattle.sink_journal.specs.declared.journal.Entry.TheVariants as entry
 use Rattle.tuple_trace.specs.declared.tuple.Tuple.{Tuple}
-use Rattle.jobs.specs.Written.{Written}
+use Rattle.jobs.specs.JobView.{JobView}
 use Rattle.flow_model.specs.Covers.{covers, covers_edge}
 use Rattle.flow_model.specs.Lanes.{lanes, lanes_in, lanes_that, marked_lanes}
-use Rattle.flow_model.specs.Law.{IsExecution, IsFinished, IsInTime, Progress, Station, initial, next_due, progress_after}
+use Rattle.flow_model.specs.Law.{IsExecution, IsFinished, IsInTime, Progress, Duties, initial, next_due, progress_after}
 use Rattle.flow_model.specs.declared.topology.Lane.{Lane}
-use Rattle.flow_model.specs.Outline.{Outline, Post}
-use Rattle.flow_model.specs.Station.{numbers_from, station}
+use Rattle.flow_model.specs.SetupView.{SetupView, Worker}
+use Rattle.flow_model.specs.Duties.{numbers_from, duties}
 use Rattle.flow_model.proofs.ElementLemmas.{AreDistinct, IsIn, all_of_at, contains_of_in, distinct_filter, distinct_map, in_filter, in_of_contains}
 use Rattle.flow_model.proofs.JournalLemmas.{IsExecution-append, progress_after-append}
 use Rattle.flow_model.proofs.LaneLemmas.{enumerate_distinct, in_enumerate}
 use Rattle.flow_replay.specs.inner.Runs.{end_block, marks, turn_block, turn_entries}
 use Rattle.flow_replay.specs.inner.SoFar.{waiting}
 use Rattle.flow_replay.specs.inner.Delivery.{IsMeeting}
-use Rattle.flow_model.specs.Workers.{post_at}
+use Rattle.flow_model.specs.Workers.{nth_worker}
 
 -- ---- the numbers of lanes
 
-pub lanes_that-distinct : (test : Lane → Bool) (job : Written) → AreDistinct (lanes_that test job)
+pub lanes_that-distinct : (test : Lane → Bool) (job : JobView) → AreDistinct (lanes_that test job)
 lanes_that-distinct test job = distinct_map (λ (p : ℕ × Lane). p.0) passing one (distinct_filter (λ
     (p : ℕ × Lane). test p.1) (enumerate_from 0 (lanes job)) (enumerate_distinct (lanes job)))
   where
@@ -45,50 +45,50 @@ lanes_that-distinct test job = distinct_map (λ (p : ℕ × Lane). p.0) passing 
 
 -- ---- meetings
 
-in_time : (setup : Outline) (post : Post) (t : Tuple) (r count : ℕ) → t.issued < r →
-    IsInTime (station setup 0 post) t (next_due (filter (λ q. covers setup q post.node)
+in_time : (setup : SetupView) (who : Worker) (t : Tuple) (r count : ℕ) → t.issued < r →
+    IsInTime (duties setup 0 who) t (next_due (filter (λ q. covers setup q who.node)
     (numbers_from r count)))
-in_time setup post t r zero h = tt
-in_time setup post t r (suc count) h = go (covers setup r post.node) (in_time setup post t (r + 1)
+in_time setup who t r zero h = tt
+in_time setup who t r (suc count) h = go (covers setup r who.node) (in_time setup who t (r + 1)
     count (omega arith))
   where
-    go : (b : Bool) → IsInTime (station setup 0 post) t (next_due (filter (λ q. covers setup q
-        post.node) (numbers_from (r + 1) count)))
-        → IsInTime (station setup 0 post) t (next_due (cond b (r ∷ filter (λ q. covers setup q
-        post.node) (numbers_from (r + 1) count)) (filter (λ q. covers setup q post.node)
+    go : (b : Bool) → IsInTime (duties setup 0 who) t (next_due (filter (λ q. covers setup q
+        who.node) (numbers_from (r + 1) count)))
+        → IsInTime (duties setup 0 who) t (next_due (cond b (r ∷ filter (λ q. covers setup q
+        who.node) (numbers_from (r + 1) count)) (filter (λ q. covers setup q who.node)
         (numbers_from (r + 1) count))))
     go true f = λ _. h
     go false f = f
 
-pub meetings-follow : (setup : Outline) (w row m : ℕ) (post : Post) (more : List Entry) →
-    post.number ≡ w → AllByRecursion (IsMeeting setup.job w row m) more
-    → IsExecution (station setup 0 post) (waiting setup post m) more × (progress_after (waiting
-    setup post m) more ≡ waiting setup post m)
-meetings-follow setup w row m post [] num e = (tt, refl)
-meetings-follow setup w row m post (entry.Met lane t ∷ more) num e =
-    let r = meetings-follow setup w row m post more num e.1 in (
+pub meetings-follow : (setup : SetupView) (w row m : ℕ) (who : Worker) (more : List Entry) →
+    who.number ≡ w → AllByRecursion (IsMeeting setup.job w row m) more
+    → IsExecution (duties setup 0 who) (waiting setup who m) more × (progress_after (waiting
+    setup who m) more ≡ waiting setup who m)
+meetings-follow setup w row m who [] num e = (tt, refl)
+meetings-follow setup w row m who (entry.Met lane t ∷ more) num e =
+    let r = meetings-follow setup w row m who more num e.1 in (
       (
         (
           subst (λ (v : ℕ). Contains (lanes_in setup.job v) lane) (sym num) e.0.0,
           refl,
           refl,
           in_time
-              setup post t (m + 1) (length setup.plans - m) (let i = e.0.2 in omega (arith, i)),
+              setup who t (m + 1) (length setup.plans - m) (let i = e.0.2 in omega (arith, i)),
         ),
         r.0,
       ),
       r.1,
     )
-meetings-follow setup w row m post (entry.Marked lane r ∷ more) num e = absurd e.0
-meetings-follow setup w row m post (entry.Turned r ∷ more) num e = absurd e.0
-meetings-follow setup w row m post (entry.Ended lane ∷ more) num e = absurd e.0
+meetings-follow setup w row m who (entry.Marked lane r ∷ more) num e = absurd e.0
+meetings-follow setup w row m who (entry.Turned r ∷ more) num e = absurd e.0
+meetings-follow setup w row m who (entry.Ended lane ∷ more) num e = absurd e.0
 
 -- ---- turns
 
 abbrev progress_with : List ℕ → List ℕ → List ℕ → Progress
 progress_with dues marked ended = record { dues = dues; marked = marked; ended = ended }
 
-marks-follow : (at : Station) (r : ℕ) (dues done ns : List ℕ) → ((n : ℕ) → IsIn n ns →
+marks-follow : (at : Duties) (r : ℕ) (dues done ns : List ℕ) → ((n : ℕ) → IsIn n ns →
     Contains (at.marked_lanes r) n) → AreDistinct ns → ((n : ℕ) → IsIn n ns → ¬ IsIn n done)
     → ((n : ℕ) → IsIn n (at.marked_lanes r) → IsIn n ns ⊎ IsIn n done)
     → IsExecution at (progress_with (r ∷ dues) done []) (marks r ns ++ entry.Turned r ∷ [])
@@ -121,44 +121,44 @@ marks-follow at r dues done (n ∷ ns) isin d apart all =
       rest.1,
     )
 
-pub turn-follows : (setup : Outline) (w m : ℕ) → (post_at setup.job w).number ≡ w →
+pub turn-follows : (setup : SetupView) (w m : ℕ) → (nth_worker setup.job w).number ≡ w →
     m < length setup.plans
-    → IsExecution (station setup 0 (post_at setup.job w)) (waiting setup (post_at setup.job w) m)
+    → IsExecution (duties setup 0 (nth_worker setup.job w)) (waiting setup (nth_worker setup.job w) m)
     (turn_block setup (m + 1) w)
-    × (progress_after (waiting setup (post_at setup.job w) m) (turn_block setup (m + 1) w)
-    ≡ waiting setup (post_at setup.job w) (m + 1))
+    × (progress_after (waiting setup (nth_worker setup.job w) m) (turn_block setup (m + 1) w)
+    ≡ waiting setup (nth_worker setup.job w) (m + 1))
 turn-follows setup w m num h =
-    subst (λ (c : ℕ). IsExecution (station setup 0 post) (progress_with (filter (λ q. covers setup q
-    post.node) (numbers_from (m + 1) c)) [] []) (turn_block setup (m + 1) w)
-    × (progress_after (progress_with (filter (λ q. covers setup q post.node) (numbers_from (m + 1)
-    c)) [] []) (turn_block setup (m + 1) w) ≡ waiting setup post (m + 1)))
-    (sym count) (go (covers setup (m + 1) post.node))
+    subst (λ (c : ℕ). IsExecution (duties setup 0 who) (progress_with (filter (λ q. covers setup q
+    who.node) (numbers_from (m + 1) c)) [] []) (turn_block setup (m + 1) w)
+    × (progress_after (progress_with (filter (λ q. covers setup q who.node) (numbers_from (m + 1)
+    c)) [] []) (turn_block setup (m + 1) w) ≡ waiting setup who (m + 1)))
+    (sym count) (go (covers setup (m + 1) who.node))
   where
-    post : Post
-    post = post_at setup.job w
+    who : Worker
+    who = nth_worker setup.job w
 
     rest : List ℕ
-    rest = filter (λ q. covers setup q post.node) (numbers_from (m + 1 + 1) (length setup.plans - (m
+    rest = filter (λ q. covers setup q who.node) (numbers_from (m + 1 + 1) (length setup.plans - (m
         + 1)))
 
     count : length setup.plans - m ≡ suc (length setup.plans - (m + 1))
     count = omega (arith, h)
 
     mine : (n : ℕ) → IsIn n (marked_lanes setup w (m + 1)) →
-        Contains (marked_lanes setup post.number (m + 1)) n
+        Contains (marked_lanes setup who.number (m + 1)) n
     mine n i = subst (λ (v : ℕ). Contains (marked_lanes setup v (m + 1)) n) (sym num)
         (contains_of_in n (marked_lanes setup w (m + 1)) i)
 
-    back : (n : ℕ) → IsIn n (marked_lanes setup post.number (m + 1)) →
+    back : (n : ℕ) → IsIn n (marked_lanes setup who.number (m + 1)) →
         IsIn n (marked_lanes setup w (m + 1))
     back n i = subst (λ (v : ℕ). IsIn n (marked_lanes setup v (m + 1))) num i
 
-    go : (b : Bool) → IsExecution (station setup 0 post) (progress_with (cond b ((m + 1) ∷ rest)
+    go : (b : Bool) → IsExecution (duties setup 0 who) (progress_with (cond b ((m + 1) ∷ rest)
         rest) [] []) (cond b (turn_entries setup (m + 1) w) [])
         × (progress_after (progress_with (cond b ((m + 1) ∷ rest) rest) [] []) (cond b (turn_entries
         setup (m + 1) w) []) ≡ progress_with rest [] [])
     go true =
-        marks-follow (station setup 0 post) (m + 1) rest [] (marked_lanes setup w (m + 1)) mine
+        marks-follow (duties setup 0 who) (m + 1) rest [] (marked_lanes setup w (m + 1)) mine
         (lanes_that-distinct (λ (lane : Lane). (lane.receiver == w) && covers_edge setup (m + 1)
         lane.edge) setup.job) (λ n i j. j) (λ n i. inl (back n i))
     go false = (tt, refl)
@@ -168,7 +168,7 @@ turn-follows setup w m num h =
 abbrev pub ended_all : List ℕ → List Entry
 ended_all ns = map (λ (lane : ℕ). entry.Ended lane) ns
 
-ends-follow : (at : Station) (done ns : List ℕ) → ((n : ℕ) → IsIn n ns → Contains at.lanes n) →
+ends-follow : (at : Duties) (done ns : List ℕ) → ((n : ℕ) → IsIn n ns → Contains at.lanes n) →
     AreDistinct ns → ((n : ℕ) → IsIn n ns → ¬ IsIn n done)
     → IsExecution at (progress_with [] [] done) (ended_all ns)
     × ((progress_after (progress_with [] [] done) (ended_all ns)).marked ≡ [])
@@ -194,12 +194,12 @@ ends-follow at done (n ∷ ns) isin d apart =
     )
 
 -- a worker that has turned all requests ends, and its journal is finished
-pub finishes : (setup : Outline) (w : ℕ) (journal : List Entry) → (post_at setup.job w).number ≡ w
-    → IsExecution (station setup 0 (post_at setup.job w)) (initial (station setup 0 (post_at
+pub finishes : (setup : SetupView) (w : ℕ) (journal : List Entry) → (nth_worker setup.job w).number ≡ w
+    → IsExecution (duties setup 0 (nth_worker setup.job w)) (initial (duties setup 0 (nth_worker
     setup.job w))) journal
-    → progress_after (initial (station setup 0 (post_at setup.job w))) journal
-    ≡ waiting setup (post_at setup.job w) (length setup.plans)
-    → IsFinished (station setup 0 (post_at setup.job w)) (journal ++ end_block setup.job w)
+    → progress_after (initial (duties setup 0 (nth_worker setup.job w))) journal
+    ≡ waiting setup (nth_worker setup.job w) (length setup.plans)
+    → IsFinished (duties setup 0 (nth_worker setup.job w)) (journal ++ end_block setup.job w)
 finishes setup w journal num f s = record {
   lawful = record {
     execution = (IsExecution-append at (initial at) journal (end_block setup.job w)).1 (
@@ -221,14 +221,14 @@ finishes setup w journal num f s = record {
       (all.2 n (inl (subst (λ (v : ℕ). IsIn n (lanes_in setup.job v)) num i))))));
 }
   where
-    at : Station
-    at = station setup 0 (post_at setup.job w)
+    at : Duties
+    at = duties setup 0 (nth_worker setup.job w)
 
     none : length setup.plans - length setup.plans ≡ 0
     none = omega arith
 
     done : progress_after (initial at) journal ≡ progress_with [] [] []
-    done = s ∙ ap (λ (c : ℕ). progress_with (filter (λ q. covers setup q (post_at setup.job w).node)
+    done = s ∙ ap (λ (c : ℕ). progress_with (filter (λ q. covers setup q (nth_worker setup.job w).node)
         (numbers_from (length setup.plans + 1) c)) [] []) none
 
     all : IsExecution at (progress_with [] [] []) (ended_all (lanes_in setup.job w))

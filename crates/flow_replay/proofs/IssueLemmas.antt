@@ -9,7 +9,7 @@ use Rattle.sink_journal.specs.declared.journal.Feed.TheVariants as feed
 use Rattle.versions.specs.declared.request.Request.{Request}
 use Rattle.versions.specs.Kept.{AreInOrder}
 use Rattle.flow_model.specs.Feeding.{feed_after, feed_from, issued_after, issued_where}
-use Rattle.flow_model.specs.Outline.{Outline}
+use Rattle.flow_model.specs.SetupView.{SetupView}
 use Rattle.flow_model.specs.Requests.{afters}
 use Rattle.flow_model.proofs.FreshLemmas.{order_rises}
 use Rattle.flow_model.proofs.PlaceLemmas.{map_place}
@@ -72,7 +72,7 @@ eqb_le a row h = elim (cases_lt row a) [
 ]
 
 -- the requests that wait for a row are the next ones
-pub issued_after-issues : (setup : Outline) (rows row issued : ℕ) →
+pub issued_after-issues : (setup : SetupView) (rows row issued : ℕ) →
     AreIssuedBefore (afters setup.requests) rows row issued →
     issued_after row rows 1 (afters setup.requests) ≡ issues setup rows row issued
 issued_after-issues setup rows row issued is =
@@ -131,7 +131,7 @@ due_ends waits rows row place end is = record {
 }
 
 -- the steps of the feeder
-pub issues-next : (setup : Outline) (rows row place after : ℕ) (done more all : List Feed) →
+pub issues-next : (setup : SetupView) (rows row place after : ℕ) (done more all : List Feed) →
     slice_get (afters setup.requests) place ≡ Some after → min after rows ≤ row → more
     ≡ done ++ feed.Issued (place + 1) ∷ []
     → done ++ issues setup rows row place ≡ all → more ++ issues setup rows row (place + 1) ≡ all
@@ -143,7 +143,7 @@ issues-next setup rows row place after done more all e le grown h =
     ∙ (ap (λ (l : List ℕ). done ++ issued_where (λ (a : ℕ). nat_le a row) rows (place + 1) l) (sym
     (drop-at (afters setup.requests) place after e)) ∙ h)))
 
-pub issues-stop : (setup : Outline) (rows row place after : ℕ) (done all : List Feed) →
+pub issues-stop : (setup : SetupView) (rows row place after : ℕ) (done all : List Feed) →
     AreInOrder 0 setup.requests → slice_get (afters setup.requests) place ≡ Some after →
     row < min after rows
     → done ++ issues setup rows row place ≡ all → done ≡ all
@@ -160,7 +160,7 @@ issues-stop setup rows row place after done all order e lt h =
     )))))
     ∙ h)
 
-pub issues-end : (setup : Outline) (rows row place : ℕ) (done all : List Feed) →
+pub issues-end : (setup : SetupView) (rows row place : ℕ) (done all : List Feed) →
     length (afters setup.requests) ≤ place → done ++ issues setup rows row place ≡ all → done ≡ all
 issues-end setup rows row place done all end h =
     sym (append-nil done) ∙ (ap (λ (l : List ℕ). done ++ issued_where (λ (a : ℕ). nat_le a row) rows
@@ -178,14 +178,14 @@ all_issued waits rows issued is = elim (cases_lt issued (length waits)) [
 ]
 
 -- the feed so far and still to come
-pub feed_first : (setup : Outline) (rows : ℕ) (old new : List Feed) → old ≡ [] → new
+pub feed_first : (setup : SetupView) (rows : ℕ) (old new : List Feed) → old ≡ [] → new
     ≡ old ++ issues setup rows 0 0 → new ++ feed_after (afters setup.requests) 1 0 rows (rows - 0) ≡
     feed_from 0 0 (afters setup.requests) rows
 feed_first setup rows old new none grown = ap (λ (l : List Feed). l ++ feed_after (afters
     setup.requests) 1 0 rows (rows - 0)) (grown ∙ ap (λ (l : List Feed). l ++ issues setup rows 0 0)
     none)
 
-pub feed_next : (setup : Outline) (rows k issued : ℕ) (old mid new all : List Feed) → k < rows →
+pub feed_next : (setup : SetupView) (rows k issued : ℕ) (old mid new all : List Feed) → k < rows →
     AreIssuedBefore (afters setup.requests) rows (k + 1) issued → mid ≡ old ++ feed.Fed (k + 1) ∷ []
     → new ≡ mid ++ issues setup rows (k + 1) issued →
     old ++ feed_after (afters setup.requests) 1 k rows (rows - k) ≡ all →
@@ -201,7 +201,7 @@ feed_next setup rows k issued old mid new all lt is m n h =
     setup rows (k + 1) issued is))
     ∙ (ap (λ (x : ℕ). old ++ feed_after (afters setup.requests) 1 k rows x) (sym left) ∙ h))))
 
-pub feed_last : (setup : Outline) (rows k : ℕ) (old new all : List Feed) → rows ≤ k → new
+pub feed_last : (setup : SetupView) (rows k : ℕ) (old new all : List Feed) → rows ≤ k → new
     ≡ old ++ feed.Stopped ∷ [] → old ++ feed_after (afters setup.requests) 1 k rows (rows - k)
     ≡ all → new ≡ all
 feed_last setup rows k old new all end n h =

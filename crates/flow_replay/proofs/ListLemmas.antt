@@ -6,14 +6,14 @@ use Rattle.std.proofs.lemmas.Bool.{eqb-false, eqb-true}
 use Rattle.std.proofs.lemmas.List.Elements.{All-cons, All-nil, filter_map-append}
 use Rattle.std.proofs.lemmas.Option.{get_or_from_slice_get, same_Some, slice_get_within}
 use Rattle.std.proofs.lemmas.List.{append-nil, drop-set-lt, drop_more, take_more_set}
-use Rattle.jobs.specs.Written.{Written}
+use Rattle.jobs.specs.JobView.{JobView}
 use Rattle.tuple_trace.specs.declared.tuple.Item.{Item}
 use Rattle.tuple_trace.specs.declared.tuple.Item.TheVariants as item
 use Rattle.cover_planner.specs.declared.cover.Plan.{Plan}
 use Rattle.flow_model.specs.Covers.{covers_edge, plan_of}
 use Rattle.flow_model.specs.Lanes.{is_same_lane, is_sender, lanes, lanes_out, no_lane, out_numbers}
 use Rattle.flow_model.specs.declared.topology.Lane.{Lane}
-use Rattle.flow_model.specs.Outline.{Outline}
+use Rattle.flow_model.specs.SetupView.{SetupView}
 use Rattle.flow_model.specs.Replay.{Put, item_on, items_on, marker, marker_by, put_on_each}
 use Rattle.flow_model.proofs.ElementLemmas.{IsIn}
 use Rattle.flow_model.proofs.LaneLemmas.{lane_self, same_lane, same_number}
@@ -81,7 +81,7 @@ length-with_puts (lane ∷ lanes') puts [] e = absurd (omega (arith, e))
 length-with_puts (lane ∷ lanes') puts (list ∷ lists) e = ap suc (length-with_puts lanes' puts lists
     (omega (arith, e)))
 
-pub length-numbers : (job : Written) (lanes' : List Lane) (numbers : List ℕ) →
+pub length-numbers : (job : JobView) (lanes' : List Lane) (numbers : List ℕ) →
     AreNumbersOf job lanes' numbers → length numbers ≡ length lanes'
 length-numbers job [] [] are = refl
 length-numbers job [] (number ∷ numbers) are = absurd are
@@ -91,7 +91,7 @@ length-numbers job (lane ∷ lanes') (number ∷ numbers) are = ap suc (length-n
 
 -- where the numbers that pass a test are those of the lanes that the puts put one item on, the
 -- lists gain the same
-pub with_item-puts : (job : Written) (test : ℕ → Bool) (item : Item) (puts : List Put) (lanes' :
+pub with_item-puts : (job : JobView) (test : ℕ → Bool) (item : Item) (puts : List Put) (lanes' :
     List Lane) (numbers : List ℕ) (lists : List (List Item)) → AreNumbersOf job lanes' numbers
     → ((lane : Lane) (number : ℕ) → IsIn lane lanes' → slice_get (lanes job) number ≡ Some lane →
     items_on lane puts ≡ item_if (test number) item [])
@@ -113,7 +113,7 @@ with_item-puts job test item puts (lane ∷ lanes') (number ∷ numbers) (list �
     go false = rw (append-nil list) refl
 
 -- one tuple on its lane
-pub items_on-lane : (job : Written) (to lane : Lane) (n : ℕ) (at_number : ℕ) (item : Item) →
+pub items_on-lane : (job : JobView) (to lane : Lane) (n : ℕ) (at_number : ℕ) (item : Item) →
     slice_get (lanes job) n ≡ Some to → slice_get (lanes job) at_number ≡ Some lane
     → items_on lane (record { lane = Some to; item = item } ∷ []) ≡ item_if (at_number == n) item []
 items_on-lane job to lane n at_number item at there = go (is_same_lane (Some to) lane) refl
@@ -135,7 +135,7 @@ items_on-lane job to lane n at_number item at there = go (is_same_lane (Some to)
         absurd (cc)
 
 -- one output, on its lane
-pub put_on : (job : Written) (lanes' : List Lane) (numbers : List ℕ) (lists : List (List Item))
+pub put_on : (job : JobView) (lanes' : List Lane) (numbers : List ℕ) (lists : List (List Item))
     (found : Option Lane) (item : Item) (n : ℕ) (to : Lane) → AreNumbersOf job lanes' numbers
     → found ≡ Some to → slice_get (lanes job) n ≡ Some to
     → with_item (λ (number : ℕ). number == n) item numbers lists
@@ -149,7 +149,7 @@ put_on job lanes' numbers lists found item n to are is at =
     number item at there))
 
 -- these numbers are numbers of lanes
-pub numbers-within : (job : Written) (lanes' : List Lane) (numbers : List ℕ) →
+pub numbers-within : (job : JobView) (lanes' : List Lane) (numbers : List ℕ) →
     AreNumbersOf job lanes' numbers → All (λ (number : ℕ). number < length (lanes job)) numbers
 numbers-within job [] [] are = All-nil (λ (number : ℕ). number < length (lanes job))
 numbers-within job [] (number ∷ numbers) are = absurd are
@@ -159,7 +159,7 @@ numbers-within job (lane ∷ lanes') (number ∷ numbers) are =
     job) number lane are.0) (numbers-within job lanes' numbers are.1)
 
 -- the numbers of the lanes out of a worker are those of its lanes out
-numbered : (job : Written) (test : Lane → Bool) (all : List Lane) (first : ℕ) →
+numbered : (job : JobView) (test : Lane → Bool) (all : List Lane) (first : ℕ) →
     ((k : ℕ) (lane : Lane) → slice_get all k ≡ Some lane → slice_get (lanes job) (first + k)
     ≡ Some lane)
     → AreNumbersOf job (filter test all) (map (λ (p : ℕ × Lane). p.0) (filter (λ (p : ℕ × Lane).
@@ -183,13 +183,13 @@ numbered job test (lane ∷ all) first there =
     )
     go false rest = rest
 
-pub numbers-are : (job : Written) (w : ℕ) → AreNumbersOf job (lanes_out job w) (out_numbers job w)
+pub numbers-are : (job : JobView) (w : ℕ) → AreNumbersOf job (lanes_out job w) (out_numbers job w)
 numbers-are job w = numbered job (λ (lane : Lane). is_sender w lane.sender) (lanes job) 0 (λ k lane
     e. let z : k ≡ 0 + k = omega arith in subst (λ (n : ℕ). slice_get (lanes job) n
     ≡ Some lane) z e)
 
 -- a number at a place is that of a lane
-pub number_there : (job : Written) (w i : ℕ) (numbers : List ℕ) → numbers ≡ out_numbers job w →
+pub number_there : (job : JobView) (w i : ℕ) (numbers : List ℕ) → numbers ≡ out_numbers job w →
     i < length numbers → get_or numbers i 0 < length (lanes job)
 number_there job w i numbers is lt =
     let all = numbers-within job (lanes_out job w) (out_numbers job w) (numbers-are job w) in
@@ -197,13 +197,13 @@ number_there job w i numbers is lt =
     0 l) lt
 
 -- as many numbers as lanes
-pub length-out : (job : Written) (w : ℕ) → length (out_numbers job w) ≡ length (lanes_out job w)
+pub length-out : (job : JobView) (w : ℕ) → length (out_numbers job w) ≡ length (lanes_out job w)
 length-out job w = length-numbers job (lanes_out job w) (out_numbers job w) (numbers-are job w)
 
 -- ---- markers and ends
 
 -- the marker of a request on the lanes out that it covers
-pub markers_on : (setup : Outline) (w r : ℕ) (numbers : List ℕ) (lists : List (List Item)) →
+pub markers_on : (setup : SetupView) (w r : ℕ) (numbers : List ℕ) (lists : List (List Item)) →
     AreNumbersOf setup.job (lanes_out setup.job w) numbers → length lists
     ≡ length (lanes_out setup.job w)
     → with_markers setup r numbers lists
@@ -226,7 +226,7 @@ markers_on setup w r numbers lists are long = go (plan_of setup r)
         (get_or_from_slice_get (lanes setup.job) number lane no_lane there))))
 
 -- an end on each lane out
-pub ends_on : (setup : Outline) (w : ℕ) (numbers : List ℕ) (lists : List (List Item)) →
+pub ends_on : (setup : SetupView) (w : ℕ) (numbers : List ℕ) (lists : List (List Item)) →
     AreNumbersOf setup.job (lanes_out setup.job w) numbers
     → with_item (reaches setup onto.All) item.Last numbers lists
     ≡ with_puts (lanes_out setup.job w) (put_on_each item.Last (lanes_out setup.job w)) lists

@@ -7,11 +7,11 @@ use Rattle.sink_journal.specs.declared.journal.Feed.TheVariants.{Fed, Stopped}
 use Rattle.tuple_trace.specs.declared.row.Row.{Row}
 use Rattle.versions.specs.declared.request.Request.{Request}
 use Rattle.flow_model.specs.Feeding.{feed_after, feed_from}
-use Rattle.flow_model.specs.Outline.{Outline}
+use Rattle.flow_model.specs.SetupView.{SetupView}
 use Rattle.flow_model.specs.Requests.{afters}
 use Rattle.flow_model.specs.Run.{IsRun, Ran}
-use Rattle.flow_model.specs.Setup.{outline}
-use Rattle.flow_model.specs.Workers.{posts}
+use Rattle.flow_model.specs.Setup.{setup_view}
+use Rattle.flow_model.specs.Workers.{workers_in}
 use Rattle.flow_model.specs.declared.setup.Setup.{Setup}
 use Rattle.flow_replay.specs.Order.{IsInOrder}
 use Rattle.flow_replay.specs.declared.executor.Executor.{Executor}
@@ -29,13 +29,13 @@ use Rattle.flow_replay.proofs.SortLemmas.{ends_sorted, fed_sorted, first_sorted}
 -- the rows up to this one are fed, and the requests that wait for them issued
 pub record HasFed (kept : Setup) (rows : List Row) (row : ℕ) (e : Executor) : Type 0 where
   pub same : e.setup ≡ kept
-  pub waits : AreIssuedBefore (afters (outline kept).requests) (length rows) (row + 1) e.issued
-  pub far : IsSoFar (outline kept) rows e.feeds e.issued e.runs.items
-  pub sorted : AreSorted (outline kept) (length rows) row e.issued e.runs.items
+  pub waits : AreIssuedBefore (afters (setup_view kept).requests) (length rows) (row + 1) e.issued
+  pub far : IsSoFar (setup_view kept) rows e.feeds e.issued e.runs.items
+  pub sorted : AreSorted (setup_view kept) (length rows) row e.issued e.runs.items
   pub feeds :
       e.feeds
-      ++ feed_after (afters (outline kept).requests) 1 row (length rows) (length rows - row)
-      ≡ feed_from 0 0 (afters (outline kept).requests) (length rows)
+      ++ feed_after (afters (setup_view kept).requests) 1 row (length rows) (length rows - row)
+      ≡ feed_from 0 0 (afters (setup_view kept).requests) (length rows)
 
 -- ---- at first
 
@@ -47,64 +47,64 @@ none_before waits rows = record {
 }
 
 pub may_begin : (kept : Setup) (rows : ℕ) (e : Executor) → IsNew kept e →
-    AreIssuedBefore (afters (outline e.setup).requests) rows 0 e.issued
+    AreIssuedBefore (afters (setup_view e.setup).requests) rows 0 e.issued
 may_begin kept rows e new =
-    subst (AreIssuedBefore (afters (outline e.setup).requests) rows 0) (sym new.issued_is)
-    (none_before (afters (outline e.setup).requests) rows)
+    subst (AreIssuedBefore (afters (setup_view e.setup).requests) rows 0) (sym new.issued_is)
+    (none_before (afters (setup_view e.setup).requests) rows)
 
-empty : (setup : Outline) (runs : List WorkerRun) →
-    runs ≡ replicate (length (posts setup.job)) empty_run → AreEmpty setup runs
+empty : (setup : SetupView) (runs : List WorkerRun) →
+    runs ≡ replicate (length (workers_in setup.job)) empty_run → AreEmpty setup runs
 empty setup runs are = subst (AreEmpty setup) (sym are) (record {
-  long = length-replicate (length (posts setup.job)) empty_run;
+  long = length-replicate (length (workers_in setup.job)) empty_run;
   each = λ w lt.
-      get_or-replicate (length (posts setup.job)) w empty_run empty_run
-      (omega (arith, lt, length-replicate (length (posts setup.job)) empty_run));
+      get_or-replicate (length (workers_in setup.job)) w empty_run empty_run
+      (omega (arith, lt, length-replicate (length (workers_in setup.job)) empty_run));
 })
 
 pub begins : (kept : Setup) (rows : List Row) (old new : Executor) → IsNew kept old →
-    AreIssued (outline old.setup) (length rows) 0 old.issued new.issued old.feeds new.feeds
+    AreIssued (setup_view old.setup) (length rows) 0 old.issued new.issued old.feeds new.feeds
     old.runs.items new.runs.items → new.setup ≡ old.setup → HasFed kept rows 0 new
 begins kept rows old new none issued same = record {
   same = same ∙ none.setup_is;
   waits = first.waits;
-  far = first.far rows (first_far (outline kept) rows old.runs.items blank);
-  sorted = first.sorted (first_sorted (outline kept) (length rows) old.runs.items blank);
-  feeds = feed_first (outline kept) (length rows) [] new.feeds refl first.feeds;
+  far = first.far rows (first_far (setup_view kept) rows old.runs.items blank);
+  sorted = first.sorted (first_sorted (setup_view kept) (length rows) old.runs.items blank);
+  feeds = feed_first (setup_view kept) (length rows) [] new.feeds refl first.feeds;
 }
   where
-    blank : AreEmpty (outline kept) old.runs.items
-    blank = empty (outline kept) old.runs.items none.runs_are
+    blank : AreEmpty (setup_view kept) old.runs.items
+    blank = empty (setup_view kept) old.runs.items none.runs_are
 
-    first : AreIssued (outline kept) (length rows) 0 0 new.issued [] new.feeds old.runs.items
+    first : AreIssued (setup_view kept) (length rows) 0 0 new.issued [] new.feeds old.runs.items
         new.runs.items
     first =
-        subst (λ (fs : List Feed). AreIssued (outline kept) (length rows) 0 0 new.issued fs
+        subst (λ (fs : List Feed). AreIssued (setup_view kept) (length rows) 0 0 new.issued fs
         new.feeds old.runs.items new.runs.items) none.feeds_are
-        (subst (λ (n : ℕ). AreIssued (outline kept) (length rows) 0 n new.issued old.feeds
+        (subst (λ (n : ℕ). AreIssued (setup_view kept) (length rows) 0 n new.issued old.feeds
         new.feeds old.runs.items new.runs.items) none.issued_is
-        (subst (λ (s : Setup). AreIssued (outline s) (length rows) 0 old.issued new.issued
+        (subst (λ (s : Setup). AreIssued (setup_view s) (length rows) 0 old.issued new.issued
         old.feeds new.feeds old.runs.items new.runs.items) none.setup_is issued))
 
 -- ---- a row more
 
 pub may_issue : (kept : Setup) (rows : List Row) (row : ℕ) (old mid : Executor) →
     HasFed kept rows row old → mid.setup ≡ old.setup → mid.issued ≡ old.issued →
-    AreIssuedBefore (afters (outline mid.setup).requests) (length rows) (row + 1) mid.issued
+    AreIssuedBefore (afters (setup_view mid.setup).requests) (length rows) (row + 1) mid.issued
 may_issue kept rows row old mid h same issued =
     subst (λ (s : Setup).
-    AreIssuedBefore (afters (outline s).requests) (length rows) (row + 1) mid.issued)
+    AreIssuedBefore (afters (setup_view s).requests) (length rows) (row + 1) mid.issued)
     (sym (same ∙ h.same))
-    (subst (AreIssuedBefore (afters (outline kept).requests) (length rows) (row + 1))
+    (subst (AreIssuedBefore (afters (setup_view kept).requests) (length rows) (row + 1))
     (sym issued) h.waits)
 
 pub goes_on : (kept : Setup) (rows : List Row) (place : ℕ) (row : Row)
     (old mid new : Executor) → slice_get rows place ≡ Some row → place < length rows →
     row.tuple.row ≡ place + 1 →
-    IsFed (outline old.setup) (rank_in old.setup) row old.issued old.runs.items
+    IsFed (setup_view old.setup) (rank_in old.setup) row old.issued old.runs.items
     mid.runs.items →
     mid.feeds ≡ old.feeds ++ Fed row.tuple.row ∷ [] → mid.issued ≡ old.issued →
     mid.setup ≡ old.setup →
-    AreIssued (outline mid.setup) (length rows) (place + 1) mid.issued new.issued mid.feeds
+    AreIssued (setup_view mid.setup) (length rows) (place + 1) mid.issued new.issued mid.feeds
     new.feeds mid.runs.items new.runs.items → new.setup ≡ mid.setup →
     HasFed kept rows place old → HasFed kept rows (place + 1) new
 goes_on kept rows place row old mid new there lt number fed feeds issued same next same' h =
@@ -122,11 +122,11 @@ goes_on kept rows place row old mid new there lt number fed feeds issued same ne
           (feeds ∙ ap (λ (n : ℕ). old.feeds ++ Fed n ∷ []) number) now.feeds h.feeds;
     }
   where
-    setup : Outline
-    setup = outline kept
+    setup : SetupView
+    setup = setup_view kept
 
     its : IsFed setup (rank_in kept) row old.issued old.runs.items mid.runs.items
-    its = subst (λ (s : Setup). IsFed (outline s) (rank_in s) row old.issued old.runs.items
+    its = subst (λ (s : Setup). IsFed (setup_view s) (rank_in s) row old.issued old.runs.items
         mid.runs.items) h.same fed
 
     now : AreIssued setup (length rows) (place + 1) old.issued new.issued mid.feeds new.feeds
@@ -134,7 +134,7 @@ goes_on kept rows place row old mid new there lt number fed feeds issued same ne
     now =
         subst (λ (n : ℕ). AreIssued setup (length rows) (place + 1) n new.issued mid.feeds
         new.feeds mid.runs.items new.runs.items) issued
-        (subst (λ (s : Setup). AreIssued (outline s) (length rows) (place + 1) mid.issued
+        (subst (λ (s : Setup). AreIssued (setup_view s) (length rows) (place + 1) mid.issued
         new.issued mid.feeds new.feeds mid.runs.items new.runs.items) (same ∙ h.same) next)
 
 -- ---- the end
@@ -142,41 +142,41 @@ goes_on kept rows place row old mid new there lt number fed feeds issued same ne
 pub opens : (kept : Setup) (rows : List Row) (row : ℕ) (e : Executor) →
     HasFed kept rows row e → AreOpen e.runs.items
 opens kept rows row e h =
-    are_open (outline kept) rows e.feeds e.issued e.runs.items h.far
+    are_open (setup_view kept) rows e.feeds e.issued e.runs.items h.far
 
 -- what was left, by an equal setup
 record HasEndedAs (kept : Setup) (e : Executor) (ran : Ran) : Type 0 where
   pub runs : List WorkerRun
   pub ended :
-      AllGain (outline kept) (end_block (outline kept).job) e.runs.items runs
-  pub ran_is : ran ≡ left_by (outline kept) (e.feeds ++ Stopped ∷ []) runs
+      AllGain (setup_view kept) (end_block (setup_view kept).job) e.runs.items runs
+  pub ran_is : ran ≡ left_by (setup_view kept) (e.feeds ++ Stopped ∷ []) runs
 
 ended_as : (kept : Setup) (e : Executor) (ran : Ran) → e.setup ≡ kept → HasLeft e ran →
     HasEndedAs kept e ran
 ended_as kept e ran same left = record {
   runs = left.runs;
   ended = subst (λ (s : Setup).
-      AllGain (outline s) (end_block (outline s).job) e.runs.items left.runs) same left.ended;
+      AllGain (setup_view s) (end_block (setup_view s).job) e.runs.items left.runs) same left.ended;
   ran_is = left.ran_is ∙ ap (λ (s : Setup).
-      left_by (outline s) (e.feeds ++ Stopped ∷ []) left.runs) same;
+      left_by (setup_view s) (e.feeds ++ Stopped ∷ []) left.runs) same;
 }
 
 -- after the last row all requests are issued
 all : (kept : Setup) (rows : List Row) (e : Executor) → HasFed kept rows (length rows) e →
-    e.issued ≡ length (outline kept).plans
+    e.issued ≡ length (setup_view kept).plans
 all kept rows e h =
-    all_issued (afters (outline kept).requests) (length rows) e.issued h.waits
-    ∙ (length-map (outline kept).requests (λ (request : Request). request.after)
+    all_issued (afters (setup_view kept).requests) (length rows) e.issued h.waits
+    ∙ (length-map (setup_view kept).requests (λ (request : Request). request.after)
     ∙ sym (covered kept).plan_each)
 
 pub is_run : (kept : Setup) (rows : List Row) (place : ℕ) (e : Executor) (ran : Ran) →
     place ≡ length rows → HasFed kept rows place e → HasLeft e ran →
-    IsRun (outline kept) rows ran
+    IsRun (setup_view kept) rows ran
 is_run kept rows place e ran end so_far left =
-    subst (IsRun (outline kept) rows) (sym is)
-    (stop_step (outline kept) rows e.feeds e.runs.items its.runs (covered kept) far its.ended
-    (feed_last (outline kept) (length rows) (length rows) e.feeds (e.feeds ++ Stopped ∷ [])
-    (feed_from 0 0 (afters (outline kept).requests) (length rows)) (omega arith) refl h.feeds))
+    subst (IsRun (setup_view kept) rows) (sym is)
+    (stop_step (setup_view kept) rows e.feeds e.runs.items its.runs (covered kept) far its.ended
+    (feed_last (setup_view kept) (length rows) (length rows) e.feeds (e.feeds ++ Stopped ∷ [])
+    (feed_from 0 0 (afters (setup_view kept).requests) (length rows)) (omega arith) refl h.feeds))
   where
     h : HasFed kept rows (length rows) e
     h = subst (λ (n : ℕ). HasFed kept rows n e) end so_far
@@ -184,12 +184,12 @@ is_run kept rows place e ran end so_far left =
     its : HasEndedAs kept e ran
     its = ended_as kept e ran h.same left
 
-    is : ran ≡ left_by (outline kept) (e.feeds ++ Stopped ∷ []) its.runs
+    is : ran ≡ left_by (setup_view kept) (e.feeds ++ Stopped ∷ []) its.runs
     is = its.ran_is
 
-    far : IsSoFar (outline kept) rows e.feeds (length (outline kept).plans) e.runs.items
+    far : IsSoFar (setup_view kept) rows e.feeds (length (setup_view kept).plans) e.runs.items
     far =
-        subst (λ (n : ℕ). IsSoFar (outline kept) rows e.feeds n e.runs.items)
+        subst (λ (n : ℕ). IsSoFar (setup_view kept) rows e.feeds n e.runs.items)
         (all kept rows e h) h.far
 
 pub is_in_order : (kept : Setup) (rows : List Row) (place : ℕ) (e : Executor) (ran : Ran) →
@@ -197,7 +197,7 @@ pub is_in_order : (kept : Setup) (rows : List Row) (place : ℕ) (e : Executor) 
     IsInOrder (length rows) ran
 is_in_order kept rows place e ran end so_far left =
     subst (IsInOrder (length rows)) (sym its.ran_is)
-    (ends_sorted (outline kept) (length rows) (e.feeds ++ Stopped ∷ []) e.runs.items its.runs
+    (ends_sorted (setup_view kept) (length rows) (e.feeds ++ Stopped ∷ []) e.runs.items its.runs
     h.far.quiescent.long its.ended sorted)
   where
     h : HasFed kept rows (length rows) e
@@ -206,9 +206,9 @@ is_in_order kept rows place e ran end so_far left =
     its : HasEndedAs kept e ran
     its = ended_as kept e ran h.same left
 
-    sorted : AreSorted (outline kept) (length rows) (length rows)
-        (length (outline kept).plans) e.runs.items
+    sorted : AreSorted (setup_view kept) (length rows) (length rows)
+        (length (setup_view kept).plans) e.runs.items
     sorted =
         subst (λ (n : ℕ).
-        AreSorted (outline kept) (length rows) (length rows) n e.runs.items)
+        AreSorted (setup_view kept) (length rows) (length rows) n e.runs.items)
         (all kept rows e h) h.sorted

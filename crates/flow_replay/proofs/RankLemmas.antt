@@ -8,7 +8,7 @@ use Rattle.flow_dag.specs.Edges.{IsInside}
 use Rattle.flow_dag.specs.Order.{place_of}
 use Rattle.flow_dag.proofs.EdgeLemmas.{HasEdge-at}
 use Rattle.flow_dag.proofs.PlaceLemmas.{place_of-below, place_of-forward}
-use Rattle.jobs.specs.Written.{Written}
+use Rattle.jobs.specs.JobView.{JobView}
 use Rattle.flow_model.specs.declared.topology.Lane.{Lane}
 use Rattle.flow_model.proofs.ElementLemmas.{at_of_all, in_of_place}
 use Rattle.flow_replay.specs.inner.Runs.{from_node}
@@ -29,7 +29,7 @@ rank-below dag node lt = let b = place_of-below _ dag.nodes dag.order dag.lawful
 
 -- ---- lanes
 
-pub from_node-is : (job : Written) (lane : Lane) (edge : Edge) → slice_get job.edges lane.edge
+pub from_node-is : (job : JobView) (lane : Lane) (edge : Edge) → slice_get job.edges lane.edge
     ≡ Some edge → from_node job lane ≡ edge.from
 from_node-is job lane edge e = ap (λ (d : Edge). d.from) (get_or_from_slice_get job.edges lane.edge
     edge (record { from = 0; port = 0; to = 0 }) e)

@@ -3,13 +3,13 @@ use Rattle.std.proofs.Common.{◌≡◌, ℕ, List, None, subst}
 use Rattle.tuple_trace.specs.declared.row.Row.{Row}
 use Rattle.tuple_trace.specs.declared.tuple.Tuple.{Tuple}
 use Rattle.flow_model.specs.Lanes.{lane_of}
-use Rattle.flow_model.specs.Outline.{Outline}
+use Rattle.flow_model.specs.SetupView.{SetupView}
 use Rattle.flow_replay.specs.declared.worker_run.WorkerRun.{WorkerRun}
 use Rattle.flow_replay.specs.inner.Delivery.{IsDelivered, IsFed}
 use Rattle.flow_replay.proofs.DeliveryLemmas.{found_lane}
 use Rattle.flow_model.specs.Topology.{IsNumberOf}
 
-pub row_fed : (setup : Outline) (rank : ℕ → ℕ) (row : Row) (issued n : ℕ) (copy : Tuple) (old new :
+pub row_fed : (setup : SetupView) (rank : ℕ → ℕ) (row : Row) (issued n : ℕ) (copy : Tuple) (old new :
     List WorkerRun) → IsNumberOf setup.job (lane_of setup.job None row.source 0 row.tuple) n →
     copy ≡ row.tuple
     → IsDelivered setup rank n (record copy { issued = issued }) old new →

@@ -5,7 +5,7 @@ use Rattle.std.specs.List.{cons_option}
 use Rattle.std.proofs.lemmas.List.{append-nil}
 use Rattle.std.proofs.lemmas.List.Elements.{filter_map-append}
 use Rattle.std.proofs.lemmas.Option.{same_Some}
-use Rattle.jobs.specs.Written.{Written}
+use Rattle.jobs.specs.JobView.{JobView}
 use Rattle.sink_journal.specs.declared.journal.Entry.{Entry}
 use Rattle.sink_journal.specs.declared.journal.Feed.{Feed}
 use Rattle.sink_journal.specs.declared.journal.Feed.TheVariants as feed
@@ -14,12 +14,12 @@ use Rattle.tuple_trace.specs.declared.tuple.Item.{Item}
 use Rattle.tuple_trace.specs.declared.tuple.Item.TheVariants as item
 use Rattle.flow_model.specs.Feeding.{fed_put, fed_puts, fed_tuple, row_at}
 use Rattle.flow_model.specs.Lanes.{is_same_lane, lane_at, lane_of, lanes}
-use Rattle.flow_model.specs.Law.{IsExecution, Progress, Station, initial, progress_after}
+use Rattle.flow_model.specs.Law.{IsExecution, Progress, Duties, initial, progress_after}
 use Rattle.flow_model.specs.declared.topology.Lane.{Lane}
-use Rattle.flow_model.specs.Outline.{Outline}
-use Rattle.flow_model.specs.Replay.{Local, Put, after_all, item_on, items_on, shown}
-use Rattle.flow_model.specs.Station.{station}
-use Rattle.flow_model.specs.Workers.{post_at, posts}
+use Rattle.flow_model.specs.SetupView.{SetupView}
+use Rattle.flow_model.specs.Replay.{StateView, Put, after_all, item_on, items_on, shown}
+use Rattle.flow_model.specs.Duties.{duties}
+use Rattle.flow_model.specs.Workers.{nth_worker, workers_in}
 use Rattle.flow_model.proofs.JournalLemmas.{IsExecution-append, after_all-append, progress_after-append}
 use Rattle.flow_model.proofs.LaneLemmas.{same_lane}
 use Rattle.flow_replay.specs.declared.worker_run.WorkerRun.{WorkerRun}
@@ -30,14 +30,14 @@ use Rattle.flow_replay.specs.inner.Delivery.{IsFed}
 use Rattle.flow_model.proofs.CoverLemmas.{AreCovering}
 use Rattle.flow_replay.proofs.FollowLemmas.{meetings-follow, turn-follows}
 use Rattle.flow_model.proofs.LaneNumbers.{is_lane_of}
-use Rattle.flow_model.proofs.PostPlaces.{worker_at}
+use Rattle.flow_model.proofs.WorkerPlaces.{worker_at}
 use Rattle.flow_replay.proofs.ConservationLemmas.{sent_by}
 use Rattle.flow_replay.proofs.TurnLemmas.{is_sending, turns_conserve}
 use Rattle.flow_replay.proofs.DeliveryLemmas.{receiver_below}
 
 -- ---- what was fed
 
-pub fed_puts-append : (job : Written) (rows : List Row) (i j : ℕ) (xs ys : List Feed) → j
+pub fed_puts-append : (job : JobView) (rows : List Row) (i j : ℕ) (xs ys : List Feed) → j
     ≡ i + count_issued xs → fed_puts job rows i (xs ++ ys)
     ≡ fed_puts job rows i xs ++ fed_puts job rows j ys
 fed_puts-append job rows i j [] ys e = let s : i ≡ j = omega (arith, e) in ap (λ (x : ℕ). fed_puts
@@ -59,7 +59,7 @@ count-append (feed.Stopped ∷ xs) ys = count-append xs ys
 
 -- ---- the law, where journals gain
 
-law_gains : (at : Station) (s : Progress) (old more new : List Entry) → new ≡ old ++ more →
+law_gains : (at : Duties) (s : Progress) (old more new : List Entry) → new ≡ old ++ more →
     IsExecution at (initial at) old → progress_after (initial at) old ≡ s → IsExecution at s more
     → IsExecution at (initial at) new × (progress_after (initial at) new ≡ progress_after s more)
 law_gains at s old more new e f is g = (
@@ -73,7 +73,7 @@ law_gains at s old more new e f is g = (
 
 -- ---- a request is issued
 
-pub issue_step : (setup : Outline) (rows : List Row) (feeds : List Feed) (m : ℕ) (old new : List
+pub issue_step : (setup : SetupView) (rows : List Row) (feeds : List Feed) (m : ℕ) (old new : List
     WorkerRun) → AreCovering setup → m < length setup.plans → IsSoFar setup rows feeds m old
     → AllGain setup (turn_block setup (m + 1)) old new →
     IsSoFar setup rows (feeds ++ feed.Issued (m + 1) ∷ []) (m + 1) new
@@ -105,19 +105,19 @@ issue_step setup rows feeds m old new covering h far gain = record {
     forces : AreInForce setup new
     forces w b =
         let c : w < length old = omega (arith, b, gain.long) in
-        (gain.each w c).local ∙ (ap (λ (x : Local). after_all setup (post_at setup.job w) x
+        (gain.each w c).view ∙ (ap (λ (x : StateView). after_all setup (nth_worker setup.job w) x
         (turn_block setup (m + 1) w)) (far.quiescent.in_force w c)
-        ∙ (sym (after_all-append setup (post_at setup.job w) (first_view setup (post_at setup.job
+        ∙ (sym (after_all-append setup (nth_worker setup.job w) (first_view setup (nth_worker setup.job
         w)) (journal_at old w) (turn_block setup (m + 1) w))
-        ∙ ap (after_all setup (post_at setup.job w) (first_view setup (post_at setup.job w))) (sym
+        ∙ ap (after_all setup (nth_worker setup.job w) (first_view setup (nth_worker setup.job w))) (sym
         (gain.each w c).journal)))
 
-    law : (w : ℕ) → w < length old → IsExecution (station setup 0 (post_at setup.job w)) (initial
-        (station setup 0 (post_at setup.job w))) (journal_at new w)
-        × (progress_after (initial (station setup 0 (post_at setup.job w))) (journal_at new w)
-        ≡ progress_after (waiting setup (post_at setup.job w) m) (turn_block setup (m + 1) w))
+    law : (w : ℕ) → w < length old → IsExecution (duties setup 0 (nth_worker setup.job w)) (initial
+        (duties setup 0 (nth_worker setup.job w))) (journal_at new w)
+        × (progress_after (initial (duties setup 0 (nth_worker setup.job w))) (journal_at new w)
+        ≡ progress_after (waiting setup (nth_worker setup.job w) m) (turn_block setup (m + 1) w))
     law w c =
-        law_gains (station setup 0 (post_at setup.job w)) (waiting setup (post_at setup.job w) m)
+        law_gains (duties setup 0 (nth_worker setup.job w)) (waiting setup (nth_worker setup.job w) m)
         (journal_at old w) (turn_block setup (m + 1) w) (journal_at new w) (gain.each w
         c).journal
         (far.quiescent.lawful w c) (far.quiescent.waits w c) (turn-follows setup w m (worker_at
@@ -126,7 +126,7 @@ issue_step setup rows feeds m old new covering h far gain = record {
 -- ---- a row is fed
 
 -- the row is on its lane
-row_conserved : (setup : Outline) (fed : List Put) (found : Option Lane) (at : Lane) (x : Item) (old
+row_conserved : (setup : SetupView) (fed : List Put) (found : Option Lane) (at : Lane) (x : Item) (old
     : List WorkerRun) → found ≡ Some at → at.sender ≡ None → IsConserved setup fed old nothing
     → IsConserved setup (fed ++ record { lane = found; item = x } ∷ []) old (with_item at x nothing)
 row_conserved setup fed found at x old is source conserved n l g = go l.sender refl (conserved n l g
@@ -155,7 +155,7 @@ row_conserved setup fed found at x old is source conserved n l g = go l.sender r
             s ≡ None = sym e ∙ (ap (λ (y : Lane). y.sender) (sym same) ∙ source) in cc)
         by_lane false t = was ∙ sym (append-nil (shown setup n (journal_at old l.receiver)))
 
-pub feed_step : (setup : Outline) (rank : ℕ → ℕ) (rows : List Row) (feeds : List Feed) (m k : ℕ)
+pub feed_step : (setup : SetupView) (rank : ℕ → ℕ) (rows : List Row) (feeds : List Feed) (m k : ℕ)
     (row : Row) (old new : List WorkerRun) → slice_get rows k ≡ Some row → row.tuple.row ≡ k + 1
     → IsSoFar setup rows feeds m old → IsFed setup rank row m old new →
     IsSoFar setup rows (feeds ++ feed.Fed row.tuple.row ∷ []) m new
@@ -199,47 +199,47 @@ feed_step setup rank rows feeds m k row old new there number far fed = record {
         ∙ ap (λ (ps : List Put). fed_puts setup.job rows 0 feeds ++ ps) (append-nil (fed_put
         setup.job m (row_at rows row.tuple.row)) ∙ ap (fed_put setup.job m) row_there)
 
-    follow : (w : ℕ) → w < length old → IsExecution (station setup 0 (post_at setup.job w)) (waiting
-        setup (post_at setup.job w) m) (fed.delivered.met w).more
-        × (progress_after (waiting setup (post_at setup.job w) m) (fed.delivered.met w).more
-        ≡ waiting setup (post_at setup.job w) m)
+    follow : (w : ℕ) → w < length old → IsExecution (duties setup 0 (nth_worker setup.job w)) (waiting
+        setup (nth_worker setup.job w) m) (fed.delivered.met w).more
+        × (progress_after (waiting setup (nth_worker setup.job w) m) (fed.delivered.met w).more
+        ≡ waiting setup (nth_worker setup.job w) m)
     follow w c =
-        meetings-follow setup w row.tuple.row m (post_at setup.job w) (fed.delivered.met w).more
+        meetings-follow setup w row.tuple.row m (nth_worker setup.job w) (fed.delivered.met w).more
         (worker_at setup.job w (omega (arith, c, far.quiescent.long))).0 (fed.delivered.met
         w).meetings
 
-    law : (w : ℕ) → w < length old → IsExecution (station setup 0 (post_at setup.job w)) (initial
-        (station setup 0 (post_at setup.job w))) (journal_at new w)
-        × (progress_after (initial (station setup 0 (post_at setup.job w))) (journal_at new w)
-        ≡ progress_after (waiting setup (post_at setup.job w) m) (fed.delivered.met w).more)
+    law : (w : ℕ) → w < length old → IsExecution (duties setup 0 (nth_worker setup.job w)) (initial
+        (duties setup 0 (nth_worker setup.job w))) (journal_at new w)
+        × (progress_after (initial (duties setup 0 (nth_worker setup.job w))) (journal_at new w)
+        ≡ progress_after (waiting setup (nth_worker setup.job w) m) (fed.delivered.met w).more)
     law w c =
-        law_gains (station setup 0 (post_at setup.job w)) (waiting setup (post_at setup.job w) m)
+        law_gains (duties setup 0 (nth_worker setup.job w)) (waiting setup (nth_worker setup.job w) m)
         (journal_at old w) (fed.delivered.met w).more (journal_at new w) (fed.delivered.met
         w).is
         (far.quiescent.lawful w c) (far.quiescent.waits w c) (follow w c).0
 
 -- ---- before the first step
 
-pub first_far : (setup : Outline) (rows : List Row) (runs : List WorkerRun) →
+pub first_far : (setup : SetupView) (rows : List Row) (runs : List WorkerRun) →
     AreEmpty setup runs → IsSoFar setup rows [] 0 runs
 first_far setup rows runs none = record {
   counted = refl;
   quiescent = record {
     long = none.long;
-    in_force = λ w b. subst (λ (d : WorkerRun). run_view setup (post_at setup.job w) d
-        ≡ after_all setup (post_at setup.job w) (first_view setup (post_at setup.job w)) d.journal)
+    in_force = λ w b. subst (λ (d : WorkerRun). run_view setup (nth_worker setup.job w) d
+        ≡ after_all setup (nth_worker setup.job w) (first_view setup (nth_worker setup.job w)) d.journal)
         (sym (none.each w b)) refl;
     conserved = λ n l g. tie n l g l.sender refl;
-    lawful = λ w b. subst (λ (d : WorkerRun). IsExecution (station setup 0 (post_at setup.job w))
-        (initial (station setup 0 (post_at setup.job w))) d.journal) (sym (none.each w b)) tt;
-    waits = λ w b. subst (λ (d : WorkerRun). progress_after (initial (station setup 0 (post_at
-        setup.job w))) d.journal ≡ waiting setup (post_at setup.job w) 0) (sym (none.each w b))
+    lawful = λ w b. subst (λ (d : WorkerRun). IsExecution (duties setup 0 (nth_worker setup.job w))
+        (initial (duties setup 0 (nth_worker setup.job w))) d.journal) (sym (none.each w b)) tt;
+    waits = λ w b. subst (λ (d : WorkerRun). progress_after (initial (duties setup 0 (nth_worker
+        setup.job w))) d.journal ≡ waiting setup (nth_worker setup.job w) 0) (sym (none.each w b))
         refl;
   };
 }
   where
     -- no journal has an entry
-    blank : (w : ℕ) → w < length (posts setup.job) → journal_at runs w ≡ []
+    blank : (w : ℕ) → w < length (workers_in setup.job) → journal_at runs w ≡ []
     blank w b = ap (λ (d : WorkerRun). d.journal) (none.each w (let l = none.long in omega (
       arith,
       b,

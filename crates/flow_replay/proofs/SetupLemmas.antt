@@ -1,23 +1,23 @@
 -- What the type of a setup keeps, in the words of a run.
 use Rattle.std.proofs.Common.{arith}
-use Rattle.jobs.specs.Job.{written}
+use Rattle.jobs.specs.Job.{job_view}
 use Rattle.flow_model.specs.declared.setup.Setup.{Setup}
 use Rattle.flow_replay.specs.inner.Delivery.{rank_in}
 use Rattle.flow_replay.proofs.DeliveryLemmas.{IsRanked}
 use Rattle.flow_model.proofs.CoverLemmas.{AreCovering, covering}
-use Rattle.flow_model.specs.Setup.{outline}
+use Rattle.flow_model.specs.Setup.{setup_view}
 use Rattle.versions.specs.Kept.{AreInOrder}
 use Rattle.versions.proofs.KeptLemmas.{accepted-order}
 use Rattle.flow_replay.proofs.RankLemmas.{rank-below, rank-forward}
 
-pub ranked : (setup : Setup) → IsRanked (written setup.job) (rank_in setup)
+pub ranked : (setup : Setup) → IsRanked (job_view setup.job) (rank_in setup)
 ranked setup = record {
   forward = rank-forward setup.job.dag;
   below = λ node lt. rank-below setup.job.dag node (omega (arith, lt, setup.job.drawn));
 }
 
-pub covered : (setup : Setup) → AreCovering (outline setup)
-covered setup = covering (outline setup) setup.job.lawful setup.planned
+pub covered : (setup : Setup) → AreCovering (setup_view setup)
+covered setup = covering (setup_view setup) setup.job.lawful setup.planned
 
-pub in_order : (setup : Setup) → AreInOrder 0 (outline setup).requests
-in_order setup = accepted-order (written setup.job) setup.judged.accepted setup.accepted
+pub in_order : (setup : Setup) → AreInOrder 0 (setup_view setup).requests
+in_order setup = accepted-order (job_view setup.job) setup.judged.accepted setup.accepted

@@ -14,14 +14,14 @@ use Rattle.sink_journal.specs.declared.journal.Feed.{Feed}
 use Rattle.tuple_trace.specs.declared.row.Row.{Row}
 use Rattle.tuple_trace.specs.declared.tuple.Tuple.{Tuple}
 use Rattle.versions.specs.declared.request.Request.{Request}
-use Rattle.jobs.specs.Written.{Written}
+use Rattle.jobs.specs.JobView.{JobView}
 use Rattle.flow_model.specs.Covers.{covers}
 use Rattle.flow_model.specs.Fresh.{IsUpTo}
 use Rattle.flow_model.specs.Lanes.{lanes_in, marked_lanes}
-use Rattle.flow_model.specs.Outline.{Outline, Post}
+use Rattle.flow_model.specs.SetupView.{SetupView, Worker}
 use Rattle.flow_model.specs.Requests.{request_at}
 use Rattle.flow_model.specs.Whole.{after_turn, before_turn, is_turn, met_tuples}
-use Rattle.flow_model.specs.Workers.{post_at, posts}
+use Rattle.flow_model.specs.Workers.{nth_worker, workers_in}
 use Rattle.flow_replay.specs.Order.{IsInOrder, IsOfEarlierRow, TurnsInOrder}
 use Rattle.flow_replay.specs.declared.worker_run.WorkerRun.{WorkerRun}
 use Rattle.flow_replay.specs.inner.Runs.{AllGain, end_block, journal_at, marks, turn_block, turn_entries}
@@ -30,7 +30,7 @@ use Rattle.flow_replay.specs.inner.Delivery.{IsFed, IsMeeting, Meets}
 use Rattle.flow_model.proofs.PlannedLemmas.{covers_within}
 use Rattle.flow_replay.proofs.FollowLemmas.{ended_all}
 use Rattle.flow_replay.proofs.StopLemmas.{at_run}
-use Rattle.flow_model.proofs.PostPlaces.{post_at-get}
+use Rattle.flow_model.proofs.WorkerPlaces.{nth_worker-get}
 
 -- ---- turns in two parts of a journal
 
@@ -104,7 +104,7 @@ ended-met : (ns : List ℕ) → met_tuples (ended_all ns) ≡ []
 ended-met [] = refl
 ended-met (n ∷ ns) = ended-met ns
 
-meets-turn : (job : Written) (w row issued q : ℕ) (more : List Entry) →
+meets-turn : (job : JobView) (w row issued q : ℕ) (more : List Entry) →
     AllByRecursion (IsMeeting job w row issued) more → has_turn q more ≡ false
 meets-turn job w row issued q [] e = refl
 meets-turn job w row issued q (entry.Met lane t ∷ more) e = meets-turn job w row issued q more e.1
@@ -112,7 +112,7 @@ meets-turn job w row issued q (entry.Marked lane r ∷ more) e = absurd e.0
 meets-turn job w row issued q (entry.Turned r ∷ more) e = absurd e.0
 meets-turn job w row issued q (entry.Ended lane ∷ more) e = absurd e.0
 
-meets-rows : (job : Written) (w row issued : ℕ) (more : List Entry) →
+meets-rows : (job : JobView) (w row issued : ℕ) (more : List Entry) →
     AllByRecursion (IsMeeting job w row issued) more → AllByRecursion (λ (t : Tuple). t.row
     ≡ row) (met_tuples more)
 meets-rows job w row issued [] e = tt
@@ -127,7 +127,7 @@ meets-rows job w row issued (entry.Ended lane ∷ more) e = absurd e.0
 
 -- ---- a row is fed
 
-meets_sorted : (setup : Outline) (rows k m node w issued : ℕ) (old new : List Entry) →
+meets_sorted : (setup : SetupView) (rows k m node w issued : ℕ) (old new : List Entry) →
     Meets setup.job w (k + 1) issued old new → IsSorted setup rows k m node old →
     IsSorted setup rows (k + 1) m node new
 meets_sorted setup rows k m node w issued old new gained is =
@@ -166,17 +166,17 @@ meets_sorted setup rows k m node w issued old new gained is =
         ≡ k + 1) (met_tuples gained.more) (meets-rows setup.job w (k + 1) issued gained.more
         gained.meetings)
 
-pub fed_sorted : (setup : Outline) (rank : ℕ → ℕ) (rows k m : ℕ) (row : Row) (old new : List
+pub fed_sorted : (setup : SetupView) (rank : ℕ → ℕ) (rows k m : ℕ) (row : Row) (old new : List
     WorkerRun) → row.tuple.row ≡ k + 1 → IsFed setup rank row m old new →
     AreSorted setup rows k m old → AreSorted setup rows (k + 1) m new
 fed_sorted setup rank rows k m row old new number fed is w b =
-    meets_sorted setup rows k m (post_at setup.job w).node w m (journal_at old w) (journal_at new w)
+    meets_sorted setup rows k m (nth_worker setup.job w).node w m (journal_at old w) (journal_at new w)
     (subst (λ (x : ℕ). Meets setup.job w x m (journal_at old w) (journal_at new w)) number
     (fed.delivered.met w)) (is w (omega (arith, b, fed.delivered.long)))
 
 -- ---- a request is issued
 
-turn_gain : (setup : Outline) (rows row m node : ℕ) (ns : List ℕ) (request : Request) (old : List
+turn_gain : (setup : SetupView) (rows row m node : ℕ) (ns : List ℕ) (request : Request) (old : List
     Entry) → slice_get setup.requests m ≡ Some request → min request.after rows ≡ row
     → IsSorted setup rows row m node old → IsSorted setup rows row (m + 1) node (old ++ (marks (m +
     1) ns ++ entry.Turned (m + 1) ∷ []))
@@ -266,7 +266,7 @@ turn_gain setup rows row m node ns request old e at is = record {
     }
 
 -- a worker that the request doesn't cover
-no_gain : (setup : Outline) (rows row m node : ℕ) (request : Request) (old : List Entry) →
+no_gain : (setup : SetupView) (rows row m node : ℕ) (request : Request) (old : List Entry) →
     slice_get setup.requests m ≡ Some request → min request.after rows ≡ row →
     covers setup (m + 1) node ≡ false
     → IsSorted setup rows row m node old → IsSorted setup rows row (m + 1) node old
@@ -298,37 +298,37 @@ no_gain setup rows row m node request old e at uncovered is = record {
     wrong r le ge c = let s : r ≡ m + 1 = omega (arith, le, ge) in let q : covers setup (m + 1) node
         ≡ true = ap (λ (k : ℕ). covers setup k node) (sym s) ∙ c in cc
 
-pub turn_sorted : (setup : Outline) (rows row m : ℕ) (request : Request) (old new : List WorkerRun)
+pub turn_sorted : (setup : SetupView) (rows row m : ℕ) (request : Request) (old new : List WorkerRun)
     → slice_get setup.requests m ≡ Some request → min request.after rows ≡ row →
     AllGain setup (turn_block setup (m + 1)) old new
     → AreSorted setup rows row m old → AreSorted setup rows row (m + 1) new
 turn_sorted setup rows row m request old new e at gain is w b =
     let c : w < length old = omega (arith, b, gain.long) in
-    subst (IsSorted setup rows row (m + 1) (post_at setup.job w).node) (sym (gain.each w c).journal)
-    (go w (covers setup (m + 1) (post_at setup.job w).node) refl (is w c))
+    subst (IsSorted setup rows row (m + 1) (nth_worker setup.job w).node) (sym (gain.each w c).journal)
+    (go w (covers setup (m + 1) (nth_worker setup.job w).node) refl (is w c))
   where
-    go : (w : ℕ) (b : Bool) → covers setup (m + 1) (post_at setup.job w).node ≡ b →
-        IsSorted setup rows row m (post_at setup.job w).node (journal_at old w)
-        → IsSorted setup rows row (m + 1) (post_at setup.job w).node (journal_at old w ++ cond
-        (covers setup (m + 1) (post_at setup.job w).node) (turn_entries setup (m + 1) w) [])
+    go : (w : ℕ) (b : Bool) → covers setup (m + 1) (nth_worker setup.job w).node ≡ b →
+        IsSorted setup rows row m (nth_worker setup.job w).node (journal_at old w)
+        → IsSorted setup rows row (m + 1) (nth_worker setup.job w).node (journal_at old w ++ cond
+        (covers setup (m + 1) (nth_worker setup.job w).node) (turn_entries setup (m + 1) w) [])
     go w true t s =
-        subst (λ (b : Bool). IsSorted setup rows row (m + 1) (post_at setup.job w).node (journal_at
+        subst (λ (b : Bool). IsSorted setup rows row (m + 1) (nth_worker setup.job w).node (journal_at
         old w ++ cond b (turn_entries setup (m + 1) w) [])) (sym t)
-        (turn_gain setup rows row m (post_at setup.job w).node (marked_lanes setup w (m + 1))
+        (turn_gain setup rows row m (nth_worker setup.job w).node (marked_lanes setup w (m + 1))
         request (journal_at old w) e at s)
     go w false t s =
-        subst (λ (b : Bool). IsSorted setup rows row (m + 1) (post_at setup.job w).node (journal_at
+        subst (λ (b : Bool). IsSorted setup rows row (m + 1) (nth_worker setup.job w).node (journal_at
         old w ++ cond b (turn_entries setup (m + 1) w) [])) (sym t)
-        (subst (IsSorted setup rows row (m + 1) (post_at setup.job w).node) (sym (append-nil
-        (journal_at old w))) (no_gain setup rows row m (post_at setup.job w).node request
+        (subst (IsSorted setup rows row (m + 1) (nth_worker setup.job w).node) (sym (append-nil
+        (journal_at old w))) (no_gain setup rows row m (nth_worker setup.job w).node request
         (journal_at old w) e at t s))
 
 -- ---- at first, and at the end
 
-pub first_sorted : (setup : Outline) (rows : ℕ) (runs : List WorkerRun) → AreEmpty setup runs →
+pub first_sorted : (setup : SetupView) (rows : ℕ) (runs : List WorkerRun) → AreEmpty setup runs →
     AreSorted setup rows 0 0 runs
 first_sorted setup rows runs none w b =
-    subst (λ (d : WorkerRun). IsSorted setup rows 0 0 (post_at setup.job w).node d.journal) (sym
+    subst (λ (d : WorkerRun). IsSorted setup rows 0 0 (nth_worker setup.job w).node d.journal) (sym
     (none.each w b)) (record {
       met = All-nil (λ (t : Tuple). t.row ≤ 0);
       past = λ r p le c. absurd (omega (arith, p, le));
@@ -337,16 +337,16 @@ first_sorted setup rows runs none w b =
       left = λ r lt. refl;
     })
 
-pub ends_sorted : (setup : Outline) (rows : ℕ) (feeds : List Feed) (old new : List WorkerRun) →
-    length old ≡ length (posts setup.job) → AllGain setup (end_block setup.job) old new
+pub ends_sorted : (setup : SetupView) (rows : ℕ) (feeds : List Feed) (old new : List WorkerRun) →
+    length old ≡ length (workers_in setup.job) → AllGain setup (end_block setup.job) old new
     → AreSorted setup rows rows (length setup.plans) old → IsInOrder rows (left_by setup feeds new)
-ends_sorted setup rows feeds old new long gain is w post journal ep ej r covered =
-    let b = slice_get_within (posts setup.job) w post ep in
+ends_sorted setup rows feeds old new long gain is w who journal ep ej r covered =
+    let b = slice_get_within (workers_in setup.job) w who ep in
     let c : w < length old = omega (arith, b, long) in
-    let at : post_at setup.job w ≡ post = post_at-get setup.job w post ep in
-    let cover : covers setup r (post_at setup.job w).node
-    ≡ true = ap (λ (p : Post). covers setup r p.node) at ∙ covered in
-    let known = covers_within setup r (post_at setup.job w).node cover in
+    let at : nth_worker setup.job w ≡ who = nth_worker-get setup.job w who ep in
+    let cover : covers setup r (nth_worker setup.job w).node
+    ≡ true = ap (λ (p : Worker). covers setup r p.node) at ∙ covered in
+    let known = covers_within setup r (nth_worker setup.job w).node cover in
     let sorted = is w c in
     let there = sorted.there r known.0 known.1 cover in
     let past = sorted.past r known.0 known.1 cover in

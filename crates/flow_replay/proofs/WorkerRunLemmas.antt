@@ -4,7 +4,7 @@ use Rattle.std.specs.Prelude.{filter, option_map, slice_get}
 use Rattle.std.specs.List.{enumerate_from}
 use Rattle.std.proofs.lemmas.List.{append-nil, drop_all, drop_more}
 use Rattle.std.proofs.lemmas.Option.{get_or_from_slice_get, same_Some}
-use Rattle.jobs.specs.Written.{Written}
+use Rattle.jobs.specs.JobView.{JobView}
 use Rattle.sink_journal.specs.declared.journal.Entry.{Entry}
 use Rattle.sink_journal.specs.declared.journal.Entry.TheVariants as entry
 use Rattle.flow_model.specs.Covers.{covers, covers_edge}
@@ -12,24 +12,24 @@ use Rattle.flow_model.specs.Lanes.{lane_at, lanes, lanes_in, marked_lanes, no_la
 use Rattle.flow_model.specs.declared.topology.Lane.{Lane}
 use Rattle.flow_model.specs.declared.topology.WorkerAt.{WorkerAt}
 use Rattle.flow_model.specs.declared.worker_state.WorkerState.{WorkerState}
-use Rattle.flow_model.specs.Outline.{Outline, Post}
-use Rattle.flow_model.specs.Replay.{Local, after, after_all}
+use Rattle.flow_model.specs.SetupView.{SetupView, Worker}
+use Rattle.flow_model.specs.Replay.{StateView, after, after_all}
 use Rattle.flow_model.specs.Topology.{worker_of}
 use Rattle.flow_model.specs.WorkerState.{IsTurned, state_view}
-use Rattle.flow_model.specs.Workers.{post_at, posts}
+use Rattle.flow_model.specs.Workers.{nth_worker, workers_in}
 use Rattle.flow_replay.specs.declared.worker_run.WorkerRun.{WorkerRun}
 use Rattle.flow_replay.specs.inner.Runs.{IsGain, end_block, ends, marks, run_view, turn_block, turn_entries}
 use Rattle.flow_model.proofs.ElementLemmas.{IsIn}
 use Rattle.flow_model.proofs.LaneLemmas.{in_enumerate}
 use Rattle.flow_model.proofs.LaneNumbers.{sends}
-use Rattle.flow_model.proofs.PostPlaces.{get-post_at}
+use Rattle.flow_model.proofs.WorkerPlaces.{get-nth_worker}
 
 -- ---- where a worker is
 
-pub worker_sends : (job : Written) (w : ℕ) (at : WorkerAt) → w < length (posts job) → at
-    ≡ worker_of (post_at job w) → slice_get (senders job at.node) at.index ≡ Some (Some w)
+pub worker_sends : (job : JobView) (w : ℕ) (at : WorkerAt) → w < length (workers_in job) → at
+    ≡ worker_of (nth_worker job w) → slice_get (senders job at.node) at.index ≡ Some (Some w)
 worker_sends job w at lt is = subst (λ (a : WorkerAt). slice_get (senders job a.node) a.index
-    ≡ Some (Some w)) (sym is) (sends job w (post_at job w) (get-post_at job w lt))
+    ≡ Some (Some w)) (sym is) (sends job w (nth_worker job w) (get-nth_worker job w lt))
 
 -- ---- lanes in
 
@@ -64,10 +64,10 @@ numbers_passing R C test (p ∷ ps) same = go (R p.1) (numbers_passing R C test 
         by_test false h = h
     go false h = h
 
-abbrev pub marks_lane : Outline → ℕ → ℕ → Bool
+abbrev pub marks_lane : SetupView → ℕ → ℕ → Bool
 marks_lane setup r number = covers_edge setup r (lane_at setup.job number).edge
 
-lanes-marked : (setup : Outline) (w r : ℕ) → filter (marks_lane setup r) (lanes_in setup.job w)
+lanes-marked : (setup : SetupView) (w r : ℕ) → filter (marks_lane setup r) (lanes_in setup.job w)
     ≡ marked_lanes setup w r
 lanes-marked setup w r =
     numbers_passing (λ (lane : Lane). lane.receiver == w) (λ (lane : Lane). covers_edge setup r
@@ -79,10 +79,10 @@ lanes-marked setup w r =
 
 -- ---- the markers, one after another
 
-abbrev pub marks_of : Outline → ℕ → List ℕ → List Entry
+abbrev pub marks_of : SetupView → ℕ → List ℕ → List Entry
 marks_of setup r numbers = marks r (filter (marks_lane setup r) numbers)
 
-pub marks-take : (setup : Outline) (r i : ℕ) (numbers : List ℕ) (done more all : List Entry) →
+pub marks-take : (setup : SetupView) (r i : ℕ) (numbers : List ℕ) (done more all : List Entry) →
     i < length numbers → marks_lane setup r (get_or numbers i 0) ≡ true
     → more ≡ done ++ entry.Marked (get_or numbers i 0) r ∷ []
     → done ++ marks_of setup r (drop i numbers) ≡ all →
@@ -95,7 +95,7 @@ marks-take setup r i numbers done more all lt t grown h =
     (drop (i + 1) numbers)) (filter (marks_lane setup r) (drop (i + 1) numbers)))) (sym t)
     ∙ (ap (λ (l : List ℕ). done ++ marks_of setup r l) (sym (drop_more numbers i 0 lt)) ∙ h)))
 
-pub marks-skip : (setup : Outline) (r i : ℕ) (numbers : List ℕ) (done all : List Entry) →
+pub marks-skip : (setup : SetupView) (r i : ℕ) (numbers : List ℕ) (done all : List Entry) →
     i < length numbers → marks_lane setup r (get_or numbers i 0) ≡ false
     → done ++ marks_of setup r (drop i numbers) ≡ all →
     done ++ marks_of setup r (drop (i + 1) numbers) ≡ all
@@ -104,7 +104,7 @@ marks-skip setup r i numbers done all lt t h =
     (drop (i + 1) numbers)) (filter (marks_lane setup r) (drop (i + 1) numbers)))) (sym t)
     ∙ (ap (λ (l : List ℕ). done ++ marks_of setup r l) (sym (drop_more numbers i 0 lt)) ∙ h)
 
-pub marks-end : (setup : Outline) (w r i : ℕ) (numbers : List ℕ) (old done : List Entry) →
+pub marks-end : (setup : SetupView) (w r i : ℕ) (numbers : List ℕ) (old done : List Entry) →
     length numbers ≤ i → numbers ≡ lanes_in setup.job w
     → done ++ marks_of setup r (drop i numbers) ≡ old ++ marks_of setup r numbers → done
     ≡ old ++ marks r (marked_lanes setup w r)
@@ -115,7 +115,7 @@ marks-end setup w r i numbers old done le is h =
     ∙ ap (λ (l : List ℕ). old ++ marks r l) (lanes-marked setup w r))))
 
 -- the edge that the code reads of a lane
-pub edge_marks : (setup : Outline) (r number edge : ℕ) (lane : Lane) (b : Bool) →
+pub edge_marks : (setup : SetupView) (r number edge : ℕ) (lane : Lane) (b : Bool) →
     slice_get (lanes setup.job) number ≡ Some lane → edge ≡ lane.edge → b
     ≡ covers_edge setup r edge → marks_lane setup r number ≡ b
 edge_marks setup r number edge lane b there is told =
@@ -127,9 +127,9 @@ edge_marks setup r number edge lane b there is told =
 -- the lanes before a place have ended
 pub record HaveEnded (i : ℕ) (numbers : List ℕ) (old new : WorkerRun) : Type 0 where
   pub journal : new.journal ++ ends (drop i numbers) ≡ old.journal ++ ends numbers
-  pub local : (setup : Outline) (post : Post) →
-      after_all setup post (run_view setup post new) (ends (drop i numbers))
-      ≡ after_all setup post (run_view setup post old) (ends numbers)
+  pub view : (setup : SetupView) (who : Worker) →
+      after_all setup who (run_view setup who new) (ends (drop i numbers))
+      ≡ after_all setup who (run_view setup who old) (ends numbers)
   pub ended : new.state.ended ≡ old.state.ended + i
 
 pub ends-next : (i : ℕ) (numbers : List ℕ) (old mid new : WorkerRun) → i < length numbers →
@@ -142,58 +142,58 @@ ends-next i numbers old mid new lt grown step h = record {
       ∙ (append_assoc mid.journal (entry.Ended (get_or numbers i 0) ∷ []) (ends (drop (i + 1)
       numbers))
       ∙ (ap (λ (l : List ℕ). mid.journal ++ ends l) (sym (drop_more numbers i 0 lt)) ∙ h.journal));
-  local = λ setup post.
-      ap (λ (x : WorkerState). after_all setup post (state_view setup post x) (ends (drop (i + 1)
+  view = λ setup who.
+      ap (λ (x : WorkerState). after_all setup who (state_view setup who x) (ends (drop (i + 1)
       numbers))) step
-      ∙ (ap (λ (l : List ℕ). after_all setup post (run_view setup post mid) (ends l)) (sym
-      (drop_more numbers i 0 lt)) ∙ h.local setup post);
+      ∙ (ap (λ (l : List ℕ). after_all setup who (run_view setup who mid) (ends l)) (sym
+      (drop_more numbers i 0 lt)) ∙ h.view setup who);
   ended = let e = ap (λ (x : WorkerState). x.ended) step in omega (arith, e, h.ended);
 }
 
-pub ends-end : (setup : Outline) (post : Post) (w i : ℕ) (numbers : List ℕ) (old new : WorkerRun) →
+pub ends-end : (setup : SetupView) (who : Worker) (w i : ℕ) (numbers : List ℕ) (old new : WorkerRun) →
     numbers ≡ lanes_in setup.job w → length numbers ≤ i → HaveEnded i numbers old new
-    → IsGain setup post (end_block setup.job w) old new
-ends-end setup post w i numbers old new are le h = subst (λ (ns : List ℕ). IsGain setup post (ends
+    → IsGain setup who (end_block setup.job w) old new
+ends-end setup who w i numbers old new are le h = subst (λ (ns : List ℕ). IsGain setup who (ends
     ns) old new) are (record {
       journal = sym (append-nil new.journal) ∙ (ap (λ (l : List ℕ). new.journal ++ ends l) (sym
           (drop_all i numbers le)) ∙ h.journal);
-      local = ap (λ (l : List ℕ). after_all setup post (run_view setup post new) (ends l)) (sym
-          (drop_all i numbers le)) ∙ h.local setup post;
+      view = ap (λ (l : List ℕ). after_all setup who (run_view setup who new) (ends l)) (sym
+          (drop_all i numbers le)) ∙ h.view setup who;
     })
 
 -- ---- a turn
 
-marks-local : (setup : Outline) (post : Post) (local : Local) (r : ℕ) (ns : List ℕ) →
-    after_all setup post local (marks r ns ++ entry.Turned r ∷ [])
-    ≡ after setup post local (entry.Turned r)
-marks-local setup post local r [] = refl
-marks-local setup post local r (n ∷ ns) = marks-local setup post local r ns
+marks-view : (setup : SetupView) (who : Worker) (view : StateView) (r : ℕ) (ns : List ℕ) →
+    after_all setup who view (marks r ns ++ entry.Turned r ∷ [])
+    ≡ after setup who view (entry.Turned r)
+marks-view setup who view r [] = refl
+marks-view setup who view r (n ∷ ns) = marks-view setup who view r ns
 
 -- the markers, the turn, and what it puts in force
-pub turned : (setup : Outline) (w r node : ℕ) (old new : WorkerRun) (marked : List Entry) →
-    node ≡ (post_at setup.job w).node
+pub turned : (setup : SetupView) (w r node : ℕ) (old new : WorkerRun) (marked : List Entry) →
+    node ≡ (nth_worker setup.job w).node
     → marked ≡ old.journal ++ marks r (marked_lanes setup w r) → new.journal
     ≡ marked ++ entry.Turned r ∷ []
-    → IsTurned setup node r old.state new.state → IsGain setup (post_at setup.job w) (turn_entries
+    → IsTurned setup node r old.state new.state → IsGain setup (nth_worker setup.job w) (turn_entries
     setup r w) old new
 turned setup w r node old new marked at m j is = record {
   journal = j ∙ (ap (λ (l : List Entry). l ++ entry.Turned r ∷ []) m
       ∙ append_assoc old.journal (marks r (marked_lanes setup w r)) (entry.Turned r ∷ []));
-  local = is (post_at setup.job w) (sym at) ∙ sym (marks-local setup (post_at setup.job w) (run_view
-      setup (post_at setup.job w) old) r (marked_lanes setup w r));
+  view = is (nth_worker setup.job w) (sym at) ∙ sym (marks-view setup (nth_worker setup.job w) (run_view
+      setup (nth_worker setup.job w) old) r (marked_lanes setup w r));
 }
 
-pub uncovered_gain : (setup : Outline) (w r : ℕ) (run : WorkerRun) →
-    covers setup r (post_at setup.job w).node ≡ false →
-    IsGain setup (post_at setup.job w) (turn_block setup r w) run run
+pub uncovered_gain : (setup : SetupView) (w r : ℕ) (run : WorkerRun) →
+    covers setup r (nth_worker setup.job w).node ≡ false →
+    IsGain setup (nth_worker setup.job w) (turn_block setup r w) run run
 uncovered_gain setup w r run t =
-    subst (λ (b : Bool). IsGain setup (post_at setup.job w) (cond b (turn_entries setup r w) []) run
-    run) (sym t) (record { journal = sym (append-nil run.journal); local = refl })
+    subst (λ (b : Bool). IsGain setup (nth_worker setup.job w) (cond b (turn_entries setup r w) []) run
+    run) (sym t) (record { journal = sym (append-nil run.journal); view = refl })
 
 -- what the setup answers of a worker's cover
-pub cover_answer : (setup : Outline) (w r : ℕ) (b : Bool) → w < length (posts setup.job) →
-    option_map (λ (post : Post). covers setup r post.node) (slice_get (posts setup.job) w)
-    ≡ Some b → covers setup r (post_at setup.job w).node ≡ b
+pub cover_answer : (setup : SetupView) (w r : ℕ) (b : Bool) → w < length (workers_in setup.job) →
+    option_map (λ (who : Worker). covers setup r who.node) (slice_get (workers_in setup.job) w)
+    ≡ Some b → covers setup r (nth_worker setup.job w).node ≡ b
 cover_answer setup w r b lt e =
-    same_Some (covers setup r (post_at setup.job w).node) b (sym (ap (option_map (λ (post : Post).
-    covers setup r post.node)) (get-post_at setup.job w lt)) ∙ e)
+    same_Some (covers setup r (nth_worker setup.job w).node) b (sym (ap (option_map (λ (who : Worker).
+    covers setup r who.node)) (get-nth_worker setup.job w lt)) ∙ e)

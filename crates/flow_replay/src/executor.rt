@@ -1,12 +1,12 @@
 // An executor on one thread.
 ghost use Rattle.std.specs.Prelude.{◌≡◌, ◌<◌, ◌++◌, ◌∷◌, [], IfOk, OnOk, length, replicate};
-ghost use Rattle.jobs.specs.Job.{written};
+ghost use Rattle.jobs.specs.Job.{job_view};
 ghost use Rattle.jobs.specs.Nodes.{IsSourceOf};
 ghost use Rattle.flow_model.specs.Lanes.{lane_at, lanes};
-ghost use Rattle.flow_model.specs.Record.{told};
+ghost use Rattle.flow_model.specs.Record.{record_view};
 ghost use Rattle.flow_model.specs.Requests.{afters};
-ghost use Rattle.flow_model.specs.Setup.{outline};
-ghost use Rattle.flow_model.specs.Workers.{post_at, posts};
+ghost use Rattle.flow_model.specs.Setup.{setup_view};
+ghost use Rattle.flow_model.specs.Workers.{nth_worker, workers_in};
 ghost use Rattle.flow_replay.specs.inner.Runs.{AllGain, AreOpen, IsStep, empty_run};
 ghost use Rattle.flow_replay.specs.inner.Runs.{end_block, made_at, run_at, turn_block};
 ghost use Rattle.flow_replay.specs.inner.Delivery.{IsDelivered, IsFed, rank_in};
@@ -32,7 +32,7 @@ pub struct Executor {
     pub feeds: Feeds,
     /// How many requests are issued.
     pub issued: usize,
-    ghost one_each: { length runs.items ≡ length (posts (written setup.job)) },
+    ghost one_each: { length runs.items ≡ length (workers_in (job_view setup.job)) },
 }
 
 impl Executor {
@@ -54,9 +54,9 @@ impl Executor {
 
     /// Issues the requests that wait for a row up to this one, of `rows` rows.
     pub fn issue_up_to(&mut self, row: u64, rows: u64) -> Result<(), NoMemory>
-        requires { AreIssuedBefore (afters (outline self.old.setup).requests) rows row
+        requires { AreIssuedBefore (afters (setup_view self.old.setup).requests) rows row
             self.old.issued }
-        ensures issued { OnOk result (AreIssued (outline self.old.setup) rows row
+        ensures issued { OnOk result (AreIssued (setup_view self.old.setup) rows row
             self.old.issued self.new.issued self.old.feeds self.new.feeds
             self.old.runs.items self.new.runs.items) }
         ensures same { OnOk result (self.new.setup ≡ self.old.setup) }
@@ -75,8 +75,9 @@ impl Executor {
 
     /// Feeds a row, and delivers it.
     pub fn feed(&mut self, row: &Row) -> Result<(), NoMemory>
-        requires { IsSourceOf (outline self.old.setup).job row.now.source }
-        ensures fed { OnOk result (IsFed (outline self.old.setup) (rank_in self.old.setup) row.now
+        requires { IsSourceOf (setup_view self.old.setup).job row.now.source }
+        ensures fed { OnOk result (IsFed (setup_view self.old.setup) (rank_in self.old.setup)
+            row.now
             self.old.issued self.old.runs.items self.new.runs.items) }
         ensures feeds { OnOk result (self.new.feeds
             ≡ self.old.feeds ++ Feed.Fed row.now.tuple.row ∷ []) }
@@ -100,8 +101,8 @@ impl Executor {
     /// Delivers a tuple on a lane: the worker at the lane's end processes it, and then each of its
     /// outputs is delivered.
     fn deliver(&mut self, lane: u32, tuple: Tuple) -> Result<(), NoMemory>
-        requires { lane < length (lanes (outline self.old.setup).job) }
-        ensures delivered { OnOk result (IsDelivered (outline self.old.setup)
+        requires { lane < length (lanes (setup_view self.old.setup).job) }
+        ensures delivered { OnOk result (IsDelivered (setup_view self.old.setup)
             (rank_in self.old.setup) lane tuple self.old.runs.items self.new.runs.items) }
         ensures same { OnOk result (SameBesideRuns self.old self.new) }
     {
@@ -119,14 +120,14 @@ impl Executor {
 
     // The worker at the end of a lane processes a tuple. Returns its outputs.
     fn process(&mut self, lane: u32, tuple: Tuple) -> Result<Outs, NoMemory>
-        requires { lane < length (lanes (outline self.old.setup).job) }
-        ensures step { OnOk result (IsStep (outline self.old.setup)
-            (lane_at (outline self.old.setup).job lane).receiver (Entry.Met lane tuple)
+        requires { lane < length (lanes (setup_view self.old.setup).job) }
+        ensures step { OnOk result (IsStep (setup_view self.old.setup)
+            (lane_at (setup_view self.old.setup).job lane).receiver (Entry.Met lane tuple)
             self.old.runs.items self.new.runs.items) }
-        ensures outs { IfOk result (λ outs. outs ≡ made_at (outline self.old.setup)
-            (post_at (outline self.old.setup).job
-            (lane_at (outline self.old.setup).job lane).receiver)
-            (run_at self.old.runs.items (lane_at (outline self.old.setup).job lane).receiver)
+        ensures outs { IfOk result (λ outs. outs ≡ made_at (setup_view self.old.setup)
+            (nth_worker (setup_view self.old.setup).job
+            (lane_at (setup_view self.old.setup).job lane).receiver)
+            (run_at self.old.runs.items (lane_at (setup_view self.old.setup).job lane).receiver)
             tuple) }
         ensures same { OnOk result (SameBesideRuns self.old self.new) }
     {
@@ -142,8 +143,8 @@ impl Executor {
 
     // Every worker that a request covers turns.
     fn turn_all(&mut self, request: u64) -> Result<(), NoMemory>
-        ensures turned { OnOk result (AllGain (outline self.old.setup)
-            (turn_block (outline self.old.setup) request)
+        ensures turned { OnOk result (AllGain (setup_view self.old.setup)
+            (turn_block (setup_view self.old.setup) request)
             self.old.runs.items self.new.runs.items) }
         ensures same { OnOk result (SameBesideRuns self.old self.new) }
     {
@@ -157,8 +158,8 @@ impl Executor {
     // Every worker ends.
     fn end_all(&mut self) -> Result<(), NoMemory>
         requires { AreOpen self.old.runs.items }
-        ensures ended { OnOk result (AllGain (outline self.old.setup)
-            (end_block (outline self.old.setup).job) self.old.runs.items self.new.runs.items) }
+        ensures ended { OnOk result (AllGain (setup_view self.old.setup)
+            (end_block (setup_view self.old.setup).job) self.old.runs.items self.new.runs.items) }
         ensures same { OnOk result (SameBesideRuns self.old self.new) }
     {
         for worker in 0..self.runs.len() {
@@ -171,7 +172,7 @@ impl Executor {
     /// Ends all workers and the feeder. Returns the record of the run.
     pub fn finish(mut self) -> Result<RunRecord, NoMemory>
         requires { AreOpen self.runs.items }
-        ensures left { IfOk result (λ ran. HasLeft self (told ran)) }
+        ensures left { IfOk result (λ ran. HasLeft self (record_view ran)) }
         ensures same { IfOk result (λ ran. ran.setup ≡ self.setup) }
     {
         self.end_all()?;
@@ -203,7 +204,8 @@ fn record(
     feeds: Feeds,
     runs: Vec<WorkerRun>,
 ) -> Result<RunRecord, NoMemory>
-    ensures told { IfOk result (λ ran. told ran ≡ left_by (outline setup) feeds runs.items) }
+    ensures record_view { IfOk result (λ ran. record_view ran
+        ≡ left_by (setup_view setup) feeds runs.items) }
     ensures same { IfOk result (λ ran. ran.setup ≡ setup) }
 {
     let mut journals = Journals::new(alloc);

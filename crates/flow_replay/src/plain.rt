@@ -1,10 +1,10 @@
 ghost use Rattle.std.specs.Prelude.{◌≡◌, IfOk, length};
-ghost use Rattle.jobs.specs.Job.{written};
+ghost use Rattle.jobs.specs.Job.{job_view};
 ghost use Rattle.jobs.specs.Nodes.{AreFromSources};
 ghost use Rattle.flow_model.specs.Consistent.{IsConsistent};
-ghost use Rattle.flow_model.specs.Record.{told};
+ghost use Rattle.flow_model.specs.Record.{record_view};
 ghost use Rattle.flow_model.specs.Run.{IsRun};
-ghost use Rattle.flow_model.specs.Setup.{outline};
+ghost use Rattle.flow_model.specs.Setup.{setup_view};
 ghost use Rattle.flow_replay.specs.Order.{IsInOrder};
 
 use crate::executor::Executor;
@@ -19,10 +19,10 @@ use tuple_trace::{NoMemory, Rows};
 /// What it leaves is a run. So every row is whole at every request, as the laws of runs say; and
 /// here each turn even stands between two rows.
 pub fn plain_run(alloc: Global, setup: Setup, rows: &Rows) -> Result<RunRecord, NoMemory>
-    requires { AreFromSources (written setup.job) rows.now }
-    ensures run { IfOk result (λ ran. IsRun (outline setup) rows.now (told ran)) }
-    ensures order { IfOk result (λ ran. IsInOrder (length rows.now) (told ran)) }
-    ensures consistent { IfOk result (λ ran. IsConsistent rows.now (told ran)) }
+    requires { AreFromSources (job_view setup.job) rows.now }
+    ensures run { IfOk result (λ ran. IsRun (setup_view setup) rows.now (record_view ran)) }
+    ensures order { IfOk result (λ ran. IsInOrder (length rows.now) (record_view ran)) }
+    ensures consistent { IfOk result (λ ran. IsConsistent rows.now (record_view ran)) }
     ensures same { IfOk result (λ ran. ran.setup ≡ setup) }
 {
     runs_are_consistent(&setup, rows);

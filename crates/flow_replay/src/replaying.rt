@@ -4,8 +4,8 @@ ghost use Rattle.flow_model.specs.Begin.{at_first};
 ghost use Rattle.flow_model.specs.Lanes.{lanes, lanes_out, out_numbers};
 ghost use Rattle.flow_model.specs.Replay.{put_out};
 ghost use Rattle.flow_model.specs.Run.{final_counts};
-ghost use Rattle.flow_model.specs.Setup.{outline};
-ghost use Rattle.flow_model.specs.Workers.{post_at, posts};
+ghost use Rattle.flow_model.specs.Setup.{setup_view};
+ghost use Rattle.flow_model.specs.Workers.{nth_worker, workers_in};
 ghost use Rattle.flow_replay.specs.Sent.{all_sent};
 ghost use Rattle.flow_replay.specs.inner.Replays.{IsBegun, IsEntered, item_if, reaches};
 ghost use Rattle.flow_replay.specs.inner.Replays.{with_item, with_markers, with_puts};
@@ -40,12 +40,12 @@ pub fn replay(
     worker: u32,
     journal: &Journal,
 ) -> Result<Replayed, NoMemory>
-    requires { worker < length (posts (outline setup.now).job) }
-    ensures state { IfOk result (λ done. done.state ≡ final_counts (outline setup.now)
-        (at_first (outline setup.now)) (post_at (outline setup.now).job worker) empty
+    requires { worker < length (workers_in (setup_view setup.now).job) }
+    ensures state { IfOk result (λ done. done.state ≡ final_counts (setup_view setup.now)
+        (at_first (setup_view setup.now)) (nth_worker (setup_view setup.now).job worker) empty
         journal.now) }
-    ensures sent { IfOk result (λ done. done.sent ≡ all_sent (outline setup.now)
-        (post_at (outline setup.now).job worker) journal.now) }
+    ensures sent { IfOk result (λ done. done.sent ≡ all_sent (setup_view setup.now)
+        (nth_worker (setup_view setup.now).job worker) journal.now) }
 {
     let mut replay = Replaying::new(alloc, setup, worker)?;
     for entry in journal.as_slice() {
@@ -70,8 +70,8 @@ struct Replaying {
 
 impl Replaying {
     fn new(alloc: Global, setup: &Setup, worker: u32) -> Result<Replaying, NoMemory>
-        requires { worker < length (posts (outline setup.now).job) }
-        ensures { IfOk result (IsBegun (outline setup.now) worker) }
+        requires { worker < length (workers_in (setup_view setup.now).job) }
+        ensures { IfOk result (IsBegun (setup_view setup.now) worker) }
     {
         let lanes = setup.lanes_out(worker).len();
         Ok(Replaying {
@@ -83,12 +83,12 @@ impl Replaying {
 
     // Goes on by one entry.
     fn enter(&mut self, setup: &Setup, worker: u32, entry: &Entry) -> Result<(), NoMemory>
-        requires worker { worker < length (posts (outline setup.now).job) }
+        requires worker { worker < length (workers_in (setup_view setup.now).job) }
         requires long { length self.old.lists.items
-            ≡ length (out_numbers (outline setup.now).job worker) }
+            ≡ length (out_numbers (setup_view setup.now).job worker) }
         requires few { self.old.state.ended < 2 ^ 64 - 1 }
-        ensures { OnOk result (IsEntered (outline setup.now)
-            (post_at (outline setup.now).job worker) entry.now self.old self.new) }
+        ensures { OnOk result (IsEntered (setup_view setup.now)
+            (nth_worker (setup_view setup.now).job worker) entry.now self.old self.new) }
     {
         let lists = self.lists.as_mut_slice();
         match entry {
@@ -144,10 +144,10 @@ fn put_on(
     lists: &mut [LaneItems],
     sending: &Sending,
 ) -> Result<(), NoMemory>
-    requires worker { worker < length (posts (outline setup.now).job) }
-    requires long { length lists.old ≡ length (out_numbers (outline setup.now).job worker) }
-    ensures { OnOk result (lists.new ≡ with_item (reaches (outline setup.now) sending.now.onto)
-        sending.now.item (out_numbers (outline setup.now).job worker) lists.old) }
+    requires worker { worker < length (workers_in (setup_view setup.now).job) }
+    requires long { length lists.old ≡ length (out_numbers (setup_view setup.now).job worker) }
+    ensures { OnOk result (lists.new ≡ with_item (reaches (setup_view setup.now) sending.now.onto)
+        sending.now.item (out_numbers (setup_view setup.now).job worker) lists.old) }
 {
     for (place, number) in setup.lanes_out(worker).iter().enumerate() {
         let list = &mut lists[place];
@@ -170,8 +170,8 @@ fn put_if(list: &mut LaneItems, reached: bool, item: &Item) -> Result<(), NoMemo
 }
 
 fn is_reached(setup: &Setup, onto: Onto, number: u32) -> bool
-    requires { number < length (lanes (outline setup.now).job) }
-    ensures { result ≡ reaches (outline setup.now) onto number }
+    requires { number < length (lanes (setup_view setup.now).job) }
+    ensures { result ≡ reaches (setup_view setup.now) onto number }
 {
     match onto {
         Onto::Lane(lane) => number == lane,
@@ -195,10 +195,10 @@ fn copy_of(item: &Item) -> Result<Item, NoMemory>
 
 // Puts the outputs of a worker on its lanes out.
 fn send(setup: &Setup, worker: u32, lists: &mut [LaneItems], outs: Outs) -> Result<(), NoMemory>
-    requires worker { worker < length (posts (outline setup.now).job) }
-    requires long { length lists.old ≡ length (out_numbers (outline setup.now).job worker) }
-    ensures { OnOk result (lists.new ≡ with_puts (lanes_out (outline setup.now).job worker)
-        (map (put_out (outline setup.now).job (post_at (outline setup.now).job worker)) outs)
+    requires worker { worker < length (workers_in (setup_view setup.now).job) }
+    requires long { length lists.old ≡ length (out_numbers (setup_view setup.now).job worker) }
+    ensures { OnOk result (lists.new ≡ with_puts (lanes_out (setup_view setup.now).job worker)
+        (map (put_out (setup_view setup.now).job (nth_worker (setup_view setup.now).job worker)) outs)
         lists.old) }
 {
     let at = setup.worker_at(worker);
@@ -219,10 +219,10 @@ fn send(setup: &Setup, worker: u32, lists: &mut [LaneItems], outs: Outs) -> Resu
 
 // Puts the marker of a request on the lanes out that it covers.
 fn mark(setup: &Setup, worker: u32, lists: &mut [LaneItems], request: u64) -> Result<(), NoMemory>
-    requires worker { worker < length (posts (outline setup.now).job) }
-    requires long { length lists.old ≡ length (out_numbers (outline setup.now).job worker) }
-    ensures { OnOk result (lists.new ≡ with_markers (outline setup.now) request
-        (out_numbers (outline setup.now).job worker) lists.old) }
+    requires worker { worker < length (workers_in (setup_view setup.now).job) }
+    requires long { length lists.old ≡ length (out_numbers (setup_view setup.now).job worker) }
+    ensures { OnOk result (lists.new ≡ with_markers (setup_view setup.now) request
+        (out_numbers (setup_view setup.now).job worker) lists.old) }
 {
     match setup.plan_of(request) {
         Some(plan) => {

@@ -3,7 +3,7 @@ ghost use Rattle.std.specs.Prelude.{◌≡◌, ◌++◌, ℕ, IfOk, OnOk, option
 ghost use Rattle.std.specs.FinMap.{empty};
 ghost use Rattle.std.specs.List.{enumerate_from};
 ghost use Rattle.flow_dag.specs.declared.edge.Edge.{Edge as EdgeIs};
-ghost use Rattle.jobs.specs.Job.{written};
+ghost use Rattle.jobs.specs.Job.{job_view};
 ghost use Rattle.operators.specs.Meaning.{step};
 ghost use Rattle.flow_model.specs.Alone.{alone as alone_of, bare_visit as bare_visit_at};
 ghost use Rattle.flow_model.specs.Alone.{is_sink as is_sink_func, landing as landing_of};
@@ -28,7 +28,7 @@ pub type FuncTable = Items<Func>;
 /// a row if no node counts. A node that the table doesn't have lets nothing pass.
 pub fn alone(alloc: Global, job: &Job, table: &FuncTable, row: &Row) -> Result<Landings, NoMemory>
     ensures { IfOk result (λ landings. landings
-        ≡ alone_of (written job.now) (slice_get table.now) row.now) }
+        ≡ alone_of (job_view job.now) (slice_get table.now) row.now) }
 {
     let mut landings = Landings::new(alloc);
     if let Some(edge) = first_edge(job.dag.all_edges(), row.source, 0) {
@@ -57,7 +57,7 @@ impl Graph<'_> {
     // Processes a tuple at a node and its outputs downstream.
     fn deliver(self, node: u32, tuple: &Tuple, landings: &mut Landings) -> Result<(), NoMemory>
         ensures { OnOk result (landings.new ≡ landings.old
-            ++ lands_over (written self.entry.job.now) (slice_get self.entry.table.now)
+            ++ lands_over (job_view self.entry.job.now) (slice_get self.entry.table.now)
             self.entry.nodes node tuple.now) }
     {
         if self.nodes == 0 {
@@ -87,7 +87,7 @@ impl Graph<'_> {
 
     // What a node makes of a tuple, with no counts from before.
     fn outputs(self, node: u32, func: &Func, tuple: &Tuple) -> Result<Outs, NoMemory>
-        ensures { IfOk result (λ outs. outs ≡ (step (written self.entry.job.now)
+        ensures { IfOk result (λ outs. outs ≡ (step (job_view self.entry.job.now)
             (bare_visit_at node) func.now empty tuple.now).1) }
     {
         let visit = Visit {

@@ -1,9 +1,9 @@
 // What one worker does when it turns and when it ends.
 ghost use Rattle.std.specs.Prelude.{◌≡◌, ◌<◌, ◌++◌, OnOk, length};
-ghost use Rattle.jobs.specs.Job.{written};
+ghost use Rattle.jobs.specs.Job.{job_view};
 ghost use Rattle.flow_model.specs.Lanes.{marked_lanes};
-ghost use Rattle.flow_model.specs.Setup.{outline};
-ghost use Rattle.flow_model.specs.Workers.{post_at, posts};
+ghost use Rattle.flow_model.specs.Setup.{setup_view};
+ghost use Rattle.flow_model.specs.Workers.{nth_worker, workers_in};
 ghost use Rattle.flow_replay.specs.inner.Runs.{IsGain, empty_run, end_block, marks};
 ghost use Rattle.flow_replay.specs.inner.Runs.{turn_block, turn_entries};
 
@@ -37,10 +37,10 @@ impl WorkerRun {
         worker: u32,
         request: u64,
     ) -> Result<(), NoMemory>
-        requires { worker < length (posts (written setup.now.job)) }
-        ensures { OnOk result (IsGain (outline setup.now)
-            (post_at (written setup.now.job) worker)
-            (turn_block (outline setup.now) request worker) self.old self.new) }
+        requires { worker < length (workers_in (job_view setup.now.job)) }
+        ensures { OnOk result (IsGain (setup_view setup.now)
+            (nth_worker (job_view setup.now.job) worker)
+            (turn_block (setup_view setup.now) request worker) self.old self.new) }
     {
         if setup.covers(worker, request) {
             self.turn(setup, worker, request)?;
@@ -50,10 +50,10 @@ impl WorkerRun {
 
     // The worker notes its markers and directly after them the turn, and puts the change in force.
     fn turn(&mut self, setup: &Setup, worker: u32, request: u64) -> Result<(), NoMemory>
-        requires { worker < length (posts (written setup.now.job)) }
-        ensures { OnOk result (IsGain (outline setup.now)
-            (post_at (written setup.now.job) worker)
-            (turn_entries (outline setup.now) request worker) self.old self.new) }
+        requires { worker < length (workers_in (job_view setup.now.job)) }
+        ensures { OnOk result (IsGain (setup_view setup.now)
+            (nth_worker (job_view setup.now.job) worker)
+            (turn_entries (setup_view setup.now) request worker) self.old self.new) }
     {
         mark(setup, &mut self.journal, worker, request)?;
         self.journal.push(Entry::Turned { request })?;
@@ -64,11 +64,11 @@ impl WorkerRun {
 
     /// The worker ends: each of its lanes in does.
     pub fn end(&mut self, setup: &Setup, worker: u32) -> Result<(), NoMemory>
-        requires worker { worker < length (posts (written setup.now.job)) }
+        requires worker { worker < length (workers_in (job_view setup.now.job)) }
         requires open { self.old.state.ended ≡ 0 }
-        ensures { OnOk result (IsGain (outline setup.now)
-            (post_at (written setup.now.job) worker)
-            (end_block (written setup.now.job) worker) self.old self.new) }
+        ensures { OnOk result (IsGain (setup_view setup.now)
+            (nth_worker (job_view setup.now.job) worker)
+            (end_block (job_view setup.now.job) worker) self.old self.new) }
     {
         for number in setup.lanes_in(worker) {
             self.journal.push(Entry::Ended { lane: *number })?;
@@ -80,9 +80,9 @@ impl WorkerRun {
 
 // Notes the markers of a request, one for each lane in that brings it.
 fn mark(setup: &Setup, journal: &mut Journal, worker: u32, request: u64) -> Result<(), NoMemory>
-    requires { worker < length (posts (written setup.now.job)) }
+    requires { worker < length (workers_in (job_view setup.now.job)) }
     ensures { OnOk result (journal.new
-        ≡ journal.old ++ marks request (marked_lanes (outline setup.now) worker request)) }
+        ≡ journal.old ++ marks request (marked_lanes (setup_view setup.now) worker request)) }
 {
     for number in setup.lanes_in(worker) {
         let edge = setup.lane(*number).edge;

@@ -17,9 +17,9 @@ use Rattle.flow_model.specs.Begin.{Begin}
 use Rattle.flow_model.specs.Covers.{covers_edge, is_head}
 use Rattle.flow_model.specs.Law.{IsInTime, next_due}
 use Rattle.flow_model.specs.declared.topology.Lane.{Lane}
-use Rattle.flow_model.specs.Outline.{Outline, Post}
+use Rattle.flow_model.specs.SetupView.{SetupView, Worker as WorkerOf}
 use Rattle.flow_model.specs.Planned.{IsPlanned}
-use Rattle.flow_model.specs.Station.{station}
+use Rattle.flow_model.specs.Duties.{duties}
 use Rattle.flow_model.proofs.ElementLemmas.{in_of_place}
 use Rattle.flow_model.proofs.LaneLemmas.{LaneIn, lane_into}
 use Rattle.flow_model.proofs.WorkerLemmas.{worker_with}
@@ -47,12 +47,12 @@ none_marked mask r c i (a ∷ more) f = (
 )
 
 -- no lane of a head is one of its due
-pub head_places : (setup : Outline) (post : Post) (w : WorkerIs) (due : Due) → ∥ IsPlanned setup ∥₁ → IsPlaced setup post w → IsDueOf setup w.node (edges_of w.ins) due → due.head ≡ true
+pub head_places : (setup : SetupView) (who : WorkerOf) (w : WorkerIs) (due : Due) → ∥ IsPlanned setup ∥₁ → IsPlaced setup who w → IsDueOf setup w.node (edges_of w.ins) due → due.head ≡ true
     → (k : ℕ) (a : LaneInIs) → slice_get w.ins k ≡ Some a → has due.lanes k ≡ true → ⊥
-head_places setup post w due planned placed is head k a g b =
+head_places setup who w due planned placed is head k a g b =
     let i = in_of_place a w.ins k g in
-    let e = in_end setup post w placed a i in
-    let into : LaneIn setup.job post a.number = lane_into setup.job post a.number e.lane (worker_with setup.job w.number post placed.post_is).1 e.numbered (in_receives setup post w placed a i e) in
+    let e = in_end setup who w placed a i in
+    let into : LaneIn setup.job who a.number = lane_into setup.job who a.number e.lane (worker_with setup.job w.number who placed.who_is).1 e.numbered (in_receives setup who w placed a i e) in
     let x = into.numbered in
     let y = e.numbered in
     let same : into.lane ≡ e.lane = cc in
@@ -62,12 +62,12 @@ head_places setup post w due planned placed is head k a g b =
     let uncovered : covers_edge setup due.request a.edge ≡ false = head_unentered setup planned due.request w.node a.edge into.edge (sym is.head ∙ head) at (into.to ∙ sym placed.node_is) in
     absurd (cc)
 
-pub turn_held : (setup : Outline) (post : Post) (w : WorkerIs) (due : Due) (posted : Bool) → ∥ IsPlanned setup ∥₁ → IsPlaced setup post w → IsDueOf setup w.node (edges_of w.ins) due
+pub turn_held : (setup : SetupView) (who : WorkerOf) (w : WorkerIs) (due : Due) (posted : Bool) → ∥ IsPlanned setup ∥₁ → IsPlaced setup who w → IsDueOf setup w.node (edges_of w.ins) due
     → may_turn (hands w) due posted ≡ true → HoldMarker due.lanes due.request due.cover 0 w.ins
-turn_held setup post w due posted planned placed is e = go due.head refl e
+turn_held setup who w due posted planned placed is e = go due.head refl e
   where
     go : (b : Bool) → due.head ≡ b → cond b (posted || list_any (is_issued due.request) (hands w)) (is_aligned due (hands w)) ≡ true → HoldMarker due.lanes due.request due.cover 0 w.ins
-    go true h e = none_marked due.lanes due.request due.cover 0 w.ins (λ k a g b. head_places setup post w due planned placed is h k a g (subst (λ n. has due.lanes n ≡ true) (omega arith) b))
+    go true h e = none_marked due.lanes due.request due.cover 0 w.ins (λ k a g b. head_places setup who w due planned placed is h k a g (subst (λ n. has due.lanes n ≡ true) (omega arith) b))
     go false h e = hold_marker due.lanes due.request due.cover 0 w.ins e
 
 -- ---- a tuple: it is in time
@@ -75,37 +75,37 @@ turn_held setup post w due posted planned placed is e = go due.head refl e
 earlier : (r : ℕ) (t : Tuple) (hand : Hand) → hand ≡ Holds (Carry t) → is_issued r hand ≡ false → t.issued < r
 earlier r t hand e h = let k : nat_le r t.issued ≡ false = subst (λ x. is_issued r x ≡ false) e h in grind (arith, nat_tests)
 
-in_time : (setup : Outline) (begin : Begin) (post : Post) (w : WorkerIs) (due : Option Due) (dues : List ℕ) (posted : Bool) (place : ℕ) (a : LaneInIs) (t : Tuple) → w.node ≡ post.node
+in_time : (setup : SetupView) (begin : Begin) (who : WorkerOf) (w : WorkerIs) (due : Option Due) (dues : List ℕ) (posted : Bool) (place : ℕ) (a : LaneInIs) (t : Tuple) → w.node ≡ who.node
     → AreDues setup w.node dues due → IfSome due (IsDueOf setup w.node (edges_of w.ins)) → decided (hands w) due posted w.next ≡ Process place
-    → slice_get w.ins place ≡ Some a → a.hand ≡ Holds (Carry t) → IsInTime (station setup begin.turned post) t (next_due dues)
-in_time setup begin post w None dues posted place a t node d is e g h = rw d tt
-in_time setup begin post w (Some due) dues posted place a t node d is e g h =
-    subst (IsInTime (station setup begin.turned post) t) (sym (ap next_due d))
+    → slice_get w.ins place ≡ Some a → a.hand ≡ Holds (Carry t) → IsInTime (duties setup begin.turned who) t (next_due dues)
+in_time setup begin who w None dues posted place a t node d is e g h = rw d tt
+in_time setup begin who w (Some due) dues posted place a t node d is e g h =
+    subst (IsInTime (duties setup begin.turned who) t) (sym (ap next_due d))
     (λ head.
     let q = not_issued (hands w) due posted (processes_if (hands w) due posted w.next place e).0 (is.head ∙ (ap (is_head setup due.request) node ∙ head)) in
     earlier due.request t a.hand h (none_at (is_issued due.request) w.ins place a q.1 g))
 
 -- ---- whatever act was done
 
-pub done_law : (setup : Outline) (begin : Begin) (w v : WorkerIs) (act : Act) (posted : Bool) → KeepsSteady setup → ∥ IsPlanned setup ∥₁ → (h : IsWorker setup begin w) → w.closed ≡ false
-    → act ≡ decided (hands w) w.due posted w.next → HasDone setup h.post w.due act w v → IsWorker setup begin v
+pub done_law : (setup : SetupView) (begin : Begin) (w v : WorkerIs) (act : Act) (posted : Bool) → KeepsSteady setup → ∥ IsPlanned setup ∥₁ → (h : IsWorker setup begin w) → w.closed ≡ false
+    → act ≡ decided (hands w) w.due posted w.next → HasDone setup h.who w.due act w v → IsWorker setup begin v
 done_law setup begin w v act posted keeps planned h open_ is done = go w.due refl act is done
   where
-    go : (o : Option Due) → w.due ≡ o → (act : Act) → act ≡ decided (hands w) o posted w.next → HasDone setup h.post o act w v → IsWorker setup begin v
+    go : (o : Option Due) → w.due ≡ o → (act : Act) → act ≡ decided (hands w) o posted w.next → HasDone setup h.who o act w v → IsWorker setup begin v
     go None e (Turn r) is done = absurd done
     go None e (Process place) is done =
         keeps_process setup begin keeps place w v h open_ done
-        (in_time setup begin h.post w None (progress_now setup begin h.post w.journal).dues posted place done.at done.tuple h.placed.node_is
-        (subst (AreDues setup w.node (progress_now setup begin h.post w.journal).dues) e h.dues_are) tt (sym is) done.here done.held)
+        (in_time setup begin h.who w None (progress_now setup begin h.who w.journal).dues posted place done.at done.tuple h.placed.node_is
+        (subst (AreDues setup w.node (progress_now setup begin h.who w.journal).dues) e h.dues_are) tt (sym is) done.here done.held)
     go None e Close is done = keeps_close setup begin keeps w v h open_ e (all_last w.ins (closes_if (hands w) None posted w.next (sym is)).1) done
     go None e Nothing is done = absurd done
     go (Some due) e (Turn r) is done =
         let its : IsDueOf setup w.node (edges_of w.ins) due = subst (λ (o : Option Due). IfSome o (IsDueOf setup w.node (edges_of w.ins))) e h.due_is in
-        turned_law setup begin keeps due w h open_ e (turn_held setup h.post w due posted planned h.placed its (turns_if (hands w) due posted w.next r (sym is)).0) v done
+        turned_law setup begin keeps due w h open_ e (turn_held setup h.who w due posted planned h.placed its (turns_if (hands w) due posted w.next r (sym is)).0) v done
     go (Some due) e (Process place) is done =
         keeps_process setup begin keeps place w v h open_ done
-        (in_time setup begin h.post w (Some due) (progress_now setup begin h.post w.journal).dues posted place done.at done.tuple h.placed.node_is
-        (subst (AreDues setup w.node (progress_now setup begin h.post w.journal).dues) e h.dues_are)
+        (in_time setup begin h.who w (Some due) (progress_now setup begin h.who w.journal).dues posted place done.at done.tuple h.placed.node_is
+        (subst (AreDues setup w.node (progress_now setup begin h.who w.journal).dues) e h.dues_are)
         (subst (λ (o : Option Due). IfSome o (IsDueOf setup w.node (edges_of w.ins))) e h.due_is) (sym is) done.here done.held)
     go (Some due) e Close is done =
         let q = (closes_if (hands w) (Some due) posted w.next (sym is)).0 in

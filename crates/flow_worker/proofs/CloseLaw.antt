@@ -7,15 +7,15 @@ use Rattle.marker_align.specs.declared.held.Hand.TheVariants.{Empty, Holds}
 use Rattle.sink_journal.specs.declared.journal.Entry.{Entry}
 use Rattle.tuple_trace.specs.declared.tuple.Item.{Item}
 use Rattle.tuple_trace.specs.declared.tuple.Item.TheVariants.{Last}
-use Rattle.flow_model.specs.Begin.{Begin, local_at}
+use Rattle.flow_model.specs.Begin.{Begin, view_at}
 use Rattle.flow_model.specs.Lanes.{lanes, lanes_in, lanes_out}
-use Rattle.flow_model.specs.Law.{IsExecution, Progress, Station, initial, progress_after}
+use Rattle.flow_model.specs.Law.{IsExecution, Progress, Duties, initial, progress_after}
 use Rattle.flow_model.specs.declared.topology.Lane.{Lane}
-use Rattle.flow_model.specs.Outline.{Outline, Post}
+use Rattle.flow_model.specs.SetupView.{SetupView, Worker as WorkerOf}
 use Rattle.flow_model.specs.Points.{turned}
-use Rattle.flow_model.specs.Replay.{Local, after_all, items_on, put_on_each, sent, shown}
+use Rattle.flow_model.specs.Replay.{StateView, after_all, items_on, put_on_each, sent, shown}
 use Rattle.flow_model.specs.Run.{IsFinishedFrom, IsLawfulFrom}
-use Rattle.flow_model.specs.Station.{station}
+use Rattle.flow_model.specs.Duties.{duties}
 use Rattle.flow_model.proofs.ElementLemmas.{AreDistinct, IsIn, all_of_at, contains_of_in, in_of_contains, map_in}
 use Rattle.flow_model.proofs.EndLemmas.{ended_counts}
 use Rattle.flow_model.proofs.JournalLemmas.{IsExecution-append, after_all-append, progress_after-append, sent-append, shown-append}
@@ -23,7 +23,7 @@ use Rattle.flow_worker.specs.Pairs.{Each}
 use Rattle.flow_worker.specs.Endpoints.{Gains, LaneInIs, IsSteadyIn, LaneOutIs, in_hand, planned}
 use Rattle.flow_model.specs.Dues.{AreDues}
 use Rattle.flow_model.proofs.OutLanes.{one_on, out_distinct}
-use Rattle.flow_worker.specs.Worker.{IsEndpointIn, IsEndpointOut, IsPlaced, IsWorker, Sends, ShowsTaken, WorkerIs, edges_of, local_now, numbers_in, progress_now}
+use Rattle.flow_worker.specs.Worker.{IsEndpointIn, IsEndpointOut, IsPlaced, IsWorker, Sends, ShowsTaken, WorkerIs, edges_of, view_now, numbers_in, progress_now}
 use Rattle.flow_worker.specs.Steps.{HasClosed, all_emptied, ended_entries}
 use Rattle.flow_worker.proofs.Pairs.{each_both, each_of, length_mapped, pairs_each, pairs_keep, pairs_length}
 use Rattle.flow_worker.proofs.Marking.{self_test, turned-append}
@@ -33,7 +33,7 @@ use Rattle.flow_worker.proofs.TurnLaw.{end_emptied, end_gains}
 
 -- ---- the ends and the law
 
-ends_follow : (st : Station) (p : Progress) (ins : List LaneInIs) → p.dues ≡ [] → p.marked ≡ [] → Each (λ (a : LaneInIs). IsIn a.number st.lanes) ins → AreDistinct (numbers_in ins)
+ends_follow : (st : Duties) (p : Progress) (ins : List LaneInIs) → p.dues ≡ [] → p.marked ≡ [] → Each (λ (a : LaneInIs). IsIn a.number st.lanes) ins → AreDistinct (numbers_in ins)
     → ((n : ℕ) → IsIn n p.ended → ¬ IsIn n (numbers_in ins)) → IsExecution st p (ended_entries ins)
 ends_follow st p [] u m e d f = tt
 ends_follow st p (a ∷ more) u m e d f = (
@@ -61,24 +61,24 @@ comes_onto n (a ∷ more) m (inr h) = comes_onto n more (a.number ∷ m) h
 
 -- ---- the ends and the replay
 
-local_ends : (setup : Outline) (post : Post) (local : Local) (ins : List LaneInIs) → after_all setup post local (ended_entries ins) ≡ record local { ended = local.ended + length ins }
-local_ends setup post local [] = ap (λ n. record local { ended = n }) (omega arith)
-local_ends setup post local (a ∷ more) = local_ends setup post (record local { ended = local.ended + 1 }) more ∙ ap (λ n. record local { ended = n }) (omega arith)
+view_ends : (setup : SetupView) (who : WorkerOf) (view : StateView) (ins : List LaneInIs) → after_all setup who view (ended_entries ins) ≡ record view { ended = view.ended + length ins }
+view_ends setup who view [] = ap (λ n. record view { ended = n }) (omega arith)
+view_ends setup who view (a ∷ more) = view_ends setup who (record view { ended = view.ended + 1 }) more ∙ ap (λ n. record view { ended = n }) (omega arith)
 
 -- the last of the ends puts an end on each lane out, the others put nothing
-sent_ends : (setup : Outline) (post : Post) (lane : Lane) (local : Local) (ins : List LaneInIs) → IsIn lane (lanes_out setup.job post.number) → 0 < length ins
-    → local.ended + length ins ≡ length (lanes_in setup.job post.number) → sent setup post local lane (ended_entries ins) ≡ Last ∷ []
-sent_ends setup post lane local [] i l e = absurd (omega arith)
-sent_ends setup post lane local (a ∷ []) i l e =
-    let t : (local.ended + 1 == length (lanes_in setup.job post.number)) ≡ true = eq-eqb (local.ended + 1) (length (lanes_in setup.job post.number)) (omega arith) in
-    rw t (append-nil (items_on lane (put_on_each Last (lanes_out setup.job post.number))) ∙ one_on Last lane (lanes_out setup.job post.number) (out_distinct setup.job post.number) i)
-sent_ends setup post lane local (a ∷ b ∷ more) i l e =
-    let t : (local.ended + 1 == length (lanes_in setup.job post.number)) ≡ false = let k : local.ended + 1 < length (lanes_in setup.job post.number) = omega arith in grind (arith, nat_tests) in
-    rw t (sent_ends setup post lane (record local { ended = local.ended + 1 }) (b ∷ more) i (omega arith) (omega (arith, e)))
+sent_ends : (setup : SetupView) (who : WorkerOf) (lane : Lane) (view : StateView) (ins : List LaneInIs) → IsIn lane (lanes_out setup.job who.number) → 0 < length ins
+    → view.ended + length ins ≡ length (lanes_in setup.job who.number) → sent setup who view lane (ended_entries ins) ≡ Last ∷ []
+sent_ends setup who lane view [] i l e = absurd (omega arith)
+sent_ends setup who lane view (a ∷ []) i l e =
+    let t : (view.ended + 1 == length (lanes_in setup.job who.number)) ≡ true = eq-eqb (view.ended + 1) (length (lanes_in setup.job who.number)) (omega arith) in
+    rw t (append-nil (items_on lane (put_on_each Last (lanes_out setup.job who.number))) ∙ one_on Last lane (lanes_out setup.job who.number) (out_distinct setup.job who.number) i)
+sent_ends setup who lane view (a ∷ b ∷ more) i l e =
+    let t : (view.ended + 1 == length (lanes_in setup.job who.number)) ≡ false = let k : view.ended + 1 < length (lanes_in setup.job who.number) = omega arith in grind (arith, nat_tests) in
+    rw t (sent_ends setup who lane (record view { ended = view.ended + 1 }) (b ∷ more) i (omega arith) (omega (arith, e)))
 
 -- ---- what the ends show
 
-shown_no_end : (setup : Outline) (n : ℕ) (ins : List LaneInIs) → ¬ IsIn n (numbers_in ins) → shown setup n (ended_entries ins) ≡ []
+shown_no_end : (setup : SetupView) (n : ℕ) (ins : List LaneInIs) → ¬ IsIn n (numbers_in ins) → shown setup n (ended_entries ins) ≡ []
 shown_no_end setup n [] f = refl
 shown_no_end setup n (a ∷ more) f = go (a.number == n) refl (shown_no_end setup n more (λ h. f (inr h)))
   where
@@ -86,7 +86,7 @@ shown_no_end setup n (a ∷ more) f = go (a.number == n) refl (shown_no_end setu
     go true e h = absurd (f (inl (sym (eqb-true a.number n e))))
     go false e h = h
 
-shown_end : (setup : Outline) (n : ℕ) (ins : List LaneInIs) → AreDistinct (numbers_in ins) → IsIn n (numbers_in ins) → shown setup n (ended_entries ins) ≡ Last ∷ []
+shown_end : (setup : SetupView) (n : ℕ) (ins : List LaneInIs) → AreDistinct (numbers_in ins) → IsIn n (numbers_in ins) → shown setup n (ended_entries ins) ≡ Last ∷ []
 shown_end setup n [] d i = absurd i
 shown_end setup n (a ∷ more) d (inl e) =
     subst (λ x. shown setup x (ended_entries (a ∷ more)) ≡ Last ∷ []) (sym e) (rw (self_test a.number) (ap (λ xs. Last ∷ xs) (shown_no_end setup a.number more d.0)))
@@ -96,7 +96,7 @@ shown_end setup n (a ∷ more) d (inr i) = go (a.number == n) refl (shown_end se
     go true e h = absurd (d.0 (subst (λ x. IsIn x (numbers_in more)) (sym (eqb-true a.number n e)) i))
     go false e h = h
 
-takes_ended : (setup : Outline) (journal later : List Entry) (ins : List LaneInIs) → Each (λ (a : LaneInIs). shown setup a.number later ≡ shown setup a.number journal ++ Last ∷ []) ins
+takes_ended : (setup : SetupView) (journal later : List Entry) (ins : List LaneInIs) → Each (λ (a : LaneInIs). shown setup a.number later ≡ shown setup a.number journal ++ Last ∷ []) ins
     → Each (λ (a : LaneInIs). a.hand ≡ Holds Last) ins → Each (ShowsTaken setup journal) ins → Each (ShowsTaken setup later) (all_emptied ins)
 takes_ended setup journal later [] f l e = tt
 takes_ended setup journal later (a ∷ more) f l e =
@@ -120,11 +120,11 @@ turned_ended (a ∷ more) = turned_ended more
 
 -- ---- the law
 
-module _ (setup : Outline) (begin : Begin) (keeps : KeepsSteady setup) (w v : WorkerIs) (h : IsWorker setup begin w) (open_ : w.closed ≡ false) (no_due : w.due ≡ None)
+module _ (setup : SetupView) (begin : Begin) (keeps : KeepsSteady setup) (w v : WorkerIs) (h : IsWorker setup begin w) (open_ : w.closed ≡ false) (no_due : w.due ≡ None)
     (lasts : Each (λ (a : LaneInIs). a.hand ≡ Holds Last) w.ins) (t : HasClosed w v)
   where
-    abbrev st : Station
-    st = station setup begin.turned h.post
+    abbrev st : Duties
+    st = duties setup begin.turned h.who
 
     abbrev new : List Entry
     new = ended_entries w.ins
@@ -133,22 +133,22 @@ module _ (setup : Outline) (begin : Begin) (keeps : KeepsSteady setup) (w v : Wo
     longer = w.journal ++ new
 
     abbrev progress : Progress
-    progress = progress_now setup begin h.post w.journal
+    progress = progress_now setup begin h.who w.journal
 
-    abbrev first : Local
-    first = local_at setup begin.turned h.post h.begun
+    abbrev first : StateView
+    first = view_at setup begin.turned h.who h.begun
 
-    abbrev local : Local
-    local = local_now setup begin h.post h.begun w.journal
+    abbrev view : StateView
+    view = view_now setup begin h.who h.begun w.journal
 
     abbrev ends_only : LaneOutIs → List Item
     ends_only out = Last ∷ []
 
-    number : h.post.number ≡ w.number
-    number = number_is setup h.post w h.placed
+    number : h.who.number ≡ w.number
+    number = number_is setup h.who w h.placed
 
     distinct : AreDistinct (numbers_in w.ins)
-    distinct = ins_distinct setup h.post w h.placed
+    distinct = ins_distinct setup h.who w h.placed
 
     lanes_are : numbers_in w.ins ≡ st.lanes
     lanes_are = h.placed.ins_are ∙ ap (lanes_in setup.job) (sym number)
@@ -158,44 +158,44 @@ module _ (setup : Outline) (begin : Begin) (keeps : KeepsSteady setup) (w v : Wo
         (subst (λ (ns : List ℕ). Each (λ (a : LaneInIs). IsIn a.number ns) w.ins) lanes_are (each_of (λ (a : LaneInIs). IsIn a.number (numbers_in w.ins)) w.ins (λ a i. map_in (λ (a : LaneInIs). a.number) a w.ins i)))
         distinct (λ k i. absurd (subst (IsIn k) (h.unended open_) i))
 
-    stands : progress_now setup begin h.post longer ≡ record progress { ended = ended_onto w.ins progress.ended }
+    stands : progress_now setup begin h.who longer ≡ record progress { ended = ended_onto w.ins progress.ended }
     stands = progress_after-append (initial st) w.journal new ∙ progress_ends progress w.ins
 
-    longer_lawful : IsLawfulFrom setup begin h.post longer
+    longer_lawful : IsLawfulFrom setup begin h.who longer
     longer_lawful = record {
       execution = (IsExecution-append st (initial st) w.journal new).1 (h.lawful.execution, follows);
       no_open_turn = ap (λ (p : Progress). p.marked) stands ∙ h.lawful.no_open_turn;
     }
 
-    longer_finished : IsFinishedFrom setup begin h.post longer
+    longer_finished : IsFinishedFrom setup begin h.who longer
     longer_finished = record {
       lawful = longer_lawful;
       ended = rw stands (all_of_at (Contains (ended_onto w.ins progress.ended)) st.lanes
           (λ n i. contains_of_in n (ended_onto w.ins progress.ended) (comes_onto n w.ins progress.ended (subst (IsIn n) (sym lanes_are) i))));
     }
 
-    longer_local : local_now setup begin h.post h.begun longer ≡ record local { ended = local.ended + length w.ins }
-    longer_local = after_all-append setup h.post first w.journal new ∙ local_ends setup h.post local w.ins
+    longer_view : view_now setup begin h.who h.begun longer ≡ record view { ended = view.ended + length w.ins }
+    longer_view = after_all-append setup h.who first w.journal new ∙ view_ends setup h.who view w.ins
 
-    none_ended : local.ended ≡ 0
+    none_ended : view.ended ≡ 0
     none_ended =
-        let c : local.ended + 0 ≡ 0 + length progress.ended = ended_counts setup h.post first (initial st) w.journal in
+        let c : view.ended + 0 ≡ 0 + length progress.ended = ended_counts setup h.who first (initial st) w.journal in
         let z : length progress.ended ≡ 0 = ap length (h.unended open_) in
         omega arith
 
-    longer_sent : (lane : Lane) → IsIn lane (lanes_out setup.job h.post.number) → sent setup h.post first lane longer ≡ sent setup h.post first lane w.journal ++ Last ∷ []
+    longer_sent : (lane : Lane) → IsIn lane (lanes_out setup.job h.who.number) → sent setup h.who first lane longer ≡ sent setup h.who first lane w.journal ++ Last ∷ []
     longer_sent lane i =
-        sent-append setup h.post first lane w.journal new
-        ∙ ap (λ xs. sent setup h.post first lane w.journal ++ xs)
-        (sent_ends setup h.post lane local w.ins i (let s = h.placed.some_in in omega arith)
+        sent-append setup h.who first lane w.journal new
+        ∙ ap (λ xs. sent setup h.who first lane w.journal ++ xs)
+        (sent_ends setup h.who lane view w.ins i (let s = h.placed.some_in in omega arith)
         (let long : length w.ins ≡ length st.lanes = sym (length_mapped (λ (a : LaneInIs). a.number) w.ins) ∙ ap length lanes_are in omega (arith, none_ended, long)))
 
-    sends_end : (a b : LaneOutIs) → Gains ends_only a b → Sends setup begin h.post h.begun w.journal a × IsIn a w.outs → Sends setup begin h.post h.begun longer b
+    sends_end : (a b : LaneOutIs) → Gains ends_only a b → Sends setup begin h.who h.begun w.journal a × IsIn a w.outs → Sends setup begin h.who h.begun longer b
     sends_end a b e q lane g =
         let here : slice_get (lanes setup.job) a.number ≡ Some lane = subst (λ (o : LaneOutIs). slice_get (lanes setup.job) o.number ≡ Some lane) e g in
         ap planned e
         ∙ (sym (append_assoc a.sent a.waiting (Last ∷ []))
-        ∙ (ap (λ xs. xs ++ Last ∷ []) (q.0 lane here) ∙ sym (longer_sent lane (out_sends setup h.post w h.placed a q.1 lane here))))
+        ∙ (ap (λ xs. xs ++ Last ∷ []) (q.0 lane here) ∙ sym (longer_sent lane (out_sends setup h.who w h.placed a q.1 lane here))))
 
     shows : Each (λ (a : LaneInIs). shown setup a.number longer ≡ shown setup a.number w.journal ++ Last ∷ []) w.ins
     shows = each_of (λ (a : LaneInIs). shown setup a.number longer ≡ shown setup a.number w.journal ++ Last ∷ []) w.ins
@@ -209,14 +209,14 @@ module _ (setup : Outline) (begin : Begin) (keeps : KeepsSteady setup) (w v : Wo
         let ends : Each (IsEndpointIn setup k.graph) v.ins = rw t.ins (each_ended (IsEndpointIn setup k.graph) w.ins (end_emptied setup k.graph) k.ends_in) in
         let takes : Each (ShowsTaken setup v.journal) v.ins = rw (t.journal, t.ins) (takes_ended setup w.journal longer w.ins shows lasts h.takes) in
         let steady : Each IsSteadyIn v.ins = rw t.ins (each_ended IsSteadyIn w.ins (λ a q. q) h.steady_in) in
-        let lawful : IsLawfulFrom setup begin h.post v.journal = rw t.journal longer_lawful in
+        let lawful : IsLawfulFrom setup begin h.who v.journal = rw t.journal longer_lawful in
         let long : length v.ins ≡ length w.ins = rw t.ins (length_mapped (λ (a : LaneInIs). record a { hand = Empty }) w.ins) in
         let outs_long : length v.outs ≡ length w.outs = pairs_length (Gains ends_only) w.outs v.outs t.outs in
-        let sends : Each (Sends setup begin h.post h.begun v.journal) v.outs = rw t.journal
-        (pairs_each (Gains ends_only) (λ o. Sends setup begin h.post h.begun w.journal o × IsIn o w.outs) (Sends setup begin h.post h.begun longer) w.outs v.outs sends_end t.outs
-        (each_both (Sends setup begin h.post h.begun w.journal) (λ o. IsIn o w.outs) w.outs h.sends (each_of (λ o. IsIn o w.outs) w.outs (λ o i. i)))) in
-        let placed : IsPlaced setup h.post v = subst (IsPlaced setup h.post) (sym t.rest) (record {
-          post_is = k.post_is;
+        let sends : Each (Sends setup begin h.who h.begun v.journal) v.outs = rw t.journal
+        (pairs_each (Gains ends_only) (λ o. Sends setup begin h.who h.begun w.journal o × IsIn o w.outs) (Sends setup begin h.who h.begun longer) w.outs v.outs sends_end t.outs
+        (each_both (Sends setup begin h.who h.begun w.journal) (λ o. IsIn o w.outs) w.outs h.sends (each_of (λ o. IsIn o w.outs) w.outs (λ o i. i)))) in
+        let placed : IsPlaced setup h.who v = subst (IsPlaced setup h.who) (sym t.rest) (record {
+          who_is = k.who_is;
           node_is = k.node_is;
           place_is = k.place_is;
           graph = k.graph;
@@ -230,26 +230,26 @@ module _ (setup : Outline) (begin : Begin) (keeps : KeepsSteady setup) (w v : Wo
           room_in = rw long k.room_in;
           room_out = rw outs_long k.room_out;
         }) in
-        let now : Local = local_now setup begin h.post h.begun v.journal in
-        let now_is : now ≡ record local { ended = local.ended + length w.ins } = rw t.journal longer_local in
+        let now : StateView = view_now setup begin h.who h.begun v.journal in
+        let now_is : now ≡ record view { ended = view.ended + length w.ins } = rw t.journal longer_view in
         let same_node : v.node ≡ w.node = ap (λ (x : WorkerIs). x.node) t.rest in
         let same_due : v.due ≡ w.due = ap (λ (x : WorkerIs). x.due) t.rest in
         let same_turned : v.owner.turned ≡ w.owner.turned = ap (λ (x : WorkerIs). x.owner.turned) t.rest in
         let turns : length (turned longer) ≡ length (turned w.journal) =
         ap length (turned-append w.journal new ∙ (ap (λ xs. turned w.journal ++ xs) (turned_ended w.ins) ∙ append-nil (turned w.journal))) in
         record {
-          post = h.post;
+          who = h.who;
           placed = placed;
           begun = h.begun;
           begun_is = rw (ap (λ (x : WorkerIs). x.number) t.rest) h.begun_is;
           lawful = lawful;
-          func_is = rw (same_node, ap (λ (x : WorkerIs). x.in_force) t.rest) (h.func_is ∙ ap Some (sym (ap (λ (l : Local). l.func) now_is)));
-          counts_is = rw (ap (λ (x : WorkerIs). x.counts) t.rest) (h.counts_is ∙ sym (ap (λ (l : Local). l.counts) now_is));
-          last_is = rw (ap (λ (x : WorkerIs). x.last) t.rest) (h.last_is ∙ sym (ap (λ (l : Local). l.last) now_is));
+          func_is = rw (same_node, ap (λ (x : WorkerIs). x.in_force) t.rest) (h.func_is ∙ ap Some (sym (ap (λ (l : StateView). l.func) now_is)));
+          counts_is = rw (ap (λ (x : WorkerIs). x.counts) t.rest) (h.counts_is ∙ sym (ap (λ (l : StateView). l.counts) now_is));
+          last_is = rw (ap (λ (x : WorkerIs). x.last) t.rest) (h.last_is ∙ sym (ap (λ (l : StateView). l.last) now_is));
           takes = takes;
           steady_in = steady;
           sends = sends;
-          steady_out = steady_by setup begin h.post h.begun v keeps placed lawful takes steady sends;
+          steady_out = steady_by setup begin h.who h.begun v keeps placed lawful takes steady sends;
           turned_is = rw t.journal (same_turned ∙ (h.turned_is ∙ sym turns));
           dues_are = rw (t.journal, same_node, same_due, ap (λ (q : Progress). q.dues) stands) h.dues_are;
           due_is = rw (same_node, same_due, edges) h.due_is;

@@ -10,7 +10,7 @@ use Rattle.marker_align.specs.declared.decision.Due.{Due}
 use Rattle.sink_journal.specs.declared.journal.Entry.{Entry}
 use Rattle.flow_model.specs.Begin.{Begin}
 use Rattle.flow_model.specs.Lanes.{lanes}
-use Rattle.flow_model.specs.Outline.{Outline, Post}
+use Rattle.flow_model.specs.SetupView.{SetupView, Worker as WorkerOf}
 use Rattle.flow_model.specs.Replay.{shown}
 use Rattle.flow_worker.specs.Pairs.{EachPair}
 use Rattle.flow_worker.specs.Endpoints.{Filled, Flushed, LaneInIs, IsSteadyIn, IsSteadyOut, LaneOutIs, SameButMemory, planned}
@@ -26,7 +26,7 @@ flushed_steady a b f s =
     let P : Origin → Type 0 = λ o. IsSteady o (planned b) in
     subst P (sym f.same.2) (subst (IsSteady a.origin) (sym f.planned_is) s)
 
-flushed_end : (setup : Outline) (graph : Graph) (node : ℕ) (a b : LaneOutIs) → Flushed a b → IsEndpointOut setup graph node a → IsEndpointOut setup graph node b
+flushed_end : (setup : SetupView) (graph : Graph) (node : ℕ) (a b : LaneOutIs) → Flushed a b → IsEndpointOut setup graph node a → IsEndpointOut setup graph node b
 flushed_end setup graph node a b f h = record {
   lane = h.lane;
   numbered = rw f.same.1 h.numbered;
@@ -34,17 +34,17 @@ flushed_end setup graph node a b f h = record {
   origin_is = f.same.2 ∙ h.origin_is;
 }
 
-flushed_sends : (setup : Outline) (begin : Begin) (post : Post) (counts : Counts) (journal : List Entry) (a b : LaneOutIs) → Flushed a b → Sends setup begin post counts journal a → Sends setup begin post counts journal b
-flushed_sends setup begin post counts journal a b f h lane g = f.planned_is ∙ h lane (subst (λ n. slice_get (lanes setup.job) n ≡ Some lane) f.same.1 g)
+flushed_sends : (setup : SetupView) (begin : Begin) (who : WorkerOf) (counts : Counts) (journal : List Entry) (a b : LaneOutIs) → Flushed a b → Sends setup begin who counts journal a → Sends setup begin who counts journal b
+flushed_sends setup begin who counts journal a b f h lane g = f.planned_is ∙ h lane (subst (λ n. slice_get (lanes setup.job) n ≡ Some lane) f.same.1 g)
 
-pub keeps_puts : (setup : Outline) (begin : Begin) (w v : WorkerIs) → PutsOnly w v → IsWorker setup begin w → IsWorker setup begin v
+pub keeps_puts : (setup : SetupView) (begin : Begin) (w v : WorkerIs) → PutsOnly w v → IsWorker setup begin w → IsWorker setup begin v
 keeps_puts setup begin w v p h = subst (IsWorker setup begin) (sym p.rest) (go v.outs p.outs)
   where
     go : (outs : List LaneOutIs) → EachPair Flushed w.outs outs → IsWorker setup begin (record w { outs = outs })
     go outs e =
         let k = h.placed in
-        let placed : IsPlaced setup h.post (record w { outs = outs }) = record {
-          post_is = k.post_is;
+        let placed : IsPlaced setup h.who (record w { outs = outs }) = record {
+          who_is = k.who_is;
           node_is = k.node_is;
           place_is = k.place_is;
           graph = k.graph;
@@ -59,7 +59,7 @@ keeps_puts setup begin w v p h = subst (IsWorker setup begin) (sym p.rest) (go v
           room_out = rw (pairs_length Flushed w.outs outs e) k.room_out;
         } in
         record {
-          post = h.post;
+          who = h.who;
           placed = placed;
           begun = h.begun;
           begun_is = h.begun_is;
@@ -69,7 +69,7 @@ keeps_puts setup begin w v p h = subst (IsWorker setup begin) (sym p.rest) (go v
           last_is = h.last_is;
           takes = h.takes;
           steady_in = h.steady_in;
-          sends = pairs_each Flushed (Sends setup begin h.post h.begun w.journal) (Sends setup begin h.post h.begun w.journal) w.outs outs (flushed_sends setup begin h.post h.begun w.journal) e h.sends;
+          sends = pairs_each Flushed (Sends setup begin h.who h.begun w.journal) (Sends setup begin h.who h.begun w.journal) w.outs outs (flushed_sends setup begin h.who h.begun w.journal) e h.sends;
           steady_out = pairs_each Flushed IsSteadyOut IsSteadyOut w.outs outs flushed_steady e h.steady_out;
           turned_is = h.turned_is;
           dues_are = h.dues_are;
@@ -82,7 +82,7 @@ keeps_puts setup begin w v p h = subst (IsWorker setup begin) (sym p.rest) (go v
 
 -- ---- lanes in
 
-filled_end : (setup : Outline) (graph : Graph) (a b : LaneInIs) → Filled a b → IsEndpointIn setup graph a → IsEndpointIn setup graph b
+filled_end : (setup : SetupView) (graph : Graph) (a b : LaneInIs) → Filled a b → IsEndpointIn setup graph a → IsEndpointIn setup graph b
 filled_end setup graph a b f q = record {
   lane = q.lane;
   edge = q.edge;
@@ -92,18 +92,18 @@ filled_end setup graph a b f q = record {
   origin_is = f.same.2 ∙ q.origin_is;
 }
 
-filled_takes : (setup : Outline) (journal : List Entry) (a b : LaneInIs) → Filled a b → ShowsTaken setup journal a → ShowsTaken setup journal b
+filled_takes : (setup : SetupView) (journal : List Entry) (a b : LaneInIs) → Filled a b → ShowsTaken setup journal a → ShowsTaken setup journal b
 filled_takes setup journal a b f q = rw f.same.1 (f.kept (shown setup a.number journal) q)
 
-pub keeps_takes : (setup : Outline) (begin : Begin) (w v : WorkerIs) → TakesOnly w v → w.closed ≡ false → IsWorker setup begin w → IsWorker setup begin v
+pub keeps_takes : (setup : SetupView) (begin : Begin) (w v : WorkerIs) → TakesOnly w v → w.closed ≡ false → IsWorker setup begin w → IsWorker setup begin v
 keeps_takes setup begin w v p open_ h = subst (IsWorker setup begin) (sym p.rest) (go v.ins p.ins)
   where
     go : (ins : List LaneInIs) → EachPair Filled w.ins ins → IsWorker setup begin (record w { ins = ins })
     go ins e =
         let k = h.placed in
         let edges : edges_of ins ≡ edges_of w.ins = pairs_keep Filled (λ (a : LaneInIs). a.edge) w.ins ins (λ a b f. f.same.3) e in
-        let placed : IsPlaced setup h.post (record w { ins = ins }) = record {
-          post_is = k.post_is;
+        let placed : IsPlaced setup h.who (record w { ins = ins }) = record {
+          who_is = k.who_is;
           node_is = k.node_is;
           place_is = k.place_is;
           graph = k.graph;
@@ -118,7 +118,7 @@ keeps_takes setup begin w v p open_ h = subst (IsWorker setup begin) (sym p.rest
           room_out = k.room_out;
         } in
         record {
-          post = h.post;
+          who = h.who;
           placed = placed;
           begun = h.begun;
           begun_is = h.begun_is;
@@ -141,14 +141,14 @@ keeps_takes setup begin w v p open_ h = subst (IsWorker setup begin) (sym p.rest
 
 -- ---- the box
 
-pub keeps_poll : (setup : Outline) (begin : Begin) (w v : WorkerIs) (n : ℕ) → PollsOnly w v n → IsWorker setup begin w → IsWorker setup begin v
+pub keeps_poll : (setup : SetupView) (begin : Begin) (w v : WorkerIs) (n : ℕ) → PollsOnly w v n → IsWorker setup begin w → IsWorker setup begin v
 keeps_poll setup begin w v n p h = subst (IsWorker setup begin) (sym p.rest) (go v.owner p.turned)
   where
     go : (owner : OwnerIs) → owner.turned ≡ w.owner.turned → IsWorker setup begin (record w { owner = owner })
     go owner e =
         let k = h.placed in
-        let placed : IsPlaced setup h.post (record w { owner = owner }) = record {
-          post_is = k.post_is;
+        let placed : IsPlaced setup h.who (record w { owner = owner }) = record {
+          who_is = k.who_is;
           node_is = k.node_is;
           place_is = k.place_is;
           graph = k.graph;
@@ -163,7 +163,7 @@ keeps_poll setup begin w v n p h = subst (IsWorker setup begin) (sym p.rest) (go
           room_out = k.room_out;
         } in
         record {
-          post = h.post;
+          who = h.who;
           placed = placed;
           begun = h.begun;
           begun_is = h.begun_is;
@@ -189,17 +189,17 @@ keeps_poll setup begin w v n p h = subst (IsWorker setup begin) (sym p.rest) (go
 moved_out : (P : LaneOutIs → Type 0) → ((a : LaneOutIs) (m : ℕ) → P a → P (record a { memory = m })) → (a b : LaneOutIs) → SameButMemory a b → P a → P b
 moved_out P f a b e q = subst P (sym e) (f a b.memory q)
 
-end_moved : (setup : Outline) (graph : Graph) (node : ℕ) (a : LaneOutIs) (m : ℕ) → IsEndpointOut setup graph node a → IsEndpointOut setup graph node (record a { memory = m })
+end_moved : (setup : SetupView) (graph : Graph) (node : ℕ) (a : LaneOutIs) (m : ℕ) → IsEndpointOut setup graph node a → IsEndpointOut setup graph node (record a { memory = m })
 end_moved setup graph node a m h = record { lane = h.lane; numbered = h.numbered; edge_is = h.edge_is; origin_is = h.origin_is }
 
-pub keeps_memory : (setup : Outline) (begin : Begin) (w v : WorkerIs) → MemoryOnly w v → IsWorker setup begin w → IsWorker setup begin v
+pub keeps_memory : (setup : SetupView) (begin : Begin) (w v : WorkerIs) → MemoryOnly w v → IsWorker setup begin w → IsWorker setup begin v
 keeps_memory setup begin w v p h = subst (IsWorker setup begin) (sym p.rest) (go v.outs v.memory p.outs)
   where
     go : (outs : List LaneOutIs) (m : ℕ) → EachPair SameButMemory w.outs outs → IsWorker setup begin (record w { outs = outs; memory = m })
     go outs m e =
         let k = h.placed in
-        let placed : IsPlaced setup h.post (record w { outs = outs; memory = m }) = record {
-          post_is = k.post_is;
+        let placed : IsPlaced setup h.who (record w { outs = outs; memory = m }) = record {
+          who_is = k.who_is;
           node_is = k.node_is;
           place_is = k.place_is;
           graph = k.graph;
@@ -214,7 +214,7 @@ keeps_memory setup begin w v p h = subst (IsWorker setup begin) (sym p.rest) (go
           room_out = rw (pairs_length SameButMemory w.outs outs e) k.room_out;
         } in
         record {
-          post = h.post;
+          who = h.who;
           placed = placed;
           begun = h.begun;
           begun_is = h.begun_is;
@@ -224,7 +224,7 @@ keeps_memory setup begin w v p h = subst (IsWorker setup begin) (sym p.rest) (go
           last_is = h.last_is;
           takes = h.takes;
           steady_in = h.steady_in;
-          sends = pairs_each SameButMemory (Sends setup begin h.post h.begun w.journal) (Sends setup begin h.post h.begun w.journal) w.outs outs (moved_out (Sends setup begin h.post h.begun w.journal) (λ a m q. q)) e h.sends;
+          sends = pairs_each SameButMemory (Sends setup begin h.who h.begun w.journal) (Sends setup begin h.who h.begun w.journal) w.outs outs (moved_out (Sends setup begin h.who h.begun w.journal) (λ a m q. q)) e h.sends;
           steady_out = pairs_each SameButMemory IsSteadyOut IsSteadyOut w.outs outs (moved_out IsSteadyOut (λ a m q. q)) e h.steady_out;
           turned_is = h.turned_is;
           dues_are = h.dues_are;

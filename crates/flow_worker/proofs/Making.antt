@@ -1,7 +1,7 @@
 -- Lanes are made of endpoints, one after another.
 use Rattle.std.proofs.Common.{◌≡◌, ◌∙◌, ℕ, zero, suc, List, [], ◌∷◌, ◌++◌, append_assoc, ap, drop, get_or, map, subst, sym, Some, slice_get}
 use Rattle.std.proofs.lemmas.List.{map-append}
-use Rattle.jobs.specs.Written.{Written}
+use Rattle.jobs.specs.JobView.{JobView}
 use Rattle.flow_model.specs.Lanes.{lanes}
 use Rattle.flow_model.specs.declared.topology.Lane.{Lane}
 use Rattle.flow_worker.specs.Pairs.{Each}
@@ -35,7 +35,7 @@ each_more {A = A} P xs new x same e p = subst (Each P) (sym same) (go xs e)
     go (y ∷ ys) h = (h.0, go ys h.1)
 
 -- a lane that was looked up by the number at a place
-pub on_lane : (job : Written) (numbers : List ℕ) (n k e d : ℕ) (lane : Lane) → slice_get numbers n ≡ Some e → k ≡ n → slice_get (lanes job) (get_or numbers k d) ≡ Some lane → slice_get (lanes job) e ≡ Some lane
+pub on_lane : (job : JobView) (numbers : List ℕ) (n k e d : ℕ) (lane : Lane) → slice_get numbers n ≡ Some e → k ≡ n → slice_get (lanes job) (get_or numbers k d) ≡ Some lane → slice_get (lanes job) e ≡ Some lane
 on_lane job numbers n k e d lane at same found = subst (λ m. slice_get (lanes job) m ≡ Some lane) (ap (λ i. get_or numbers i d) same ∙ here numbers n e at) found
   where
     here : (xs : List ℕ) (i x : ℕ) → slice_get xs i ≡ Some x → get_or xs i d ≡ x

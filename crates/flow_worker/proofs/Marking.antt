@@ -7,11 +7,11 @@ use Rattle.marker_align.specs.declared.held.Hand.TheVariants.{Empty, Holds}
 use Rattle.sink_journal.specs.declared.journal.Entry.{Entry}
 use Rattle.sink_journal.specs.declared.journal.Entry.TheVariants.{Marked}
 use Rattle.tuple_trace.specs.declared.tuple.Item.TheVariants.{Mark}
-use Rattle.flow_model.specs.Law.{IsExecution, Progress, Station, next_due, progress_after}
+use Rattle.flow_model.specs.Law.{IsExecution, Progress, Duties, next_due, progress_after}
 use Rattle.flow_model.specs.declared.topology.Lane.{Lane}
-use Rattle.flow_model.specs.Outline.{Outline, Post}
+use Rattle.flow_model.specs.SetupView.{SetupView, Worker as WorkerOf}
 use Rattle.flow_model.specs.Points.{turn_in, turned}
-use Rattle.flow_model.specs.Replay.{Local, after_all, marker, sent, shown}
+use Rattle.flow_model.specs.Replay.{StateView, after_all, marker, sent, shown}
 use Rattle.flow_model.proofs.ElementLemmas.{AreDistinct, IsIn, contains_of_in, in_of_contains}
 use Rattle.flow_worker.specs.Pairs.{Each}
 use Rattle.flow_worker.specs.Endpoints.{LaneInIs, in_hand}
@@ -21,22 +21,22 @@ use Rattle.flow_worker.specs.Steps.{emptied, marked_entries}
 -- ---- what the markers are to the law
 
 -- the places of the mask are those of marked lanes
-abbrev pub AreMarked : Station → ℕ → ℕ → ℕ → List LaneInIs → Type 0
-AreMarked station r mask i [] = Unit {0}
-AreMarked station r mask i (a ∷ more) = (has mask i ≡ true → IsIn a.number (station.marked_lanes r)) × AreMarked station r mask (i + 1) more
+abbrev pub AreMarked : Duties → ℕ → ℕ → ℕ → List LaneInIs → Type 0
+AreMarked duties r mask i [] = Unit {0}
+AreMarked duties r mask i (a ∷ more) = (has mask i ≡ true → IsIn a.number (duties.marked_lanes r)) × AreMarked duties r mask (i + 1) more
 
-pub marks_follow : (station : Station) (r mask i : ℕ) (p : Progress) (ins : List LaneInIs) → next_due p.dues ≡ Some r → p.ended ≡ [] → AreDistinct (numbers_in ins)
-    → ((n : ℕ) → IsIn n p.marked → ¬ IsIn n (numbers_in ins)) → AreMarked station r mask i ins → IsExecution station p (marked_entries mask r i ins)
-marks_follow station r mask i p [] n e d f m = tt
-marks_follow station r mask i p (a ∷ more) n e d f m =
+pub marks_follow : (duties : Duties) (r mask i : ℕ) (p : Progress) (ins : List LaneInIs) → next_due p.dues ≡ Some r → p.ended ≡ [] → AreDistinct (numbers_in ins)
+    → ((n : ℕ) → IsIn n p.marked → ¬ IsIn n (numbers_in ins)) → AreMarked duties r mask i ins → IsExecution duties p (marked_entries mask r i ins)
+marks_follow duties r mask i p [] n e d f m = tt
+marks_follow duties r mask i p (a ∷ more) n e d f m =
     go (has mask i) refl
-    (marks_follow station r mask (i + 1) (record p { marked = a.number ∷ p.marked }) more n e d.1
+    (marks_follow duties r mask (i + 1) (record p { marked = a.number ∷ p.marked }) more n e d.1
     (λ k j l. elim j [ inl q ↦ d.0 (subst (λ x. IsIn x (numbers_in more)) q l) | inr q ↦ f k q (inr l) ]) m.1)
-    (marks_follow station r mask (i + 1) p more n e d.1 (λ k j l. f k j (inr l)) m.1)
+    (marks_follow duties r mask (i + 1) p more n e d.1 (λ k j l. f k j (inr l)) m.1)
   where
-    go : (b : Bool) → has mask i ≡ b → IsExecution station (record p { marked = a.number ∷ p.marked }) (marked_entries mask r (i + 1) more)
-        → IsExecution station p (marked_entries mask r (i + 1) more) → IsExecution station p (cond b (Marked a.number r ∷ []) [] ++ marked_entries mask r (i + 1) more)
-    go true h x y = ((n, contains_of_in a.number (station.marked_lanes r) (m.0 h), (λ k. f a.number (in_of_contains a.number p.marked k) (inl refl)), e), x)
+    go : (b : Bool) → has mask i ≡ b → IsExecution duties (record p { marked = a.number ∷ p.marked }) (marked_entries mask r (i + 1) more)
+        → IsExecution duties p (marked_entries mask r (i + 1) more) → IsExecution duties p (cond b (Marked a.number r ∷ []) [] ++ marked_entries mask r (i + 1) more)
+    go true h x y = ((n, contains_of_in a.number (duties.marked_lanes r) (m.0 h), (λ k. f a.number (in_of_contains a.number p.marked k) (inl refl)), e), x)
     go false h x y = y
 
 abbrev pub marks_onto : ℕ → ℕ → List LaneInIs → List ℕ → List ℕ
@@ -71,19 +71,19 @@ at_onto mask i (suc k) a (b ∷ more) m g h =
 
 -- ---- what the markers are to the replay
 
-pub local_marks : (setup : Outline) (post : Post) (mask r i : ℕ) (local : Local) (ins : List LaneInIs) → after_all setup post local (marked_entries mask r i ins) ≡ local
-local_marks setup post mask r i local [] = refl
-local_marks setup post mask r i local (a ∷ more) = go (has mask i) (local_marks setup post mask r (i + 1) local more)
+pub view_marks : (setup : SetupView) (who : WorkerOf) (mask r i : ℕ) (view : StateView) (ins : List LaneInIs) → after_all setup who view (marked_entries mask r i ins) ≡ view
+view_marks setup who mask r i view [] = refl
+view_marks setup who mask r i view (a ∷ more) = go (has mask i) (view_marks setup who mask r (i + 1) view more)
   where
-    go : (b : Bool) → after_all setup post local (marked_entries mask r (i + 1) more) ≡ local → after_all setup post local (cond b (Marked a.number r ∷ []) [] ++ marked_entries mask r (i + 1) more) ≡ local
+    go : (b : Bool) → after_all setup who view (marked_entries mask r (i + 1) more) ≡ view → after_all setup who view (cond b (Marked a.number r ∷ []) [] ++ marked_entries mask r (i + 1) more) ≡ view
     go true h = h
     go false h = h
 
-pub sent_marks : (setup : Outline) (post : Post) (mask r i : ℕ) (lane : Lane) (local : Local) (ins : List LaneInIs) → sent setup post local lane (marked_entries mask r i ins) ≡ []
-sent_marks setup post mask r i lane local [] = refl
-sent_marks setup post mask r i lane local (a ∷ more) = go (has mask i) (sent_marks setup post mask r (i + 1) lane local more)
+pub sent_marks : (setup : SetupView) (who : WorkerOf) (mask r i : ℕ) (lane : Lane) (view : StateView) (ins : List LaneInIs) → sent setup who view lane (marked_entries mask r i ins) ≡ []
+sent_marks setup who mask r i lane view [] = refl
+sent_marks setup who mask r i lane view (a ∷ more) = go (has mask i) (sent_marks setup who mask r (i + 1) lane view more)
   where
-    go : (b : Bool) → sent setup post local lane (marked_entries mask r (i + 1) more) ≡ [] → sent setup post local lane (cond b (Marked a.number r ∷ []) [] ++ marked_entries mask r (i + 1) more) ≡ []
+    go : (b : Bool) → sent setup who view lane (marked_entries mask r (i + 1) more) ≡ [] → sent setup who view lane (cond b (Marked a.number r ∷ []) [] ++ marked_entries mask r (i + 1) more) ≡ []
     go true h = h
     go false h = h
 
@@ -100,7 +100,7 @@ turned_marks mask r i (a ∷ more) = go (has mask i) (turned_marks mask r (i + 1
 
 -- ---- what the markers show
 
-pub shown_none : (setup : Outline) (n mask r i : ℕ) (ins : List LaneInIs) → ¬ IsIn n (numbers_in ins) → shown setup n (marked_entries mask r i ins) ≡ []
+pub shown_none : (setup : SetupView) (n mask r i : ℕ) (ins : List LaneInIs) → ¬ IsIn n (numbers_in ins) → shown setup n (marked_entries mask r i ins) ≡ []
 shown_none setup n mask r i [] f = refl
 shown_none setup n mask r i (a ∷ more) f = go (has mask i) (shown_none setup n mask r (i + 1) more (λ h. f (inr h)))
   where
@@ -120,7 +120,7 @@ in_numbers_at k a [] g = absurd (cc)
 in_numbers_at zero a (b ∷ more) g = let e : b ≡ a = cc in inl (ap (λ (x : LaneInIs). x.number) (sym e))
 in_numbers_at (suc k) a (b ∷ more) g = inr (in_numbers_at k a more g)
 
-pub shown_marks : (setup : Outline) (mask r i k : ℕ) (a : LaneInIs) (ins : List LaneInIs) → AreDistinct (numbers_in ins) → slice_get ins k ≡ Some a
+pub shown_marks : (setup : SetupView) (mask r i k : ℕ) (a : LaneInIs) (ins : List LaneInIs) → AreDistinct (numbers_in ins) → slice_get ins k ≡ Some a
     → shown setup a.number (marked_entries mask r i ins) ≡ cond (has mask (i + k)) (marker setup r) []
 shown_marks setup mask r i k a [] d g = absurd (cc)
 shown_marks setup mask r i zero a (b ∷ more) d g =
@@ -152,11 +152,11 @@ HoldMarker mask r cover i [] = Unit {0}
 HoldMarker mask r cover i (a ∷ more) = (has mask i ≡ true → a.hand ≡ Holds (Mark r cover)) × HoldMarker mask r cover (i + 1) more
 
 -- the journal's new entries show the markers
-abbrev pub ShowMarker : Outline → ℕ → ℕ → List Entry → ℕ → List LaneInIs → Type 0
+abbrev pub ShowMarker : SetupView → ℕ → ℕ → List Entry → ℕ → List LaneInIs → Type 0
 ShowMarker setup mask r new i [] = Unit {0}
 ShowMarker setup mask r new i (a ∷ more) = (shown setup a.number new ≡ cond (has mask i) (marker setup r) []) × ShowMarker setup mask r new (i + 1) more
 
-pub show_marker : (setup : Outline) (mask r i : ℕ) (new : List Entry) (ins : List LaneInIs)
+pub show_marker : (setup : SetupView) (mask r i : ℕ) (new : List Entry) (ins : List LaneInIs)
     → ((k : ℕ) (a : LaneInIs) → slice_get ins k ≡ Some a → shown setup a.number new ≡ cond (has mask (i + k)) (marker setup r) []) → ShowMarker setup mask r new i ins
 show_marker setup mask r i new [] f = tt
 show_marker setup mask r i new (a ∷ more) f = (
@@ -164,7 +164,7 @@ show_marker setup mask r i new (a ∷ more) f = (
   show_marker setup mask r (i + 1) new more (λ k b g. subst (λ n. shown setup b.number new ≡ cond (has mask n) (marker setup r) []) (omega arith) (f (suc k) b g)),
 )
 
-pub takes_marked : (setup : Outline) (mask r cover i : ℕ) (journal later new : List Entry) (ins : List LaneInIs) → marker setup r ≡ Mark r cover ∷ []
+pub takes_marked : (setup : SetupView) (mask r cover i : ℕ) (journal later new : List Entry) (ins : List LaneInIs) → marker setup r ≡ Mark r cover ∷ []
     → ((n : ℕ) → shown setup n later ≡ shown setup n journal ++ shown setup n new) → ShowMarker setup mask r new i ins → HoldMarker mask r cover i ins
     → Each (ShowsTaken setup journal) ins → Each (ShowsTaken setup later) (emptied mask i ins)
 takes_marked setup mask r cover i journal later new [] m f s h t = tt

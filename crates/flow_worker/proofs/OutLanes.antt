@@ -7,12 +7,12 @@ use Rattle.std.proofs.lemmas.List.Elements.{filter-append}
 use Rattle.std.proofs.lemmas.List.{append-nil}
 use Rattle.std.proofs.lemmas.Option.{same_Some}
 use Rattle.flow_dag.specs.declared.edge.Edge.{Edge}
-use Rattle.jobs.specs.Written.{Written}
+use Rattle.jobs.specs.JobView.{JobView}
 use Rattle.flow_model.specs.Lanes.{is_sender, lanes_out, senders}
 use Rattle.flow_model.specs.Topology.{lanes_along}
 use Rattle.flow_model.specs.declared.topology.Lane.{Lane}
-use Rattle.flow_model.specs.Outline.{Post}
-use Rattle.flow_model.specs.Workers.{posts, posts_of}
+use Rattle.flow_model.specs.SetupView.{Worker}
+use Rattle.flow_model.specs.Workers.{workers_in, workers_at_node}
 use Rattle.flow_model.proofs.ElementLemmas.{in_of_place, same_place}
 use Rattle.flow_model.proofs.LaneLemmas.{lanes_from, sender_is, sender_worker, senders_distinct}
 use Rattle.flow_model.proofs.LaneNumbers.{sends}
@@ -49,52 +49,52 @@ one-piece test f (y ∷ xs) (suc k) x there passes fails =
 abbrev by : ℕ → Lane → Bool
 by worker lane = is_sender worker lane.sender
 
-mine : (job : Written) (number : ℕ) (edge : Edge) (worker : ℕ) → filter (by worker) (lanes_from job number edge (Some worker)) ≡ lanes_from job number edge (Some worker)
+mine : (job : JobView) (number : ℕ) (edge : Edge) (worker : ℕ) → filter (by worker) (lanes_from job number edge (Some worker)) ≡ lanes_from job number edge (Some worker)
 mine job number edge worker =
-    all-pass (by worker) (λ (post : Post). record { edge = number; sender = Some worker; receiver = post.number }) (posts_of job edge.to) (λ post. eq-eqb worker worker refl)
+    all-pass (by worker) (λ (who : Worker). record { edge = number; sender = Some worker; receiver = who.number }) (workers_at_node job edge.to) (λ who. eq-eqb worker worker refl)
 
-others : (job : Written) (number : ℕ) (edge : Edge) (worker : ℕ) (sender : Option ℕ) → is_sender worker sender ≡ false → filter (by worker) (lanes_from job number edge sender) ≡ []
-others job number edge worker sender isnt = none-passes (by worker) (λ (post : Post). record { edge = number; sender = sender; receiver = post.number }) (posts_of job edge.to) (λ post. isnt)
+others : (job : JobView) (number : ℕ) (edge : Edge) (worker : ℕ) (sender : Option ℕ) → is_sender worker sender ≡ false → filter (by worker) (lanes_from job number edge sender) ≡ []
+others job number edge worker sender isnt = none-passes (by worker) (λ (who : Worker). record { edge = number; sender = sender; receiver = who.number }) (workers_at_node job edge.to) (λ who. isnt)
 
 -- a worker sends on the edges of its node alone
-along : (job : Written) (w : ℕ) (post : Post) (p : ℕ × Edge) → slice_get (posts job) w ≡ Some post
-    → filter (by w) (lanes_along job p) ≡ (if p.1.from == post.node then lanes_from job p.0 p.1 (Some w) else [])
-along job w post p there = go (p.1.from == post.node) refl
+along : (job : JobView) (w : ℕ) (who : Worker) (p : ℕ × Edge) → slice_get (workers_in job) w ≡ Some who
+    → filter (by w) (lanes_along job p) ≡ (if p.1.from == who.node then lanes_from job p.0 p.1 (Some w) else [])
+along job w who p there = go (p.1.from == who.node) refl
   where
-    other : (j : ℕ) (sender : Option ℕ) → slice_get (senders job post.node) j ≡ Some sender → j ≢ post.place → (b : Bool) → is_sender w sender ≡ b → b ≡ false
+    other : (j : ℕ) (sender : Option ℕ) → slice_get (senders job who.node) j ≡ Some sender → j ≢ who.place → (b : Bool) → is_sender w sender ≡ b → b ≡ false
     other j sender at ne true its =
-        let here : slice_get (senders job post.node) j ≡ Some (Some w) = at ∙ ap Some (sender_is w sender its) in
-        absurd (ne (same_place (Some w) j post.place (senders job post.node) (senders_distinct job post.node) here (sends job w post there)))
+        let here : slice_get (senders job who.node) j ≡ Some (Some w) = at ∙ ap Some (sender_is w sender its) in
+        absurd (ne (same_place (Some w) j who.place (senders job who.node) (senders_distinct job who.node) here (sends job w who there)))
     other j sender at ne false isnt = refl
 
-    away : p.1.from ≢ post.node → (j : ℕ) (sender : Option ℕ) → slice_get (senders job p.1.from) j ≡ Some sender → (b : Bool) → is_sender w sender ≡ b → b ≡ false
+    away : p.1.from ≢ who.node → (j : ℕ) (sender : Option ℕ) → slice_get (senders job p.1.from) j ≡ Some sender → (b : Bool) → is_sender w sender ≡ b → b ≡ false
     away ne j sender at true its =
         let (other, here, number, node) = sender_worker job p.1.from w (in_of_place (Some w) (senders job p.1.from) j (at ∙ ap Some (sender_is w sender its))) in
-        absurd (ne (sym node ∙ ap (λ (x : Post). x.node) (same_Some other post (sym here ∙ there))))
+        absurd (ne (sym node ∙ ap (λ (x : Worker). x.node) (same_Some other who (sym here ∙ there))))
     away ne j sender at false isnt = refl
 
-    go : (b : Bool) → (p.1.from == post.node) ≡ b → filter (by w) (lanes_along job p) ≡ (if b then lanes_from job p.0 p.1 (Some w) else [])
+    go : (b : Bool) → (p.1.from == who.node) ≡ b → filter (by w) (lanes_along job p) ≡ (if b then lanes_from job p.0 p.1 (Some w) else [])
     go true from =
-        let e : p.1.from ≡ post.node = eqb-true p.1.from post.node from in
-        one-piece (by w) (lanes_from job p.0 p.1) (senders job p.1.from) post.place (Some w) (rw e (sends job w post there)) (mine job p.0 p.1 w)
+        let e : p.1.from ≡ who.node = eqb-true p.1.from who.node from in
+        one-piece (by w) (lanes_from job p.0 p.1) (senders job p.1.from) who.place (Some w) (rw e (sends job w who there)) (mine job p.0 p.1 w)
         (λ j sender at ne. others job p.0 p.1 w sender (other j sender (rw (← e) at) ne (is_sender w sender) refl))
     go false from =
-        let e : p.1.from ≢ post.node = eqb-false p.1.from post.node from in
+        let e : p.1.from ≢ who.node = eqb-false p.1.from who.node from in
         no-piece (by w) (lanes_from job p.0 p.1) (senders job p.1.from) (λ j sender at. others job p.0 p.1 w sender (away e j sender at (is_sender w sender) refl))
 
-out_of : (job : Written) (w : ℕ) (post : Post) (edges : List (ℕ × Edge)) → slice_get (posts job) w ≡ Some post
-    → filter (by w) (flat_map (lanes_along job) edges) ≡ flat_map (λ (p : ℕ × Edge). lanes_from job p.0 p.1 (Some w)) (filter (λ (p : ℕ × Edge). p.1.from == post.node) edges)
-out_of job w post [] there = refl
-out_of job w post (p ∷ edges) there =
-    filter-append (by w) (lanes_along job p) (flat_map (lanes_along job) edges) ∙ (rw (along job w post p there) (go (p.1.from == post.node) (out_of job w post edges there)))
+out_of : (job : JobView) (w : ℕ) (who : Worker) (edges : List (ℕ × Edge)) → slice_get (workers_in job) w ≡ Some who
+    → filter (by w) (flat_map (lanes_along job) edges) ≡ flat_map (λ (p : ℕ × Edge). lanes_from job p.0 p.1 (Some w)) (filter (λ (p : ℕ × Edge). p.1.from == who.node) edges)
+out_of job w who [] there = refl
+out_of job w who (p ∷ edges) there =
+    filter-append (by w) (lanes_along job p) (flat_map (lanes_along job) edges) ∙ (rw (along job w who p there) (go (p.1.from == who.node) (out_of job w who edges there)))
   where
-    go : (b : Bool) → filter (by w) (flat_map (lanes_along job) edges) ≡ flat_map (λ (p : ℕ × Edge). lanes_from job p.0 p.1 (Some w)) (filter (λ (p : ℕ × Edge). p.1.from == post.node) edges)
+    go : (b : Bool) → filter (by w) (flat_map (lanes_along job) edges) ≡ flat_map (λ (p : ℕ × Edge). lanes_from job p.0 p.1 (Some w)) (filter (λ (p : ℕ × Edge). p.1.from == who.node) edges)
         → (if b then lanes_from job p.0 p.1 (Some w) else []) ++ filter (by w) (flat_map (lanes_along job) edges)
-        ≡ flat_map (λ (p : ℕ × Edge). lanes_from job p.0 p.1 (Some w)) (if b then p ∷ filter (λ (p : ℕ × Edge). p.1.from == post.node) edges else filter (λ (p : ℕ × Edge). p.1.from == post.node) edges)
+        ≡ flat_map (λ (p : ℕ × Edge). lanes_from job p.0 p.1 (Some w)) (if b then p ∷ filter (λ (p : ℕ × Edge). p.1.from == who.node) edges else filter (λ (p : ℕ × Edge). p.1.from == who.node) edges)
     go true later = ap (λ rest. lanes_from job p.0 p.1 (Some w) ++ rest) later
     go false later = later
 
 -- the lanes out of a worker are its rows along the edges of its node
-pub lanes_out-rows : (job : Written) (w : ℕ) (post : Post) → slice_get (posts job) w ≡ Some post
-    → lanes_out job w ≡ flat_map (λ (p : ℕ × Edge). lanes_from job p.0 p.1 (Some w)) (filter (λ (p : ℕ × Edge). p.1.from == post.node) (enumerate_from 0 job.edges))
-lanes_out-rows job w post there = out_of job w post (enumerate_from 0 job.edges) there
+pub lanes_out-rows : (job : JobView) (w : ℕ) (who : Worker) → slice_get (workers_in job) w ≡ Some who
+    → lanes_out job w ≡ flat_map (λ (p : ℕ × Edge). lanes_from job p.0 p.1 (Some w)) (filter (λ (p : ℕ × Edge). p.1.from == who.node) (enumerate_from 0 job.edges))
+lanes_out-rows job w who there = out_of job w who (enumerate_from 0 job.edges) there

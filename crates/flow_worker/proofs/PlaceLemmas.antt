@@ -2,7 +2,7 @@
 use Rattle.std.proofs.Common.{◌≡◌, ◌∙◌, ◌==◌, ◌&&◌, ◌<◌, ℕ, List, [], ◌∷◌, Bool, true, cond, filter, length, map, refl, sym, ap, subst, arith, Some, slice_get, append-nil}
 use Rattle.std.specs.List.{enumerate_from, flat_map}
 use Rattle.std.proofs.lemmas.Bool.{and_parts, eq-eqb, eqb-true}
-use Rattle.jobs.specs.Written.{Written}
+use Rattle.jobs.specs.JobView.{JobView}
 use Rattle.tuple_trace.specs.declared.tuple.Item.TheVariants.{Mark}
 use Rattle.std.proofs.lemmas.Option.{same_Some, slice_get_within}
 use Rattle.flow_dag.specs.declared.graph.Graph.{Graph}
@@ -11,12 +11,12 @@ use Rattle.flow_model.specs.Dues.{edges_in}
 use Rattle.flow_worker.specs.Pairs.{Each}
 use Rattle.flow_model.specs.Lanes.{is_sender, lanes, lanes_out, lanes_that, marked_lanes}
 use Rattle.flow_model.specs.declared.topology.Lane.{Lane}
-use Rattle.flow_model.specs.Outline.{Outline, Post}
-use Rattle.flow_model.specs.Workers.{post_at, posts}
+use Rattle.flow_model.specs.SetupView.{SetupView, Worker as WorkerOf}
+use Rattle.flow_model.specs.Workers.{nth_worker, workers_in}
 use Rattle.flow_model.specs.Replay.{items_on, marker, put_on_each}
 use Rattle.flow_model.proofs.ElementLemmas.{AreDistinct, IsIn, distinct_filter, distinct_map, filter_in, in_filter, in_of_place, map_in, place_of_in}
 use Rattle.flow_model.proofs.LaneLemmas.{enumerate_distinct, in_enumerate, in_lanes_that, lanes_that_in}
-use Rattle.flow_model.proofs.PostPlaces.{node_below, post_at-get}
+use Rattle.flow_model.proofs.WorkerPlaces.{node_below, nth_worker-get}
 use Rattle.flow_model.proofs.WorkerLemmas.{worker_with}
 use Rattle.flow_model.proofs.OutLanes.{on_passing, out_distinct}
 use Rattle.flow_worker.specs.Endpoints.{LaneInIs, LaneOutIs}
@@ -24,18 +24,18 @@ use Rattle.flow_worker.specs.Worker.{IsEndpointIn, IsEndpointOut, IsPlaced, Work
 use Rattle.flow_worker.proofs.Pairs.{each_at, each_map, each_of, get_map}
 
 -- the numbered lanes that pass a test, with their numbers
-abbrev pub passing : (Lane → Bool) → Written → List (ℕ × Lane)
+abbrev pub passing : (Lane → Bool) → JobView → List (ℕ × Lane)
 passing test job = filter (λ (p : ℕ × Lane). test p.1) (enumerate_from 0 (lanes job))
 
 -- each is the lane with its number, and passes the test
-passes : (test : Lane → Bool) (job : Written) → Each (λ (p : ℕ × Lane). (slice_get (lanes job) p.0 ≡ Some p.1) × (test p.1 ≡ true)) (passing test job)
+passes : (test : Lane → Bool) (job : JobView) → Each (λ (p : ℕ × Lane). (slice_get (lanes job) p.0 ≡ Some p.1) × (test p.1 ≡ true)) (passing test job)
 passes test job = each_of (λ (p : ℕ × Lane). (slice_get (lanes job) p.0 ≡ Some p.1) × (test p.1 ≡ true)) (passing test job) (λ p i.
     let f = in_filter (λ (p : ℕ × Lane). test p.1) p (enumerate_from 0 (lanes job)) i in
     let q = in_enumerate 0 (lanes job) p f.0 in
     (subst (λ n. slice_get (lanes job) n ≡ Some p.1) (let a = q.1 in omega arith) q.2, f.1))
 
 -- the edges of lanes at their places are those of the lanes with their numbers
-edges_among : (setup : Outline) (graph : Graph) (ins : List LaneInIs) (ps : List (ℕ × Lane)) → numbers_in ins ≡ map (λ (p : ℕ × Lane). p.0) ps → Each (IsEndpointIn setup graph) ins
+edges_among : (setup : SetupView) (graph : Graph) (ins : List LaneInIs) (ps : List (ℕ × Lane)) → numbers_in ins ≡ map (λ (p : ℕ × Lane). p.0) ps → Each (IsEndpointIn setup graph) ins
     → Each (λ (p : ℕ × Lane). slice_get (lanes setup.job) p.0 ≡ Some p.1) ps → edges_of ins ≡ map (λ (p : ℕ × Lane). p.1.edge) ps
 edges_among setup graph [] [] n e t = refl
 edges_among setup graph [] (p ∷ ps) n e t = absurd (cc)
@@ -48,7 +48,7 @@ edges_among setup graph (a ∷ more) (p ∷ ps) n e t =
     let here : a.edge ≡ p.1.edge = e.0.edge_is ∙ ap (λ (l : Lane). l.edge) same in
     ap (λ (k : ℕ). k ∷ edges_of more) here ∙ ap (λ (ks : List ℕ). p.1.edge ∷ ks) (edges_among setup graph more ps numbers e.1 t.1)
 
-pub lanes_that_distinct : (test : Lane → Bool) (job : Written) → AreDistinct (lanes_that test job)
+pub lanes_that_distinct : (test : Lane → Bool) (job : JobView) → AreDistinct (lanes_that test job)
 lanes_that_distinct test job =
     distinct_map (λ (p : ℕ × Lane). p.0) (filter (λ (p : ℕ × Lane). test p.1) (enumerate_from 0 (lanes job))) same
     (distinct_filter (λ (p : ℕ × Lane). test p.1) (enumerate_from 0 (lanes job)) (enumerate_distinct (lanes job)))
@@ -64,15 +64,15 @@ lanes_that_distinct test job =
         let f : p.1 ≡ q.1 = cc in
         λ i. (e i, f i)
 
-module _ (setup : Outline) (post : Post) (w : WorkerIs) (k : IsPlaced setup post w) where
-  pub number_is : post.number ≡ w.number
-  number_is = (worker_with setup.job w.number post k.post_is).0
+module _ (setup : SetupView) (who : WorkerOf) (w : WorkerIs) (k : IsPlaced setup who w) where
+  pub number_is : who.number ≡ w.number
+  number_is = (worker_with setup.job w.number who k.who_is).0
 
   pub ins_distinct : AreDistinct (numbers_in w.ins)
   ins_distinct = subst AreDistinct (sym k.ins_are) (lanes_that_distinct (λ (lane : Lane). lane.receiver == w.number) setup.job)
 
   -- a lane in hand leads to the worker
-  pub in_receives : (a : LaneInIs) → IsIn a w.ins → (e : IsEndpointIn setup k.graph a) → e.lane.receiver ≡ post.number
+  pub in_receives : (a : LaneInIs) → IsIn a w.ins → (e : IsEndpointIn setup k.graph a) → e.lane.receiver ≡ who.number
   in_receives a i e =
       let r = in_lanes_that (λ (lane : Lane). lane.receiver == w.number) setup.job a.number (subst (IsIn a.number) k.ins_are (map_in (λ (a : LaneInIs). a.number) a w.ins i)) in
       let x = e.numbered in
@@ -84,19 +84,19 @@ module _ (setup : Outline) (post : Post) (w : WorkerIs) (k : IsPlaced setup post
   in_end a i = each_at (IsEndpointIn setup k.graph) a w.ins k.ends_in i
 
   -- it brings the marker where its edge is covered
-  pub in_marked : (r : ℕ) (a : LaneInIs) → IsIn a w.ins → covers_edge setup r a.edge ≡ true → IsIn a.number (marked_lanes setup post.number r)
+  pub in_marked : (r : ℕ) (a : LaneInIs) → IsIn a w.ins → covers_edge setup r a.edge ≡ true → IsIn a.number (marked_lanes setup who.number r)
   in_marked r a i c =
       let e = in_end a i in
-      let there : (e.lane.receiver == post.number) ≡ true = eq-eqb e.lane.receiver post.number (in_receives a i e) in
+      let there : (e.lane.receiver == who.number) ≡ true = eq-eqb e.lane.receiver who.number (in_receives a i e) in
       let on : covers_edge setup r e.lane.edge ≡ true = subst (λ n. covers_edge setup r n ≡ true) e.edge_is c in
-      lanes_that_in (λ (lane : Lane). (lane.receiver == post.number) && covers_edge setup r lane.edge) setup.job a.number e.lane e.numbered (rw (there, on) refl)
+      lanes_that_in (λ (lane : Lane). (lane.receiver == who.number) && covers_edge setup r lane.edge) setup.job a.number e.lane e.numbered (rw (there, on) refl)
 
   -- and a lane that brings it is in some hand, on a covered edge
-  pub marked_in : (r n : ℕ) → IsIn n (marked_lanes setup post.number r)
+  pub marked_in : (r n : ℕ) → IsIn n (marked_lanes setup who.number r)
       → (place : ℕ) × ((a : LaneInIs) × (slice_get w.ins place ≡ Some a) × (n ≡ a.number) × (covers_edge setup r a.edge ≡ true))
   marked_in r n i =
-      let q = in_lanes_that (λ (lane : Lane). (lane.receiver == post.number) && covers_edge setup r lane.edge) setup.job n i in
-      let parts = and_parts (q.0.receiver == post.number) (covers_edge setup r q.0.edge) q.2 in
+      let q = in_lanes_that (λ (lane : Lane). (lane.receiver == who.number) && covers_edge setup r lane.edge) setup.job n i in
+      let parts = and_parts (q.0.receiver == who.number) (covers_edge setup r q.0.edge) q.2 in
       let there : (q.0.receiver == w.number) ≡ true = subst (λ m. (q.0.receiver == m) ≡ true) number_is parts.0 in
       let among : IsIn n (numbers_in w.ins) = subst (IsIn n) (sym k.ins_are) (lanes_that_in (λ (lane : Lane). lane.receiver == w.number) setup.job n q.0 q.1 there) in
       let place = place_of_in n (numbers_in w.ins) among in
@@ -109,13 +109,13 @@ module _ (setup : Outline) (post : Post) (w : WorkerIs) (k : IsPlaced setup post
       (place.0, (at.0, at.1, at.2, subst (λ m. covers_edge setup r m ≡ true) edge parts.1))
 
   -- a lane out leads from the worker
-  pub out_sends : (o : LaneOutIs) → IsIn o w.outs → (lane : Lane) → slice_get (lanes setup.job) o.number ≡ Some lane → IsIn lane (lanes_out setup.job post.number)
+  pub out_sends : (o : LaneOutIs) → IsIn o w.outs → (lane : Lane) → slice_get (lanes setup.job) o.number ≡ Some lane → IsIn lane (lanes_out setup.job who.number)
   out_sends o i lane g =
       let r = in_lanes_that (λ (lane : Lane). is_sender w.number lane.sender) setup.job o.number (subst (IsIn o.number) k.outs_are (map_in (λ (o : LaneOutIs). o.number) o w.outs i)) in
       let y = r.1 in
       let same : r.0 ≡ lane = cc in
-      let sends : is_sender post.number lane.sender ≡ true = subst (λ (l : Lane). is_sender post.number l.sender ≡ true) same (subst (λ m. is_sender m r.0.sender ≡ true) (sym number_is) r.2) in
-      filter_in (λ (lane : Lane). is_sender post.number lane.sender) lane (lanes setup.job) (in_of_place lane (lanes setup.job) o.number g) sends
+      let sends : is_sender who.number lane.sender ≡ true = subst (λ (l : Lane). is_sender who.number l.sender ≡ true) same (subst (λ m. is_sender m r.0.sender ≡ true) (sym number_is) r.2) in
+      filter_in (λ (lane : Lane). is_sender who.number lane.sender) lane (lanes setup.job) (in_of_place lane (lanes setup.job) o.number g) sends
 
   pub out_lane_edge : (o : LaneOutIs) → IsIn o w.outs → (lane : Lane) → slice_get (lanes setup.job) o.number ≡ Some lane → lane.edge ≡ o.edge
   out_lane_edge o i lane g =
@@ -125,23 +125,23 @@ module _ (setup : Outline) (post : Post) (w : WorkerIs) (k : IsPlaced setup post
       ap (λ (l : Lane). l.edge) (sym same) ∙ sym e.edge_is
 
 -- the edges of the lanes in are those of the setup
-pub placed_edges : (setup : Outline) (post : Post) (w : WorkerIs) → IsPlaced setup post w → edges_of w.ins ≡ edges_in setup.job w.number
-placed_edges setup post w k =
+pub placed_edges : (setup : SetupView) (who : WorkerOf) (w : WorkerIs) → IsPlaced setup who w → edges_of w.ins ≡ edges_in setup.job w.number
+placed_edges setup who w k =
     edges_among setup k.graph w.ins (passing (λ (lane : Lane). lane.receiver == w.number) setup.job) k.ins_are k.ends_in
     (each_map _ _ (passing (λ (lane : Lane). lane.receiver == w.number) setup.job) (λ p h. h.0) (passes (λ (lane : Lane). lane.receiver == w.number) setup.job))
 
 -- and so is its node
-pub placed_node : (setup : Outline) (post : Post) (w : WorkerIs) → IsPlaced setup post w → (post_at setup.job w.number).node ≡ w.node
-placed_node setup post w k = ap (λ (p : Post). p.node) (post_at-get setup.job w.number post k.post_is) ∙ sym k.node_is
+pub placed_node : (setup : SetupView) (who : WorkerOf) (w : WorkerIs) → IsPlaced setup who w → (nth_worker setup.job w.number).node ≡ w.node
+placed_node setup who w k = ap (λ (p : WorkerOf). p.node) (nth_worker-get setup.job w.number who k.who_is) ∙ sym k.node_is
 
-pub placed_within : (setup : Outline) (post : Post) (w : WorkerIs) → IsPlaced setup post w → w.number < length (posts setup.job)
-placed_within setup post w k = slice_get_within (posts setup.job) w.number post k.post_is
+pub placed_within : (setup : SetupView) (who : WorkerOf) (w : WorkerIs) → IsPlaced setup who w → w.number < length (workers_in setup.job)
+placed_within setup who w k = slice_get_within (workers_in setup.job) w.number who k.who_is
 
-pub placed_below : (setup : Outline) (post : Post) (w : WorkerIs) → IsPlaced setup post w → w.node < length setup.job.nodes
-placed_below setup post w k = subst (λ n. n < length setup.job.nodes) (placed_node setup post w k) (node_below setup.job w.number (placed_within setup post w k))
+pub placed_below : (setup : SetupView) (who : WorkerOf) (w : WorkerIs) → IsPlaced setup who w → w.node < length setup.job.nodes
+placed_below setup who w k = subst (λ n. n < length setup.job.nodes) (placed_node setup who w k) (node_below setup.job w.number (placed_within setup who w k))
 
 -- what a turn puts on a lane out
-pub turn_puts : (setup : Outline) (w r cover : ℕ) (lane : Lane) → marker setup r ≡ Mark r cover ∷ [] → IsIn lane (lanes_out setup.job w)
+pub turn_puts : (setup : SetupView) (w r cover : ℕ) (lane : Lane) → marker setup r ≡ Mark r cover ∷ [] → IsIn lane (lanes_out setup.job w)
     → items_on lane (flat_map (λ mark. put_on_each mark (filter (λ (lane : Lane). covers_edge setup r lane.edge) (lanes_out setup.job w))) (marker setup r))
     ≡ cond (covers_edge setup r lane.edge) (Mark r cover ∷ []) []
 turn_puts setup w r cover lane m i =

@@ -11,21 +11,21 @@ use Rattle.sink_journal.specs.declared.journal.Entry.TheVariants.{Met}
 use Rattle.tuple_trace.specs.declared.tuple.Item.{Item}
 use Rattle.tuple_trace.specs.declared.tuple.Item.TheVariants.{Carry}
 use Rattle.tuple_trace.specs.declared.tuple.Tuple.{Tuple}
-use Rattle.flow_model.specs.Begin.{Begin, local_at}
+use Rattle.flow_model.specs.Begin.{Begin, view_at}
 use Rattle.flow_model.specs.Lanes.{lanes, lanes_in}
-use Rattle.flow_model.specs.Law.{IsEnabled, IsInTime, Progress, Station, initial, next_due}
+use Rattle.flow_model.specs.Law.{IsEnabled, IsInTime, Progress, Duties, initial, next_due}
 use Rattle.flow_model.specs.declared.topology.Lane.{Lane}
-use Rattle.flow_model.specs.Outline.{Outline}
+use Rattle.flow_model.specs.SetupView.{SetupView}
 use Rattle.flow_model.specs.Points.{turned}
-use Rattle.flow_model.specs.Replay.{Local, Put, after, items_on, puts, sent, shown}
+use Rattle.flow_model.specs.Replay.{StateView, Put, after, items_on, puts, sent, shown}
 use Rattle.flow_model.specs.Run.{IsLawfulFrom}
-use Rattle.flow_model.specs.Station.{station}
+use Rattle.flow_model.specs.Duties.{duties}
 use Rattle.flow_model.proofs.ElementLemmas.{AreDistinct, IsIn, contains_of_in}
 use Rattle.flow_model.proofs.JournalLemmas.{IsExecution-append, after_all-append, progress_after-append, sent-append, shown-append}
 use Rattle.flow_worker.specs.Pairs.{Each}
 use Rattle.flow_worker.specs.Endpoints.{Gains, LaneInIs, IsSteadyIn, LaneOutIs, in_hand, planned}
-use Rattle.flow_worker.specs.Worker.{IsEndpointIn, IsEndpointOut, IsPlaced, IsWorker, Sends, ShowsTaken, WorkerIs, edges_of, local_now, numbers_in, progress_now}
-use Rattle.flow_worker.specs.Steps.{HasProcessed, items_at, items_if, laid_down, local_of}
+use Rattle.flow_worker.specs.Worker.{IsEndpointIn, IsEndpointOut, IsPlaced, IsWorker, Sends, ShowsTaken, WorkerIs, edges_of, view_now, numbers_in, progress_now}
+use Rattle.flow_worker.specs.Steps.{HasProcessed, items_at, items_if, laid_down, view_of}
 use Rattle.flow_worker.proofs.Pairs.{pairs_each, pairs_keep, pairs_length}
 use Rattle.flow_worker.proofs.Marking.{in_numbers_at, self_test, turned-append}
 use Rattle.flow_worker.proofs.PlaceLemmas.{ins_distinct, number_is}
@@ -49,26 +49,26 @@ each_laid P (suc k) (a ∷ more) f e = (e.0, each_laid P k more f e.1)
 
 -- ---- what the new entry shows on a lane
 
-met_here : (setup : Outline) (n : ℕ) (journal : List Entry) (t : Tuple) → shown setup n (journal ++ Met n t ∷ []) ≡ shown setup n journal ++ Carry t ∷ []
+met_here : (setup : SetupView) (n : ℕ) (journal : List Entry) (t : Tuple) → shown setup n (journal ++ Met n t ∷ []) ≡ shown setup n journal ++ Carry t ∷ []
 met_here setup n journal t = shown-append setup n journal (Met n t ∷ []) ∙ ap (λ xs. shown setup n journal ++ xs) one
   where
     one : shown setup n (Met n t ∷ []) ≡ Carry t ∷ []
     one = rw (self_test n) refl
 
-met_there : (setup : Outline) (n m : ℕ) (journal : List Entry) (t : Tuple) → (m ≡ n → ⊥) → shown setup n (journal ++ Met m t ∷ []) ≡ shown setup n journal
+met_there : (setup : SetupView) (n m : ℕ) (journal : List Entry) (t : Tuple) → (m ≡ n → ⊥) → shown setup n (journal ++ Met m t ∷ []) ≡ shown setup n journal
 met_there setup n m journal t f = shown-append setup n journal (Met m t ∷ []) ∙ (ap (λ xs. shown setup n journal ++ xs) (one (m == n) refl) ∙ append-nil (shown setup n journal))
   where
     one : (b : Bool) → (m == n) ≡ b → cond b (Carry t ∷ []) [] ++ [] ≡ []
     one true e = absurd (f (eqb-true m n e))
     one false e = refl
 
-takes_others : (setup : Outline) (m : ℕ) (journal : List Entry) (t : Tuple) (ins : List LaneInIs) → ¬ IsIn m (numbers_in ins) → Each (ShowsTaken setup journal) ins
+takes_others : (setup : SetupView) (m : ℕ) (journal : List Entry) (t : Tuple) (ins : List LaneInIs) → ¬ IsIn m (numbers_in ins) → Each (ShowsTaken setup journal) ins
     → Each (ShowsTaken setup (journal ++ Met m t ∷ [])) ins
 takes_others setup m journal t [] f e = tt
 takes_others setup m journal t (a ∷ more) f e =
     (rw (met_there setup a.number m journal t (λ q. f (inl q))) e.0, takes_others setup m journal t more (λ i. f (inr i)) e.1)
 
-takes_met : (setup : Outline) (k : ℕ) (a : LaneInIs) (journal : List Entry) (t : Tuple) (ins : List LaneInIs) → AreDistinct (numbers_in ins) → slice_get ins k ≡ Some a → a.hand ≡ Holds (Carry t)
+takes_met : (setup : SetupView) (k : ℕ) (a : LaneInIs) (journal : List Entry) (t : Tuple) (ins : List LaneInIs) → AreDistinct (numbers_in ins) → slice_get ins k ≡ Some a → a.hand ≡ Holds (Carry t)
     → Each (ShowsTaken setup journal) ins → Each (ShowsTaken setup (journal ++ Met a.number t ∷ [])) (laid_down k ins)
 takes_met setup k a journal t [] d g h e = absurd (cc)
 takes_met setup zero a journal t (b ∷ more) d g h e =
@@ -85,20 +85,20 @@ takes_met setup (suc k) a journal t (b ∷ more) d g h e = (
 
 -- ---- the law
 
-module _ (setup : Outline) (begin : Begin) (keeps : KeepsSteady setup) (place : ℕ) (w v : WorkerIs) (h : IsWorker setup begin w) (open_ : w.closed ≡ false)
-    (p : HasProcessed setup h.post place w v)
+module _ (setup : SetupView) (begin : Begin) (keeps : KeepsSteady setup) (place : ℕ) (w v : WorkerIs) (h : IsWorker setup begin w) (open_ : w.closed ≡ false)
+    (p : HasProcessed setup h.who place w v)
   where
-    abbrev local : Local
-    local = local_now setup begin h.post h.begun w.journal
+    abbrev view : StateView
+    view = view_now setup begin h.who h.begun w.journal
 
-    abbrev first : Local
-    first = local_at setup begin.turned h.post h.begun
+    abbrev first : StateView
+    first = view_at setup begin.turned h.who h.begun
 
-    abbrev st : Station
-    st = station setup begin.turned h.post
+    abbrev st : Duties
+    st = duties setup begin.turned h.who
 
     abbrev progress : Progress
-    progress = progress_now setup begin h.post w.journal
+    progress = progress_now setup begin h.who w.journal
 
     abbrev entry : Entry
     entry = Met p.at.number p.tuple
@@ -106,58 +106,58 @@ module _ (setup : Outline) (begin : Begin) (keeps : KeepsSteady setup) (place : 
     abbrev longer : List Entry
     longer = w.journal ++ entry ∷ []
 
-    abbrev local_by : Func → Counts → ℕ → Local
-    local_by func counts last = record { func = func; counts = counts; last = last; ended = 0 }
+    abbrev view_by : Func → Counts → ℕ → StateView
+    view_by func counts last = record { func = func; counts = counts; last = last; ended = 0 }
 
-    func_same : p.func ≡ local.func
-    func_same = same_Some p.func local.func (sym p.func_is ∙ h.func_is)
+    func_same : p.func ≡ view.func
+    func_same = same_Some p.func view.func (sym p.func_is ∙ h.func_is)
 
-    same_puts : puts setup h.post (local_of w p.func) entry ≡ puts setup h.post local entry
+    same_puts : puts setup h.who (view_of w p.func) entry ≡ puts setup h.who view entry
     same_puts =
-        ap (λ f. puts setup h.post (local_by f w.counts w.last) entry) func_same
-        ∙ (ap (λ c. puts setup h.post (local_by local.func c w.last) entry) h.counts_is
-        ∙ ap (λ n. puts setup h.post (local_by local.func local.counts n) entry) h.last_is)
+        ap (λ f. puts setup h.who (view_by f w.counts w.last) entry) func_same
+        ∙ (ap (λ c. puts setup h.who (view_by view.func c w.last) entry) h.counts_is
+        ∙ ap (λ n. puts setup h.who (view_by view.func view.counts n) entry) h.last_is)
 
-    same_counts : (after setup h.post (local_of w p.func) entry).counts ≡ (after setup h.post local entry).counts
+    same_counts : (after setup h.who (view_of w p.func) entry).counts ≡ (after setup h.who view entry).counts
     same_counts =
-        ap (λ f. (after setup h.post (local_by f w.counts w.last) entry).counts) func_same
-        ∙ (ap (λ c. (after setup h.post (local_by local.func c w.last) entry).counts) h.counts_is
-        ∙ ap (λ n. (after setup h.post (local_by local.func local.counts n) entry).counts) h.last_is)
+        ap (λ f. (after setup h.who (view_by f w.counts w.last) entry).counts) func_same
+        ∙ (ap (λ c. (after setup h.who (view_by view.func c w.last) entry).counts) h.counts_is
+        ∙ ap (λ n. (after setup h.who (view_by view.func view.counts n) entry).counts) h.last_is)
 
     abbrev put : List Put
-    put = puts setup h.post (local_of w p.func) entry
+    put = puts setup h.who (view_of w p.func) entry
 
     abbrev gained : LaneOutIs → List Item
     gained out = items_at setup.job put out.number
 
-    longer_sent : (lane : Lane) → sent setup h.post first lane longer ≡ sent setup h.post first lane w.journal ++ items_on lane put
+    longer_sent : (lane : Lane) → sent setup h.who first lane longer ≡ sent setup h.who first lane w.journal ++ items_on lane put
     longer_sent lane =
-        sent-append setup h.post first lane w.journal (entry ∷ [])
-        ∙ ap (λ xs. sent setup h.post first lane w.journal ++ xs) (append-nil (items_on lane (puts setup h.post local entry)) ∙ ap (items_on lane) (sym same_puts))
+        sent-append setup h.who first lane w.journal (entry ∷ [])
+        ∙ ap (λ xs. sent setup h.who first lane w.journal ++ xs) (append-nil (items_on lane (puts setup h.who view entry)) ∙ ap (items_on lane) (sym same_puts))
 
-    sends_more : (a b : LaneOutIs) → Gains gained a b → Sends setup begin h.post h.begun w.journal a → Sends setup begin h.post h.begun longer b
+    sends_more : (a b : LaneOutIs) → Gains gained a b → Sends setup begin h.who h.begun w.journal a → Sends setup begin h.who h.begun longer b
     sends_more a b e q lane g =
         let here : slice_get (lanes setup.job) a.number ≡ Some lane = subst (λ (o : LaneOutIs). slice_get (lanes setup.job) o.number ≡ Some lane) e g in
         ap planned e
         ∙ (sym (append_assoc a.sent a.waiting (gained a))
         ∙ (ap (λ xs. xs ++ gained a) (q lane here)
-        ∙ (ap (λ (o : Option Lane). sent setup h.post first lane w.journal ++ items_if o put) here ∙ sym (longer_sent lane))))
+        ∙ (ap (λ (o : Option Lane). sent setup h.who first lane w.journal ++ items_if o put) here ∙ sym (longer_sent lane))))
 
     pub keeps_process : IsInTime st p.tuple (next_due progress.dues) → IsWorker setup begin v
     keeps_process in_time =
         let k = h.placed in
-        let distinct : AreDistinct (numbers_in w.ins) = ins_distinct setup h.post w k in
+        let distinct : AreDistinct (numbers_in w.ins) = ins_distinct setup h.who w k in
         let among : Contains st.lanes p.at.number =
-        contains_of_in p.at.number (lanes_in setup.job h.post.number)
-        (subst (λ n. IsIn p.at.number (lanes_in setup.job n)) (sym (number_is setup h.post w k)) (subst (IsIn p.at.number) k.ins_are (in_numbers_at place p.at w.ins p.here))) in
+        contains_of_in p.at.number (lanes_in setup.job h.who.number)
+        (subst (λ n. IsIn p.at.number (lanes_in setup.job n)) (sym (number_is setup h.who w k)) (subst (IsIn p.at.number) k.ins_are (in_numbers_at place p.at w.ins p.here))) in
         let enabled : IsEnabled st progress entry = (among, h.lawful.no_open_turn, h.unended open_, in_time) in
-        let stands : progress_now setup begin h.post longer ≡ progress = progress_after-append (initial st) w.journal (entry ∷ []) in
-        let lawful : IsLawfulFrom setup begin h.post v.journal = rw p.journal (record {
+        let stands : progress_now setup begin h.who longer ≡ progress = progress_after-append (initial st) w.journal (entry ∷ []) in
+        let lawful : IsLawfulFrom setup begin h.who v.journal = rw p.journal (record {
           execution = (IsExecution-append st (initial st) w.journal (entry ∷ [])).1 (h.lawful.execution, (enabled, tt));
           no_open_turn = ap (λ (q : Progress). q.marked) stands ∙ h.lawful.no_open_turn;
         }) in
-        let now : Local = local_now setup begin h.post h.begun v.journal in
-        let now_is : now ≡ after setup h.post local entry = rw p.journal (after_all-append setup h.post first w.journal (entry ∷ [])) in
+        let now : StateView = view_now setup begin h.who h.begun v.journal in
+        let now_is : now ≡ after setup h.who view entry = rw p.journal (after_all-append setup h.who first w.journal (entry ∷ [])) in
         let numbers : numbers_in v.ins ≡ numbers_in w.ins = rw p.ins (mapped_laid (λ (a : LaneInIs). a.number) place w.ins (λ a. refl)) in
         let edges : edges_of v.ins ≡ edges_of w.ins = rw p.ins (mapped_laid (λ (a : LaneInIs). a.edge) place w.ins (λ a. refl)) in
         let ends : Each (IsEndpointIn setup k.graph) v.ins = rw p.ins (each_laid (IsEndpointIn setup k.graph) place w.ins (end_emptied setup k.graph) k.ends_in) in
@@ -165,10 +165,10 @@ module _ (setup : Outline) (begin : Begin) (keeps : KeepsSteady setup) (place : 
         let steady : Each IsSteadyIn v.ins = rw p.ins (each_laid IsSteadyIn place w.ins (λ a q. q) h.steady_in) in
         let long : length v.ins ≡ length w.ins = rw p.ins (length_laid place w.ins) in
         let outs_long : length v.outs ≡ length w.outs = pairs_length (Gains gained) w.outs v.outs p.outs in
-        let sends : Each (Sends setup begin h.post h.begun v.journal) v.outs = rw p.journal
-        (pairs_each (Gains gained) (Sends setup begin h.post h.begun w.journal) (Sends setup begin h.post h.begun longer) w.outs v.outs sends_more p.outs h.sends) in
-        let placed : IsPlaced setup h.post v = subst (IsPlaced setup h.post) (sym p.rest) (record {
-          post_is = k.post_is;
+        let sends : Each (Sends setup begin h.who h.begun v.journal) v.outs = rw p.journal
+        (pairs_each (Gains gained) (Sends setup begin h.who h.begun w.journal) (Sends setup begin h.who h.begun longer) w.outs v.outs sends_more p.outs h.sends) in
+        let placed : IsPlaced setup h.who v = subst (IsPlaced setup h.who) (sym p.rest) (record {
+          who_is = k.who_is;
           node_is = k.node_is;
           place_is = k.place_is;
           graph = k.graph;
@@ -188,18 +188,18 @@ module _ (setup : Outline) (begin : Begin) (keeps : KeepsSteady setup) (place : 
         let closed : v.closed ≡ false = ap (λ (x : WorkerIs). x.closed) p.rest ∙ open_ in
         let turns : length (turned longer) ≡ length (turned w.journal) = ap length (turned-append w.journal (entry ∷ []) ∙ append-nil (turned w.journal)) in
         record {
-          post = h.post;
+          who = h.who;
           placed = placed;
           begun = h.begun;
           begun_is = rw (ap (λ (x : WorkerIs). x.number) p.rest) h.begun_is;
           lawful = lawful;
-          func_is = rw (same_node, ap (λ (x : WorkerIs). x.in_force) p.rest) (h.func_is ∙ ap Some (sym (ap (λ (l : Local). l.func) now_is)));
-          counts_is = p.counts ∙ (same_counts ∙ sym (ap (λ (l : Local). l.counts) now_is));
-          last_is = rw (ap (λ (x : WorkerIs). x.last) p.rest) (h.last_is ∙ sym (ap (λ (l : Local). l.last) now_is));
+          func_is = rw (same_node, ap (λ (x : WorkerIs). x.in_force) p.rest) (h.func_is ∙ ap Some (sym (ap (λ (l : StateView). l.func) now_is)));
+          counts_is = p.counts ∙ (same_counts ∙ sym (ap (λ (l : StateView). l.counts) now_is));
+          last_is = rw (ap (λ (x : WorkerIs). x.last) p.rest) (h.last_is ∙ sym (ap (λ (l : StateView). l.last) now_is));
           takes = takes;
           steady_in = steady;
           sends = sends;
-          steady_out = steady_by setup begin h.post h.begun v keeps placed lawful takes steady sends;
+          steady_out = steady_by setup begin h.who h.begun v keeps placed lawful takes steady sends;
           turned_is = rw p.journal (same_turned ∙ (h.turned_is ∙ sym turns));
           dues_are = rw (p.journal, same_node, same_due, ap (λ (q : Progress). q.dues) stands) h.dues_are;
           due_is = rw (same_node, same_due, edges) h.due_is;

@@ -9,13 +9,13 @@ use Rattle.lane_core.specs.declared.form.Origin.{Origin}
 use Rattle.lane_core.proofs.SteadyLemmas.{IsSteady-front}
 use Rattle.sink_journal.specs.declared.journal.Entry.{Entry}
 use Rattle.flow_model.specs.Agreement.{Agreement, HasSteadyLanes, IsGraphOf, SendsSteadily, WorksSteadily}
-use Rattle.flow_model.specs.Begin.{Begin, local_at}
+use Rattle.flow_model.specs.Begin.{Begin, view_at}
 use Rattle.flow_model.specs.Lanes.{lanes, lanes_in}
 use Rattle.flow_model.specs.declared.topology.Lane.{Lane}
-use Rattle.flow_model.specs.Outline.{Outline, Post}
+use Rattle.flow_model.specs.SetupView.{SetupView, Worker as WorkerOf}
 use Rattle.flow_model.specs.Replay.{sent, shown}
 use Rattle.flow_model.specs.Run.{IsLawfulFrom}
-use Rattle.flow_model.specs.Workers.{posts}
+use Rattle.flow_model.specs.Workers.{workers_in}
 use Rattle.flow_model.proofs.ElementLemmas.{IsIn, in_map}
 use Rattle.flow_model.proofs.LaneLemmas.{lanes_that_in}
 use Rattle.flow_model.proofs.WorkerLemmas.{worker_with}
@@ -25,21 +25,21 @@ use Rattle.flow_worker.specs.Worker.{IsEndpointIn, IsEndpointOut, IsPlaced, IsWo
 use Rattle.flow_worker.proofs.Pairs.{each_at, each_of}
 
 -- the two sentences of the law of one worker
-abbrev pub KeepsAgreement : Outline → Type 0
+abbrev pub KeepsAgreement : SetupView → Type 0
 KeepsAgreement setup =
-    (graph : Graph) (begin : Begin) (post : Post) (journal : List Entry) → IsGraphOf setup.job graph → WorksSteadily setup graph begin post journal → Agreement setup journal
+    (graph : Graph) (begin : Begin) (who : WorkerOf) (journal : List Entry) → IsGraphOf setup.job graph → WorksSteadily setup graph begin who journal → Agreement setup journal
 
-abbrev pub KeepsSteady : Outline → Type 0
+abbrev pub KeepsSteady : SetupView → Type 0
 KeepsSteady setup =
-    (graph : Graph) (begin : Begin) (post : Post) (counts : Counts) (journal : List Entry) → IsGraphOf setup.job graph → WorksSteadily setup graph begin post journal
-    → SendsSteadily setup graph begin post counts journal
+    (graph : Graph) (begin : Begin) (who : WorkerOf) (counts : Counts) (journal : List Entry) → IsGraphOf setup.job graph → WorksSteadily setup graph begin who journal
+    → SendsSteadily setup graph begin who counts journal
 
 -- what the lanes in have shown is steady
-shows_steady : (setup : Outline) (post : Post) (graph : Graph) (journal : List Entry) (ins : List LaneInIs) → numbers_in ins ≡ lanes_in setup.job post.number → Each (IsEndpointIn setup graph) ins
-    → Each (ShowsTaken setup journal) ins → Each IsSteadyIn ins → HasSteadyLanes setup graph post journal
-shows_steady setup post graph journal ins are ends takes steady n lane edge g r e =
-    let t : (lane.receiver == post.number) ≡ true = eq-eqb lane.receiver post.number r in
-    let i : IsIn n (numbers_in ins) = subst (IsIn n) (sym are) (lanes_that_in (λ (l : Lane). l.receiver == post.number) setup.job n lane g t) in
+shows_steady : (setup : SetupView) (who : WorkerOf) (graph : Graph) (journal : List Entry) (ins : List LaneInIs) → numbers_in ins ≡ lanes_in setup.job who.number → Each (IsEndpointIn setup graph) ins
+    → Each (ShowsTaken setup journal) ins → Each IsSteadyIn ins → HasSteadyLanes setup graph who journal
+shows_steady setup who graph journal ins are ends takes steady n lane edge g r e =
+    let t : (lane.receiver == who.number) ≡ true = eq-eqb lane.receiver who.number r in
+    let i : IsIn n (numbers_in ins) = subst (IsIn n) (sym are) (lanes_that_in (λ (l : Lane). l.receiver == who.number) setup.job n lane g t) in
     let a = in_map (λ (a : LaneInIs). a.number) n ins i in
     go a.0 a.2 (each_at (IsEndpointIn setup graph) a.0 ins ends a.1) (each_at (ShowsTaken setup journal) a.0 ins takes a.1) (each_at IsSteadyIn a.0 ins steady a.1)
   where
@@ -54,29 +54,29 @@ shows_steady setup post graph journal ins are ends takes steady n lane edge g r 
         let parts : IsSteady (record { graph = graph; from = edge.from }) (shown setup a.number journal ++ in_hand a.hand) = subst (IsSteady (record { graph = graph; from = edge.from })) t taken in
         rw q (IsSteady-front (record { graph = graph; from = edge.from }) (shown setup a.number journal) (in_hand a.hand) parts)
 
-pub works_steadily : (setup : Outline) (begin : Begin) (post : Post) (w : WorkerIs) → (k : IsPlaced setup post w) → IsLawfulFrom setup begin post w.journal
-    → Each (ShowsTaken setup w.journal) w.ins → Each IsSteadyIn w.ins → WorksSteadily setup k.graph begin post w.journal
-works_steadily setup begin post w k lawful takes steady =
-    let number : post.number ≡ w.number = (worker_with setup.job w.number post k.post_is).0 in
+pub works_steadily : (setup : SetupView) (begin : Begin) (who : WorkerOf) (w : WorkerIs) → (k : IsPlaced setup who w) → IsLawfulFrom setup begin who w.journal
+    → Each (ShowsTaken setup w.journal) w.ins → Each IsSteadyIn w.ins → WorksSteadily setup k.graph begin who w.journal
+works_steadily setup begin who w k lawful takes steady =
+    let number : who.number ≡ w.number = (worker_with setup.job w.number who k.who_is).0 in
     record {
-      works = subst (λ n. slice_get (posts setup.job) n ≡ Some post) (sym number) k.post_is;
+      works = subst (λ n. slice_get (workers_in setup.job) n ≡ Some who) (sym number) k.who_is;
       lawful = lawful;
-      steady = shows_steady setup post k.graph w.journal w.ins (k.ins_are ∙ ap (lanes_in setup.job) (sym number)) k.ends_in takes steady;
+      steady = shows_steady setup who k.graph w.journal w.ins (k.ins_are ∙ ap (lanes_in setup.job) (sym number)) k.ends_in takes steady;
     }
 
 -- so what was and will be sent is steady
-pub steady_by : (setup : Outline) (begin : Begin) (post : Post) (begun : Counts) (w : WorkerIs) → KeepsSteady setup → IsPlaced setup post w → IsLawfulFrom setup begin post w.journal
-    → Each (ShowsTaken setup w.journal) w.ins → Each IsSteadyIn w.ins → Each (Sends setup begin post begun w.journal) w.outs → Each IsSteadyOut w.outs
-steady_by setup begin post begun w keeps k lawful takes steady sends =
-    each_of IsSteadyOut w.outs (λ o i. one o (each_at (IsEndpointOut setup k.graph w.node) o w.outs k.ends_out i) (each_at (Sends setup begin post begun w.journal) o w.outs sends i))
+pub steady_by : (setup : SetupView) (begin : Begin) (who : WorkerOf) (begun : Counts) (w : WorkerIs) → KeepsSteady setup → IsPlaced setup who w → IsLawfulFrom setup begin who w.journal
+    → Each (ShowsTaken setup w.journal) w.ins → Each IsSteadyIn w.ins → Each (Sends setup begin who begun w.journal) w.outs → Each IsSteadyOut w.outs
+steady_by setup begin who begun w keeps k lawful takes steady sends =
+    each_of IsSteadyOut w.outs (λ o i. one o (each_at (IsEndpointOut setup k.graph w.node) o w.outs k.ends_out i) (each_at (Sends setup begin who begun w.journal) o w.outs sends i))
   where
-    one : (o : LaneOutIs) → IsEndpointOut setup k.graph w.node o → Sends setup begin post begun w.journal o → IsSteadyOut o
+    one : (o : LaneOutIs) → IsEndpointOut setup k.graph w.node o → Sends setup begin who begun w.journal o → IsSteadyOut o
     one o end s =
-        let all : IsSteady (record { graph = k.graph; from = post.node }) (sent setup post (local_at setup begin.turned post begun) end.lane w.journal) =
-        keeps k.graph begin post begun w.journal k.graph_is (works_steadily setup begin post w k lawful takes steady) end.lane in
-        let mine : IsSteady (record { graph = k.graph; from = post.node }) (planned o) = subst (IsSteady (record { graph = k.graph; from = post.node })) (sym (s end.lane end.numbered)) all in
-        let from : record { graph = k.graph; from = post.node } ≡ o.origin = sym (end.origin_is ∙ ap (λ n. record { graph = k.graph; from = n }) k.node_is) in
+        let all : IsSteady (record { graph = k.graph; from = who.node }) (sent setup who (view_at setup begin.turned who begun) end.lane w.journal) =
+        keeps k.graph begin who begun w.journal k.graph_is (works_steadily setup begin who w k lawful takes steady) end.lane in
+        let mine : IsSteady (record { graph = k.graph; from = who.node }) (planned o) = subst (IsSteady (record { graph = k.graph; from = who.node })) (sym (s end.lane end.numbered)) all in
+        let from : record { graph = k.graph; from = who.node } ≡ o.origin = sym (end.origin_is ∙ ap (λ n. record { graph = k.graph; from = n }) k.node_is) in
         subst (λ (g : Origin). IsSteady g (planned o)) from mine
 
-pub worker_agreement : (setup : Outline) (begin : Begin) (w : WorkerIs) → KeepsAgreement setup → IsWorker setup begin w → Agreement setup w.journal
-worker_agreement setup begin w keeps h = keeps h.placed.graph begin h.post w.journal h.placed.graph_is (works_steadily setup begin h.post w h.placed h.lawful h.takes h.steady_in)
+pub worker_agreement : (setup : SetupView) (begin : Begin) (w : WorkerIs) → KeepsAgreement setup → IsWorker setup begin w → Agreement setup w.journal
+worker_agreement setup begin w keeps h = keeps h.placed.graph begin h.who w.journal h.placed.graph_is (works_steadily setup begin h.who w h.placed h.lawful h.takes h.steady_in)

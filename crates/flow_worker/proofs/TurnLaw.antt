@@ -10,27 +10,27 @@ use Rattle.sink_journal.specs.declared.journal.Entry.TheVariants.{Turned}
 use Rattle.tuple_trace.specs.declared.tuple.Item.{Item}
 use Rattle.tuple_trace.specs.declared.tuple.Item.TheVariants.{Mark}
 use Rattle.versions.specs.declared.request.Change.{Change}
-use Rattle.flow_model.specs.Begin.{Begin, local_at}
+use Rattle.flow_model.specs.Begin.{Begin, view_at}
 use Rattle.flow_model.specs.Covers.{covers_edge}
 use Rattle.flow_model.specs.Lanes.{lanes, lanes_out, marked_lanes}
-use Rattle.flow_model.specs.Law.{IsEnabled, IsExecution, Progress, Station, initial, later_dues, next_due, progress_after}
+use Rattle.flow_model.specs.Law.{IsEnabled, IsExecution, Progress, Duties, initial, later_dues, next_due, progress_after}
 use Rattle.flow_model.specs.declared.topology.Lane.{Lane}
-use Rattle.flow_model.specs.Outline.{Outline, Post}
+use Rattle.flow_model.specs.SetupView.{SetupView, Worker as WorkerOf}
 use Rattle.flow_model.specs.Points.{turned}
-use Rattle.flow_model.specs.Replay.{Local, after, after_all, items_on, puts, sent, shown, with_change}
+use Rattle.flow_model.specs.Replay.{StateView, after, after_all, items_on, puts, sent, shown, with_change}
 use Rattle.flow_model.specs.Requests.{change_of, func_with}
 use Rattle.flow_model.specs.Run.{IsLawfulFrom}
-use Rattle.flow_model.specs.Station.{dues_after, station}
+use Rattle.flow_model.specs.Duties.{dues_after, duties}
 use Rattle.flow_model.proofs.ElementLemmas.{AreDistinct, IsIn, all_of_at, contains_of_in, in_of_place}
 use Rattle.flow_model.proofs.JournalLemmas.{IsExecution-append, after_all-append, progress_after-append, sent-append, shown-append}
 use Rattle.flow_worker.specs.Pairs.{Each}
 use Rattle.flow_worker.specs.Endpoints.{Gains, LaneInIs, IsSteadyIn, IsSteadyOut, LaneOutIs, planned}
 use Rattle.flow_model.specs.Dues.{AreDues, IsDueOf}
 use Rattle.flow_model.specs.InForce.{counts_with, func_in}
-use Rattle.flow_worker.specs.Worker.{IsEndpointIn, IsEndpointOut, IsPlaced, IsWorker, Sends, ShowsTaken, WorkerIs, edges_of, local_now, numbers_in, progress_now}
+use Rattle.flow_worker.specs.Worker.{IsEndpointIn, IsEndpointOut, IsPlaced, IsWorker, Sends, ShowsTaken, WorkerIs, edges_of, view_now, numbers_in, progress_now}
 use Rattle.flow_worker.specs.Steps.{HasTurned, emptied, marked_entries, marker_on}
 use Rattle.flow_worker.proofs.Pairs.{each_both, each_of, get_mapped, pairs_each, pairs_keep, pairs_length}
-use Rattle.flow_worker.proofs.Marking.{AreMarked, HoldMarker, at_onto, local_marks, marks_follow, marks_onto, progress_marks, sent_marks, show_marker, shown_marks, takes_marked, turned-append, turned_marks}
+use Rattle.flow_worker.proofs.Marking.{AreMarked, HoldMarker, at_onto, view_marks, marks_follow, marks_onto, progress_marks, sent_marks, show_marker, shown_marks, takes_marked, turned-append, turned_marks}
 use Rattle.flow_worker.proofs.PlaceLemmas.{in_marked, ins_distinct, marked_in, number_is, out_lane_edge, out_sends, placed_edges, turn_puts}
 use Rattle.flow_worker.proofs.Steadying.{KeepsSteady, steady_by}
 
@@ -56,14 +56,14 @@ pub length_emptied : (mask i : ℕ) (ins : List LaneInIs) → length (emptied ma
 length_emptied mask i [] = refl
 length_emptied mask i (a ∷ more) = ap suc (length_emptied mask (i + 1) more)
 
-pub end_emptied : (setup : Outline) (graph : Graph) (a : LaneInIs) → IsEndpointIn setup graph a → IsEndpointIn setup graph (record a { hand = Empty })
+pub end_emptied : (setup : SetupView) (graph : Graph) (a : LaneInIs) → IsEndpointIn setup graph a → IsEndpointIn setup graph (record a { hand = Empty })
 end_emptied setup graph a e = record { lane = e.lane; edge = e.edge; numbered = e.numbered; edge_is = e.edge_is; edge_there = e.edge_there; origin_is = e.origin_is }
 
-pub end_gains : (setup : Outline) (graph : Graph) (node : ℕ) (items : LaneOutIs → List Item) (a b : LaneOutIs) → Gains items a b → IsEndpointOut setup graph node a → IsEndpointOut setup graph node b
+pub end_gains : (setup : SetupView) (graph : Graph) (node : ℕ) (items : LaneOutIs → List Item) (a b : LaneOutIs) → Gains items a b → IsEndpointOut setup graph node a → IsEndpointOut setup graph node b
 end_gains setup graph node items a b g e =
     subst (IsEndpointOut setup graph node) (sym g) (record { lane = e.lane; numbered = e.numbered; edge_is = e.edge_is; origin_is = e.origin_is })
 
-are_marked : (st : Station) (r mask i : ℕ) (ins : List LaneInIs) → ((k : ℕ) (a : LaneInIs) → slice_get ins k ≡ Some a → has mask (i + k) ≡ true → IsIn a.number (st.marked_lanes r)) → AreMarked st r mask i ins
+are_marked : (st : Duties) (r mask i : ℕ) (ins : List LaneInIs) → ((k : ℕ) (a : LaneInIs) → slice_get ins k ≡ Some a → has mask (i + k) ≡ true → IsIn a.number (st.marked_lanes r)) → AreMarked st r mask i ins
 are_marked st r mask i [] f = tt
 are_marked st r mask i (a ∷ more) f = (
   (λ h. f 0 a refl (subst (λ n. has mask n ≡ true) (omega arith) h)),
@@ -78,14 +78,14 @@ to_zero mask k h = subst (λ n. has mask n ≡ true) (omega arith) h
 
 -- ---- the journal with its markers, and then the turn
 
-module _ (setup : Outline) (begin : Begin) (keeps : KeepsSteady setup) (due : Due) (w : WorkerIs) (h : IsWorker setup begin w) (open_ : w.closed ≡ false)
+module _ (setup : SetupView) (begin : Begin) (keeps : KeepsSteady setup) (due : Due) (w : WorkerIs) (h : IsWorker setup begin w) (open_ : w.closed ≡ false)
     (due_is : w.due ≡ Some due) (held : HoldMarker due.lanes due.request due.cover 0 w.ins)
   where
-    abbrev post : Post
-    post = h.post
+    abbrev who : WorkerOf
+    who = h.who
 
-    abbrev st : Station
-    st = station setup begin.turned h.post
+    abbrev st : Duties
+    st = duties setup begin.turned h.who
 
     abbrev marks : List Entry
     marks = marked_entries due.lanes due.request 0 w.ins
@@ -94,10 +94,10 @@ module _ (setup : Outline) (begin : Begin) (keeps : KeepsSteady setup) (due : Du
     turned_journal = (w.journal ++ marks) ++ Turned due.request ∷ []
 
     abbrev progress : Progress
-    progress = progress_now setup begin h.post w.journal
+    progress = progress_now setup begin h.who w.journal
 
-    abbrev local : Local
-    local = local_now setup begin h.post h.begun w.journal
+    abbrev view : StateView
+    view = view_now setup begin h.who h.begun w.journal
 
     is : IsDueOf setup w.node (edges_of w.ins) due
     is = subst (λ (o : Option Due). IfSome o (IsDueOf setup w.node (edges_of w.ins))) due_is h.due_is
@@ -108,16 +108,16 @@ module _ (setup : Outline) (begin : Begin) (keeps : KeepsSteady setup) (due : Du
     is_next : next_due progress.dues ≡ Some due.request
     is_next = ap next_due dues
 
-    number : post.number ≡ w.number
-    number = number_is setup h.post w h.placed
+    number : who.number ≡ w.number
+    number = number_is setup h.who w h.placed
 
     distinct : AreDistinct (numbers_in w.ins)
-    distinct = ins_distinct setup h.post w h.placed
+    distinct = ins_distinct setup h.who w h.placed
 
     -- the mask has the places of the lanes that bring the marker
-    mask_marks : (k : ℕ) (a : LaneInIs) → slice_get w.ins k ≡ Some a → has due.lanes (0 + k) ≡ true → IsIn a.number (marked_lanes setup post.number due.request)
+    mask_marks : (k : ℕ) (a : LaneInIs) → slice_get w.ins k ≡ Some a → has due.lanes (0 + k) ≡ true → IsIn a.number (marked_lanes setup who.number due.request)
     mask_marks k a g b =
-        in_marked setup h.post w h.placed due.request a (in_of_place a w.ins k g)
+        in_marked setup h.who w h.placed due.request a (in_of_place a w.ins k g)
         (sym (is.lanes k a.edge (get_mapped (λ (a : LaneInIs). a.edge) w.ins k a g)) ∙ from_zero due.lanes k b)
 
     marks_lawful : IsExecution st progress marks
@@ -128,9 +128,9 @@ module _ (setup : Outline) (begin : Begin) (keeps : KeepsSteady setup) (due : Du
     abbrev onto : List ℕ
     onto = marks_onto due.lanes 0 w.ins progress.marked
 
-    covered : (n : ℕ) → IsIn n (marked_lanes setup post.number due.request) → IsIn n onto
+    covered : (n : ℕ) → IsIn n (marked_lanes setup who.number due.request) → IsIn n onto
     covered n i =
-        let m = marked_in setup h.post w h.placed due.request n i in
+        let m = marked_in setup h.who w h.placed due.request n i in
         let a : LaneInIs = m.1.0 in
         let there : has due.lanes m.0 ≡ true = is.lanes m.0 a.edge (get_mapped (λ (a : LaneInIs). a.edge) w.ins m.0 a m.1.1) ∙ m.1.3 in
         rw m.1.2 (at_onto due.lanes 0 m.0 a w.ins progress.marked m.1.1 (to_zero due.lanes m.0 there))
@@ -138,14 +138,14 @@ module _ (setup : Outline) (begin : Begin) (keeps : KeepsSteady setup) (due : Du
     turn_enabled : IsEnabled st (progress_after progress marks) (Turned due.request)
     turn_enabled =
         subst (λ (p : Progress). IsEnabled st p (Turned due.request)) (sym (progress_marks due.lanes due.request 0 progress w.ins))
-        (is_next, all_of_at (Contains onto) (marked_lanes setup post.number due.request) (λ n i. contains_of_in n onto (covered n i)), h.unended open_)
+        (is_next, all_of_at (Contains onto) (marked_lanes setup who.number due.request) (λ n i. contains_of_in n onto (covered n i)), h.unended open_)
 
-    all_progress : progress_now setup begin h.post turned_journal ≡ record progress { dues = later_dues progress.dues; marked = [] }
+    all_progress : progress_now setup begin h.who turned_journal ≡ record progress { dues = later_dues progress.dues; marked = [] }
     all_progress =
         progress_after-append (initial st) (w.journal ++ marks) (Turned due.request ∷ [])
         ∙ (ap (λ (p : Progress). record p { dues = later_dues p.dues; marked = [] }) (progress_after-append (initial st) w.journal marks ∙ progress_marks due.lanes due.request 0 progress w.ins))
 
-    turned_lawful : IsLawfulFrom setup begin h.post turned_journal
+    turned_lawful : IsLawfulFrom setup begin h.who turned_journal
     turned_lawful = record {
       execution = (IsExecution-append st (initial st) (w.journal ++ marks) (Turned due.request ∷ [])).1 (
         (IsExecution-append st (initial st) w.journal marks).1 (h.lawful.execution, marks_lawful),
@@ -154,11 +154,11 @@ module _ (setup : Outline) (begin : Begin) (keeps : KeepsSteady setup) (due : Du
       no_open_turn = ap (λ (p : Progress). p.marked) all_progress;
     }
 
-    turned_local : local_now setup begin h.post h.begun turned_journal ≡ after setup h.post local (Turned due.request)
-    turned_local =
-        after_all-append setup h.post (local_at setup begin.turned h.post h.begun) (w.journal ++ marks) (Turned due.request ∷ [])
-        ∙ ap (λ (l : Local). after setup h.post l (Turned due.request))
-        (after_all-append setup h.post (local_at setup begin.turned h.post h.begun) w.journal marks ∙ local_marks setup h.post due.lanes due.request 0 local w.ins)
+    turned_view : view_now setup begin h.who h.begun turned_journal ≡ after setup h.who view (Turned due.request)
+    turned_view =
+        after_all-append setup h.who (view_at setup begin.turned h.who h.begun) (w.journal ++ marks) (Turned due.request ∷ [])
+        ∙ ap (λ (l : StateView). after setup h.who l (Turned due.request))
+        (after_all-append setup h.who (view_at setup begin.turned h.who h.begun) w.journal marks ∙ view_marks setup h.who due.lanes due.request 0 view w.ins)
 
     shown_split : (n : ℕ) → shown setup n turned_journal ≡ shown setup n w.journal ++ shown setup n marks
     shown_split n = shown-append setup n (w.journal ++ marks) (Turned due.request ∷ []) ∙ (append-nil (shown setup n (w.journal ++ marks)) ∙ shown-append setup n w.journal marks)
@@ -167,18 +167,18 @@ module _ (setup : Outline) (begin : Begin) (keeps : KeepsSteady setup) (due : Du
     turned_takes = takes_marked setup due.lanes due.request due.cover 0 w.journal turned_journal marks w.ins is.marker_is shown_split
         (show_marker setup due.lanes due.request 0 marks w.ins (λ k a q. shown_marks setup due.lanes due.request 0 k a w.ins distinct q)) held h.takes
 
-    turned_sent : (lane : Lane) → IsIn lane (lanes_out setup.job post.number)
-        → sent setup h.post (local_at setup begin.turned h.post h.begun) lane turned_journal
-        ≡ sent setup h.post (local_at setup begin.turned h.post h.begun) lane w.journal ++ cond (covers_edge setup due.request lane.edge) (Mark due.request due.cover ∷ []) []
+    turned_sent : (lane : Lane) → IsIn lane (lanes_out setup.job who.number)
+        → sent setup h.who (view_at setup begin.turned h.who h.begun) lane turned_journal
+        ≡ sent setup h.who (view_at setup begin.turned h.who h.begun) lane w.journal ++ cond (covers_edge setup due.request lane.edge) (Mark due.request due.cover ∷ []) []
     turned_sent lane i =
-        let first : Local = local_at setup begin.turned h.post h.begun in
-        sent-append setup h.post first lane (w.journal ++ marks) (Turned due.request ∷ [])
-        ∙ (ap (λ xs. xs ++ (items_on lane (puts setup h.post (after_all setup h.post first (w.journal ++ marks)) (Turned due.request)) ++ []))
-        (sent-append setup h.post first lane w.journal marks
-        ∙ (ap (λ xs. sent setup h.post first lane w.journal ++ xs) (sent_marks setup h.post due.lanes due.request 0 lane local w.ins) ∙ append-nil (sent setup h.post first lane w.journal)))
-        ∙ ap (λ xs. sent setup h.post first lane w.journal ++ xs)
-        (append-nil (items_on lane (puts setup h.post (after_all setup h.post first (w.journal ++ marks)) (Turned due.request)))
-        ∙ turn_puts setup post.number due.request due.cover lane is.marker_is i))
+        let first : StateView = view_at setup begin.turned h.who h.begun in
+        sent-append setup h.who first lane (w.journal ++ marks) (Turned due.request ∷ [])
+        ∙ (ap (λ xs. xs ++ (items_on lane (puts setup h.who (after_all setup h.who first (w.journal ++ marks)) (Turned due.request)) ++ []))
+        (sent-append setup h.who first lane w.journal marks
+        ∙ (ap (λ xs. sent setup h.who first lane w.journal ++ xs) (sent_marks setup h.who due.lanes due.request 0 lane view w.ins) ∙ append-nil (sent setup h.who first lane w.journal)))
+        ∙ ap (λ xs. sent setup h.who first lane w.journal ++ xs)
+        (append-nil (items_on lane (puts setup h.who (after_all setup h.who first (w.journal ++ marks)) (Turned due.request)))
+        ∙ turn_puts setup who.number due.request due.cover lane is.marker_is i))
 
     turned_turns : length (turned turned_journal) ≡ length (turned w.journal) + 1
     turned_turns =
@@ -189,28 +189,28 @@ module _ (setup : Outline) (begin : Begin) (keeps : KeepsSteady setup) (due : Du
     abbrev marker_of : LaneOutIs → List Item
     marker_of = marker_on setup due.request due.cover
 
-    turned_out : (a b : LaneOutIs) → Gains marker_of a b → Sends setup begin h.post h.begun w.journal a × IsIn a w.outs → Sends setup begin h.post h.begun turned_journal b
+    turned_out : (a b : LaneOutIs) → Gains marker_of a b → Sends setup begin h.who h.begun w.journal a × IsIn a w.outs → Sends setup begin h.who h.begun turned_journal b
     turned_out a b e q lane g =
         let here : slice_get (lanes setup.job) a.number ≡ Some lane = subst (λ (o : LaneOutIs). slice_get (lanes setup.job) o.number ≡ Some lane) e g in
-        let edge : lane.edge ≡ a.edge = out_lane_edge setup h.post w h.placed a q.1 lane here in
+        let edge : lane.edge ≡ a.edge = out_lane_edge setup h.who w h.placed a q.1 lane here in
         ap planned e
         ∙ (sym (append_assoc a.sent a.waiting (marker_of a))
         ∙ (ap (λ xs. xs ++ marker_of a) (q.0 lane here)
-        ∙ (ap (λ n. sent setup h.post (local_at setup begin.turned h.post h.begun) lane w.journal ++ cond (covers_edge setup due.request n) (Mark due.request due.cover ∷ []) []) (sym edge)
-        ∙ sym (turned_sent lane (out_sends setup h.post w h.placed a q.1 lane here)))))
+        ∙ (ap (λ n. sent setup h.who (view_at setup begin.turned h.who h.begun) lane w.journal ++ cond (covers_edge setup due.request n) (Mark due.request due.cover ∷ []) []) (sym edge)
+        ∙ sym (turned_sent lane (out_sends setup h.who w h.placed a q.1 lane here)))))
 
-    func_turned : (o : Option Change) (l : Local) → func_with o l.func ≡ (with_change o l).func
+    func_turned : (o : Option Change) (l : StateView) → func_with o l.func ≡ (with_change o l).func
     func_turned None l = refl
     func_turned (Some change) l = refl
 
-    counts_turned : (o : Option Change) (l : Local) → counts_with o l.counts ≡ (with_change o l).counts
+    counts_turned : (o : Option Change) (l : StateView) → counts_with o l.counts ≡ (with_change o l).counts
     counts_turned None l = refl
     counts_turned (Some change) l = refl
 
     pub turned_law : (v : WorkerIs) → HasTurned setup due w v → IsWorker setup begin v
     turned_law v t =
         let k = h.placed in
-        let node : w.node ≡ post.node = k.node_is in
+        let node : w.node ≡ who.node = k.node_is in
         let numbers : numbers_in v.ins ≡ numbers_in w.ins = rw t.ins (mapped_emptied (λ (a : LaneInIs). a.number) due.lanes 0 w.ins (λ a. refl)) in
         let edges : edges_of v.ins ≡ edges_of w.ins = rw t.ins (mapped_emptied (λ (a : LaneInIs). a.edge) due.lanes 0 w.ins (λ a. refl)) in
         let ends : Each (IsEndpointIn setup k.graph) v.ins = rw t.ins (each_emptied (IsEndpointIn setup k.graph) due.lanes 0 w.ins (end_emptied setup k.graph) k.ends_in) in
@@ -218,12 +218,12 @@ module _ (setup : Outline) (begin : Begin) (keeps : KeepsSteady setup) (due : Du
         let outs_long : length v.outs ≡ length w.outs = pairs_length (Gains marker_of) w.outs v.outs t.outs in
         let takes : Each (ShowsTaken setup v.journal) v.ins = rw (t.journal, t.ins) turned_takes in
         let steady : Each IsSteadyIn v.ins = rw t.ins (each_emptied IsSteadyIn due.lanes 0 w.ins (λ a q. q) h.steady_in) in
-        let lawful : IsLawfulFrom setup begin h.post v.journal = rw t.journal turned_lawful in
-        let sends : Each (Sends setup begin h.post h.begun v.journal) v.outs = rw t.journal
-        (pairs_each (Gains marker_of) (λ o. Sends setup begin h.post h.begun w.journal o × IsIn o w.outs) (Sends setup begin h.post h.begun turned_journal) w.outs v.outs turned_out t.outs
-        (each_both (Sends setup begin h.post h.begun w.journal) (λ o. IsIn o w.outs) w.outs h.sends (each_of (λ o. IsIn o w.outs) w.outs (λ o i. i)))) in
-        let placed : IsPlaced setup h.post v = subst (IsPlaced setup h.post) (sym t.rest) (record {
-          post_is = k.post_is;
+        let lawful : IsLawfulFrom setup begin h.who v.journal = rw t.journal turned_lawful in
+        let sends : Each (Sends setup begin h.who h.begun v.journal) v.outs = rw t.journal
+        (pairs_each (Gains marker_of) (λ o. Sends setup begin h.who h.begun w.journal o × IsIn o w.outs) (Sends setup begin h.who h.begun turned_journal) w.outs v.outs turned_out t.outs
+        (each_both (Sends setup begin h.who h.begun w.journal) (λ o. IsIn o w.outs) w.outs h.sends (each_of (λ o. IsIn o w.outs) w.outs (λ o i. i)))) in
+        let placed : IsPlaced setup h.who v = subst (IsPlaced setup h.who) (sym t.rest) (record {
+          who_is = k.who_is;
           node_is = k.node_is;
           place_is = k.place_is;
           graph = k.graph;
@@ -237,25 +237,25 @@ module _ (setup : Outline) (begin : Begin) (keeps : KeepsSteady setup) (due : Du
           room_in = rw long k.room_in;
           room_out = rw outs_long k.room_out;
         }) in
-        let all_dues : (progress_now setup begin h.post v.journal).dues ≡ dues_after setup due.request w.node = rw t.journal (ap (λ (p : Progress). p.dues) all_progress ∙ ap later_dues dues) in
-        let change : change_of setup due.request w.node ≡ change_of setup due.request post.node = ap (change_of setup due.request) node in
-        let now : Local = local_now setup begin h.post h.begun v.journal in
-        let now_is : now ≡ after setup h.post local (Turned due.request) = rw t.journal turned_local in
+        let all_dues : (progress_now setup begin h.who v.journal).dues ≡ dues_after setup due.request w.node = rw t.journal (ap (λ (p : Progress). p.dues) all_progress ∙ ap later_dues dues) in
+        let change : change_of setup due.request w.node ≡ change_of setup due.request who.node = ap (change_of setup due.request) node in
+        let now : StateView = view_now setup begin h.who h.begun v.journal in
+        let now_is : now ≡ after setup h.who view (Turned due.request) = rw t.journal turned_view in
         let func : func_in setup w.node v.in_force ≡ Some now.func =
-        t.func local.func h.func_is
-        ∙ ap Some (ap (λ (o : Option Change). func_with o local.func) change ∙ (func_turned (change_of setup due.request post.node) local ∙ sym (ap (λ (l : Local). l.func) now_is))) in
+        t.func view.func h.func_is
+        ∙ ap Some (ap (λ (o : Option Change). func_with o view.func) change ∙ (func_turned (change_of setup due.request who.node) view ∙ sym (ap (λ (l : StateView). l.func) now_is))) in
         let counts : v.counts ≡ now.counts =
         t.counts ∙ (ap (counts_with (change_of setup due.request w.node)) h.counts_is
-        ∙ (ap (λ (o : Option Change). counts_with o local.counts) change ∙ (counts_turned (change_of setup due.request post.node) local ∙ sym (ap (λ (l : Local). l.counts) now_is)))) in
-        let last : v.last ≡ now.last = t.last ∙ sym (ap (λ (l : Local). l.last) now_is) in
+        ∙ (ap (λ (o : Option Change). counts_with o view.counts) change ∙ (counts_turned (change_of setup due.request who.node) view ∙ sym (ap (λ (l : StateView). l.counts) now_is)))) in
+        let last : v.last ≡ now.last = t.last ∙ sym (ap (λ (l : StateView). l.last) now_is) in
         let few : IfSome v.due (λ (d : Due). v.owner.turned < d.request) = few_after v.due t.later.later (t.turned) in
         let turns : v.owner.turned ≡ length (turned v.journal) = rw t.journal (t.turned ∙ (ap (λ n. n + 1) h.turned_is ∙ sym turned_turns)) in
-        let steady_out : Each IsSteadyOut v.outs = steady_by setup begin h.post h.begun v keeps placed lawful takes steady sends in
-        let ended : (progress_now setup begin h.post v.journal).ended ≡ [] = rw t.journal (ap (λ (p : Progress). p.ended) all_progress ∙ h.unended open_) in
+        let steady_out : Each IsSteadyOut v.outs = steady_by setup begin h.who h.begun v keeps placed lawful takes steady sends in
+        let ended : (progress_now setup begin h.who v.journal).ended ≡ [] = rw t.journal (ap (λ (p : Progress). p.ended) all_progress ∙ h.unended open_) in
         let same_node : v.node ≡ w.node = ap (λ (x : WorkerIs). x.node) t.rest in
         let closed : v.closed ≡ false = ap (λ (x : WorkerIs). x.closed) t.rest ∙ open_ in
         record {
-          post = h.post;
+          who = h.who;
           placed = placed;
           begun = h.begun;
           begun_is = rw (ap (λ (x : WorkerIs). x.number) t.rest) h.begun_is;
@@ -269,7 +269,7 @@ module _ (setup : Outline) (begin : Begin) (keeps : KeepsSteady setup) (due : Du
           steady_out = steady_out;
           turned_is = turns;
           dues_are = rw same_node (subst (λ (ds : List ℕ). AreDues setup w.node ds v.due) (sym all_dues) t.later.dues);
-          due_is = rw (same_node, edges) (subst (λ (es : List ℕ). IfSome v.due (IsDueOf setup w.node es)) (sym (placed_edges setup h.post w k)) t.later.is_due);
+          due_is = rw (same_node, edges) (subst (λ (es : List ℕ). IfSome v.due (IsDueOf setup w.node es)) (sym (placed_edges setup h.who w k)) t.later.is_due);
           few_turned = few;
           unended = λ c. ended;
           finished = λ c. absurd (cc (c, closed));

@@ -16,7 +16,7 @@ use Rattle.sink_journal.specs.declared.journal.Entry.TheVariants.{Met, Marked, T
 use Rattle.tuple_trace.specs.declared.tuple.Item.{Item}
 use Rattle.tuple_trace.specs.declared.tuple.Tuple.{Tuple}
 use Rattle.flow_model.specs.Begin.{Begin}
-use Rattle.flow_model.specs.Outline.{Outline, Post}
+use Rattle.flow_model.specs.SetupView.{SetupView, Worker as WorkerOf}
 use Rattle.flow_model.specs.Planned.{IsPlanned}
 use Rattle.flow_model.proofs.ElementLemmas.{IsIn, contains_of_in, in_cases, in_of_contains, in_right}
 use Rattle.flow_worker.specs.Pairs.{Each, EachPair, total}
@@ -208,21 +208,21 @@ long_ended (a ∷ more) = ap suc (long_ended more)
 sent_gains : (f : LaneOutIs → List Item) (xs ys : List LaneOutIs) → EachPair (Gains f) xs ys → all_sent ys ≡ all_sent xs
 sent_gains f xs ys p = sym (total_same (Gains f) (λ (o : LaneOutIs). length o.sent) xs ys (λ a b g. sym (ap (λ (o : LaneOutIs). length o.sent) g)) p)
 
-whole_turn : (setup : Outline) (due : Due) (w v : WorkerIs) → HasTurned setup due w v → v.journal ≡ w.journal ++ (marked_entries due.lanes due.request 0 w.ins ++ Turned due.request ∷ [])
+whole_turn : (setup : SetupView) (due : Due) (w v : WorkerIs) → HasTurned setup due w v → v.journal ≡ w.journal ++ (marked_entries due.lanes due.request 0 w.ins ++ Turned due.request ∷ [])
 whole_turn setup due w v t = t.journal ∙ append_assoc w.journal (marked_entries due.lanes due.request 0 w.ins) (Turned due.request ∷ [])
 
 -- the box is as after the poll, but for a turn
-polls_done : (setup : Outline) (post : Post) (due : Option Due) (act : Act) (w v : WorkerIs) → HasDone setup post due act w v → v.owner.polls ≡ w.owner.polls
-polls_done setup post None (Turn r) w v d = absurd d
-polls_done setup post (Some due) (Turn r) w v d = d.polls
-polls_done setup post None (Process place) w v d = ap (λ (x : WorkerIs). x.owner.polls) d.rest
-polls_done setup post (Some due) (Process place) w v d = ap (λ (x : WorkerIs). x.owner.polls) d.rest
-polls_done setup post None Close w v d = ap (λ (x : WorkerIs). x.owner.polls) d.rest
-polls_done setup post (Some due) Close w v d = ap (λ (x : WorkerIs). x.owner.polls) d.rest
-polls_done setup post None Nothing w v d = absurd d
-polls_done setup post (Some due) Nothing w v d = absurd d
+polls_done : (setup : SetupView) (who : WorkerOf) (due : Option Due) (act : Act) (w v : WorkerIs) → HasDone setup who due act w v → v.owner.polls ≡ w.owner.polls
+polls_done setup who None (Turn r) w v d = absurd d
+polls_done setup who (Some due) (Turn r) w v d = d.polls
+polls_done setup who None (Process place) w v d = ap (λ (x : WorkerIs). x.owner.polls) d.rest
+polls_done setup who (Some due) (Process place) w v d = ap (λ (x : WorkerIs). x.owner.polls) d.rest
+polls_done setup who None Close w v d = ap (λ (x : WorkerIs). x.owner.polls) d.rest
+polls_done setup who (Some due) Close w v d = ap (λ (x : WorkerIs). x.owner.polls) d.rest
+polls_done setup who None Nothing w v d = absurd d
+polls_done setup who (Some due) Nothing w v d = absurd d
 
-turn_ends : (setup : Outline) (due : Due) (w v : WorkerIs) → HasTurned setup due w v → SameEndpoints w v
+turn_ends : (setup : SetupView) (due : Due) (w v : WorkerIs) → HasTurned setup due w v → SameEndpoints w v
 turn_ends setup due w v d = record {
   number = ap (λ (x : WorkerIs). x.number) d.rest;
   ins = rw d.ins (pairs_emptied due.lanes 0 w.ins);
@@ -230,8 +230,8 @@ turn_ends setup due w v d = record {
   within = d.within;
 }
 
-process_ends : (setup : Outline) (post : Post) (place : ℕ) (w v : WorkerIs) → HasProcessed setup post place w v → SameEndpoints w v
-process_ends setup post place w v d = record {
+process_ends : (setup : SetupView) (who : WorkerOf) (place : ℕ) (w v : WorkerIs) → HasProcessed setup who place w v → SameEndpoints w v
+process_ends setup who place w v d = record {
   number = ap (λ (x : WorkerIs). x.number) d.rest;
   ins = rw d.ins (pairs_laid place w.ins);
   outs = pairs_map (Gains _) SameOut w.outs v.outs (gains_same _) d.outs;
@@ -246,17 +246,17 @@ close_ends w v d = record {
   within = ap (λ (x : WorkerIs). x.owner.within) d.rest;
 }
 
-ends_done : (setup : Outline) (post : Post) (due : Option Due) (act : Act) (w v : WorkerIs) → HasDone setup post due act w v → SameEndpoints w v
-ends_done setup post None (Turn r) w v d = absurd d
-ends_done setup post (Some due) (Turn r) w v d = turn_ends setup due w v d
-ends_done setup post None (Process place) w v d = process_ends setup post place w v d
-ends_done setup post (Some due) (Process place) w v d = process_ends setup post place w v d
-ends_done setup post None Close w v d = close_ends w v d
-ends_done setup post (Some due) Close w v d = close_ends w v d
-ends_done setup post None Nothing w v d = absurd d
-ends_done setup post (Some due) Nothing w v d = absurd d
+ends_done : (setup : SetupView) (who : WorkerOf) (due : Option Due) (act : Act) (w v : WorkerIs) → HasDone setup who due act w v → SameEndpoints w v
+ends_done setup who None (Turn r) w v d = absurd d
+ends_done setup who (Some due) (Turn r) w v d = turn_ends setup due w v d
+ends_done setup who None (Process place) w v d = process_ends setup who place w v d
+ends_done setup who (Some due) (Process place) w v d = process_ends setup who place w v d
+ends_done setup who None Close w v d = close_ends w v d
+ends_done setup who (Some due) Close w v d = close_ends w v d
+ends_done setup who None Nothing w v d = absurd d
+ends_done setup who (Some due) Nothing w v d = absurd d
 
-turn_grew : (setup : Outline) (due : Due) (w v : WorkerIs) → HasTurned setup due w v → moves w < moves v
+turn_grew : (setup : SetupView) (due : Due) (w v : WorkerIs) → HasTurned setup due w v → moves w < moves v
 turn_grew setup due w v d =
     let es : List Entry = marked_entries due.lanes due.request 0 w.ins ++ Turned due.request ∷ [] in
     let j : length v.journal ≡ length w.journal + length es = ap length (whole_turn setup due w v d) ∙ length-append w.journal es in
@@ -265,8 +265,8 @@ turn_grew setup due w v d =
     let s : all_sent v.outs ≡ all_sent w.outs = sent_gains _ w.outs v.outs d.outs in
     omega (arith, j, e, t, s)
 
-process_grew : (setup : Outline) (post : Post) (place : ℕ) (w v : WorkerIs) → HasProcessed setup post place w v → moves w < moves v
-process_grew setup post place w v d =
+process_grew : (setup : SetupView) (who : WorkerOf) (place : ℕ) (w v : WorkerIs) → HasProcessed setup who place w v → moves w < moves v
+process_grew setup who place w v d =
     let j : length v.journal ≡ length w.journal + 1 = ap length d.journal ∙ length-append w.journal (Met d.at.number d.tuple ∷ []) in
     let t : all_taken v.ins ≡ all_taken w.ins = ap all_taken d.ins ∙ taken_laid place w.ins in
     let s : all_sent v.outs ≡ all_sent w.outs = sent_gains _ w.outs v.outs d.outs in
@@ -280,37 +280,37 @@ close_grew w v d l =
     let s : all_sent v.outs ≡ all_sent w.outs = sent_gains _ w.outs v.outs d.outs in
     omega (arith, j, e, t, s, l)
 
-grew_done : (setup : Outline) (post : Post) (due : Option Due) (act : Act) (w v : WorkerIs) → 0 < length w.ins → HasDone setup post due act w v → moves w < moves v
-grew_done setup post None (Turn r) w v l d = absurd d
-grew_done setup post (Some due) (Turn r) w v l d = turn_grew setup due w v d
-grew_done setup post None (Process place) w v l d = process_grew setup post place w v d
-grew_done setup post (Some due) (Process place) w v l d = process_grew setup post place w v d
-grew_done setup post None Close w v l d = close_grew w v d l
-grew_done setup post (Some due) Close w v l d = close_grew w v d l
-grew_done setup post None Nothing w v l d = absurd d
-grew_done setup post (Some due) Nothing w v l d = absurd d
+grew_done : (setup : SetupView) (who : WorkerOf) (due : Option Due) (act : Act) (w v : WorkerIs) → 0 < length w.ins → HasDone setup who due act w v → moves w < moves v
+grew_done setup who None (Turn r) w v l d = absurd d
+grew_done setup who (Some due) (Turn r) w v l d = turn_grew setup due w v d
+grew_done setup who None (Process place) w v l d = process_grew setup who place w v d
+grew_done setup who (Some due) (Process place) w v l d = process_grew setup who place w v d
+grew_done setup who None Close w v l d = close_grew w v d l
+grew_done setup who (Some due) Close w v l d = close_grew w v d l
+grew_done setup who None Nothing w v l d = absurd d
+grew_done setup who (Some due) Nothing w v l d = absurd d
 
 -- a tuple was met only where the act was one
-met_done : (setup : Outline) (post : Post) (due : Option Due) (act : Act) (w v : WorkerIs) (before : WorkerIs) (l : ℕ) (t : Tuple) → w.journal ≡ before.journal → HasDone setup post due act w v
+met_done : (setup : SetupView) (who : WorkerOf) (due : Option Due) (act : Act) (w v : WorkerIs) (before : WorkerIs) (l : ℕ) (t : Tuple) → w.journal ≡ before.journal → HasDone setup who due act w v
     → Contains (added before v) (Met l t) → (place : ℕ) × (act ≡ Process place)
-met_done setup post None (Turn r) w v b l t j d c = absurd d
-met_done setup post (Some due) (Turn r) w v b l t j d c =
+met_done setup who None (Turn r) w v b l t j d c = absurd d
+met_done setup who (Some due) (Turn r) w v b l t j d c =
     absurd (no_met_turn l t due.lanes due.request w.ins
     (subst (IsIn (Met l t)) (added_is b v _ (whole_turn setup due w v d ∙ ap (λ xs. xs ++ (marked_entries due.lanes due.request 0 w.ins ++ Turned due.request ∷ [])) j)) (in_of_contains (Met l t) (added b v) c)))
-met_done setup post None (Process place) w v b l t j d c = (place, refl)
-met_done setup post (Some due) (Process place) w v b l t j d c = (place, refl)
-met_done setup post None Close w v b l t j d c =
+met_done setup who None (Process place) w v b l t j d c = (place, refl)
+met_done setup who (Some due) (Process place) w v b l t j d c = (place, refl)
+met_done setup who None Close w v b l t j d c =
     absurd (no_met_ends l t w.ins (subst (IsIn (Met l t)) (added_is b v (ended_entries w.ins) (d.journal ∙ ap (λ xs. xs ++ ended_entries w.ins) j)) (in_of_contains (Met l t) (added b v) c)))
-met_done setup post (Some due) Close w v b l t j d c =
+met_done setup who (Some due) Close w v b l t j d c =
     absurd (no_met_ends l t w.ins (subst (IsIn (Met l t)) (added_is b v (ended_entries w.ins) (d.journal ∙ ap (λ xs. xs ++ ended_entries w.ins) j)) (in_of_contains (Met l t) (added b v) c)))
-met_done setup post None Nothing w v b l t j d c = absurd d
-met_done setup post (Some due) Nothing w v b l t j d c = absurd d
+met_done setup who None Nothing w v b l t j d c = absurd d
+met_done setup who (Some due) Nothing w v b l t j d c = absurd d
 
 -- a request was turned only where the act was its turn
-turned_done : (setup : Outline) (post : Post) (due : Option Due) (act : Act) (w v : WorkerIs) (before : WorkerIs) (r : ℕ) → w.journal ≡ before.journal → HasDone setup post due act w v
+turned_done : (setup : SetupView) (who : WorkerOf) (due : Option Due) (act : Act) (w v : WorkerIs) (before : WorkerIs) (r : ℕ) → w.journal ≡ before.journal → HasDone setup who due act w v
     → Contains (added before v) (Turned r) → (its : Due) × (due ≡ Some its) × (r ≡ its.request) × ((q : ℕ) × (act ≡ Turn q)) × HasTurned setup its w v
-turned_done setup post None (Turn q) w v b r j d c = absurd d
-turned_done setup post (Some due) (Turn q) w v b r j d c = (
+turned_done setup who None (Turn q) w v b r j d c = absurd d
+turned_done setup who (Some due) (Turn q) w v b r j d c = (
   due,
   refl,
   turned_turn_is r due.lanes due.request w.ins
@@ -318,37 +318,37 @@ turned_done setup post (Some due) (Turn q) w v b r j d c = (
   (q, refl),
   d,
 )
-turned_done setup post None (Process place) w v b r j d c =
+turned_done setup who None (Process place) w v b r j d c =
     absurd (not_met r d.at.number d.tuple (subst (IsIn (Turned r)) (added_is b v (Met d.at.number d.tuple ∷ []) (d.journal ∙ ap (λ xs. xs ++ Met d.at.number d.tuple ∷ []) j)) (in_of_contains (Turned r) (added b v) c)))
   where
     not_met : (r l : ℕ) (t : Tuple) → IsIn (Turned r) (Met l t ∷ []) → ⊥
     not_met r l t (inl e) = cc
     not_met r l t (inr e) = e
-turned_done setup post (Some due) (Process place) w v b r j d c =
+turned_done setup who (Some due) (Process place) w v b r j d c =
     absurd (not_met r d.at.number d.tuple (subst (IsIn (Turned r)) (added_is b v (Met d.at.number d.tuple ∷ []) (d.journal ∙ ap (λ xs. xs ++ Met d.at.number d.tuple ∷ []) j)) (in_of_contains (Turned r) (added b v) c)))
   where
     not_met : (r l : ℕ) (t : Tuple) → IsIn (Turned r) (Met l t ∷ []) → ⊥
     not_met r l t (inl e) = cc
     not_met r l t (inr e) = e
-turned_done setup post None Close w v b r j d c =
+turned_done setup who None Close w v b r j d c =
     absurd (no_turned_ends r w.ins (subst (IsIn (Turned r)) (added_is b v (ended_entries w.ins) (d.journal ∙ ap (λ xs. xs ++ ended_entries w.ins) j)) (in_of_contains (Turned r) (added b v) c)))
-turned_done setup post (Some due) Close w v b r j d c =
+turned_done setup who (Some due) Close w v b r j d c =
     absurd (no_turned_ends r w.ins (subst (IsIn (Turned r)) (added_is b v (ended_entries w.ins) (d.journal ∙ ap (λ xs. xs ++ ended_entries w.ins) j)) (in_of_contains (Turned r) (added b v) c)))
-turned_done setup post None Nothing w v b r j d c = absurd d
-turned_done setup post (Some due) Nothing w v b r j d c = absurd d
+turned_done setup who None Nothing w v b r j d c = absurd d
+turned_done setup who (Some due) Nothing w v b r j d c = absurd d
 
 -- where the act is the turn of the due, it was turned
-done_turned : (setup : Outline) (post : Post) (due : Option Due) (its : Due) (act : Act) (w v : WorkerIs) (before : WorkerIs) → w.journal ≡ before.journal → due ≡ Some its → act ≡ Turn its.request
-    → HasDone setup post due act w v → Contains (added before v) (Turned its.request)
-done_turned setup post due its act w v b j e is d =
-    let t : HasTurned setup its w v = subst (λ (o : Option Due). HasDone setup post o (Turn its.request) w v) e (subst (λ (a : Act). HasDone setup post due a w v) is d) in
+done_turned : (setup : SetupView) (who : WorkerOf) (due : Option Due) (its : Due) (act : Act) (w v : WorkerIs) (before : WorkerIs) → w.journal ≡ before.journal → due ≡ Some its → act ≡ Turn its.request
+    → HasDone setup who due act w v → Contains (added before v) (Turned its.request)
+done_turned setup who due its act w v b j e is d =
+    let t : HasTurned setup its w v = subst (λ (o : Option Due). HasDone setup who o (Turn its.request) w v) e (subst (λ (a : Act). HasDone setup who due a w v) is d) in
     let es : List Entry = marked_entries its.lanes its.request 0 w.ins ++ Turned its.request ∷ [] in
     let a : added b v ≡ es = added_is b v es (whole_turn setup its w v t ∙ ap (λ xs. xs ++ es) j) in
     contains_of_in (Turned its.request) (added b v) (subst (IsIn (Turned its.request)) (sym a) (in_right (Turned its.request) (marked_entries its.lanes its.request 0 w.ins) (Turned its.request ∷ []) (inl refl)))
 
 -- ---- a worker that has closed
 
-module _ (setup : Outline) (agrees : KeepsAgreement setup) (w v : WorkerIs) (law : (begin : Begin) × IsWorker setup begin w) (p : PutsOnly w v) (closed : w.closed ≡ true) where
+module _ (setup : SetupView) (agrees : KeepsAgreement setup) (w v : WorkerIs) (law : (begin : Begin) × IsWorker setup begin w) (p : PutsOnly w v) (closed : w.closed ≡ true) where
   same_journal : v.journal ≡ w.journal
   same_journal = ap (λ (x : WorkerIs). x.journal) p.rest
 
@@ -391,7 +391,7 @@ module _ (setup : Outline) (agrees : KeepsAgreement setup) (w v : WorkerIs) (law
 
 -- ---- a worker that has not
 
-module _ (setup : Outline) (agrees : KeepsAgreement setup) (keeps : KeepsSteady setup) (planned_is : ∥ IsPlanned setup ∥₁) (w w1 w2 w3 : WorkerIs) (n : ℕ) (posted : Bool)
+module _ (setup : SetupView) (agrees : KeepsAgreement setup) (keeps : KeepsSteady setup) (planned_is : ∥ IsPlanned setup ∥₁) (w w1 w2 w3 : WorkerIs) (n : ℕ) (posted : Bool)
     (law : (begin : Begin) × IsWorker setup begin w) (open_ : w.closed ≡ false) (puts : PutsOnly w w1) (takes : TakesOnly w1 w2) (polls : PollsOnly w2 w3 n)
     (posted_is : IsTrue posted ↔ (w2.owner.turned < n))
   where
@@ -554,15 +554,15 @@ module _ (setup : Outline) (agrees : KeepsAgreement setup) (keeps : KeepsSteady 
 
     -- ---- an act
 
-    module _ (v : WorkerIs) (act : Act) (acted : (post : Post) → IsPlaced setup post w3 → HasDone setup post w3.due act w3 v) (is : act ≡ decided (hands w3) w3.due posted w3.next) where
+    module _ (v : WorkerIs) (act : Act) (acted : (who : WorkerOf) → IsPlaced setup who w3 → HasDone setup who w3.due act w3 v) (is : act ≡ decided (hands w3) w3.due posted w3.next) where
       h3 : IsWorker setup law.0 w3
       h3 = law3 law.0 law.1
 
-      done : HasDone setup h3.post w3.due act w3 v
-      done = acted h3.post h3.placed
+      done : HasDone setup h3.who w3.due act w3 v
+      done = acted h3.who h3.placed
 
       polled : Polled w v n
-      polled = polls_done setup h3.post w3.due act w3 v done ∙ polls3
+      polled = polls_done setup h3.who w3.due act w3 v done ∙ polls3
 
       same_poll : (m : ℕ) → Polled w v m → m ≡ n
       same_poll m q = last_same w.owner.polls m n (sym q ∙ polled)
@@ -572,21 +572,21 @@ module _ (setup : Outline) (agrees : KeepsAgreement setup) (keeps : KeepsSteady 
           last_same (x ∷ xs) a b e = last_same xs a b (let r : xs ++ a ∷ [] ≡ xs ++ b ∷ [] = cc in r)
 
       law_v : (begin : Begin) → IsWorker setup begin w → IsWorker setup begin v
-      law_v begin h = let k = law3 begin h in done_law setup begin w3 v act posted keeps planned_is k closed3 is (acted k.post k.placed)
+      law_v begin h = let k = law3 begin h in done_law setup begin w3 v act posted keeps planned_is k closed3 is (acted k.who k.placed)
 
       overtakes_v : Overtakes w v
       overtakes_v l t c =
-          let p = met_done setup h3.post w3.due act w3 v w l t journal3 done c in
+          let p = met_done setup h3.who w3.due act w3 v w l t journal3 done c in
           (n, polled, λ s. let turns : decided (hands w3) w3.due posted w3.next ≡ Turn s.0.request = head_turns s.0 s.1 s.2 s.3 in let met = p.1 in cc)
 
       at_post_v : TurnsAtPost w v
       at_post_v m due q e head l =
           let less : w.owner.turned < n = subst (λ k. w.owner.turned < k) (same_poll m q) l in
-          done_turned setup h3.post w3.due due act w3 v w journal3 (due3 ∙ e) (is ∙ head_turns due e head less) done
+          done_turned setup h3.who w3.due due act w3 v w journal3 (due3 ∙ e) (is ∙ head_turns due e head less) done
 
       early_v : NotEarly w v
       early_v r due c e head =
-          let t = turned_done setup h3.post w3.due act w3 v w r journal3 done c in
+          let t = turned_done setup h3.who w3.due act w3 v w r journal3 done c in
           let its : Due = t.0 in
           let x = t.1 in
           let same : its ≡ due = let y : w3.due ≡ Some due = due3 ∙ e in cc in
@@ -597,7 +597,7 @@ module _ (setup : Outline) (agrees : KeepsAgreement setup) (keeps : KeepsSteady 
           subst (λ (b : Bool). cond b (posted || list_any (is_issued its.request) (hands w3)) (is_aligned its (hands w3)) ≡ true) its_head may in
           let its_due : IsDueOf setup w3.node (edges_of w3.ins) its = subst (λ (o : Option Due). IfSome o (IsDueOf setup w3.node (edges_of w3.ins))) t.1 h3.due_is in
           let ins : v.ins ≡ w3.ins = t.4.ins ∙ emptied_none its.lanes 0 w3.ins
-          (λ k a g b. head_places setup h3.post w3 its planned_is h3.placed its_due its_head k a g (subst (λ m. has its.lanes m ≡ true) (omega arith) b)) in
+          (λ k a g b. head_places setup h3.who w3 its planned_is h3.placed its_due its_head k a g (subst (λ m. has its.lanes m ≡ true) (omega arith) b)) in
           go posted refl its either (ap all_hands ins) t.2
         where
           go : (b : Bool) → posted ≡ b → (its : Due) → b || list_any (is_issued its.request) (hands w3) ≡ true → hands v ≡ hands w3 → r ≡ its.request
@@ -609,7 +609,7 @@ module _ (setup : Outline) (agrees : KeepsAgreement setup) (keeps : KeepsSteady 
       did_turn result cause = record {
         law = law_v;
         agreement = worker_agreement setup law.0 v agrees (law_v law.0 law.1);
-        ends = ends_then v (ends_done setup h3.post w3.due act w3 v done);
+        ends = ends_then v (ends_done setup h3.who w3.due act w3 v done);
         overtakes = overtakes_v;
         at_post = λ ne. at_post_v;
         early = early_v;
@@ -618,7 +618,7 @@ module _ (setup : Outline) (agrees : KeepsAgreement setup) (keeps : KeepsSteady 
 
       pub did_moved : (IsDone v → ⊥) → IsTurn setup turn.Moved w v
       did_moved not = did_turn turn.Moved
-          ((let grew = grew_done setup h3.post w3.due act w3 v (let s = h3.placed.some_in in omega arith) done in let least = moves_least in omega (arith, grew, least)), not)
+          ((let grew = grew_done setup h3.who w3.due act w3 v (let s = h3.placed.some_in in omega arith) done in let least = moves_least in omega (arith, grew, least)), not)
 
       pub did_done : v.closed ≡ true → list_any is_waiting v.outs ≡ false → IsTurn setup turn.Done w v
       did_done closed e = did_turn turn.Done (closed, waiting_none v.outs e)

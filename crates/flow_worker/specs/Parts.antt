@@ -2,18 +2,18 @@
 use Rattle.std.specs.Prelude.{◌≡◌, ℕ, List, [], map, Some, slice_get}
 use Rattle.flow_dag.specs.declared.edge.Edge.{Edge}
 use Rattle.flow_dag.specs.declared.graph.Graph.{Graph}
-use Rattle.jobs.specs.Written.{Written}
+use Rattle.jobs.specs.JobView.{JobView}
 use Rattle.keyed_state.specs.Counts.{Counts}
 use Rattle.lane_core.specs.Lane.{LaneId}
 use Rattle.lane_core.specs.declared.form.Origin.{Origin}
 use Rattle.sink_journal.specs.declared.journal.Entry.{Entry}
 use Rattle.tuple_trace.specs.declared.tuple.Item.{Item}
 use Rattle.flow_model.specs.Agreement.{IsGraphOf}
-use Rattle.flow_model.specs.Begin.{Begin, local_at}
+use Rattle.flow_model.specs.Begin.{Begin, view_at}
 use Rattle.flow_model.specs.InForce.{func_in}
 use Rattle.flow_model.specs.Lanes.{lanes, lanes_in, out_numbers}
-use Rattle.flow_model.specs.Outline.{Outline}
-use Rattle.flow_model.specs.Workers.{post_at}
+use Rattle.flow_model.specs.SetupView.{SetupView}
+use Rattle.flow_model.specs.Workers.{nth_worker}
 use Rattle.flow_model.specs.declared.topology.Lane.{Lane}
 use Rattle.flow_worker.specs.Pairs.{Each}
 use Rattle.flow_worker.specs.Endpoints.{LaneInIs, LaneOutIs}
@@ -49,7 +49,7 @@ pub record WorkedIs : Type 0 where
   pub state : Counts
 
 -- a new endpoint of a lane of the job: no item went by it, and its origin is the edge's sender
-pub record IsNewEndpoint (job : Written) (graph : Graph) (end : EndpointIs) : Type 0 where
+pub record IsNewEndpoint (job : JobView) (graph : Graph) (end : EndpointIs) : Type 0 where
   pub lane : Lane
   pub edge : Edge
   pub numbered : slice_get (lanes job) end.number ≡ Some lane
@@ -58,7 +58,7 @@ pub record IsNewEndpoint (job : Written) (graph : Graph) (end : EndpointIs) : Ty
   pub empty : end.items ≡ []
 
 -- the endpoints of a new worker, in the order of its lanes' numbers
-pub record AreNewEndpoints (job : Written) (worker : ℕ) (ins outs : List EndpointIs) : Type 0 where
+pub record AreNewEndpoints (job : JobView) (worker : ℕ) (ins outs : List EndpointIs) : Type 0 where
   pub graph : Graph
   pub graph_is : IsGraphOf job graph
   pub ins_are : map (λ (end : EndpointIs). end.number) ins ≡ lanes_in job worker
@@ -67,11 +67,11 @@ pub record AreNewEndpoints (job : Written) (worker : ℕ) (ins outs : List Endpo
   pub new_out : Each (IsNewEndpoint job graph) outs
 
 -- the state of the worker with a number where a beginning is
-pub record IsStateAt (setup : Outline) (begin : Begin) (number : ℕ) (state : Beginning) : Type 0 where
+pub record IsStateAt (setup : SetupView) (begin : Begin) (number : ℕ) (state : Beginning) : Type 0 where
   pub begun_is : slice_get begin.states number ≡ Some state.counts
   pub turned_is : state.turned ≡ begin.turned
   pub func_is :
-      func_in setup (post_at setup.job number).node state.in_force
-      ≡ Some (local_at setup begin.turned (post_at setup.job number) state.counts).func
+      func_in setup (nth_worker setup.job number).node state.in_force
+      ≡ Some (view_at setup begin.turned (nth_worker setup.job number) state.counts).func
   pub last_is :
-      state.last ≡ (local_at setup begin.turned (post_at setup.job number) state.counts).last
+      state.last ≡ (view_at setup begin.turned (nth_worker setup.job number) state.counts).last

@@ -1,7 +1,7 @@
 -- What the steps of a turn do.
 use Rattle.std.specs.Prelude.{◌≡◌, ℕ, zero, suc, ◌+◌, ◌<◌, ◌==◌, List, [], ◌∷◌, ◌++◌, true, get_or, length, map, set, Option, Some, None, slice_get, if◌then◌else◌}
 use Rattle.flow_dag.specs.Masks.{has}
-use Rattle.jobs.specs.Written.{Written}
+use Rattle.jobs.specs.JobView.{JobView}
 use Rattle.jobs.specs.declared.func.Func.{Func}
 use Rattle.marker_align.specs.declared.decision.Due.{Due}
 use Rattle.marker_align.specs.declared.held.Hand.TheVariants.{Empty, Holds}
@@ -14,8 +14,8 @@ use Rattle.tuple_trace.specs.declared.tuple.Tuple.{Tuple}
 use Rattle.flow_model.specs.Covers.{covers_edge}
 use Rattle.flow_model.specs.Lanes.{lanes}
 use Rattle.flow_model.specs.declared.topology.Lane.{Lane}
-use Rattle.flow_model.specs.Outline.{Outline, Post}
-use Rattle.flow_model.specs.Replay.{Local, Put, after, items_on, puts}
+use Rattle.flow_model.specs.SetupView.{SetupView, Worker as WorkerOf}
+use Rattle.flow_model.specs.Replay.{StateView, Put, after, items_on, puts}
 use Rattle.flow_model.specs.Requests.{change_of, func_with}
 use Rattle.flow_model.specs.declared.topology.OutEdge.{OutEdge}
 use Rattle.flow_worker.specs.Pairs.{EachPair}
@@ -60,10 +60,10 @@ marked_entries mask r i (a ∷ more) =
     (if has mask i then Marked a.number r ∷ [] else []) ++ marked_entries mask r (i + 1) more
 
 -- the marker, on a covered edge
-abbrev pub marker_on : Outline → ℕ → ℕ → LaneOutIs → List Item
+abbrev pub marker_on : SetupView → ℕ → ℕ → LaneOutIs → List Item
 marker_on setup r cover out = if covers_edge setup r out.edge then Mark r cover ∷ [] else []
 
-pub record HasTurned (setup : Outline) (due : Due) (w v : WorkerIs) : Type 0 where
+pub record HasTurned (setup : SetupView) (due : Due) (w v : WorkerIs) : Type 0 where
   pub journal : v.journal ≡
       w.journal ++ marked_entries due.lanes due.request 0 w.ins ++ Turned due.request ∷ []
   pub ins : v.ins ≡ emptied due.lanes 0 w.ins
@@ -92,7 +92,7 @@ pub record HasTurned (setup : Outline) (due : Due) (w v : WorkerIs) : Type 0 whe
 
 -- the place, among the lanes out, of a tuple's lane on a port; the first lane of these edges out
 -- has the place `first`
-abbrev pub place_from : Written → ℕ → List OutEdge → ℕ → Tuple → Option ℕ
+abbrev pub place_from : JobView → ℕ → List OutEdge → ℕ → Tuple → Option ℕ
 place_from job first [] port tuple = None
 place_from job first (edge ∷ more) port tuple =
     if edge.port == port then Some (first + worker_along job edge.edge tuple)
@@ -103,7 +103,7 @@ items_if None puts = []
 items_if (Some lane) puts = items_on lane puts
 
 -- the items that are put on the lane with this number
-abbrev pub items_at : Written → List Put → ℕ → List Item
+abbrev pub items_at : JobView → List Put → ℕ → List Item
 items_at job puts number = items_if (slice_get (lanes job) number) puts
 
 -- the item waits behind the earlier ones of the lane at a place
@@ -127,10 +127,10 @@ laid_down zero (a ∷ more) = record a { hand = Empty } ∷ more
 laid_down (suc place) (a ∷ more) = a ∷ laid_down place more
 
 -- what is in force at a worker before any lane has ended
-abbrev pub local_of : WorkerIs → Func → Local
-local_of w func = record { func = func; counts = w.counts; last = w.last; ended = 0 }
+abbrev pub view_of : WorkerIs → Func → StateView
+view_of w func = record { func = func; counts = w.counts; last = w.last; ended = 0 }
 
-pub record HasProcessed (setup : Outline) (post : Post) (place : ℕ) (w v : WorkerIs) : Type 0 where
+pub record HasProcessed (setup : SetupView) (who : WorkerOf) (place : ℕ) (w v : WorkerIs) : Type 0 where
   pub tuple : Tuple
   pub at : LaneInIs
   pub func : Func
@@ -140,9 +140,9 @@ pub record HasProcessed (setup : Outline) (post : Post) (place : ℕ) (w v : Wor
   pub journal : v.journal ≡ w.journal ++ Met at.number tuple ∷ []
   pub ins : v.ins ≡ laid_down place w.ins
   pub outs : EachPair (Gains (λ (out : LaneOutIs).
-      items_at setup.job (puts setup post (local_of w func) (Met at.number tuple)) out.number))
+      items_at setup.job (puts setup who (view_of w func) (Met at.number tuple)) out.number))
       w.outs v.outs
-  pub counts : v.counts ≡ (after setup post (local_of w func) (Met at.number tuple)).counts
+  pub counts : v.counts ≡ (after setup who (view_of w func) (Met at.number tuple)).counts
   pub next : v.next < length w.ins
   pub rest : v ≡ record w {
     journal = v.journal;

@@ -13,7 +13,7 @@ use Rattle.sink_journal.specs.declared.journal.Entry.{Entry}
 use Rattle.sink_journal.specs.declared.journal.Entry.TheVariants.{Met, Turned}
 use Rattle.flow_model.specs.Agreement.{Agreement}
 use Rattle.flow_model.specs.Begin.{Begin}
-use Rattle.flow_model.specs.Outline.{Outline, Post}
+use Rattle.flow_model.specs.SetupView.{SetupView, Worker as WorkerOf}
 use Rattle.flow_worker.specs.Pairs.{Each, EachPair}
 use Rattle.flow_worker.specs.Endpoints.{LaneInIs, LaneOutIs, SameIn, SameOut, all_sent, all_taken, planned}
 use Rattle.flow_worker.specs.Worker.{IsWorker, WorkerIs, hands}
@@ -112,7 +112,7 @@ pub record SameEndpoints (w v : WorkerIs) : Type 0 where
   pub within : v.owner.within ≡ w.owner.within
 
 -- what one turn promises
-pub record IsTurn (setup : Outline) (result : turn_type.Turn) (w v : WorkerIs) : Type 0 where
+pub record IsTurn (setup : SetupView) (result : turn_type.Turn) (w v : WorkerIs) : Type 0 where
   -- the law holds after the turn, from every beginning from which it held before
   pub law : (begin : Begin) → IsWorker setup begin w → IsWorker setup begin v
   -- the visits of the processed tuples agree with the turns
@@ -126,14 +126,14 @@ pub record IsTurn (setup : Outline) (result : turn_type.Turn) (w v : WorkerIs) :
 -- ---- the parts of a turn
 
 -- the act was done
-abbrev pub HasDone : Outline → Post → Option Due → Act → WorkerIs → WorkerIs → Type 0
-HasDone setup post None (Turn r) w v = ⊥
-HasDone setup post (Some due) (Turn r) w v = HasTurned setup due w v
-HasDone setup post due (Process place) w v = HasProcessed setup post place w v
-HasDone setup post due Close w v = HasClosed w v
-HasDone setup post due Nothing w v = ⊥
+abbrev pub HasDone : SetupView → WorkerOf → Option Due → Act → WorkerIs → WorkerIs → Type 0
+HasDone setup who None (Turn r) w v = ⊥
+HasDone setup who (Some due) (Turn r) w v = HasTurned setup due w v
+HasDone setup who due (Process place) w v = HasProcessed setup who place w v
+HasDone setup who due Close w v = HasClosed w v
+HasDone setup who due Nothing w v = ⊥
 
-abbrev pub HasActed : Outline → Post → Option Due → Act → Acted → WorkerIs → WorkerIs → Type 0
-HasActed setup post due act Did w v = HasDone setup post due act w v
-HasActed setup post due act Held w v = (v ≡ w) × IsHeld act w
-HasActed setup post due act Starved w v = MemoryOnly w v
+abbrev pub HasActed : SetupView → WorkerOf → Option Due → Act → Acted → WorkerIs → WorkerIs → Type 0
+HasActed setup who due act Did w v = HasDone setup who due act w v
+HasActed setup who due act Held w v = (v ≡ w) × IsHeld act w
+HasActed setup who due act Starved w v = MemoryOnly w v

@@ -3,23 +3,23 @@ use Rattle.std.specs.Prelude.{◌≡◌, ℕ, ◌<◌, ◌≤◌, IfSome, List, 
 use Rattle.control_box.specs.Ends.{OwnerIs}
 use Rattle.flow_dag.specs.declared.edge.Edge.{Edge}
 use Rattle.flow_dag.specs.declared.graph.Graph.{Graph}
-use Rattle.jobs.specs.Written.{Written}
+use Rattle.jobs.specs.JobView.{JobView}
 use Rattle.keyed_state.specs.Counts.{Counts}
 use Rattle.marker_align.specs.declared.decision.Due.{Due}
 use Rattle.marker_align.specs.declared.held.Hand.{Hand}
 use Rattle.marker_align.specs.declared.held.Hand.TheVariants.{Empty}
 use Rattle.sink_journal.specs.declared.journal.Entry.{Entry}
 use Rattle.flow_model.specs.Agreement.{IsGraphOf}
-use Rattle.flow_model.specs.Begin.{Begin, local_at}
+use Rattle.flow_model.specs.Begin.{Begin, view_at}
 use Rattle.flow_model.specs.Lanes.{lanes, lanes_in, out_numbers}
 use Rattle.flow_model.specs.Law.{Progress, initial, progress_after}
 use Rattle.flow_model.specs.declared.topology.Lane.{Lane}
-use Rattle.flow_model.specs.Outline.{Outline, Post}
+use Rattle.flow_model.specs.SetupView.{SetupView, Worker}
 use Rattle.flow_model.specs.Points.{turned}
-use Rattle.flow_model.specs.Replay.{Local, after_all, sent, shown}
+use Rattle.flow_model.specs.Replay.{StateView, after_all, sent, shown}
 use Rattle.flow_model.specs.Run.{IsFinishedFrom, IsLawfulFrom}
-use Rattle.flow_model.specs.Station.{station}
-use Rattle.flow_model.specs.Workers.{posts}
+use Rattle.flow_model.specs.Duties.{duties}
+use Rattle.flow_model.specs.Workers.{workers_in}
 use Rattle.flow_model.specs.declared.in_force.InForce.{InForce}
 use Rattle.flow_worker.specs.Pairs.{Each}
 use Rattle.flow_worker.specs.Endpoints.{LaneInIs, IsSteadyIn, IsSteadyOut, LaneOutIs, in_hand, planned}
@@ -63,19 +63,19 @@ abbrev pub numbers_out : List LaneOutIs → List ℕ
 numbers_out outs = map (λ (out : LaneOutIs). out.number) outs
 
 -- a worker of the node, out of which lead the lanes with these numbers
-pub record IsSenderAt (job : Written) (node : ℕ) (post : Post) (numbers : List ℕ) : Type 0 where
-  pub there : slice_get (posts job) post.number ≡ Some post
-  pub node_is : post.node ≡ node
-  pub numbers_are : numbers ≡ out_numbers job post.number
+pub record IsSenderAt (job : JobView) (node : ℕ) (who : Worker) (numbers : List ℕ) : Type 0 where
+  pub there : slice_get (workers_in job) who.number ≡ Some who
+  pub node_is : who.node ≡ node
+  pub numbers_are : numbers ≡ out_numbers job who.number
 
 -- the lane with the number is on the edge
-pub record IsOnLane (job : Written) (number edge : ℕ) : Type 0 where
+pub record IsOnLane (job : JobView) (number edge : ℕ) : Type 0 where
   pub lane : Lane
   pub numbered : slice_get (lanes job) number ≡ Some lane
   pub edge_is : edge ≡ lane.edge
 
 -- the endpoint is that of a lane of the setup
-pub record IsEndpointIn (setup : Outline) (graph : Graph) (a : LaneInIs) : Type 0 where
+pub record IsEndpointIn (setup : SetupView) (graph : Graph) (a : LaneInIs) : Type 0 where
   pub lane : Lane
   pub edge : Edge
   pub numbered : slice_get (lanes setup.job) a.number ≡ Some lane
@@ -83,7 +83,7 @@ pub record IsEndpointIn (setup : Outline) (graph : Graph) (a : LaneInIs) : Type 
   pub edge_there : slice_get setup.job.edges lane.edge ≡ Some edge
   pub origin_is : a.origin ≡ record { graph = graph; from = edge.from }
 
-pub record IsEndpointOut (setup : Outline) (graph : Graph) (node : ℕ) (out : LaneOutIs)
+pub record IsEndpointOut (setup : SetupView) (graph : Graph) (node : ℕ) (out : LaneOutIs)
     : Type 0 where
   pub lane : Lane
   pub numbered : slice_get (lanes setup.job) out.number ≡ Some lane
@@ -92,10 +92,10 @@ pub record IsEndpointOut (setup : Outline) (graph : Graph) (node : ℕ) (out : L
 
 -- what the worker keeps of its setup: its node and place, and its lanes in the order of their
 -- numbers
-pub record IsPlaced (setup : Outline) (post : Post) (w : WorkerIs) : Type 0 where
-  pub post_is : slice_get (posts setup.job) w.number ≡ Some post
-  pub node_is : w.node ≡ post.node
-  pub place_is : w.place ≡ post.place
+pub record IsPlaced (setup : SetupView) (who : Worker) (w : WorkerIs) : Type 0 where
+  pub who_is : slice_get (workers_in setup.job) w.number ≡ Some who
+  pub node_is : w.node ≡ who.node
+  pub place_is : w.place ≡ who.place
   pub graph : Graph
   pub graph_is : IsGraphOf setup.job graph
   pub ins_are : numbers_in w.ins ≡ lanes_in setup.job w.number
@@ -108,51 +108,51 @@ pub record IsPlaced (setup : Outline) (post : Post) (w : WorkerIs) : Type 0 wher
   pub room_out : length w.outs ≤ w.spare_out
 
 -- what is in force after a journal, and how far it has come
-abbrev pub local_now : Outline → Begin → Post → Counts → List Entry → Local
-local_now setup begin post counts journal =
-    after_all setup post (local_at setup begin.turned post counts) journal
+abbrev pub view_now : SetupView → Begin → Worker → Counts → List Entry → StateView
+view_now setup begin who counts journal =
+    after_all setup who (view_at setup begin.turned who counts) journal
 
-abbrev pub progress_now : Outline → Begin → Post → List Entry → Progress
-progress_now setup begin post journal =
-    progress_after (initial (station setup begin.turned post)) journal
+abbrev pub progress_now : SetupView → Begin → Worker → List Entry → Progress
+progress_now setup begin who journal =
+    progress_after (initial (duties setup begin.turned who)) journal
 
 -- what was taken is what the journal shows followed by what is in hand
-abbrev pub ShowsTaken : Outline → List Entry → LaneInIs → Type 0
+abbrev pub ShowsTaken : SetupView → List Entry → LaneInIs → Type 0
 ShowsTaken setup journal a = a.taken ≡ shown setup a.number journal ++ in_hand a.hand
 
 -- what was and will be sent is what the replay sends
-abbrev pub Sends : Outline → Begin → Post → Counts → List Entry → LaneOutIs → Type 0
-Sends setup begin post counts journal out =
+abbrev pub Sends : SetupView → Begin → Worker → Counts → List Entry → LaneOutIs → Type 0
+Sends setup begin who counts journal out =
     (lane : Lane) → slice_get (lanes setup.job) out.number ≡ Some lane →
-    planned out ≡ sent setup post (local_at setup begin.turned post counts) lane journal
+    planned out ≡ sent setup who (view_at setup begin.turned who counts) lane journal
 
 -- the law of a worker of a setup, from a beginning on
-pub record IsWorker (setup : Outline) (begin : Begin) (w : WorkerIs) : Type 0 where
-  pub post : Post
-  pub placed : IsPlaced setup post w
+pub record IsWorker (setup : SetupView) (begin : Begin) (w : WorkerIs) : Type 0 where
+  pub who : Worker
+  pub placed : IsPlaced setup who w
   pub begun : Counts
   pub begun_is : slice_get begin.states w.number ≡ Some begun
   -- first, the journal is lawful so far
-  pub lawful : IsLawfulFrom setup begin post w.journal
+  pub lawful : IsLawfulFrom setup begin who w.journal
   -- second, function, counts and latest request turned are those of its replay
   pub func_is :
-      func_in setup w.node w.in_force ≡ Some (local_now setup begin post begun w.journal).func
-  pub counts_is : w.counts ≡ (local_now setup begin post begun w.journal).counts
-  pub last_is : w.last ≡ (local_now setup begin post begun w.journal).last
+      func_in setup w.node w.in_force ≡ Some (view_now setup begin who begun w.journal).func
+  pub counts_is : w.counts ≡ (view_now setup begin who begun w.journal).counts
+  pub last_is : w.last ≡ (view_now setup begin who begun w.journal).last
   -- third, what was taken from each lane is what the journal shows followed by what is in hand,
   -- and is steady
   pub takes : Each (ShowsTaken setup w.journal) w.ins
   pub steady_in : Each IsSteadyIn w.ins
   -- fourth, what was sent on each lane and what waits is what the replay sends, and is steady
-  pub sends : Each (Sends setup begin post begun w.journal) w.outs
+  pub sends : Each (Sends setup begin who begun w.journal) w.outs
   pub steady_out : Each IsSteadyOut w.outs
   -- fifth, the owner has acknowledged as many turns as the journal has; the next due is that of the
   -- law of a journal
   pub turned_is : w.owner.turned ≡ length (turned w.journal)
-  pub dues_are : AreDues setup w.node (progress_now setup begin post w.journal).dues w.due
+  pub dues_are : AreDues setup w.node (progress_now setup begin who w.journal).dues w.due
   pub due_is : IfSome w.due (IsDueOf setup w.node (edges_of w.ins))
   pub few_turned : IfSome w.due (λ (due : Due). w.owner.turned < due.request)
   -- before it has closed no lane has ended; then the journal is finished, and the hands are empty
-  pub unended : w.closed ≡ false → (progress_now setup begin post w.journal).ended ≡ []
-  pub finished : w.closed ≡ true → IsFinishedFrom setup begin post w.journal
+  pub unended : w.closed ≡ false → (progress_now setup begin who w.journal).ended ≡ []
+  pub finished : w.closed ≡ true → IsFinishedFrom setup begin who w.journal
   pub put_down : w.closed ≡ true → Each (λ (a : LaneInIs). a.hand ≡ Empty) w.ins

@@ -1,5 +1,6 @@
 // What an act does to hands, journal and waiting items. The caller has reserved the memory.
-ghost use Rattle.std.specs.Prelude.{◌≡◌, ℕ, ◌+◌, ◌<◌, ◌≤◌, Some, slice_get, [], ◌∷◌, ◌++◌, length, if◌then◌else◌};
+ghost use Rattle.std.specs.Prelude.{◌≡◌, ℕ, ◌+◌, ◌<◌, ◌≤◌, Some, slice_get, [], ◌∷◌, ◌++◌, length};
+ghost use Rattle.std.specs.Prelude.{if◌then◌else◌};
 ghost use Rattle.flow_dag.specs.Masks.{has};
 ghost use Rattle.marker_align.specs.declared.held.Hand.TheVariants.{Empty, Holds};
 ghost use Rattle.sink_journal.specs.declared.journal.Entry.TheVariants.{Marked, Met};
@@ -7,7 +8,8 @@ ghost use Rattle.tuple_trace.specs.declared.tuple.Item.TheVariants.{Carry, Mark,
 ghost use Rattle.tuple_trace.specs.declared.tuple.Tuple.{Tuple as TupleIs};
 ghost use Rattle.flow_worker.specs.Pairs.{Each, EachPair};
 ghost use Rattle.flow_worker.specs.Endpoints.{Appended, HasRoom, LaneInIs, LaneOutIs};
-ghost use Rattle.flow_worker.specs.Steps.{HasTuple, all_emptied, emptied, ended_entries, laid_down, marked_entries};
+ghost use Rattle.flow_worker.specs.Steps.{HasTuple, all_emptied, emptied, ended_entries, laid_down};
+ghost use Rattle.flow_worker.specs.Steps.{marked_entries};
 
 use crate::lane_in::LaneIn;
 use crate::lane_out::LaneOut;
@@ -125,8 +127,8 @@ pub fn tuple_at<L: Lanes>(ins: &[LaneIn<L>], place: u32) -> &Tuple
     }
 }
 
-/// Notes the tuple in the hand at a place in the journal, and empties the hand. It is moved from the
-/// hand into the entry, by way of no tuple of its own.
+/// Notes the tuple in the hand at a place in the journal, and empties the hand. It is moved from
+/// the hand into the entry, by way of no tuple of its own.
 pub fn note_tuple<L: Lanes>(ins: &mut [LaneIn<L>], place: u32, journal: &mut Reserved<Entry>)
     requires within { place < length ins.old }
     requires held { HasTuple ins.old place }

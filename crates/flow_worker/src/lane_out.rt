@@ -1,6 +1,8 @@
-ghost use Rattle.std.specs.Prelude.{◌≡◌, ℕ, ◌+◌, ◌<◌, ◌≤◌, [], ◌∷◌, ◌++◌, length, OnOk, OnErr, IsTrue};
+ghost use Rattle.std.specs.Prelude.{◌≡◌, ℕ, ◌+◌, ◌<◌, ◌≤◌, [], ◌∷◌, ◌++◌, length, OnOk, OnErr};
+ghost use Rattle.std.specs.Prelude.{IsTrue};
 ghost use Rattle.flow_worker.specs.Pairs.{Each, EachPair};
-ghost use Rattle.flow_worker.specs.Endpoints.{Flushed, HasRoom, IsSteadyOut, LaneOutIs, Reserved, SameButMemory, all_sent, is_waiting};
+ghost use Rattle.flow_worker.specs.Endpoints.{Flushed, HasRoom, IsSteadyOut, LaneOutIs, Reserved};
+ghost use Rattle.flow_worker.specs.Endpoints.{SameButMemory, all_sent, is_waiting};
 ghost use Rattle.flow_worker.specs.Parts.{endpoint_out};
 
 use lane_core::{Lanes, Tx};

@@ -1,5 +1,6 @@
 // The lanes into a worker, with masks over its hands.
-ghost use Rattle.std.specs.Prelude.{◌≡◌, ◌+◌, ◌<◌, ◌≤◌, ◌++◌, [], ◌∷◌, IsTrue, None, Some, false, length, map, slice_get};
+ghost use Rattle.std.specs.Prelude.{◌≡◌, ◌+◌, ◌<◌, ◌≤◌, ◌++◌, [], ◌∷◌, IsTrue, None, Some, false};
+ghost use Rattle.std.specs.Prelude.{length, map, slice_get};
 ghost use Rattle.std.specs.Option.{option_copied};
 ghost use Rattle.marker_align.specs.Decision.{decided, next_tuple as next_tuple_of, turn};
 ghost use Rattle.marker_align.specs.declared.held.Hand.TheVariants.{Empty, Holds};
@@ -9,7 +10,8 @@ ghost use Rattle.tuple_trace.specs.declared.tuple.Tuple.{Tuple as TupleIs};
 ghost use Rattle.flow_worker.specs.Endpoints.{Filled, LaneInIs, all_taken};
 ghost use Rattle.flow_worker.specs.Masks.{FilledAt, IsMaskOf, has_empty, issued_of};
 ghost use Rattle.flow_worker.specs.Pairs.{Each, EachPair};
-ghost use Rattle.flow_worker.specs.Steps.{HasTuple, all_emptied, emptied, ended_entries, laid_down, marked_entries};
+ghost use Rattle.flow_worker.specs.Steps.{HasTuple, all_emptied, emptied, ended_entries, laid_down};
+ghost use Rattle.flow_worker.specs.Steps.{marked_entries};
 
 use crate::acts::{note_ends, note_markers, note_tuple, tuple_at};
 use crate::lane_in::LaneIn;

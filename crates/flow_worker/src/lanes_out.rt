@@ -1,9 +1,11 @@
 // The lanes out of a worker, with a mask of those on which an item waits.
-ghost use Rattle.std.specs.Prelude.{◌≡◌, ◌<◌, ◌≤◌, [], ◌∷◌, IsTrue, OnErr, OnOk, get_or, if◌then◌else◌, length, ◌++◌};
+ghost use Rattle.std.specs.Prelude.{◌≡◌, ◌<◌, ◌≤◌, [], ◌∷◌, IsTrue, OnErr, OnOk, get_or};
+ghost use Rattle.std.specs.Prelude.{if◌then◌else◌, length, ◌++◌};
 ghost use Rattle.std.specs.List.{list_any};
 ghost use Rattle.flow_dag.specs.Masks.{has};
 ghost use Rattle.tuple_trace.specs.declared.tuple.Item.TheVariants.{Mark, Last};
-ghost use Rattle.flow_worker.specs.Endpoints.{Appended, Flushed, HasRoom, IsSteadyOut, LaneOutIs, Reserved, SameButMemory, all_sent, is_waiting};
+ghost use Rattle.flow_worker.specs.Endpoints.{Appended, Flushed, HasRoom, IsSteadyOut, LaneOutIs};
+ghost use Rattle.flow_worker.specs.Endpoints.{Reserved, SameButMemory, all_sent, is_waiting};
 ghost use Rattle.flow_worker.specs.Masks.{FlushedAt, IsMarkOf};
 ghost use Rattle.flow_worker.specs.Pairs.{Each, EachPair};
 ghost use Rattle.flow_worker.specs.Steps.{PushedAt};

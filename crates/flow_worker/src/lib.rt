@@ -1,8 +1,8 @@
 //! A worker of a node: its lanes, its hands, its journal, and one turn after another.
 //!
-//! [`Worker::make`] makes it over the endpoints of its lanes, in any form. [`Worker::turn`] puts what
-//! waits, takes into empty hands, polls the control box, decides, and does at most one act: it turns
-//! for a request, processes a tuple, or closes. After [`Turn::Done`] it is taken apart by
+//! [`Worker::make`] makes it over the endpoints of its lanes, in any form. [`Worker::turn`] puts
+//! what waits, takes into empty hands, polls the control box, decides, and does at most one act: it
+//! turns for a request, processes a tuple, or closes. After [`Turn::Done`] it is taken apart by
 //! [`Worker::finish`]. A worker knows no thread and no other worker.
 //!
 //! Alignment of markers, heads that turn at a control message, and functions that change with the

@@ -1,7 +1,7 @@
 // The lanes of a function's outputs.
 ghost use Rattle.std.specs.Prelude.{◌≡◌, [], length, map};
-ghost use Rattle.jobs.specs.Job.{written};
-ghost use Rattle.flow_model.specs.Outline.{Post as PostIs};
+ghost use Rattle.jobs.specs.Job.{job_view};
+ghost use Rattle.flow_model.specs.SetupView.{Worker as WorkerOfJob};
 ghost use Rattle.flow_model.specs.Replay.{put_out};
 ghost use Rattle.flow_model.specs.Topology.{out_edges};
 ghost use Rattle.flow_worker.specs.Pairs.{Each, EachPair};
@@ -17,13 +17,13 @@ use std::alloc::Global;
 use std::mem;
 use tuple_trace::{Item, Tuple};
 
-// Returns the place, among the lanes out, of a tuple's lane on a port; `None` if no edge leaves
-// the node on that port. Takes no memory. It is not inlined: so the output stays in one piece and is
+// Returns the place, among the lanes out, of a tuple's lane on a port; `None` if no edge leaves the
+// node on that port. Takes no memory. It is not inlined: so the output stays in one piece and is
 // moved as one.
 #[inline(never)]
 fn place_of(job: &Job, node: u32, edges: &[OutEdge], port: u32, tuple: &Tuple) -> Option<usize>
-    requires { edges.now ≡ out_edges (written job.now) node }
-    ensures { result ≡ place_from (written job.now) 0 edges.now port tuple.now }
+    requires { edges.now ≡ out_edges (job_view job.now) node }
+    ensures { result ≡ place_from (job_view job.now) 0 edges.now port tuple.now }
 {
     let mut first = 0;
     for edge in edges {
@@ -48,14 +48,15 @@ pub fn enqueue_outputs<L: Lanes>(
     outs: &mut LanesOut<L>,
     made: &mut Outs,
 )
-    requires post { (post : PostIs)
-        × IsSenderAt (written job.now) node post (numbers_out outs.old) }
-    requires edges { edges.now ≡ out_edges (written job.now) node }
+    requires who { (who : WorkerOfJob)
+        × IsSenderAt (job_view job.now) node who (numbers_out outs.old) }
+    requires edges { edges.now ≡ out_edges (job_view job.now) node }
     requires room { Each (HasRoom (length made.old)) outs.old }
     ensures emptied { made.new ≡ [] }
-    ensures outs { (post : PostIs) → IsSenderAt (written job.now) node post (numbers_out outs.old)
-        → EachPair (Appended (λ (out : LaneOutIs). items_at (written job.now)
-        (map (put_out (written job.now) post) made.old) out.number)) outs.old outs.new }
+    ensures outs { (who : WorkerOfJob) → IsSenderAt (job_view job.now) node who
+        (numbers_out outs.old)
+        → EachPair (Appended (λ (out : LaneOutIs). items_at (job_view job.now)
+        (map (put_out (job_view job.now) who) made.old) out.number)) outs.old outs.new }
 {
     let mut left = mem::replace(made, Outs::new(alloc)).into_vec();
     left.reverse();

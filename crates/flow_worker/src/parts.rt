@@ -3,7 +3,7 @@ ghost use Rattle.std.specs.Prelude.{◌≡◌, ◌<◌, ◌≤◌, [], length, m
 ghost use Rattle.std.specs.Vec.{vec_capacity};
 ghost use Rattle.marker_align.specs.declared.held.Hand.TheVariants.{Empty};
 ghost use Rattle.flow_model.specs.Lanes.{lanes};
-ghost use Rattle.flow_model.specs.Setup.{outline};
+ghost use Rattle.flow_model.specs.Setup.{setup_view};
 ghost use Rattle.flow_worker.specs.Endpoints.{LaneInIs, LaneOutIs};
 ghost use Rattle.flow_worker.specs.Pairs.{Each};
 ghost use Rattle.flow_worker.specs.Parts.{endpoint_in, endpoint_out, endpoints};
@@ -122,10 +122,11 @@ pub fn new_ins<L: Lanes>(
     requires empty { room.items ≡ [] }
     requires room { length ends.items ≤ vec_capacity room }
     requires numbers { map (λ x. L.Rx.number x) ends.items ≡ numbers.now }
-    requires there { Each (λ n. n < length (lanes (outline setup.now).job)) numbers.now }
+    requires there { Each (λ n. n < length (lanes (setup_view setup.now).job)) numbers.now }
     ensures ends { map endpoint_in result.items
         ≡ endpoints L.Rx.lane L.Rx.number L.Rx.origin L.Rx.taken ends.items }
-    ensures edges { Each (λ (a : LaneInIs). IsOnLane (outline setup.now).job a.number a.edge) result.items }
+    ensures edges { Each (λ (a : LaneInIs). IsOnLane (setup_view setup.now).job a.number a.edge)
+        result.items }
     ensures hands { Each (λ (a : LaneInIs). a.hand ≡ Empty) result.items }
 {
     let mut ins = room;
@@ -149,10 +150,11 @@ pub fn new_outs<L: Lanes>(
     requires empty { room.items ≡ [] }
     requires room { length ends.items ≤ vec_capacity room }
     requires numbers { map (λ x. L.Tx.number x) ends.items ≡ numbers.now }
-    requires there { Each (λ n. n < length (lanes (outline setup.now).job)) numbers.now }
+    requires there { Each (λ n. n < length (lanes (setup_view setup.now).job)) numbers.now }
     ensures ends { map endpoint_out result.items
         ≡ endpoints L.Tx.lane L.Tx.number L.Tx.origin L.Tx.sent ends.items }
-    ensures edges { Each (λ (out : LaneOutIs). IsOnLane (outline setup.now).job out.number out.edge)
+    ensures edges { Each (λ (out : LaneOutIs). IsOnLane (setup_view setup.now).job out.number
+        out.edge)
         result.items }
     ensures waiting { Each (λ (out : LaneOutIs). out.waiting ≡ []) result.items }
 {

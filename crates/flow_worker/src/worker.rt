@@ -4,11 +4,12 @@ ghost use Rattle.std.specs.Prelude.{◌≡◌, ℕ, ◌<◌, ◌≤◌, ◌↔�
 ghost use Rattle.std.specs.List.{list_any};
 ghost use Rattle.marker_align.specs.Decision.{decided};
 ghost use Rattle.flow_model.specs.Begin.{Begin, at_first};
-ghost use Rattle.flow_model.specs.Setup.{outline};
-ghost use Rattle.flow_model.specs.Workers.{posts};
+ghost use Rattle.flow_model.specs.Setup.{setup_view};
+ghost use Rattle.flow_model.specs.Workers.{workers_in};
 ghost use Rattle.flow_worker.specs.Endpoints.{IsSteadyOut, all_sent, all_taken, is_waiting};
 ghost use Rattle.flow_worker.specs.Pairs.{Each};
-ghost use Rattle.flow_worker.specs.Parts.{AreNewEndpoints, IsStateAt, endpoint_in, endpoint_out, endpoints};
+ghost use Rattle.flow_worker.specs.Parts.{AreNewEndpoints, IsStateAt, endpoint_in, endpoint_out};
+ghost use Rattle.flow_worker.specs.Parts.{endpoints};
 ghost use Rattle.flow_worker.specs.Steps.{PollsOnly, PutsOnly, TakesOnly};
 ghost use Rattle.flow_worker.specs.Turning.{IsDone, IsTurn};
 ghost use Rattle.flow_worker.specs.Worker.{IsWorker, hands};
@@ -120,8 +121,9 @@ pub(crate) struct Beginning {
 impl<L: Lanes> Worker<L> {
     /// Makes the worker with this number, at the beginning of a run.
     ///
-    /// `ins` and `outs` are the endpoints of the worker's lanes, in the order of the lanes' numbers.
-    /// `owner` is its end of a new box. The one error is out of memory; it gives the endpoints up.
+    /// `ins` and `outs` are the endpoints of the worker's lanes, in the order of the lanes'
+    /// numbers. `owner` is its end of a new box. The one error is out of memory; it gives the
+    /// endpoints up.
     pub fn make(
         alloc: Global,
         setup: &Setup,
@@ -130,12 +132,13 @@ impl<L: Lanes> Worker<L> {
         outs: Vec<L::Tx>,
         owner: Owner,
     ) -> Result<Worker<L>, NoMemory>
-        requires there { number < length (posts (outline setup.now).job) }
-        requires ends { AreNewEndpoints (outline setup.now).job number
+        requires there { number < length (workers_in (setup_view setup.now).job) }
+        requires ends { AreNewEndpoints (setup_view setup.now).job number
             (endpoints L.Rx.lane L.Rx.number L.Rx.origin L.Rx.taken ins.items)
             (endpoints L.Tx.lane L.Tx.number L.Tx.origin L.Tx.sent outs.items) }
         requires owner { owner.turned ≡ 0 }
-        ensures law { IfOk result (IsWorker (outline setup.now) (at_first (outline setup.now))) }
+        ensures law { IfOk result (IsWorker (setup_view setup.now)
+            (at_first (setup_view setup.now))) }
         ensures ins { IfOk result (λ w. map endpoint_in w.ins
             ≡ endpoints L.Rx.lane L.Rx.number L.Rx.origin L.Rx.taken ins.items) }
         ensures outs { IfOk result (λ w. map endpoint_out w.outs
@@ -165,14 +168,14 @@ impl<L: Lanes> Worker<L> {
         owner: Owner,
         start: &Start,
     ) -> Result<Worker<L>, NoMemory>
-        requires there { number < length (posts (outline setup.now).job) }
-        requires ends { AreNewEndpoints (outline setup.now).job number
+        requires there { number < length (workers_in (setup_view setup.now).job) }
+        requires ends { AreNewEndpoints (setup_view setup.now).job number
             (endpoints L.Rx.lane L.Rx.number L.Rx.origin L.Rx.taken ins.items)
             (endpoints L.Tx.lane L.Tx.number L.Tx.origin L.Tx.sent outs.items) }
         requires owner { owner.turned ≡ 0 }
-        requires turned { start.now.turned ≤ length (outline setup.now).requests }
-        requires states { length start.now.states ≡ length (posts (outline setup.now).job) }
-        ensures law { IfOk result (IsWorker (outline setup.now) start.now) }
+        requires turned { start.now.turned ≤ length (setup_view setup.now).requests }
+        requires states { length start.now.states ≡ length (workers_in (setup_view setup.now).job) }
+        ensures law { IfOk result (IsWorker (setup_view setup.now) start.now) }
         ensures ins { IfOk result (λ w. map endpoint_in w.ins
             ≡ endpoints L.Rx.lane L.Rx.number L.Rx.origin L.Rx.taken ins.items) }
         ensures outs { IfOk result (λ w. map endpoint_out w.outs
@@ -199,14 +202,14 @@ impl<L: Lanes> Worker<L> {
         owner: Owner,
         state: Beginning,
     ) -> Result<Worker<L>, NoMemory>
-        requires there { number < length (posts (outline setup.now).job) }
-        requires ends { AreNewEndpoints (outline setup.now).job number
+        requires there { number < length (workers_in (setup_view setup.now).job) }
+        requires ends { AreNewEndpoints (setup_view setup.now).job number
             (endpoints L.Rx.lane L.Rx.number L.Rx.origin L.Rx.taken ins.items)
             (endpoints L.Tx.lane L.Tx.number L.Tx.origin L.Tx.sent outs.items) }
         requires owner { owner.turned ≡ 0 }
         ensures law { IfOk result (λ w. (begin : Begin)
-            → IsStateAt (outline setup.now) begin number state
-            → IsWorker (outline setup.now) begin w) }
+            → IsStateAt (setup_view setup.now) begin number state
+            → IsWorker (setup_view setup.now) begin w) }
         ensures ins { IfOk result (λ w. map endpoint_in w.ins
             ≡ endpoints L.Rx.lane L.Rx.number L.Rx.origin L.Rx.taken ins.items) }
         ensures outs { IfOk result (λ w. map endpoint_out w.outs
@@ -288,8 +291,8 @@ impl<L: Lanes> Worker<L> {
     /// After [`Turn::NoMemory`] the journal, function, counts and planned items are as before the
     /// turn, and what was taken is in the hands. The turn may be called again.
     pub fn turn<G: Gate>(&mut self, need: &mut L::Need, setup: &Setup, gate: &G) -> Turn
-        requires law { (begin : Begin) × IsWorker (outline setup.now) begin self.old }
-        ensures { IsTurn (outline setup.now) result self.old self.new }
+        requires law { (begin : Begin) × IsWorker (setup_view setup.now) begin self.old }
+        ensures { IsTurn (setup_view setup.now) result self.old self.new }
     {
         workers_keep_steady(setup);
         let put = self.put_waiting(need);

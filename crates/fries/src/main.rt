@@ -1,5 +1,6 @@
-//! The program `fries`: it hands its words to [`top_call::fries`], over the files and the standard output of the host, and ends with
-//! the status that it returns. What the status means is told on the standard error, in sentences.
+//! The program `fries`: it hands its words to [`top_call::fries`], over the files and the standard
+//! output of the host, and ends with the status that it returns. What the status means is told on
+//! the standard error, in sentences.
 #![tactic(auto)]
 
 use advice::{Call, HostLook, advice};
@@ -34,7 +35,8 @@ fn main(rt: HostRuntime) -> ExitCode {
     ExitCode::from(status)
 }
 
-// Tells on the standard error what ended the call, or why requests were refused. What comes of that changes nothing.
+// Tells on the standard error what ended the call, or why requests were refused. What comes of that
+// changes nothing.
 fn tell(rt: &HostRuntime, alloc: Global, words: &[Word], outcome: &Outcome) {
     let call = Call {
         words,
@@ -46,9 +48,9 @@ fn tell(rt: &HostRuntime, alloc: Global, words: &[Word], outcome: &Outcome) {
     }
 }
 
-// A file that is opened gets the least descriptor that is free. If the program is started without one of the three standard ones, the
-// first file would get it, and what is printed would land in that file. So `/dev/null` takes it first, open for reading only: a write to
-// it is refused.
+// A file that is opened gets the least descriptor that is free. If the program is started without
+// one of the three standard ones, the first file would get it, and what is printed would land in
+// that file. So `/dev/null` takes it first, open for reading only: a write to it is refused.
 fn take_standard_descriptors<R: Files>(rt: &R) -> io::Result<[R::File; 3]> {
     Ok([
         File::open(rt, "/dev/null")?,

@@ -22,8 +22,8 @@ use std::thread::Threads;
 use top_call::{Outcome, fries};
 use tuple_trace::{Bytes, NoMemory, OpenGate, Word};
 
-/// What a call finds outside: files by their names, and the numbers of the calls of the shelf and of
-/// the output that fail.
+/// What a call finds outside: files by their names, and the numbers of the calls of the shelf and
+/// of the output that fail.
 #[derive(Clone, Copy)]
 pub struct Around<'a> {
     pub files: &'a [(&'a str, &'a str)],
@@ -61,8 +61,8 @@ pub enum Wanted<'a> {
 
 /// What of a record is compared.
 ///
-/// That of `first` is determined as a whole. Of the engine's only some lines are: the rest depends on
-/// how the threads are scheduled.
+/// That of `first` is determined as a whole. Of the engine's only some lines are: the rest depends
+/// on how the threads are scheduled.
 #[derive(Clone, Copy)]
 pub enum Ran<'a> {
     /// There is no record.
@@ -124,7 +124,8 @@ impl<'a> Left<'a> {
     }
 }
 
-/// The words of a call, the names of the files that are looked at after it, and what it finds outside.
+/// The words of a call, the names of the files that are looked at after it, and what it finds
+/// outside.
 #[derive(Drop)]
 struct Call {
     words: Vec<Word>,

@@ -5,7 +5,7 @@ use Rattle.flow_dag.specs.declared.edge.Edge.{Edge}
 use Rattle.jobs.specs.declared.column.Column.{Column}
 use Rattle.jobs.specs.declared.func.NodeDef.{NodeDef}
 use Rattle.jobs.specs.declared.table.Table.{Table}
-use Rattle.jobs.specs.Written.{Written, written_as}
+use Rattle.jobs.specs.JobView.{JobView, job_view_as}
 use Rattle.job_file.specs.declared.fault.FormFault.{FormFault}
 use Rattle.job_file.specs.declared.fault.FormFault.TheVariants as fault
 use Rattle.job_file.specs.declared.fault.Part.TheVariants as part
@@ -29,11 +29,11 @@ abbrev pub edges_in : List NodeDef → Members → Result (List Edge) FormFault
 edges_in nodes ms = and_then (optional_items_at (codes "edge") part.Edge ms) (all_of (edge_of nodes))
 
 -- the job of a table: first its keys, then its columns, tables, nodes and edges
-unfoldable pub layout_of : Members → Result Written FormFault
+unfoldable pub layout_of : Members → Result JobView FormFault
 layout_of ms =
     if has_only (codes "columns" ∷ codes "tables" ∷ codes "node" ∷ codes "edge" ∷ []) [] ms then
     and_then (columns_in ms) (λ columns.
     and_then (tables_in ms) (λ tables.
     and_then (nodes_in columns tables ms) (λ nodes.
-    and_then (edges_in nodes ms) (λ edges. Ok (written_as columns nodes edges tables)))))
+    and_then (edges_in nodes ms) (λ edges. Ok (job_view_as columns nodes edges tables)))))
     else Err (fault.Shape part.Unknown)

@@ -2,7 +2,7 @@
 use Rattle.std.specs.Prelude.{ℕ, List, Option, None, Some, Result, Ok, Err}
 use Rattle.toml.specs.Data.{Members}
 use Rattle.jobs.specs.Limits.{Oversize}
-use Rattle.jobs.specs.Written.{Written}
+use Rattle.jobs.specs.JobView.{JobView}
 use Rattle.versions.specs.declared.request.Request.{Request}
 use Rattle.job_file.specs.declared.fault.ReqFileFault.{ReqFileFault}
 use Rattle.job_file.specs.declared.fault.ReqFileFault.TheVariants as fault
@@ -21,9 +21,9 @@ abbrev pub within_limits : List Request → Result (List Request) ReqFileFault
 within_limits requests = unless_outside (list_oversize requests) (Ok requests)
 
 -- the requests of the table of a document: their form, then their wide numbers, then their sizes
-abbrev pub requests_in : Written → Members → Result (List Request) ReqFileFault
+abbrev pub requests_in : JobView → Members → Result (List Request) ReqFileFault
 requests_in job ms = and_then (in_request_form (list_in job ms)) (λ requests. unless_outside (wide_in_requests ms) (within_limits requests))
 
 -- the requests that a file makes of a job, or its first fault
-abbrev pub requests_of : Written → List ℕ → Result (List Request) ReqFileFault
+abbrev pub requests_of : JobView → List ℕ → Result (List Request) ReqFileFault
 requests_of job bytes = and_then (in_request_form (document_of bytes)) (requests_in job)

@@ -43,8 +43,10 @@ fn carry_with(parts: &[Toml]) -> Result<Carry, FormFault>
 }
 
 fn scale(word: &Toml, by: &Toml, over: &Toml) -> Result<Carry, FormFault>
-    ensures ok { IfOk result (λ carry. scale_of (view word.now) (view by.now) (view over.now) ≡ Ok carry) }
-    ensures fault { IfErr result (λ fault. scale_of (view word.now) (view by.now) (view over.now) ≡ Err fault) }
+    ensures ok { IfOk result (λ carry. scale_of (view word.now) (view by.now) (view over.now)
+        ≡ Ok carry) }
+    ensures fault { IfErr result (λ fault. scale_of (view word.now) (view by.now) (view over.now)
+        ≡ Err fault) }
 {
     if text(word, Part::Carry)? != "scale" {
         return Err(FormFault::Shape(Part::Carry));

@@ -1,6 +1,6 @@
 ghost use Rattle.std.specs.Prelude.{◌≡◌, ◌≢◌, Ok, Err, IfOk, IfErr};
 ghost use Rattle.toml.specs.View.{items_view, table_view, view};
-ghost use Rattle.jobs.specs.Job.{written};
+ghost use Rattle.jobs.specs.Job.{job_view};
 ghost use Rattle.job_file.specs.Changes.{carry_in, change_in, change_of, from_in, func_of_change};
 ghost use Rattle.job_file.specs.Document.{all_of};
 
@@ -18,8 +18,10 @@ use versions::{Change, Changes};
 
 /// The changes of a request.
 pub(crate) fn read_changes(alloc: Global, job: &Job, items: &[Toml]) -> Result<Changes, FormFault>
-    ensures ok { IfOk result (λ changes. all_of (change_of (written job.now)) (items_view items.now) ≡ Ok changes) }
-    ensures fault { IfErr result (λ fault. fault ≢ FormFault.NoMemory → all_of (change_of (written job.now)) (items_view items.now) ≡ Err fault) }
+    ensures ok { IfOk result (λ changes. all_of (change_of (job_view job.now))
+        (items_view items.now) ≡ Ok changes) }
+    ensures fault { IfErr result (λ fault. fault ≢ FormFault.NoMemory
+        → all_of (change_of (job_view job.now)) (items_view items.now) ≡ Err fault) }
 {
     let mut list = Changes::new(alloc);
     for item in items {
@@ -29,15 +31,18 @@ pub(crate) fn read_changes(alloc: Global, job: &Job, items: &[Toml]) -> Result<C
 }
 
 fn read_change(alloc: Global, job: &Job, item: &Toml) -> Result<Change, FormFault>
-    ensures ok { IfOk result (λ change. change_of (written job.now) (view item.now) ≡ Ok change) }
-    ensures fault { IfErr result (λ fault. fault ≢ FormFault.NoMemory → change_of (written job.now) (view item.now) ≡ Err fault) }
+    ensures ok { IfOk result (λ change. change_of (job_view job.now) (view item.now) ≡ Ok change) }
+    ensures fault { IfErr result (λ fault. fault ≢ FormFault.NoMemory
+        → change_of (job_view job.now) (view item.now) ≡ Err fault) }
 {
     change_from(alloc, job, table(item, Part::Change)?)
 }
 
 fn change_from(alloc: Global, job: &Job, members: &Members) -> Result<Change, FormFault>
-    ensures ok { IfOk result (λ change. change_in (written job.now) (table_view members.now) ≡ Ok change) }
-    ensures fault { IfErr result (λ fault. fault ≢ FormFault.NoMemory → change_in (written job.now) (table_view members.now) ≡ Err fault) }
+    ensures ok { IfOk result (λ change. change_in (job_view job.now) (table_view members.now)
+        ≡ Ok change) }
+    ensures fault { IfErr result (λ fault. fault ≢ FormFault.NoMemory
+        → change_in (job_view job.now) (table_view members.now) ≡ Err fault) }
 {
     let name = text_at(members, "node", Part::Node)?;
     let from = read_from(members)?;
@@ -63,8 +68,10 @@ fn read_from(members: &Members) -> Result<u64, FormFault>
 }
 
 fn read_func_of_change(alloc: Global, job: &Job, members: &Members) -> Result<Func, FormFault>
-    ensures ok { IfOk result (λ func. func_of_change (written job.now) (table_view members.now) ≡ Ok func) }
-    ensures fault { IfErr result (λ fault. fault ≢ FormFault.NoMemory → func_of_change (written job.now) (table_view members.now) ≡ Err fault) }
+    ensures ok { IfOk result (λ func. func_of_change (job_view job.now) (table_view members.now)
+        ≡ Ok func) }
+    ensures fault { IfErr result (λ fault. fault ≢ FormFault.NoMemory
+        → func_of_change (job_view job.now) (table_view members.now) ≡ Err fault) }
 {
     let kind = read_kind(members)?;
     read_func(

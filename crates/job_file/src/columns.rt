@@ -14,7 +14,8 @@ use tuple_trace::Txt;
 /// The columns of a job.
 pub(crate) fn read_columns(alloc: Global, items: &[Toml]) -> Result<ColumnDefs, FormFault>
     ensures ok { IfOk result (λ columns. all_of column_of (items_view items.now) ≡ Ok columns) }
-    ensures fault { IfErr result (λ fault. fault ≢ FormFault.NoMemory → all_of column_of (items_view items.now) ≡ Err fault) }
+    ensures fault { IfErr result (λ fault. fault ≢ FormFault.NoMemory
+        → all_of column_of (items_view items.now) ≡ Err fault) }
 {
     let mut list = ColumnDefs::new(alloc);
     for item in items {
@@ -25,14 +26,16 @@ pub(crate) fn read_columns(alloc: Global, items: &[Toml]) -> Result<ColumnDefs, 
 
 fn read_column(alloc: Global, item: &Toml) -> Result<Column, FormFault>
     ensures ok { IfOk result (λ column. column_of (view item.now) ≡ Ok column) }
-    ensures fault { IfErr result (λ fault. fault ≢ FormFault.NoMemory → column_of (view item.now) ≡ Err fault) }
+    ensures fault { IfErr result (λ fault. fault ≢ FormFault.NoMemory
+        → column_of (view item.now) ≡ Err fault) }
 {
     column_from(alloc, text(item, Part::Columns)?)
 }
 
 fn column_from(alloc: Global, text: &str) -> Result<Column, FormFault>
     ensures ok { IfOk result (λ column. column_text text.now ≡ Ok column) }
-    ensures fault { IfErr result (λ fault. fault ≢ FormFault.NoMemory → column_text text.now ≡ Err fault) }
+    ensures fault { IfErr result (λ fault. fault ≢ FormFault.NoMemory
+        → column_text text.now ≡ Err fault) }
 {
     let Some((name, ending)) = text.split_once(':') else {
         return Err(FormFault::Shape(Part::Columns));

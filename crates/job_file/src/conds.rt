@@ -17,8 +17,10 @@ pub(crate) fn read_conds(
     columns: &[Column],
     items: &[Toml],
 ) -> Result<Conds, FormFault>
-    ensures ok { IfOk result (λ conds. all_of (cond_of columns.now) (items_view items.now) ≡ Ok conds) }
-    ensures fault { IfErr result (λ fault. fault ≢ FormFault.NoMemory → all_of (cond_of columns.now) (items_view items.now) ≡ Err fault) }
+    ensures ok { IfOk result (λ conds. all_of (cond_of columns.now) (items_view items.now)
+        ≡ Ok conds) }
+    ensures fault { IfErr result (λ fault. fault ≢ FormFault.NoMemory
+        → all_of (cond_of columns.now) (items_view items.now) ≡ Err fault) }
 {
     let mut list = Conds::new(alloc);
     for item in items {
@@ -29,14 +31,16 @@ pub(crate) fn read_conds(
 
 fn read_cond(alloc: Global, columns: &[Column], item: &Toml) -> Result<Cond, FormFault>
     ensures ok { IfOk result (λ cond. cond_of columns.now (view item.now) ≡ Ok cond) }
-    ensures fault { IfErr result (λ fault. fault ≢ FormFault.NoMemory → cond_of columns.now (view item.now) ≡ Err fault) }
+    ensures fault { IfErr result (λ fault. fault ≢ FormFault.NoMemory
+        → cond_of columns.now (view item.now) ≡ Err fault) }
 {
     cond_from(alloc, columns, items(item, Part::When)?)
 }
 
 fn cond_from(alloc: Global, columns: &[Column], parts: &[Toml]) -> Result<Cond, FormFault>
     ensures ok { IfOk result (λ cond. cond_in columns.now (items_view parts.now) ≡ Ok cond) }
-    ensures fault { IfErr result (λ fault. fault ≢ FormFault.NoMemory → cond_in columns.now (items_view parts.now) ≡ Err fault) }
+    ensures fault { IfErr result (λ fault. fault ≢ FormFault.NoMemory
+        → cond_in columns.now (items_view parts.now) ≡ Err fault) }
 {
     if parts.len() != 3 {
         return Err(FormFault::Shape(Part::When));
@@ -51,8 +55,10 @@ fn cond_of_three(
     test: &Toml,
     literal: &Toml,
 ) -> Result<Cond, FormFault>
-    ensures ok { IfOk result (λ cond. cond_by columns.now (view column.now) (view test.now) (view literal.now) ≡ Ok cond) }
-    ensures fault { IfErr result (λ fault. fault ≢ FormFault.NoMemory → cond_by columns.now (view column.now) (view test.now) (view literal.now) ≡ Err fault) }
+    ensures ok { IfOk result (λ cond. cond_by columns.now (view column.now) (view test.now)
+        (view literal.now) ≡ Ok cond) }
+    ensures fault { IfErr result (λ fault. fault ≢ FormFault.NoMemory
+        → cond_by columns.now (view column.now) (view test.now) (view literal.now) ≡ Err fault) }
 {
     let name = text(column, Part::When)?;
     let test = read_test(test)?;

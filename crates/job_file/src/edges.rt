@@ -19,8 +19,10 @@ pub(crate) fn read_edges(
     nodes: &[NodeDef],
     items: &[Toml],
 ) -> Result<Items<Edge>, FormFault>
-    ensures ok { IfOk result (λ edges. all_of (edge_of nodes.now) (items_view items.now) ≡ Ok edges) }
-    ensures fault { IfErr result (λ fault. fault ≢ FormFault.NoMemory → all_of (edge_of nodes.now) (items_view items.now) ≡ Err fault) }
+    ensures ok { IfOk result (λ edges. all_of (edge_of nodes.now) (items_view items.now)
+        ≡ Ok edges) }
+    ensures fault { IfErr result (λ fault. fault ≢ FormFault.NoMemory
+        → all_of (edge_of nodes.now) (items_view items.now) ≡ Err fault) }
 {
     let mut list = Items::new(alloc);
     for item in items {

@@ -44,7 +44,8 @@ pub enum Part {
 pub enum JobFault {
     /// The bytes are no TOML document.
     NotToml,
-    /// A needed key is missing, a key isn't in the layout, or a value isn't of the form that its key asks for.
+    /// A needed key is missing, a key isn't in the layout, or a value isn't of the form that its
+    /// key asks for.
     Shape(Part),
     /// A count or a size is outside its limit; the number is the one that is.
     Limit(Which, i64),
@@ -70,7 +71,8 @@ pub enum JobFault {
 pub enum ReqFileFault {
     /// The bytes are no TOML document.
     NotToml,
-    /// A needed key is missing, a key isn't in the layout, or a value isn't of the form that its key asks for.
+    /// A needed key is missing, a key isn't in the layout, or a value isn't of the form that its
+    /// key asks for.
     Shape(Part),
     /// A count or a size is outside its limit; the number is the one that is.
     Limit(Which, i64),

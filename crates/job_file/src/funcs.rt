@@ -1,7 +1,9 @@
 ghost use Rattle.std.specs.Prelude.{◌≡◌, ◌≢◌, Ok, Err, IfOk, IfErr, map, codes};
 ghost use Rattle.toml.specs.View.{items_view, table_view, view};
 ghost use Rattle.job_file.specs.Document.{all_of};
-ghost use Rattle.job_file.specs.Funcs.{byte_at, column_at, count_in, enrich_in, filter_in, func_by, func_in, listed_of, literal_at, map_in, operand_at, sink_in, split_in, table_at};
+ghost use Rattle.job_file.specs.Funcs.{byte_at, column_at, count_in, enrich_in, filter_in, func_by};
+ghost use Rattle.job_file.specs.Funcs.{func_in, listed_of, literal_at, map_in, operand_at, sink_in};
+ghost use Rattle.job_file.specs.Funcs.{split_in, table_at};
 
 use crate::conds::read_conds;
 use crate::document::{has_only, items_at, member, text, text_at, whole_at};
@@ -25,8 +27,11 @@ pub(crate) fn read_func(
     kind: Kind,
     members: &Members,
 ) -> Result<Func, FormFault>
-    ensures ok { IfOk result (λ func. func_in columns.now tables.now (map (λ key. key.now) beside.now) kind (table_view members.now) ≡ Ok func) }
-    ensures fault { IfErr result (λ fault. fault ≢ FormFault.NoMemory → func_in columns.now tables.now (map (λ key. key.now) beside.now) kind (table_view members.now) ≡ Err fault) }
+    ensures ok { IfOk result (λ func. func_in columns.now tables.now
+        (map (λ key. key.now) beside.now) kind (table_view members.now) ≡ Ok func) }
+    ensures fault { IfErr result (λ fault. fault ≢ FormFault.NoMemory
+        → func_in columns.now tables.now (map (λ key. key.now) beside.now) kind
+        (table_view members.now) ≡ Err fault) }
 {
     if !has_only(members, beside, kind.row().keys) {
         return Err(FormFault::Shape(Part::Unknown));
@@ -41,8 +46,10 @@ fn func_of(
     kind: Kind,
     members: &Members,
 ) -> Result<Func, FormFault>
-    ensures ok { IfOk result (λ func. func_by columns.now tables.now kind (table_view members.now) ≡ Ok func) }
-    ensures fault { IfErr result (λ fault. fault ≢ FormFault.NoMemory → func_by columns.now tables.now kind (table_view members.now) ≡ Err fault) }
+    ensures ok { IfOk result (λ func. func_by columns.now tables.now kind (table_view members.now)
+        ≡ Ok func) }
+    ensures fault { IfErr result (λ fault. fault ≢ FormFault.NoMemory
+        → func_by columns.now tables.now kind (table_view members.now) ≡ Err fault) }
 {
     match kind {
         Kind::Source => Ok(Func::Source),
@@ -58,7 +65,8 @@ fn func_of(
 
 fn read_filter(alloc: Global, columns: &[Column], members: &Members) -> Result<Func, FormFault>
     ensures ok { IfOk result (λ func. filter_in columns.now (table_view members.now) ≡ Ok func) }
-    ensures fault { IfErr result (λ fault. fault ≢ FormFault.NoMemory → filter_in columns.now (table_view members.now) ≡ Err fault) }
+    ensures fault { IfErr result (λ fault. fault ≢ FormFault.NoMemory
+        → filter_in columns.now (table_view members.now) ≡ Err fault) }
 {
     let items = items_at(members, "when", Part::When)?;
     Ok(Func::Filter(read_conds(alloc, columns, items)?))
@@ -66,7 +74,8 @@ fn read_filter(alloc: Global, columns: &[Column], members: &Members) -> Result<F
 
 fn read_map(alloc: Global, columns: &[Column], members: &Members) -> Result<Func, FormFault>
     ensures ok { IfOk result (λ func. map_in columns.now (table_view members.now) ≡ Ok func) }
-    ensures fault { IfErr result (λ fault. fault ≢ FormFault.NoMemory → map_in columns.now (table_view members.now) ≡ Err fault) }
+    ensures fault { IfErr result (λ fault. fault ≢ FormFault.NoMemory
+        → map_in columns.now (table_view members.now) ≡ Err fault) }
 {
     let items = items_at(members, "steps", Part::Steps)?;
     Ok(Func::Map(read_steps(alloc, columns, items)?))
@@ -78,8 +87,10 @@ fn read_enrich(
     tables: &[Table],
     members: &Members,
 ) -> Result<Func, FormFault>
-    ensures ok { IfOk result (λ func. enrich_in columns.now tables.now (table_view members.now) ≡ Ok func) }
-    ensures fault { IfErr result (λ fault. fault ≢ FormFault.NoMemory → enrich_in columns.now tables.now (table_view members.now) ≡ Err fault) }
+    ensures ok { IfOk result (λ func. enrich_in columns.now tables.now (table_view members.now)
+        ≡ Ok func) }
+    ensures fault { IfErr result (λ fault. fault ≢ FormFault.NoMemory
+        → enrich_in columns.now tables.now (table_view members.now) ≡ Err fault) }
 {
     let key = read_column_at(columns, members, "key", Part::Key)?;
     let into = read_column_at(columns, members, "into", Part::Into)?;
@@ -95,7 +106,8 @@ fn read_enrich(
 
 fn read_count(columns: &[Column], members: &Members) -> Result<Func, FormFault>
     ensures ok { IfOk result (λ func. count_in columns.now (table_view members.now) ≡ Ok func) }
-    ensures fault { IfErr result (λ fault. count_in columns.now (table_view members.now) ≡ Err fault) }
+    ensures fault { IfErr result (λ fault. count_in columns.now (table_view members.now)
+        ≡ Err fault) }
 {
     let key = read_column_at(columns, members, "key", Part::Key)?;
     let add = read_operand_at(columns, members, "add", Part::Add)?;
@@ -105,7 +117,8 @@ fn read_count(columns: &[Column], members: &Members) -> Result<Func, FormFault>
 
 fn read_split(columns: &[Column], members: &Members) -> Result<Func, FormFault>
     ensures ok { IfOk result (λ func. split_in columns.now (table_view members.now) ≡ Ok func) }
-    ensures fault { IfErr result (λ fault. split_in columns.now (table_view members.now) ≡ Err fault) }
+    ensures fault { IfErr result (λ fault. split_in columns.now (table_view members.now)
+        ≡ Err fault) }
 {
     let on = read_column_at(columns, members, "on", Part::On)?;
     let by = read_byte_at(members, "by", Part::By)?;
@@ -119,15 +132,18 @@ fn read_split(columns: &[Column], members: &Members) -> Result<Func, FormFault>
 
 fn read_sink(alloc: Global, columns: &[Column], members: &Members) -> Result<Func, FormFault>
     ensures ok { IfOk result (λ func. sink_in columns.now (table_view members.now) ≡ Ok func) }
-    ensures fault { IfErr result (λ fault. fault ≢ FormFault.NoMemory → sink_in columns.now (table_view members.now) ≡ Err fault) }
+    ensures fault { IfErr result (λ fault. fault ≢ FormFault.NoMemory
+        → sink_in columns.now (table_view members.now) ≡ Err fault) }
 {
     let items = items_at(members, "columns", Part::Columns)?;
     Ok(Func::Sink(read_listed(alloc, columns, items)?))
 }
 
 fn read_listed(alloc: Global, columns: &[Column], items: &[Toml]) -> Result<Columns, FormFault>
-    ensures ok { IfOk result (λ listed. all_of (listed_of columns.now) (items_view items.now) ≡ Ok listed) }
-    ensures fault { IfErr result (λ fault. fault ≢ FormFault.NoMemory → all_of (listed_of columns.now) (items_view items.now) ≡ Err fault) }
+    ensures ok { IfOk result (λ listed. all_of (listed_of columns.now) (items_view items.now)
+        ≡ Ok listed) }
+    ensures fault { IfErr result (λ fault. fault ≢ FormFault.NoMemory
+        → all_of (listed_of columns.now) (items_view items.now) ≡ Err fault) }
 {
     let mut list = Columns::new(alloc);
     for item in items {
@@ -151,8 +167,10 @@ fn read_column_at(
     key: &str,
     part: Part,
 ) -> Result<u32, FormFault>
-    ensures ok { IfOk result (λ column. column_at columns.now key.now part (table_view members.now) ≡ Ok column) }
-    ensures fault { IfErr result (λ fault. column_at columns.now key.now part (table_view members.now) ≡ Err fault) }
+    ensures ok { IfOk result (λ column. column_at columns.now key.now part (table_view members.now)
+        ≡ Ok column) }
+    ensures fault { IfErr result (λ fault. column_at columns.now key.now part
+        (table_view members.now) ≡ Err fault) }
 {
     let name = text_at(members, key, part)?;
     Ok(column_named(columns, name.as_bytes()))
@@ -165,8 +183,10 @@ fn read_table_at(
     key: &str,
     part: Part,
 ) -> Result<u32, FormFault>
-    ensures ok { IfOk result (λ table. table_at tables.now key.now part (table_view members.now) ≡ Ok table) }
-    ensures fault { IfErr result (λ fault. table_at tables.now key.now part (table_view members.now) ≡ Err fault) }
+    ensures ok { IfOk result (λ table. table_at tables.now key.now part (table_view members.now)
+        ≡ Ok table) }
+    ensures fault { IfErr result (λ fault. table_at tables.now key.now part (table_view members.now)
+        ≡ Err fault) }
 {
     let name = text_at(members, key, part)?;
     Ok(table_named(tables, name.as_bytes()))
@@ -178,8 +198,10 @@ fn read_literal_at(
     key: &str,
     part: Part,
 ) -> Result<Value, FormFault>
-    ensures ok { IfOk result (λ literal. literal_at key.now part (table_view members.now) ≡ Ok literal) }
-    ensures fault { IfErr result (λ fault. fault ≢ FormFault.NoMemory → literal_at key.now part (table_view members.now) ≡ Err fault) }
+    ensures ok { IfOk result (λ literal. literal_at key.now part (table_view members.now)
+        ≡ Ok literal) }
+    ensures fault { IfErr result (λ fault. fault ≢ FormFault.NoMemory
+        → literal_at key.now part (table_view members.now) ≡ Err fault) }
 {
     match member(members, key) {
         Some(value) => read_literal(alloc, value, part),
@@ -193,8 +215,10 @@ fn read_operand_at(
     key: &str,
     part: Part,
 ) -> Result<Operand, FormFault>
-    ensures ok { IfOk result (λ operand. operand_at columns.now key.now part (table_view members.now) ≡ Ok operand) }
-    ensures fault { IfErr result (λ fault. operand_at columns.now key.now part (table_view members.now) ≡ Err fault) }
+    ensures ok { IfOk result (λ operand. operand_at columns.now key.now part
+        (table_view members.now) ≡ Ok operand) }
+    ensures fault { IfErr result (λ fault. operand_at columns.now key.now part
+        (table_view members.now) ≡ Err fault) }
 {
     match member(members, key) {
         Some(value) => read_operand(columns, value, part),
@@ -205,7 +229,8 @@ fn read_operand_at(
 /// The text of one byte at a key. A text is UTF-8, so the byte is an ASCII character.
 fn read_byte_at(members: &Members, key: &str, part: Part) -> Result<u8, FormFault>
     ensures ok { IfOk result (λ byte. byte_at key.now part (table_view members.now) ≡ Ok byte) }
-    ensures fault { IfErr result (λ fault. byte_at key.now part (table_view members.now) ≡ Err fault) }
+    ensures fault { IfErr result (λ fault. byte_at key.now part (table_view members.now)
+        ≡ Err fault) }
 {
     match text_at(members, key, part)?.as_bytes() {
         [byte] => Ok(*byte),

@@ -1,6 +1,6 @@
 ghost use Rattle.std.specs.Prelude.{◌≡◌, ◌≢◌, Ok, Err, IfOk, IfErr};
 ghost use Rattle.toml.specs.View.{table_view};
-ghost use Rattle.jobs.specs.Written.{written_as};
+ghost use Rattle.jobs.specs.JobView.{job_view_as};
 ghost use Rattle.job_file.specs.Layout.{columns_in, edges_in, layout_of, nodes_in, tables_in};
 
 use crate::columns::read_columns;
@@ -27,8 +27,10 @@ pub(crate) struct Layout {
 /// Reads the table of a document as a job file.
 #[tactic(auto, unfolding(crate::specs::Layout::layout_of))]
 pub(crate) fn read_layout(alloc: Global, members: &Members) -> Result<Layout, FormFault>
-    ensures ok { IfOk result (λ l. layout_of (table_view members.now) ≡ Ok (written_as l.columns l.nodes l.edges l.tables)) }
-    ensures fault { IfErr result (λ fault. fault ≢ FormFault.NoMemory → layout_of (table_view members.now) ≡ Err fault) }
+    ensures ok { IfOk result (λ l. layout_of (table_view members.now)
+        ≡ Ok (job_view_as l.columns l.nodes l.edges l.tables)) }
+    ensures fault { IfErr result (λ fault. fault ≢ FormFault.NoMemory
+        → layout_of (table_view members.now) ≡ Err fault) }
 {
     if !has_only(members, &["columns", "tables", "node", "edge"], &[]) {
         return Err(FormFault::Shape(Part::Unknown));
@@ -47,14 +49,16 @@ pub(crate) fn read_layout(alloc: Global, members: &Members) -> Result<Layout, Fo
 
 fn columns_at(alloc: Global, members: &Members) -> Result<ColumnDefs, FormFault>
     ensures ok { IfOk result (λ columns. columns_in (table_view members.now) ≡ Ok columns) }
-    ensures fault { IfErr result (λ fault. fault ≢ FormFault.NoMemory → columns_in (table_view members.now) ≡ Err fault) }
+    ensures fault { IfErr result (λ fault. fault ≢ FormFault.NoMemory
+        → columns_in (table_view members.now) ≡ Err fault) }
 {
     read_columns(alloc, items_at(members, "columns", Part::Columns)?)
 }
 
 fn tables_at(alloc: Global, members: &Members) -> Result<Tables, FormFault>
     ensures ok { IfOk result (λ tables. tables_in (table_view members.now) ≡ Ok tables) }
-    ensures fault { IfErr result (λ fault. fault ≢ FormFault.NoMemory → tables_in (table_view members.now) ≡ Err fault) }
+    ensures fault { IfErr result (λ fault. fault ≢ FormFault.NoMemory
+        → tables_in (table_view members.now) ≡ Err fault) }
 {
     match member(members, "tables") {
         Some(value) => read_tables(alloc, table(value, Part::Tables)?),
@@ -68,8 +72,10 @@ fn nodes_at(
     tables: &[Table],
     members: &Members,
 ) -> Result<NodeDefs, FormFault>
-    ensures ok { IfOk result (λ nodes. nodes_in columns.now tables.now (table_view members.now) ≡ Ok nodes) }
-    ensures fault { IfErr result (λ fault. fault ≢ FormFault.NoMemory → nodes_in columns.now tables.now (table_view members.now) ≡ Err fault) }
+    ensures ok { IfOk result (λ nodes. nodes_in columns.now tables.now (table_view members.now)
+        ≡ Ok nodes) }
+    ensures fault { IfErr result (λ fault. fault ≢ FormFault.NoMemory
+        → nodes_in columns.now tables.now (table_view members.now) ≡ Err fault) }
 {
     let items = items_at(members, "node", Part::Node)?;
     read_nodes(alloc, columns, tables, items)
@@ -77,7 +83,8 @@ fn nodes_at(
 
 fn edges_at(alloc: Global, nodes: &[NodeDef], members: &Members) -> Result<Items<Edge>, FormFault>
     ensures ok { IfOk result (λ edges. edges_in nodes.now (table_view members.now) ≡ Ok edges) }
-    ensures fault { IfErr result (λ fault. fault ≢ FormFault.NoMemory → edges_in nodes.now (table_view members.now) ≡ Err fault) }
+    ensures fault { IfErr result (λ fault. fault ≢ FormFault.NoMemory
+        → edges_in nodes.now (table_view members.now) ≡ Err fault) }
 {
     read_edges(alloc, nodes, items_or_none(members, "edge", Part::Edge)?)
 }

@@ -1,6 +1,7 @@
 //! Reads a job, and requests to change it, from the bytes of their files.
 //!
-//! Both files are TOML documents. [`read_job`] answers the job that a file writes down, and [`read_requests`] the requests, or the first fault.
+//! Both files are TOML documents. [`read_job`] answers the job that a file writes down, and
+//! [`read_requests`] the requests, or the first fault.
 #![tactic(auto)]
 
 mod carries;

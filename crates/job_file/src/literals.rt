@@ -12,7 +12,8 @@ use tuple_trace::{Txt, Value};
 /// A value that is a whole number or a text.
 pub(crate) fn read_literal(alloc: Global, value: &Toml, part: Part) -> Result<Value, FormFault>
     ensures ok { IfOk result (λ literal. literal_of part (view value.now) ≡ Ok literal) }
-    ensures fault { IfErr result (λ fault. fault ≢ FormFault.NoMemory → literal_of part (view value.now) ≡ Err fault) }
+    ensures fault { IfErr result (λ fault. fault ≢ FormFault.NoMemory
+        → literal_of part (view value.now) ≡ Err fault) }
 {
     if let Some(number) = value.as_integer() {
         return Ok(Value::Num(number));
@@ -29,8 +30,10 @@ pub(crate) fn read_operand(
     value: &Toml,
     part: Part,
 ) -> Result<Operand, FormFault>
-    ensures ok { IfOk result (λ operand. operand_of columns.now part (view value.now) ≡ Ok operand) }
-    ensures fault { IfErr result (λ fault. operand_of columns.now part (view value.now) ≡ Err fault) }
+    ensures ok { IfOk result (λ operand. operand_of columns.now part (view value.now)
+        ≡ Ok operand) }
+    ensures fault { IfErr result (λ fault. operand_of columns.now part (view value.now)
+        ≡ Err fault) }
 {
     if let Some(number) = value.as_integer() {
         return Ok(Operand::Number(number));

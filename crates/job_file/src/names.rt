@@ -1,13 +1,15 @@
 ghost use Rattle.std.specs.Prelude.{◌≡◌};
 ghost use Rattle.std.specs.List.{list_all};
-ghost use Rattle.job_file.specs.Names.{column_named, column_place, is_name, is_name_byte, node_named, node_place, number_of, table_named, table_place};
+ghost use Rattle.job_file.specs.Names.{column_named, column_place, is_name, is_name_byte};
+ghost use Rattle.job_file.specs.Names.{node_named, node_place, number_of, table_named, table_place};
 
 use jobs::{Column, NOWHERE, NodeDef, Table};
 
 /// How many bytes a name has at most.
 const NAME_MAX: usize = 32;
 
-/// How many columns or nodes are searched for a name. A job with more of them is refused for its size.
+/// How many columns or nodes are searched for a name. A job with more of them is refused for its
+/// size.
 const SEARCHED_MAX: usize = 64;
 
 /// Whether a text is a name of a column, a node or a table.

@@ -21,8 +21,10 @@ pub(crate) fn read_nodes(
     tables: &[Table],
     items: &[Toml],
 ) -> Result<NodeDefs, FormFault>
-    ensures ok { IfOk result (λ nodes. all_of (node_of columns.now tables.now) (items_view items.now) ≡ Ok nodes) }
-    ensures fault { IfErr result (λ fault. fault ≢ FormFault.NoMemory → all_of (node_of columns.now tables.now) (items_view items.now) ≡ Err fault) }
+    ensures ok { IfOk result (λ nodes. all_of (node_of columns.now tables.now)
+        (items_view items.now) ≡ Ok nodes) }
+    ensures fault { IfErr result (λ fault. fault ≢ FormFault.NoMemory
+        → all_of (node_of columns.now tables.now) (items_view items.now) ≡ Err fault) }
 {
     let mut list = NodeDefs::new(alloc);
     for item in items {
@@ -38,7 +40,8 @@ fn read_node(
     item: &Toml,
 ) -> Result<NodeDef, FormFault>
     ensures ok { IfOk result (λ node. node_of columns.now tables.now (view item.now) ≡ Ok node) }
-    ensures fault { IfErr result (λ fault. fault ≢ FormFault.NoMemory → node_of columns.now tables.now (view item.now) ≡ Err fault) }
+    ensures fault { IfErr result (λ fault. fault ≢ FormFault.NoMemory
+        → node_of columns.now tables.now (view item.now) ≡ Err fault) }
 {
     node_from(alloc, columns, tables, table(item, Part::Node)?)
 }
@@ -49,8 +52,10 @@ fn node_from(
     tables: &[Table],
     members: &Members,
 ) -> Result<NodeDef, FormFault>
-    ensures ok { IfOk result (λ node. node_in columns.now tables.now (table_view members.now) ≡ Ok node) }
-    ensures fault { IfErr result (λ fault. fault ≢ FormFault.NoMemory → node_in columns.now tables.now (table_view members.now) ≡ Err fault) }
+    ensures ok { IfOk result (λ node. node_in columns.now tables.now (table_view members.now)
+        ≡ Ok node) }
+    ensures fault { IfErr result (λ fault. fault ≢ FormFault.NoMemory
+        → node_in columns.now tables.now (table_view members.now) ≡ Err fault) }
 {
     let name = read_name(alloc, members)?;
     let kind = read_kind(members)?;
@@ -75,7 +80,8 @@ fn read_roof(func: &Func, members: &Members) -> Result<i64, FormFault>
 
 fn read_name(alloc: Global, members: &Members) -> Result<Txt, FormFault>
     ensures ok { IfOk result (λ name. name_in (table_view members.now) ≡ Ok name) }
-    ensures fault { IfErr result (λ fault. fault ≢ FormFault.NoMemory → name_in (table_view members.now) ≡ Err fault) }
+    ensures fault { IfErr result (λ fault. fault ≢ FormFault.NoMemory
+        → name_in (table_view members.now) ≡ Err fault) }
 {
     let name = text_at(members, "name", Part::Name)?;
     if !is_name(name.as_bytes()) {

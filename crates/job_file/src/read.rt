@@ -1,5 +1,5 @@
 ghost use Rattle.std.specs.Prelude.{◌≡◌, ◌≢◌, Ok, Err, IfOk, IfErr};
-ghost use Rattle.jobs.specs.Job.{written};
+ghost use Rattle.jobs.specs.Job.{job_view};
 ghost use Rattle.job_file.specs.Job.{Excludes, HaveOneFault, IsFaultIn, IsJobIn};
 ghost use Rattle.job_file.specs.RequestFile.{requests_of};
 ghost use Rattle.job_file.specs.RequestSizes.{AreFew};
@@ -19,12 +19,13 @@ use versions::Requests;
 ///
 /// # Errors
 ///
-/// The faults are looked for in the order of [`JobFault`], and the first that stands is answered. Of faults of form, the first in the
-/// order of the layout is: the keys of a table, then what stands at each, and the columns before the tables, the nodes and the edges.
-/// Of sizes, a number that has more than 32 bits or is below 0 comes first; the others come in the order of their limits.
-/// [`JobFault::NoMemory`] may come of any file.
+/// The faults are looked for in the order of [`JobFault`], and the first that stands is answered.
+/// Of faults of form, the first in the order of the layout is: the keys of a table, then what
+/// stands at each, and the columns before the tables, the nodes and the edges. Of sizes, a number
+/// that has more than 32 bits or is below 0 comes first; the others come in the order of their
+/// limits. [`JobFault::NoMemory`] may come of any file.
 pub fn read_job(alloc: Global, bytes: &[u8]) -> Result<Job, JobFault>
-    ensures ok { IfOk result (λ job. IsJobIn bytes.now (written job)) }
+    ensures ok { IfOk result (λ job. IsJobIn bytes.now (job_view job)) }
     ensures fault { IfErr result (λ fault. fault ≢ JobFault.NoMemory → IsFaultIn bytes.now fault) }
 {
     let members = document(alloc, bytes)?;
@@ -54,15 +55,17 @@ pub fn files_have_one_fault()
 ///
 /// # Errors
 ///
-/// The faults are looked for in the order of [`ReqFileFault`], and the first that stands is answered. Of faults of form, the first in the
-/// order of the layout is: the keys of a table, then what stands at each. Of sizes, an `after` or a `most` that has more than 32 bits or is
-/// below 0 comes first, then the number of requests, and then request by request its `after`, the number of its changes, and the
-/// sizes of their functions. [`ReqFileFault::NoMemory`] may come of any file.
+/// The faults are looked for in the order of [`ReqFileFault`], and the first that stands is
+/// answered. Of faults of form, the first in the order of the layout is: the keys of a table, then
+/// what stands at each. Of sizes, an `after` or a `most` that has more than 32 bits or is below 0
+/// comes first, then the number of requests, and then request by request its `after`, the number of
+/// its changes, and the sizes of their functions. [`ReqFileFault::NoMemory`] may come of any file.
 pub fn read_requests(alloc: Global, job: &Job, bytes: &[u8]) -> Result<Requests, ReqFileFault>
-    ensures ok { IfOk result (λ requests. requests_of (written job.now) bytes.now ≡ Ok requests) }
+    ensures ok { IfOk result (λ requests. requests_of (job_view job.now) bytes.now ≡ Ok requests) }
     ensures few { IfOk result AreFew }
     ensures limits { IfOk result HaveLimits }
-    ensures fault { IfErr result (λ fault. fault ≢ ReqFileFault.NoMemory → requests_of (written job.now) bytes.now ≡ Err fault) }
+    ensures fault { IfErr result (λ fault. fault ≢ ReqFileFault.NoMemory
+        → requests_of (job_view job.now) bytes.now ≡ Err fault) }
 {
     let members = document(alloc, bytes)?;
     let requests = read_list(alloc, job, &members)?;

@@ -1,7 +1,9 @@
 ghost use Rattle.std.specs.Prelude.{◌≡◌, IfNone};
 ghost use Rattle.toml.specs.View.{items_view, table_view, view};
 ghost use Rattle.jobs.specs.Limits.{first_oversize, outside};
-ghost use Rattle.job_file.specs.RequestSizes.{AreFew, change_oversize, list_oversize, request_oversize, wide_change, wide_in_requests, wide_request, wide_request_item};
+ghost use Rattle.job_file.specs.RequestSizes.{AreFew, change_oversize, list_oversize};
+ghost use Rattle.job_file.specs.RequestSizes.{request_oversize, wide_change, wide_in_requests};
+ghost use Rattle.job_file.specs.RequestSizes.{wide_request, wide_request_item};
 ghost use Rattle.job_file.specs.Wide.{first_found};
 ghost use Rattle.versions.specs.Kept.{HaveLimits};
 

@@ -1,6 +1,6 @@
 ghost use Rattle.std.specs.Prelude.{◌≡◌, ◌≢◌, Ok, Err, IfOk, IfErr};
 ghost use Rattle.toml.specs.View.{items_view, table_view, view};
-ghost use Rattle.jobs.specs.Job.{written};
+ghost use Rattle.jobs.specs.Job.{job_view};
 ghost use Rattle.job_file.specs.Document.{all_of};
 ghost use Rattle.job_file.specs.Requests.{changes_in, list_in, request_in, request_of};
 
@@ -15,8 +15,10 @@ use versions::{Changes, Request, Requests};
 
 /// Reads the table of a document as a request file.
 pub(crate) fn read_list(alloc: Global, job: &Job, members: &Members) -> Result<Requests, FormFault>
-    ensures ok { IfOk result (λ requests. list_in (written job.now) (table_view members.now) ≡ Ok requests) }
-    ensures fault { IfErr result (λ fault. fault ≢ FormFault.NoMemory → list_in (written job.now) (table_view members.now) ≡ Err fault) }
+    ensures ok { IfOk result (λ requests. list_in (job_view job.now) (table_view members.now)
+        ≡ Ok requests) }
+    ensures fault { IfErr result (λ fault. fault ≢ FormFault.NoMemory
+        → list_in (job_view job.now) (table_view members.now) ≡ Err fault) }
 {
     if !has_only(members, &["request"], &[]) {
         return Err(FormFault::Shape(Part::Unknown));
@@ -29,8 +31,10 @@ pub(crate) fn read_list(alloc: Global, job: &Job, members: &Members) -> Result<R
 }
 
 fn read_requests_of(alloc: Global, job: &Job, items: &[Toml]) -> Result<Requests, FormFault>
-    ensures ok { IfOk result (λ requests. all_of (request_of (written job.now)) (items_view items.now) ≡ Ok requests) }
-    ensures fault { IfErr result (λ fault. fault ≢ FormFault.NoMemory → all_of (request_of (written job.now)) (items_view items.now) ≡ Err fault) }
+    ensures ok { IfOk result (λ requests. all_of (request_of (job_view job.now))
+        (items_view items.now) ≡ Ok requests) }
+    ensures fault { IfErr result (λ fault. fault ≢ FormFault.NoMemory
+        → all_of (request_of (job_view job.now)) (items_view items.now) ≡ Err fault) }
 {
     let mut list = Requests::new(alloc);
     for item in items {
@@ -40,15 +44,19 @@ fn read_requests_of(alloc: Global, job: &Job, items: &[Toml]) -> Result<Requests
 }
 
 fn read_request(alloc: Global, job: &Job, item: &Toml) -> Result<Request, FormFault>
-    ensures ok { IfOk result (λ request. request_of (written job.now) (view item.now) ≡ Ok request) }
-    ensures fault { IfErr result (λ fault. fault ≢ FormFault.NoMemory → request_of (written job.now) (view item.now) ≡ Err fault) }
+    ensures ok { IfOk result (λ request. request_of (job_view job.now) (view item.now)
+        ≡ Ok request) }
+    ensures fault { IfErr result (λ fault. fault ≢ FormFault.NoMemory
+        → request_of (job_view job.now) (view item.now) ≡ Err fault) }
 {
     request_from(alloc, job, table(item, Part::Request)?)
 }
 
 fn request_from(alloc: Global, job: &Job, members: &Members) -> Result<Request, FormFault>
-    ensures ok { IfOk result (λ request. request_in (written job.now) (table_view members.now) ≡ Ok request) }
-    ensures fault { IfErr result (λ fault. fault ≢ FormFault.NoMemory → request_in (written job.now) (table_view members.now) ≡ Err fault) }
+    ensures ok { IfOk result (λ request. request_in (job_view job.now) (table_view members.now)
+        ≡ Ok request) }
+    ensures fault { IfErr result (λ fault. fault ≢ FormFault.NoMemory
+        → request_in (job_view job.now) (table_view members.now) ≡ Err fault) }
 {
     if !has_only(members, &["after", "change"], &[]) {
         return Err(FormFault::Shape(Part::Unknown));
@@ -62,8 +70,10 @@ fn request_from(alloc: Global, job: &Job, members: &Members) -> Result<Request, 
 }
 
 fn changes_at(alloc: Global, job: &Job, members: &Members) -> Result<Changes, FormFault>
-    ensures ok { IfOk result (λ changes. changes_in (written job.now) (table_view members.now) ≡ Ok changes) }
-    ensures fault { IfErr result (λ fault. fault ≢ FormFault.NoMemory → changes_in (written job.now) (table_view members.now) ≡ Err fault) }
+    ensures ok { IfOk result (λ changes. changes_in (job_view job.now) (table_view members.now)
+        ≡ Ok changes) }
+    ensures fault { IfErr result (λ fault. fault ≢ FormFault.NoMemory
+        → changes_in (job_view job.now) (table_view members.now) ≡ Err fault) }
 {
     read_changes(alloc, job, items_or_none(members, "change", Part::Change)?)
 }

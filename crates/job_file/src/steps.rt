@@ -17,8 +17,10 @@ pub(crate) fn read_steps(
     columns: &[Column],
     items: &[Toml],
 ) -> Result<Steps, FormFault>
-    ensures ok { IfOk result (λ steps. all_of (step_of columns.now) (items_view items.now) ≡ Ok steps) }
-    ensures fault { IfErr result (λ fault. fault ≢ FormFault.NoMemory → all_of (step_of columns.now) (items_view items.now) ≡ Err fault) }
+    ensures ok { IfOk result (λ steps. all_of (step_of columns.now) (items_view items.now)
+        ≡ Ok steps) }
+    ensures fault { IfErr result (λ fault. fault ≢ FormFault.NoMemory
+        → all_of (step_of columns.now) (items_view items.now) ≡ Err fault) }
 {
     let mut list = Steps::new(alloc);
     for item in items {
@@ -51,8 +53,10 @@ fn step_of_four(
     a: &Toml,
     b: &Toml,
 ) -> Result<Step, FormFault>
-    ensures ok { IfOk result (λ step. step_by columns.now (view column.now) (view op.now) (view a.now) (view b.now) ≡ Ok step) }
-    ensures fault { IfErr result (λ fault. step_by columns.now (view column.now) (view op.now) (view a.now) (view b.now) ≡ Err fault) }
+    ensures ok { IfOk result (λ step. step_by columns.now (view column.now) (view op.now)
+        (view a.now) (view b.now) ≡ Ok step) }
+    ensures fault { IfErr result (λ fault. step_by columns.now (view column.now) (view op.now)
+        (view a.now) (view b.now) ≡ Err fault) }
 {
     let name = text(column, Part::Steps)?;
     let op = read_op(op)?;

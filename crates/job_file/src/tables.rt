@@ -13,10 +13,12 @@ use std::alloc::Global;
 use toml::{Table as Members, Value as Toml};
 use tuple_trace::{Txt, Value};
 
-/// The tables of a job, in the order of their names by bytes, which is that of the keys of a document.
+/// The tables of a job, in the order of their names by bytes, which is that of the keys of a
+/// document.
 pub(crate) fn read_tables(alloc: Global, members: &Members) -> Result<Tables, FormFault>
     ensures ok { IfOk result (λ tables. tables_of (table_view members.now) ≡ Ok tables) }
-    ensures fault { IfErr result (λ fault. fault ≢ FormFault.NoMemory → tables_of (table_view members.now) ≡ Err fault) }
+    ensures fault { IfErr result (λ fault. fault ≢ FormFault.NoMemory
+        → tables_of (table_view members.now) ≡ Err fault) }
 {
     let mut list = Tables::new(alloc);
     for (name, value) in members.iter() {
@@ -27,7 +29,8 @@ pub(crate) fn read_tables(alloc: Global, members: &Members) -> Result<Tables, Fo
 
 fn read_table(alloc: Global, name: &str, value: &Toml) -> Result<Table, FormFault>
     ensures ok { IfOk result (λ table. named_table name.now (view value.now) ≡ Ok table) }
-    ensures fault { IfErr result (λ fault. fault ≢ FormFault.NoMemory → named_table name.now (view value.now) ≡ Err fault) }
+    ensures fault { IfErr result (λ fault. fault ≢ FormFault.NoMemory
+        → named_table name.now (view value.now) ≡ Err fault) }
 {
     if !is_name(name.as_bytes()) {
         return Err(FormFault::Shape(Part::Tables));
@@ -39,7 +42,8 @@ fn read_table(alloc: Global, name: &str, value: &Toml) -> Result<Table, FormFaul
 
 fn read_entries(alloc: Global, members: &Members) -> Result<TextMap<Value>, FormFault>
     ensures ok { IfOk result (λ entries. entries_onto empty (table_view members.now) ≡ Ok entries) }
-    ensures fault { IfErr result (λ fault. fault ≢ FormFault.NoMemory → entries_onto empty (table_view members.now) ≡ Err fault) }
+    ensures fault { IfErr result (λ fault. fault ≢ FormFault.NoMemory
+        → entries_onto empty (table_view members.now) ≡ Err fault) }
 {
     let mut entries = TextMap::new(alloc);
     for (key, value) in members.iter() {

@@ -1,6 +1,7 @@
 ghost use Rattle.std.specs.Prelude.{◌≡◌};
 ghost use Rattle.toml.specs.View.{items_view, table_view, view};
-ghost use Rattle.job_file.specs.Wide.{first_found, is_wide, wide_at, wide_in, wide_item, wide_node, wide_number};
+ghost use Rattle.job_file.specs.Wide.{first_found, is_wide, wide_at, wide_in, wide_item, wide_node};
+ghost use Rattle.job_file.specs.Wide.{wide_number};
 
 use crate::document::{items_or_none, member, table};
 use crate::fault::Part;

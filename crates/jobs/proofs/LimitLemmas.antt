@@ -9,7 +9,7 @@ use Rattle.jobs.specs.declared.func.NodeDef.{NodeDef}
 use Rattle.flow_dag.specs.declared.edge.Edge.{Edge}
 use Rattle.jobs.specs.Limits.{HasLimits, Oversize, entry_count, first_oversize, first_oversize_of, func_oversize, most_roof_of, outside, roof_oversize, table_oversize, workers_oversize}
 use Rattle.jobs.specs.Nodes.{fan_out, most_workers, worker_count}
-use Rattle.jobs.specs.Written.{Written}
+use Rattle.jobs.specs.JobView.{JobView}
 
 pub option_or-none : {A : Type 0} (o p : Option A) → option_or o p ≡ None → (o ≡ None) × (p ≡ None)
 option_or-none None p e = (refl, e)
@@ -46,7 +46,7 @@ roof-within : (nodes : List NodeDef) (edges : List Edge) (n : NodeDef) → (fan_
     → roof_oversize nodes edges n ≡ None
 roof-within nodes edges n (low, high) = outside-within which.Roof (fan_out n.func) (most_roof_of nodes edges n) n.roof low high
 
-HasLimits-from_none : (job : Written) → first_oversize_of job ≡ None → HasLimits job
+HasLimits-from_none : (job : JobView) → first_oversize_of job ≡ None → HasLimits job
 HasLimits-from_none job e =
     let (nodes, e1) = option_or-none _ _ e in
     let (edges, e2) = option_or-none _ _ e1 in
@@ -69,7 +69,7 @@ HasLimits-from_none job e =
     }
 
 -- a job within its limits has no size that is outside of them
-pub first_oversize_of-none : (job : Written) → HasLimits job → first_oversize_of job ≡ None
+pub first_oversize_of-none : (job : JobView) → HasLimits job → first_oversize_of job ≡ None
 first_oversize_of-none job limits =
     rw (outside-within which.Nodes 1 64 (length job.nodes) limits.nodes.0 limits.nodes.1)
     (rw (outside-within which.Edges 0 128 (length job.edges) (omega arith) limits.edges)
@@ -82,6 +82,6 @@ first_oversize_of-none job limits =
     (first_oversize-all (roof_oversize job.nodes job.edges) job.nodes (All-weaker _ _ (roof-within job.nodes job.edges) job.nodes limits.roofs)))))))))
 
 -- where no size is found, all are within their limits
-pub IfNone-limits : (job : Written) (answer : Option Oversize) → answer ≡ first_oversize_of job → IfNone answer (HasLimits job)
+pub IfNone-limits : (job : JobView) (answer : Option Oversize) → answer ≡ first_oversize_of job → IfNone answer (HasLimits job)
 IfNone-limits job None is = HasLimits-from_none job (sym is)
 IfNone-limits job (Some size) is = tt

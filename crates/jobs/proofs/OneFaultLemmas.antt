@@ -15,7 +15,7 @@ use Rattle.jobs.specs.Limits.{HasLimits, Oversize, first_oversize_of}
 use Rattle.jobs.specs.Names.{is_new_column, is_new_node}
 use Rattle.jobs.specs.Places.{EachPasses, IsFirstFailure}
 use Rattle.jobs.specs.Weights.{weight}
-use Rattle.jobs.specs.Written.{Written}
+use Rattle.jobs.specs.JobView.{JobView}
 use Rattle.jobs.proofs.EdgeLemmas.{IsOutside-inside, get_or-take}
 use Rattle.jobs.proofs.LimitLemmas.{first_oversize_of-none}
 
@@ -78,7 +78,7 @@ IsLeastOnCycle-one : (edges : List Edge) → IsOne (IsLeastOnCycle edges)
 IsLeastOnCycle-one edges =
     least_one (IsLeastOnCycle edges) (λ i j lt (p : IsLeastOnCycle edges i) (q : IsLeastOnCycle edges j). q.1 i lt p.0)
 
-module _ (job : Written) where
+module _ (job : JobView) where
   abbrev IsSize : Oversize → Type 0
   IsSize size = first_oversize_of job ≡ Some size
 
@@ -142,6 +142,6 @@ module _ (job : Written) where
   IsRefused-checked fault.NoMemory plain r = absurd (plain refl)
 
 -- a job is refused for one fault alone
-pub IsRefused-one : (f g : LawFault) (job : Written) → f ≢ fault.NoMemory → g ≢ fault.NoMemory → IsRefused f job → IsRefused g job → f ≡ g
+pub IsRefused-one : (f g : LawFault) (job : JobView) → f ≢ fault.NoMemory → g ≢ fault.NoMemory → IsRefused f job → IsRefused g job → f ≡ g
 IsRefused-one f g job plain plain' first second =
     Refusal-one job f g (IsRefused-checked job f plain first) (IsRefused-checked job g plain' second)

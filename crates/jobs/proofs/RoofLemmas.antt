@@ -16,7 +16,7 @@ use Rattle.jobs.specs.Names.{is_new_node, is_node_named, leaves_named, named_out
 use Rattle.jobs.specs.Nodes.{fan_out, most_roof}
 use Rattle.jobs.specs.Places.{EachPasses}
 use Rattle.jobs.specs.Ports.{leaves, out_count}
-use Rattle.jobs.specs.Written.{Written}
+use Rattle.jobs.specs.JobView.{JobView}
 
 -- no node has the name of an earlier one
 apart : (nodes : List NodeDef) (i j : ℕ) (a b : NodeDef) → EachPasses (is_new_node nodes) nodes → slice_get nodes i ≡ Some a → slice_get nodes j ≡ Some b
@@ -65,7 +65,7 @@ module _ (nodes : List NodeDef) (distinct : EachPasses (is_new_node nodes) nodes
       ]
 
 -- the roof of a node is at least its own function's fan-out, and at most what its kind and its edges allow
-pub roof_of_node : (job : Written) (v : ℕ) (node : NodeDef) → IsLawful job → slice_get job.nodes v ≡ Some node
+pub roof_of_node : (job : JobView) (v : ℕ) (node : NodeDef) → IsLawful job → slice_get job.nodes v ≡ Some node
     → (fan_out node.func ≤ node.roof) × (node.roof ≤ most_roof node.func (out_count job.edges v))
 roof_of_node job v node law there =
     let P : NodeDef → Type 0 = λ (n : NodeDef). (fan_out n.func ≤ n.roof) × (n.roof ≤ most_roof_of job.nodes job.edges n) in

@@ -11,7 +11,7 @@ use Rattle.flow_dag.proofs.EdgeLemmas.{HasEdge-at}
 use Rattle.flow_dag.proofs.PlaceLemmas.{get_or-place_of, place_of-below, place_of-forward}
 use Rattle.jobs.specs.declared.func.NodeDef.{NodeDef}
 use Rattle.jobs.specs.Weights.{HasSettledWeights, weighed, weight_after}
-use Rattle.jobs.specs.Written.{Written}
+use Rattle.jobs.specs.JobView.{JobView}
 use Rattle.jobs.proofs.WeightLemmas.{weighed-same, weight_after-suc}
 
 module _ (nodes : List NodeDef) (edges : List Edge) (n : ℕ) (order : List ℕ)
@@ -89,7 +89,7 @@ module _ (nodes : List NodeDef) (edges : List Edge) (n : ℕ) (order : List ℕ)
       let at : slice_index order (place_of order v) ≡ v = get_or-place_of (HasEdge edges) n order is_order v below in
       rw at at (done (place_of order v) (place_of-below (HasEdge edges) n order is_order v below))
 
-pub HasSettledWeights-drawn : (job : Written) (dag : DagView) → dag.nodes ≡ length job.nodes → dag.edges ≡ job.edges → HasSettledWeights job
+pub HasSettledWeights-drawn : (job : JobView) (dag : DagView) → dag.nodes ≡ length job.nodes → dag.edges ≡ job.edges → HasSettledWeights job
 HasSettledWeights-drawn job dag count edges v node at =
     let below : v < dag.nodes = rw count (slice_get_within job.nodes v node at) in
     let settled = weight_after-settles job.nodes dag.edges dag.nodes dag.order dag.lawful.ordered dag.lawful.inside v below in

@@ -6,11 +6,11 @@ use Rattle.jobs.specs.declared.fault.LawFault.{LawFault}
 use Rattle.jobs.specs.declared.fault.LawFault.TheVariants as fault
 use Rattle.jobs.specs.declared.fault.Named.TheVariants as named
 use Rattle.jobs.specs.Law.{IsLawful, IsRefused}
-use Rattle.jobs.specs.Written.{Written}
+use Rattle.jobs.specs.JobView.{JobView}
 use Rattle.jobs.proofs.EdgeLemmas.{IsOutside-inside}
 use Rattle.jobs.proofs.LimitLemmas.{first_oversize_of-none}
 
-pub IsRefused-unlawful : (f : LawFault) (job : Written) → f ≢ fault.NoMemory → IsLawful job → IsRefused f job → ⊥
+pub IsRefused-unlawful : (f : LawFault) (job : JobView) → f ≢ fault.NoMemory → IsLawful job → IsRefused f job → ⊥
 IsRefused-unlawful (fault.Limit which number) job plain law size = none-some (which, number) (sym (first_oversize_of-none job law.limits) ∙ size)
 IsRefused-unlawful (fault.NameTwice named.Column i) job plain law (limits, ((x, at, fails), before)) = both_ways _ fails (law.column_names i x at)
 IsRefused-unlawful (fault.NameTwice named.Node i) job plain law (limits, columns, ((x, at, fails), before)) = both_ways _ fails (law.node_names i x at)

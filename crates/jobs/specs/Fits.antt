@@ -17,7 +17,7 @@ use Rattle.jobs.specs.declared.func.Test.{Test}
 use Rattle.jobs.specs.declared.table.Table.{Table}
 use Rattle.jobs.specs.Columns.{has_column, holds, is_amount, is_text, kind_at}
 use Rattle.jobs.specs.Tests.{row_of_test}
-use Rattle.jobs.specs.Written.{Written}
+use Rattle.jobs.specs.JobView.{JobView}
 
 -- the test may compare a column with the literal: not every test is one of texts
 abbrev pub is_tested : Test → Value → Bool
@@ -75,5 +75,5 @@ fits_table tables func.Replicate = true
 fits_table tables (func.Sink listed) = true
 
 -- a node of the job may have the function: its columns and its table fit
-abbrev pub fits : Written → Func → Bool
+abbrev pub fits : JobView → Func → Bool
 fits job func = fits_columns job.columns job.tables func && fits_table job.tables func

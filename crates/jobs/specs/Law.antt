@@ -12,54 +12,54 @@ use Rattle.jobs.specs.Names.{is_new_column, is_new_node}
 use Rattle.jobs.specs.Places.{EachPasses, IsFirstFailure}
 use Rattle.jobs.specs.Ports.{are_ports}
 use Rattle.jobs.specs.Weights.{weight}
-use Rattle.jobs.specs.Written.{Written}
+use Rattle.jobs.specs.JobView.{JobView}
 
 -- the columns have different names
-abbrev pub HasColumnNames : Written → Type 0
+abbrev pub HasColumnNames : JobView → Type 0
 HasColumnNames job = EachPasses (is_new_column job.columns) job.columns
 
 -- the nodes have different names
-abbrev pub HasNodeNames : Written → Type 0
+abbrev pub HasNodeNames : JobView → Type 0
 HasNodeNames job = EachPasses (is_new_node job.nodes) job.nodes
 
 -- both ends of each edge are nodes
-abbrev pub HasEnds : Written → Type 0
+abbrev pub HasEnds : JobView → Type 0
 HasEnds job = All (IsInside (length job.nodes)) job.edges
 
 -- the edges of the node are those of its kind
-abbrev pub has_ports_of : Written → ℕ → NodeDef → Bool
+abbrev pub has_ports_of : JobView → ℕ → NodeDef → Bool
 has_ports_of job v node = are_ports job.edges v node.func
 
 -- the edges of each node are those of its kind
-abbrev pub HasPorts : Written → Type 0
+abbrev pub HasPorts : JobView → Type 0
 HasPorts job = EachPasses (has_ports_of job) job.nodes
 
 -- no path leads from a node back to it
-abbrev pub HasNoCycle : Written → Type 0
+abbrev pub HasNoCycle : JobView → Type 0
 HasNoCycle job = IsAcyclic (HasEdge job.edges)
 
 -- the function of the node fits the columns
-abbrev pub has_columns_of : Written → ℕ → NodeDef → Bool
+abbrev pub has_columns_of : JobView → ℕ → NodeDef → Bool
 has_columns_of job v node = fits_columns job.columns job.tables node.func
 
 -- the function of each node fits the columns
-abbrev pub HasColumns : Written → Type 0
+abbrev pub HasColumns : JobView → Type 0
 HasColumns job = EachPasses (has_columns_of job) job.nodes
 
 -- the table that the node names is there
-abbrev pub has_table_of : Written → ℕ → NodeDef → Bool
+abbrev pub has_table_of : JobView → ℕ → NodeDef → Bool
 has_table_of job v node = fits_table job.tables node.func
 
 -- the tables that nodes name are there
-abbrev pub HasTables : Written → Type 0
+abbrev pub HasTables : JobView → Type 0
 HasTables job = EachPasses (has_table_of job) job.nodes
 
 -- sizes, names and edges are as they have to be
-abbrev pub HasShape : Written → Type 0
+abbrev pub HasShape : JobView → Type 0
 HasShape job = HasLimits job × HasColumnNames job × HasNodeNames job × HasEnds job × HasPorts job
 
 -- a lawful job
-pub record IsLawful (job : Written) : Type 0 where
+pub record IsLawful (job : JobView) : Type 0 where
   pub limits : HasLimits job
   pub column_names : HasColumnNames job
   pub node_names : HasNodeNames job
@@ -71,7 +71,7 @@ pub record IsLawful (job : Written) : Type 0 where
   pub weight : weight job ≤ 1024
 
 -- what a fault says of the job: it stands, at the first place that has it, and none of the faults above it does. Want of memory says nothing
-abbrev pub IsRefused : LawFault → Written → Type 0
+abbrev pub IsRefused : LawFault → JobView → Type 0
 IsRefused (fault.Limit which number) job = first_oversize_of job ≡ Some (which, number)
 IsRefused (fault.NameTwice named.Column i) job = HasLimits job × IsFirstFailure (is_new_column job.columns) job.columns i
 IsRefused (fault.NameTwice named.Node i) job = HasLimits job × HasColumnNames job × IsFirstFailure (is_new_node job.nodes) job.nodes i
@@ -107,8 +107,8 @@ IsRefused fault.NoMemory job = ⊤
 
 -- no job is both lawful and refused, but for want of memory
 abbrev pub Excludes : Type 0
-Excludes = (f : LawFault) (job : Written) → f ≢ fault.NoMemory → IsLawful job → IsRefused f job → ⊥
+Excludes = (f : LawFault) (job : JobView) → f ≢ fault.NoMemory → IsLawful job → IsRefused f job → ⊥
 
 -- no job is refused for two faults, but for want of memory
 abbrev pub HaveOneFault : Type 0
-HaveOneFault = (f g : LawFault) (job : Written) → f ≢ fault.NoMemory → g ≢ fault.NoMemory → IsRefused f job → IsRefused g job → f ≡ g
+HaveOneFault = (f g : LawFault) (job : JobView) → f ≢ fault.NoMemory → g ≢ fault.NoMemory → IsRefused f job → IsRefused g job → f ≡ g

@@ -1,4 +1,4 @@
-pub mod Written
+pub mod JobView
 pub mod Places
 pub mod Columns
 pub mod Fits

@@ -16,7 +16,7 @@ use Rattle.jobs.specs.declared.table.Table.{Table}
 use Rattle.flow_dag.specs.declared.edge.Edge.{Edge}
 use Rattle.jobs.specs.Names.{named_out_count}
 use Rattle.jobs.specs.Nodes.{fan_out, most_roof, most_workers, worker_count}
-use Rattle.jobs.specs.Written.{Written}
+use Rattle.jobs.specs.JobView.{JobView}
 
 -- a size that is outside of its limits: what it is a size of, and its number, cut to 64 bits
 abbrev pub Oversize : Type 0
@@ -101,7 +101,7 @@ abbrev pub table_oversize : Table → Option Oversize
 table_oversize table = first_oversize entry_oversize (finite.entries table.entries)
 
 -- the first size of the job that is outside of its limits, in this order
-abbrev pub first_oversize_of : Written → Option Oversize
+abbrev pub first_oversize_of : JobView → Option Oversize
 first_oversize_of job =
     option_or (outside which.Nodes 1 64 (length job.nodes))
     (option_or (outside which.Edges 0 128 (length job.edges))
@@ -114,7 +114,7 @@ first_oversize_of job =
     (first_oversize (roof_oversize job.nodes job.edges) job.nodes))))))))
 
 -- every size is within its limits
-pub record HasLimits (job : Written) : Type 0 where
+pub record HasLimits (job : JobView) : Type 0 where
   pub nodes : (1 ≤ length job.nodes) × (length job.nodes ≤ 64)
   pub edges : length job.edges ≤ 128
   pub columns : (1 ≤ length job.columns) × (length job.columns ≤ 12)

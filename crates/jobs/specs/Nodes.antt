@@ -4,7 +4,7 @@ use Rattle.jobs.specs.declared.func.Func.{Func}
 use Rattle.jobs.specs.declared.func.Func.TheVariants as func
 use Rattle.jobs.specs.declared.func.NodeDef.{NodeDef}
 use Rattle.jobs.specs.Kinds.{are_copies, are_free, are_pieces, are_several, are_none, row_at}
-use Rattle.jobs.specs.Written.{Written}
+use Rattle.jobs.specs.JobView.{JobView}
 use Rattle.tuple_trace.specs.declared.row.Row.{Row}
 
 -- rows enter at a source
@@ -58,11 +58,11 @@ is_source_node None = false
 is_source_node (Some node) = is_source node.func
 
 -- the node with this number is a source
-abbrev pub IsSourceOf : Written → ℕ → Type 0
+abbrev pub IsSourceOf : JobView → ℕ → Type 0
 IsSourceOf job node = IsTrue (is_source_node (slice_get job.nodes node))
 
 -- each row enters by a source of the job
-abbrev pub AreFromSources : Written → List Row → Type 0
+abbrev pub AreFromSources : JobView → List Row → Type 0
 AreFromSources job rows = All (λ (row : Row). IsSourceOf job row.source) rows
 
 -- the most workers that a node with this function may have

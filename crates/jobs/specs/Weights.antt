@@ -5,7 +5,7 @@ use Rattle.jobs.specs.declared.func.Func.{Func}
 use Rattle.jobs.specs.declared.func.NodeDef.{NodeDef}
 use Rattle.jobs.specs.Nodes.{is_source, is_source_node}
 use Rattle.jobs.specs.Places.{Each}
-use Rattle.jobs.specs.Written.{Written}
+use Rattle.jobs.specs.JobView.{JobView}
 
 -- how many tuples a node may send along an edge for one that it gets: its roof, whatever function requests give it
 abbrev pub fan_out_at : Option NodeDef → ℕ
@@ -52,10 +52,10 @@ abbrev pub weight_of : List NodeDef → List Edge → ℕ
 weight_of nodes edges = weight_from (node_weight nodes edges) 0 nodes
 
 -- the weight of a job: how many tuples one row may bring to its nodes that aren't sources
-abbrev pub weight : Written → ℕ
+abbrev pub weight : JobView → ℕ
 weight job = weight_of job.nodes job.edges
 
 -- every node weighs what its senders' weights make
-abbrev pub HasSettledWeights : Written → Type 0
+abbrev pub HasSettledWeights : JobView → Type 0
 HasSettledWeights job =
     Each (λ v node. node_weight job.nodes job.edges v ≡ weighed job.nodes job.edges (node_weight job.nodes job.edges) v) job.nodes

@@ -1,9 +1,9 @@
 // The one way to a job: its parts are checked.
 ghost use Rattle.std.specs.Prelude.{◌≡◌, ◌≤◌, IfOk, IfErr, OnOk, length};
-ghost use Rattle.jobs.specs.Job.{written};
+ghost use Rattle.jobs.specs.Job.{job_view};
 ghost use Rattle.jobs.specs.Law.{HasColumns, HasNoCycle, HasShape, HasTables, IsRefused};
 ghost use Rattle.jobs.specs.Weights.{weight};
-ghost use Rattle.jobs.specs.Written.{written_as};
+ghost use Rattle.jobs.specs.JobView.{job_view_as};
 
 use crate::{
     Column, ColumnDefs, Job, LawFault, Named, NodeDef, NodeDefs, Table, Tables, fitting, limits,
@@ -17,8 +17,9 @@ impl Job {
     ///
     /// # Errors
     ///
-    /// The faults are looked for in the order of [`LawFault`], sizes in the order of their limits, and everything else in the order of its
-    /// places; the first that stands is answered. A cycle is named by its least node. [`LawFault::NoMemory`] may come of any parts.
+    /// The faults are looked for in the order of [`LawFault`], sizes in the order of their limits,
+    /// and everything else in the order of its places; the first that stands is answered. A cycle
+    /// is named by its least node. [`LawFault::NoMemory`] may come of any parts.
     pub fn check(
         alloc: Global,
         columns: ColumnDefs,
@@ -26,8 +27,10 @@ impl Job {
         edges: &[Edge],
         tables: Tables,
     ) -> Result<Job, LawFault>
-        ensures job { IfOk result (λ job. written job ≡ written_as columns nodes edges.now tables) }
-        ensures fault { IfErr result (λ fault. IsRefused fault (written_as columns nodes edges.now tables)) }
+        ensures job { IfOk result (λ job. job_view job
+            ≡ job_view_as columns nodes edges.now tables) }
+        ensures fault { IfErr result (λ fault. IsRefused fault
+            (job_view_as columns nodes edges.now tables)) }
     {
         check_shape(
             columns.as_slice(),
@@ -64,8 +67,10 @@ fn check_shape(
     edges: &[Edge],
     tables: &[Table],
 ) -> Result<(), LawFault>
-    ensures shape { OnOk result (HasShape (written_as columns.now nodes.now edges.now tables.now)) }
-    ensures fault { IfErr result (λ fault. IsRefused fault (written_as columns.now nodes.now edges.now tables.now)) }
+    ensures shape { OnOk result (HasShape (job_view_as columns.now nodes.now edges.now
+        tables.now)) }
+    ensures fault { IfErr result (λ fault. IsRefused fault
+        (job_view_as columns.now nodes.now edges.now tables.now)) }
 {
     if let Some((which, number)) = limits::first_size_fault(columns, nodes, edges, tables) {
         return Err(LawFault::Limit(which, number));
@@ -93,16 +98,16 @@ fn check_meaning(
     tables: &[Table],
 ) -> Result<(), LawFault>
     requires graph { dag.now.nodes ≡ length nodes.now }
-    requires shape { HasShape (written_as columns.now nodes.now dag.now.edges tables.now) }
-    requires acyclic { HasNoCycle (written_as columns.now nodes.now dag.now.edges tables.now) }
+    requires shape { HasShape (job_view_as columns.now nodes.now dag.now.edges tables.now) }
+    requires acyclic { HasNoCycle (job_view_as columns.now nodes.now dag.now.edges tables.now) }
     ensures columns { OnOk result
-        (HasColumns (written_as columns.now nodes.now dag.now.edges tables.now)) }
+        (HasColumns (job_view_as columns.now nodes.now dag.now.edges tables.now)) }
     ensures tables { OnOk result
-        (HasTables (written_as columns.now nodes.now dag.now.edges tables.now)) }
+        (HasTables (job_view_as columns.now nodes.now dag.now.edges tables.now)) }
     ensures weight { OnOk result
-        (weight (written_as columns.now nodes.now dag.now.edges tables.now) ≤ 1024) }
+        (weight (job_view_as columns.now nodes.now dag.now.edges tables.now) ≤ 1024) }
     ensures fault { IfErr result (λ fault.
-        IsRefused fault (written_as columns.now nodes.now dag.now.edges tables.now)) }
+        IsRefused fault (job_view_as columns.now nodes.now dag.now.edges tables.now)) }
 {
     if let Some(v) = fitting::wrong_columns(columns, nodes, tables) {
         return Err(LawFault::Column(v));

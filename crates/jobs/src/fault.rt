@@ -29,7 +29,8 @@ pub enum Which {
 pub enum LawFault {
     /// A count or a size is outside its limit; the number is the one that is.
     Limit(Which, i64),
-    /// The column or node at this place has the name of an earlier one. Columns are looked at before nodes.
+    /// The column or node at this place has the name of an earlier one. Columns are looked at
+    /// before nodes.
     NameTwice(Named, u32),
     /// The edge at this place has an end that is no node.
     NoSuchEnd(u32),

@@ -3,7 +3,8 @@ ghost use Rattle.std.specs.Prelude.{◌≡◌, ◌≤◌, length};
 ghost use Rattle.std.specs.List.{list_all};
 ghost use Rattle.jobs.specs.Columns.{has_column, holds, is_amount, is_text, kind_at};
 ghost use Rattle.jobs.specs.Places.{FindsFailure};
-ghost use Rattle.jobs.specs.Fits.{cond_fits, fits_columns, fits_table, is_tested, operand_fits, step_fits};
+ghost use Rattle.jobs.specs.Fits.{cond_fits, fits_columns, fits_table, is_tested, operand_fits};
+ghost use Rattle.jobs.specs.Fits.{step_fits};
 
 use crate::tables::table_fits;
 use crate::{Column, ColumnKind, Cond, Func, NodeDef, Operand, Step, Table, Test};
@@ -12,7 +13,8 @@ use tuple_trace::Value;
 /// The first node whose function doesn't fit the columns.
 pub fn wrong_columns(columns: &[Column], nodes: &[NodeDef], tables: &[Table]) -> Option<u32>
     requires { length nodes.now ≤ 64 }
-    ensures { FindsFailure (λ _ node. fits_columns columns.now tables.now node.func) nodes.now result }
+    ensures { FindsFailure (λ _ node. fits_columns columns.now tables.now node.func) nodes.now
+        result }
 {
     for i in 0..nodes.len() {
         if !fits_columns(columns, tables, &nodes[i].func) {

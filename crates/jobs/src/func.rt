@@ -49,7 +49,8 @@ pub struct Step {
     pub b: Operand,
 }
 
-/// A look-up: the column `into` becomes what the table holds for the text in `key`, and `other` where it holds nothing for it.
+/// A look-up: the column `into` becomes what the table holds for the text in `key`, and `other`
+/// where it holds nothing for it.
 #[derive(Clone, Debug, Drop)]
 pub struct Lookup {
     pub key: u32,
@@ -58,7 +59,8 @@ pub struct Lookup {
     pub other: Value,
 }
 
-/// A counter: the count of the text in `key` grows by `add`, and the column `into` becomes the count.
+/// A counter: the count of the text in `key` grows by `add`, and the column `into` becomes the
+/// count.
 #[derive(Clone, Copy, Debug, PartialEq, Eq)]
 pub struct CountBy {
     pub key: u32,
@@ -66,7 +68,8 @@ pub struct CountBy {
     pub into: u32,
 }
 
-/// A split: the text in `on` is cut at every byte `by`, and each of the first `most` pieces makes a tuple.
+/// A split: the text in `on` is cut at every byte `by`, and each of the first `most` pieces makes a
+/// tuple.
 #[derive(Clone, Copy, Debug, PartialEq, Eq)]
 pub struct SplitBy {
     pub on: u32,
@@ -85,7 +88,8 @@ pub type Steps = Items<Step>;
 pub enum Func {
     /// Rows enter here. The feeder plays it.
     Source,
-    /// Sends a tuple that meets all conditions to port 0, and any other to port 1, where it ends if the node has no edge there.
+    /// Sends a tuple that meets all conditions to port 0, and any other to port 1, where it ends if
+    /// the node has no edge there.
     Filter(Conds),
     /// Computes columns of numbers.
     Map(Steps),

@@ -1,6 +1,6 @@
 ghost use Rattle.std.specs.Prelude.{◌≡◌, length};
 ghost use Rattle.jobs.specs.Law.{IsLawful};
-ghost use Rattle.jobs.specs.Written.{written_as};
+ghost use Rattle.jobs.specs.JobView.{job_view_as};
 
 use crate::{ColumnDefs, NodeDefs, Tables};
 use flow_dag::Dag;
@@ -13,5 +13,5 @@ pub struct Job {
     pub dag: Dag,
     pub tables: Tables,
     ghost drawn: { dag.nodes ≡ length nodes },
-    ghost lawful: { IsLawful (written_as columns nodes dag.edges tables) },
+    ghost lawful: { IsLawful (job_view_as columns nodes dag.edges tables) },
 }

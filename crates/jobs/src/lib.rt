@@ -1,7 +1,8 @@
 //! Jobs as data, and which of them are lawful.
 //!
-//! A job is a graph of nodes, each with a function on tuples, over one list of columns. What the functions do to a tuple is the business of
-//! the crate `operators`; workers, lanes and requests are unknown here.
+//! A job is a graph of nodes, each with a function on tuples, over one list of columns. What the
+//! functions do to a tuple is the business of the crate `operators`; workers, lanes and requests
+//! are unknown here.
 #![tactic(auto)]
 
 mod check;

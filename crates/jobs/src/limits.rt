@@ -1,10 +1,13 @@
 // Sizes and their limits.
 ghost use Rattle.std.specs.Prelude.{◌≡◌, ◌≤◌, IfNone, length, min};
-ghost use Rattle.jobs.specs.Limits.{HasLimits, entry_count, entry_oversize, first_oversize, first_oversize_of, func_oversize, kept, literal_oversize, outside, oversize, roof_oversize, table_oversize, text_oversize, value_oversize, workers_oversize};
+ghost use Rattle.jobs.specs.Limits.{HasLimits, entry_count, entry_oversize, first_oversize};
+ghost use Rattle.jobs.specs.Limits.{first_oversize_of, func_oversize, kept, literal_oversize};
+ghost use Rattle.jobs.specs.Limits.{outside, oversize, roof_oversize, table_oversize};
+ghost use Rattle.jobs.specs.Limits.{text_oversize, value_oversize, workers_oversize};
 ghost use Rattle.std.specs.FinMap as finite;
 ghost use Rattle.jobs.specs.declared.func.Func.TheVariants.{Filter};
 ghost use Rattle.jobs.specs.Nodes.{worker_count};
-ghost use Rattle.jobs.specs.Written.{written_as};
+ghost use Rattle.jobs.specs.JobView.{job_view_as};
 
 use crate::names::named_out_count;
 use crate::node::{fan_out, most_roof, most_workers};
@@ -16,17 +19,19 @@ use tuple_trace::Value;
 /// The most bytes of a text.
 pub const TEXT_MAX: usize = 48;
 
-/// The first size that is outside of its limits, with its number. The order is: nodes, edges, columns, the workers of each node, all workers,
-/// the entries of all tables, the texts of each table, the sizes of each node's function, and the
-/// roof of each node.
+/// The first size that is outside of its limits, with its number. The order is: nodes, edges,
+/// columns, the workers of each node, all workers, the entries of all tables, the texts of each
+/// table, the sizes of each node's function, and the roof of each node.
 pub fn first_size_fault(
     columns: &[Column],
     nodes: &[NodeDef],
     edges: &[Edge],
     tables: &[Table],
 ) -> Option<(Which, i64)>
-    ensures fault { result ≡ first_oversize_of (written_as columns.now nodes.now edges.now tables.now) }
-    ensures limits { IfNone result (HasLimits (written_as columns.now nodes.now edges.now tables.now)) }
+    ensures fault { result ≡ first_oversize_of (job_view_as columns.now nodes.now edges.now
+        tables.now) }
+    ensures limits { IfNone result (HasLimits (job_view_as columns.now nodes.now edges.now
+        tables.now)) }
 {
     if let Some(fault) = outside(Which::Nodes, 1, 64, nodes.len() as u64) {
         return Some(fault);
@@ -55,8 +60,9 @@ pub fn first_size_fault(
     roofs_fault(nodes, edges)
 }
 
-/// The first size of a function that is outside of its limits, with its number: up to 8 conditions or steps, 1 to 16 pieces, and up to 48 bytes
-/// of a text that is a literal or an `other`. Takes no memory.
+/// The first size of a function that is outside of its limits, with its number: up to 8 conditions
+/// or steps, 1 to 16 pieces, and up to 48 bytes of a text that is a literal or an `other`. Takes no
+/// memory.
 pub fn size_fault(func: &Func) -> Option<(Which, i64)>
     ensures { result ≡ oversize func.now }
 {
@@ -208,7 +214,8 @@ fn text_fault(text: &[u8]) -> Option<(Which, i64)>
     outside(Which::Text, 0, TEXT_MAX as u64, text.len() as u64)
 }
 
-/// The size with this name, where the number is outside its limits; both are within them. The number is cut to 63 bits.
+/// The size with this name, where the number is outside its limits; both are within them. The
+/// number is cut to 63 bits.
 pub fn outside(which: Which, least: u64, most: u64, number: u64) -> Option<(Which, i64)>
     ensures { result ≡ outside which least most number }
 {

@@ -1,6 +1,7 @@
 // Names that are taken.
 ghost use Rattle.std.specs.Prelude.{◌≡◌, ◌≤◌, length};
-ghost use Rattle.jobs.specs.Names.{has_column_named, has_node_named, is_new_column, is_new_node, leaves_named, named_out_count};
+ghost use Rattle.jobs.specs.Names.{has_column_named, has_node_named, is_new_column, is_new_node};
+ghost use Rattle.jobs.specs.Names.{leaves_named, named_out_count};
 ghost use Rattle.jobs.specs.Places.{FindsFailure};
 
 use crate::{Column, NodeDef};

@@ -1,6 +1,7 @@
 // What the kind of a node's function says of it: what is read off the kind's row.
 ghost use Rattle.std.specs.Prelude.{◌≡◌};
-ghost use Rattle.jobs.specs.Nodes.{fan_out, is_count, is_fixed, is_free, is_replicate, is_source, is_split, most_roof, most_workers, workers_of};
+ghost use Rattle.jobs.specs.Nodes.{fan_out, is_count, is_fixed, is_free, is_replicate, is_source};
+ghost use Rattle.jobs.specs.Nodes.{is_split, most_roof, most_workers, workers_of};
 
 use crate::{Followers, Func, NodeDef, Shape};
 

@@ -2,7 +2,8 @@
 ghost use Rattle.std.specs.Prelude.{◌≡◌, ◌≤◌, ◌&&◌, All, MatchOption, length, take};
 ghost use Rattle.flow_dag.specs.Edges.{IsInside, IsOutside};
 ghost use Rattle.jobs.specs.Places.{FindsFailure};
-ghost use Rattle.jobs.specs.Ports.{are_ports, has_edge, has_port, has_ports, is_entered, leads_twice, may_enter, may_leave, out_count};
+ghost use Rattle.jobs.specs.Ports.{are_ports, has_edge, has_port, has_ports, is_entered};
+ghost use Rattle.jobs.specs.Ports.{leads_twice, may_enter, may_leave, out_count};
 
 use crate::{Func, NodeDef};
 use flow_dag::Edge;
@@ -10,7 +11,8 @@ use flow_dag::Edge;
 /// The first edge that has an end which is none of the first `count` nodes.
 pub fn wrong_end(count: u32, edges: &[Edge]) -> Option<u32>
     requires { length edges.now ≤ 128 }
-    ensures { MatchOption result (All (IsInside count) edges.now) (λ i. IsOutside count edges.now i × All (IsInside count) (take i edges.now)) }
+    ensures { MatchOption result (All (IsInside count) edges.now) (λ i. IsOutside count edges.now i
+        × All (IsInside count) (take i edges.now)) }
 {
     for (i, edge) in edges.iter().enumerate() {
         if edge.from >= count || edge.to >= count {

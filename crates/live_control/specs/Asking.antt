@@ -38,8 +38,8 @@ abbrev pub faults_of : MemoryAsks → ℕ
 faults_of asks = asks.faults
 
 -- what an input in memory answers
-abbrev pub answer_of : MemoryAsks → Result (Option ℕ) Failed
-answer_of asks = unless_due (plan_of asks) (record {}) (Ok (first_of (left_of asks)))
+abbrev pub outcome_view : MemoryAsks → Result (Option ℕ) Failed
+outcome_view asks = unless_due (plan_of asks) (record {}) (Ok (first_of (left_of asks)))
 
 -- an input in memory tells its bytes
 abbrev pub memory_state_of : MemoryAsks → AsksIs

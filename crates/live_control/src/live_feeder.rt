@@ -1,7 +1,7 @@
 ghost use Rattle.std.specs.Prelude.{◌≡◌, IfOk, List, true};
 ghost use Rattle.tuple_trace.specs.declared.row.Row.{Row as RowIs};
 ghost use Rattle.flow_model.specs.Begin.{at_first};
-ghost use Rattle.flow_model.specs.Setup.{outline};
+ghost use Rattle.flow_model.specs.Setup.{setup_view};
 ghost use Rattle.coordinator.specs.Feeding.{IsFeeder};
 ghost use Rattle.coordinator.specs.Live.{Hears};
 ghost use Rattle.coordinator.specs.Starts.{AreNewOuts, AreUnused};
@@ -62,11 +62,12 @@ impl<L: Lanes> Feeding<L> for LiveFeeder<L> {
         posters: Vec<Poster>,
         seed: Inbox,
     ) -> Result<LiveFeeder<L>, NoMemory>
-        requires outs { AreNewOuts (outline setup.now).job (outs_of L.Tx.lane L.Tx.number
+        requires outs { AreNewOuts (setup_view setup.now).job (outs_of L.Tx.lane L.Tx.number
             L.Tx.origin L.Tx.capacity L.Tx.sent L.Tx.full outs.items) }
-        requires boxes { AreUnused (outline setup.now) posters.items }
+        requires boxes { AreUnused (setup_view setup.now) posters.items }
         ensures law { IfOk result (λ (f : LiveIs). (rows : List RowIs)
-            → IsFeeder true (outline setup.now) (at_first (outline setup.now)) rows f.feeder) }
+            → IsFeeder true (setup_view setup.now) (at_first (setup_view setup.now)) rows
+            f.feeder) }
         ensures kept { IfOk result (λ (f : LiveIs). IsKept seed f.feeder.feeds f.inbox) }
         ensures outs { IfOk result (λ (f : LiveIs). f.feeder.outs ≡ outs_of L.Tx.lane L.Tx.number
             L.Tx.origin L.Tx.capacity L.Tx.sent L.Tx.full outs.items) }

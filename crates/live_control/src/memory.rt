@@ -1,6 +1,6 @@
 ghost use Rattle.std.specs.Prelude.{◌≡◌};
 ghost use Rattle.payments.specs.Memory.{after_call};
-ghost use Rattle.live_control.specs.Asking.{IsNext, answer_of, faults_of, left_of, plan_of};
+ghost use Rattle.live_control.specs.Asking.{IsNext, outcome_view, faults_of, left_of, plan_of};
 
 use crate::{Asks, Failed};
 use payments::Calls;
@@ -55,7 +55,7 @@ impl Asks for MemoryAsks {
 
     fn next(&mut self) -> Result<Option<u8>, Failed>
         ensures next { IsNext result (memory_state_of self.old) (memory_state_of self.new) }
-        ensures answer { result ≡ answer_of self.old }
+        ensures answer { result ≡ outcome_view self.old }
         ensures plan { plan_of self.new ≡ after_call (plan_of self.old) }
     {
         let number = self.calls;

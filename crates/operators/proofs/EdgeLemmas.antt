@@ -16,7 +16,7 @@ use Rattle.jobs.specs.declared.kind.Shape.TheVariants as shape
 use Rattle.jobs.specs.Kinds.{row_at}
 use Rattle.jobs.specs.Places.{Each}
 use Rattle.jobs.specs.Ports.{are_ports, has_port, has_ports, leaves, may_leave, out_count}
-use Rattle.jobs.specs.Written.{Written}
+use Rattle.jobs.specs.JobView.{JobView}
 use Rattle.jobs.proofs.PortLemmas.{has_ports-lacks}
 use Rattle.operators.specs.declared.output.Output.{Output}
 use Rattle.operators.specs.Laws.{MayLeaveAs, MayLeaveBy, births_as, births_of}
@@ -103,7 +103,7 @@ leaves_by_edge edges node f k port all may = by_shape (row_at f).shape refl may
         port_zero edges node f port all (some_leave edges node f all (λ no. let other : shape.Pieces ≡ shape.Nothing = sym is ∙ no in cc)) may.1
     by_shape shape.Copies is may = out_port-has edges node k port may
 
-pub outputs_leave : (job : Written) (visit : Visit) (f : Func) (counts : Counts) (tuple : Tuple) → IsTrue (are_ports job.edges visit.node f) → Each (λ k (output : Output). IsTrue (has_port job.edges visit.node output.port)) (outputs job visit f counts tuple)
+pub outputs_leave : (job : JobView) (visit : Visit) (f : Func) (counts : Counts) (tuple : Tuple) → IsTrue (are_ports job.edges visit.node f) → Each (λ k (output : Output). IsTrue (has_port job.edges visit.node output.port)) (outputs job visit f counts tuple)
 outputs_leave job visit f counts tuple all = λ k o is. leaves_by_edge job.edges visit.node f k o.port all (outputs_made job visit f counts tuple k o is).port
 
 -- ---- no two edges that leave a node have one port
@@ -190,7 +190,7 @@ births_differ edges node f birth k l p q all at_k at_l other = by_shape (row_at 
         let same : q ≡ p = cc in
         ports_differ edges node f k l p all at_k (at_l ∙ ap (λ r. Some r) same) other
 
-pub outputs_differ : (job : Written) (visit : Visit) (f : Func) (counts : Counts) (tuple : Tuple) (k l : ℕ) (a b : Output) → IsTrue (are_ports job.edges visit.node f) → slice_get (outputs job visit f counts tuple) k ≡ Some a → slice_get (outputs job visit f counts tuple) l ≡ Some b → k ≢ l → a.tuple.birth ≢ b.tuple.birth
+pub outputs_differ : (job : JobView) (visit : Visit) (f : Func) (counts : Counts) (tuple : Tuple) (k l : ℕ) (a b : Output) → IsTrue (are_ports job.edges visit.node f) → slice_get (outputs job visit f counts tuple) k ≡ Some a → slice_get (outputs job visit f counts tuple) l ≡ Some b → k ≢ l → a.tuple.birth ≢ b.tuple.birth
 outputs_differ job visit f counts tuple k l a b all at_k at_l other = λ e.
     let first = outputs_made job visit f counts tuple k a at_k in
     let second = outputs_made job visit f counts tuple l b at_l in

@@ -15,7 +15,7 @@ use Rattle.jobs.specs.declared.func.Func.{Func}
 use Rattle.jobs.specs.declared.func.Func.TheVariants as func
 use Rattle.jobs.specs.Places.{Each}
 use Rattle.jobs.specs.Ports.{has_port, leaves}
-use Rattle.jobs.specs.Written.{Written}
+use Rattle.jobs.specs.JobView.{JobView}
 use Rattle.operators.specs.declared.output.Output.{Output}
 use Rattle.operators.specs.Conditions.{meets}
 use Rattle.operators.specs.Fields.{text_at}
@@ -52,7 +52,7 @@ filter_made edges visit conds tuple false true has =
     each_one (IsMadeOf edges visit (func.Filter conds) tuple) (sent visit 1 tuple) (record { row = refl; issued = refl; trace = refl; birth = refl; port = (refl, inr (refl, refl, has)) })
 filter_made edges visit conds tuple false false has = λ k o is. cc
 
-pub outputs_made : (job : Written) (visit : Visit) (f : Func) (counts : Counts) (tuple : Tuple) → Each (IsMadeOf job.edges visit f tuple) (outputs job visit f counts tuple)
+pub outputs_made : (job : JobView) (visit : Visit) (f : Func) (counts : Counts) (tuple : Tuple) → Each (IsMadeOf job.edges visit f tuple) (outputs job visit f counts tuple)
 outputs_made job visit func.Source counts tuple = λ k o is. cc
 outputs_made job visit (func.Filter conds) counts tuple = filter_made job.edges visit conds tuple (list_all (meets job.columns tuple.fields) conds) (has_port job.edges visit.node 1) refl
 outputs_made job visit (func.Map steps) counts tuple =
@@ -93,7 +93,7 @@ filter_bare visit tuple true q = refl
 filter_bare visit tuple false true = refl
 filter_bare visit tuple false false = refl
 
-pub outputs_bare : (job : Written) (visit : Visit) (f : Func) (counts : Counts) (tuple : Tuple) → map bare (outputs job visit f counts tuple) ≡ map bare (outputs job (bare_visit visit) f counts (bare_tuple tuple))
+pub outputs_bare : (job : JobView) (visit : Visit) (f : Func) (counts : Counts) (tuple : Tuple) → map bare (outputs job visit f counts tuple) ≡ map bare (outputs job (bare_visit visit) f counts (bare_tuple tuple))
 outputs_bare job visit func.Source counts tuple = refl
 outputs_bare job visit (func.Filter conds) counts tuple = filter_bare visit tuple (list_all (meets job.columns tuple.fields) conds) (has_port job.edges visit.node 1)
 outputs_bare job visit (func.Map steps) counts tuple = refl

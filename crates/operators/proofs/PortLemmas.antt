@@ -14,7 +14,7 @@ use Rattle.jobs.specs.declared.func.Cond.{Cond}
 use Rattle.jobs.specs.declared.func.Func.{Func}
 use Rattle.jobs.specs.declared.func.Func.TheVariants as func
 use Rattle.jobs.specs.Ports.{has_port, leaves}
-use Rattle.jobs.specs.Written.{Written}
+use Rattle.jobs.specs.JobView.{JobView}
 use Rattle.operators.specs.Conditions.{meets}
 use Rattle.operators.specs.Fields.{text_at}
 use Rattle.operators.specs.Meaning.{born, filtered, outputs, piece_sent, replicated, sent}
@@ -53,7 +53,7 @@ filter_few visit tuple true q = omega arith
 filter_few visit tuple false true = omega arith
 filter_few visit tuple false false = omega arith
 
-pub outputs_few : (job : Written) (visit : Visit) (f : Func) (counts : Counts) (tuple : Tuple) → length (outputs job visit f counts tuple) ≤ most_outputs f (out_ports job.edges visit.node)
+pub outputs_few : (job : JobView) (visit : Visit) (f : Func) (counts : Counts) (tuple : Tuple) → length (outputs job visit f counts tuple) ≤ most_outputs f (out_ports job.edges visit.node)
 outputs_few job visit func.Source counts tuple = omega arith
 outputs_few job visit (func.Filter conds) counts tuple = filter_few visit tuple (list_all (meets job.columns tuple.fields) conds) (has_port job.edges visit.node 1)
 outputs_few job visit (func.Map steps) counts tuple = omega arith

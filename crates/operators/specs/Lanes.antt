@@ -7,7 +7,7 @@ use Rattle.jobs.specs.declared.column.Column.{Column}
 use Rattle.jobs.specs.declared.func.Func.{Func}
 use Rattle.jobs.specs.declared.func.NodeDef.{NodeDef}
 use Rattle.jobs.specs.Kinds.{key_of}
-use Rattle.jobs.specs.Written.{Written}
+use Rattle.jobs.specs.JobView.{JobView}
 use Rattle.operators.specs.Fields.{text_at}
 
 -- among this number of workers, by the column of the key, if the node counts by one
@@ -26,10 +26,10 @@ worker_at columns None tuple = 0
 worker_at columns (Some node) tuple = worker_among columns node.func node.workers tuple
 
 -- the worker that a tuple reaches along an edge, if there is such an edge
-abbrev pub worker_for : Written → Option Edge → Tuple → ℕ
+abbrev pub worker_for : JobView → Option Edge → Tuple → ℕ
 worker_for job None tuple = 0
 worker_for job (Some edge) tuple = worker_at job.columns (slice_get job.nodes edge.to) tuple
 
 -- the worker that a tuple reaches along the edge with this number
-abbrev pub worker_along : Written → ℕ → Tuple → ℕ
+abbrev pub worker_along : JobView → ℕ → Tuple → ℕ
 worker_along job edge tuple = worker_for job (slice_get job.edges edge) tuple

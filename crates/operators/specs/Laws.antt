@@ -11,7 +11,7 @@ use Rattle.jobs.specs.Kinds.{row_at}
 use Rattle.jobs.specs.Nodes.{fan_out, is_count}
 use Rattle.jobs.specs.Places.{Each}
 use Rattle.jobs.specs.Ports.{are_ports, has_port}
-use Rattle.jobs.specs.Written.{Written}
+use Rattle.jobs.specs.JobView.{JobView}
 use Rattle.operators.specs.declared.output.Output.{Output}
 use Rattle.operators.specs.Meaning.{step}
 use Rattle.operators.specs.Ports.{most_outputs, out_ports}
@@ -55,13 +55,13 @@ pub record IsMadeOf (edges : List Edge) (visit : Visit) (func : Func) (tuple : T
 -- every output is made of its tuple, whatever the job, the function and the counts are
 abbrev pub OutputsAreMadeOf : Type 0
 OutputsAreMadeOf =
-    (job : Written) (visit : Visit) (func : Func) (counts : Counts) (tuple : Tuple)
+    (job : JobView) (visit : Visit) (func : Func) (counts : Counts) (tuple : Tuple)
     → Each (IsMadeOf job.edges visit func tuple) (step job visit func counts tuple).1
 
 -- every function but a count leaves the counts as they are, and puts out the same whatever they are
 abbrev pub CountsServeCounts : Type 0
 CountsServeCounts =
-    (job : Written) (visit : Visit) (func : Func) (counts other : Counts) (tuple : Tuple)
+    (job : JobView) (visit : Visit) (func : Func) (counts other : Counts) (tuple : Tuple)
     → is_count func ≡ false
     → ((step job visit func counts tuple).0 ≡ counts) × ((step job visit func counts tuple).1 ≡ (step job visit func other tuple).1)
 
@@ -81,21 +81,21 @@ bare_visit visit = record visit { worker = 0; last = 0 }
 -- nor on the trace and `issued`
 abbrev pub OutputsAreBlind : Type 0
 OutputsAreBlind =
-    (job : Written) (visit : Visit) (func : Func) (counts : Counts) (tuple : Tuple)
+    (job : JobView) (visit : Visit) (func : Func) (counts : Counts) (tuple : Tuple)
     → map bare (step job visit func counts tuple).1 ≡ map bare (step job (bare_visit visit) func counts (bare_tuple tuple)).1
 
 -- where the edges of the node are those of the function's kind, each output leaves by the port of
 -- one of them
 abbrev pub PortsHaveEdges : Type 0
 PortsHaveEdges =
-    (job : Written) (visit : Visit) (func : Func) (counts : Counts) (tuple : Tuple)
+    (job : JobView) (visit : Visit) (func : Func) (counts : Counts) (tuple : Tuple)
     → IsTrue (are_ports job.edges visit.node func)
     → Each (λ k (output : Output). IsTrue (has_port job.edges visit.node output.port)) (step job visit func counts tuple).1
 
 -- and two outputs for one tuple have different births
 abbrev pub OutputsArePeers : Type 0
 OutputsArePeers =
-    (job : Written) (visit : Visit) (func : Func) (counts : Counts) (tuple : Tuple) (k l : ℕ) (a b : Output)
+    (job : JobView) (visit : Visit) (func : Func) (counts : Counts) (tuple : Tuple) (k l : ℕ) (a b : Output)
     → IsTrue (are_ports job.edges visit.node func)
     → slice_get (step job visit func counts tuple).1 k ≡ Some a
     → slice_get (step job visit func counts tuple).1 l ≡ Some b
@@ -105,6 +105,6 @@ OutputsArePeers =
 -- no function makes more outputs of one tuple than its kind may
 abbrev pub OutputsAreFew : Type 0
 OutputsAreFew =
-    (job : Written) (visit : Visit) (func : Func) (counts : Counts) (tuple : Tuple)
+    (job : JobView) (visit : Visit) (func : Func) (counts : Counts) (tuple : Tuple)
     → length (step job visit func counts tuple).1
     ≤ most_outputs func (out_ports job.edges visit.node)

@@ -6,7 +6,7 @@ use Rattle.tuple_trace.specs.declared.tuple.Visit.{Visit}
 use Rattle.keyed_state.specs.Counts.{Counts}
 use Rattle.jobs.specs.declared.func.Func.{Func}
 use Rattle.jobs.specs.declared.func.Func.TheVariants as func
-use Rattle.jobs.specs.Written.{Written}
+use Rattle.jobs.specs.JobView.{JobView}
 use Rattle.operators.specs.declared.output.Output.{Output}
 use Rattle.operators.specs.Fields.{text_at}
 use Rattle.operators.specs.Map.{mapped}
@@ -18,7 +18,7 @@ pub use Rattle.operators.specs.Sent.{born, sent}
 pub use Rattle.operators.specs.Split.{piece_sent, split_up}
 
 -- what a function puts out for a tuple, where the node has these counts
-abbrev pub outputs : Written → Visit → Func → Counts → Tuple → List Output
+abbrev pub outputs : JobView → Visit → Func → Counts → Tuple → List Output
 outputs job visit func.Source counts tuple = []
 outputs job visit (func.Filter conds) counts tuple = filtered job.columns job.edges visit conds tuple
 outputs job visit (func.Map steps) counts tuple = mapped job.columns visit steps tuple
@@ -29,7 +29,7 @@ outputs job visit func.Replicate counts tuple = replicated job.edges visit tuple
 outputs job visit (func.Sink listed) counts tuple = []
 
 -- the counts of the node afterwards: a count alone changes them
-abbrev pub counts_after : Written → Func → Counts → Tuple → Counts
+abbrev pub counts_after : JobView → Func → Counts → Tuple → Counts
 counts_after job func.Source counts tuple = counts
 counts_after job (func.Filter conds) counts tuple = counts
 counts_after job (func.Map steps) counts tuple = counts
@@ -42,5 +42,5 @@ counts_after job (func.Sink listed) counts tuple = counts
 
 -- the meaning of a function: of the counts of a node and a tuple that visits it, the counts
 -- afterwards, and what is put out
-abbrev pub step : Written → Visit → Func → Counts → Tuple → Counts × List Output
+abbrev pub step : JobView → Visit → Func → Counts → Tuple → Counts × List Output
 step job visit func counts tuple = (counts_after job func counts tuple, outputs job visit func counts tuple)

@@ -1,6 +1,7 @@
 // What the steps of a map compute.
 ghost use Rattle.std.specs.Prelude.{◌≡◌};
-ghost use Rattle.operators.specs.Arithmetic.{after_step, after_steps, computed as computed_of, number_of as number_of_operand, result_of};
+ghost use Rattle.operators.specs.Arithmetic.{after_step, after_steps, computed as computed_of};
+ghost use Rattle.operators.specs.Arithmetic.{number_of as number_of_operand, result_of};
 
 use crate::fields::{number_at, write_number};
 use jobs::{Column, Op, Operand, Step};

@@ -1,7 +1,8 @@
 // The conditions of a filter.
 ghost use Rattle.std.specs.Prelude.{◌≡◌, slice_get, option_copied};
 ghost use Rattle.std.specs.List.{list_all};
-ghost use Rattle.operators.specs.Conditions.{admits as admits_of, admits_text as admits_text_of, compares as compares_of, meets as meets_of};
+ghost use Rattle.operators.specs.Conditions.{admits as admits_of, admits_text as admits_text_of};
+ghost use Rattle.operators.specs.Conditions.{compares as compares_of, meets as meets_of};
 
 use jobs::{Column, ColumnKind, Cond, Test, kind_at};
 use std::cmp::Ordering;

@@ -24,8 +24,11 @@ pub fn count(
     tuple: &Tuple,
     out: &mut Outs,
 ) -> Result<(), NoMemory>
-    ensures ok { OnOk result (out.new ≡ out.old ++ counted columns.now visit count.now state.old tuple.now) }
-    ensures counts { OnOk result (state.new ≡ finite.insert state.old (text_of columns.now tuple.now.fields count.now.key) (count_after columns.now count.now state.old tuple.now)) }
+    ensures ok { OnOk result (out.new ≡ out.old ++ counted columns.now visit count.now state.old
+        tuple.now) }
+    ensures counts { OnOk result (state.new ≡ finite.insert state.old
+        (text_of columns.now tuple.now.fields count.now.key)
+        (count_after columns.now count.now state.old tuple.now)) }
     ensures err { OnErr result (out.new ≡ out.old) }
     ensures err_counts { OnErr result (state.new ≡ state.old) }
 {

@@ -1,5 +1,5 @@
 ghost use Rattle.std.specs.Prelude.{◌≡◌, ◌++◌, OnOk, OnErr};
-ghost use Rattle.jobs.specs.Job.{written};
+ghost use Rattle.jobs.specs.Job.{job_view};
 ghost use Rattle.operators.specs.Meaning.{step};
 ghost use Rattle.operators.specs.Ports.{out_ports};
 
@@ -35,9 +35,11 @@ pub fn apply(
     tuple: &Tuple,
     out: &mut Outs,
 ) -> Result<(), NoMemory>
-    requires { ports.now ≡ out_ports (written job.now).edges visit.node }
-    ensures outputs { OnOk result (out.new ≡ out.old ++ (step (written job.now) visit func.now state.old tuple.now).1) }
-    ensures counts { OnOk result (state.new ≡ (step (written job.now) visit func.now state.old tuple.now).0) }
+    requires { ports.now ≡ out_ports (job_view job.now).edges visit.node }
+    ensures outputs { OnOk result (out.new ≡ out.old
+        ++ (step (job_view job.now) visit func.now state.old tuple.now).1) }
+    ensures counts { OnOk result (state.new ≡ (step (job_view job.now) visit func.now state.old
+        tuple.now).0) }
     ensures err { OnErr result (out.new ≡ out.old) }
     ensures err_counts { OnErr result (state.new ≡ state.old) }
 {

@@ -1,6 +1,7 @@
 // Enriches. Out of memory, `out` is as before.
 ghost use Rattle.std.specs.Prelude.{◌≡◌, ◌++◌, IfOk, OnOk, OnErr, option_copied};
-ghost use Rattle.operators.specs.Enrich.{enriched, enriched_fields as fields_enriched, looked_up as found_in};
+ghost use Rattle.operators.specs.Enrich.{enriched, enriched_fields as fields_enriched};
+ghost use Rattle.operators.specs.Enrich.{looked_up as found_in};
 
 use crate::fields::{copied, text_at, written_at};
 use crate::output::{Output, Outs, remade};
@@ -22,7 +23,8 @@ pub fn enrich(
     tuple: &Tuple,
     out: &mut Outs,
 ) -> Result<(), NoMemory>
-    ensures ok { OnOk result (out.new ≡ out.old ++ enriched columns.now tables.now visit lookup.now tuple.now) }
+    ensures ok { OnOk result (out.new ≡ out.old ++ enriched columns.now tables.now visit lookup.now
+        tuple.now) }
     ensures err { OnErr result (out.new ≡ out.old) }
 {
     let fields = enriched_fields(alloc, columns, tables, lookup, &tuple.fields)?;
@@ -38,7 +40,8 @@ fn enriched_fields(
     lookup: &Lookup,
     fields: &Fields,
 ) -> Result<Fields, NoMemory>
-    ensures { IfOk result (λ made. made ≡ fields_enriched columns.now tables.now lookup.now fields.now) }
+    ensures { IfOk result (λ made. made ≡ fields_enriched columns.now tables.now lookup.now
+        fields.now) }
 {
     let key = text_at(columns, fields.as_slice(), lookup.key);
     let table = tables.get(lookup.table as usize);

@@ -34,7 +34,8 @@ pub fn text_at<'a>(columns: &[Column], fields: &'a [Value], column: u32) -> &'a 
     text_in(field_at(columns, fields, column))
 }
 
-/// Writes a number into a column. Nothing is written where the tuple doesn't have the column in its kind. Takes no memory.
+/// Writes a number into a column. Nothing is written where the tuple doesn't have the column in its
+/// kind. Takes no memory.
 pub fn write_number(columns: &[Column], fields: &mut Fields, column: u32, number: i64)
     ensures { fields.new ≡ written_at columns.now fields.old column (Num number) }
 {
@@ -43,7 +44,8 @@ pub fn write_number(columns: &[Column], fields: &mut Fields, column: u32, number
     }
 }
 
-/// The fields with a value in a column, or as they are where the tuple doesn't have the column in its kind. The old value isn't copied.
+/// The fields with a value in a column, or as they are where the tuple doesn't have the column in
+/// its kind. The old value isn't copied.
 pub fn written_at(
     alloc: Global,
     columns: &[Column],

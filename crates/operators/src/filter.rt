@@ -1,6 +1,6 @@
 // Filters. Out of memory, `out` is as before.
 ghost use Rattle.std.specs.Prelude.{◌≡◌, ◌++◌, OnOk, OnErr};
-ghost use Rattle.jobs.specs.Job.{written};
+ghost use Rattle.jobs.specs.Job.{job_view};
 ghost use Rattle.operators.specs.Filter.{filtered};
 ghost use Rattle.operators.specs.Ports.{out_ports};
 
@@ -23,8 +23,8 @@ pub fn filter(
     tuple: &Tuple,
     out: &mut Outs,
 ) -> Result<(), NoMemory>
-    requires { ports.now ≡ out_ports (written job.now).edges visit.node }
-    ensures ok { let job = written job.now in
+    requires { ports.now ≡ out_ports (job_view job.now).edges visit.node }
+    ensures ok { let job = job_view job.now in
         OnOk result (out.new ≡ out.old ++ filtered job.columns job.edges visit conds.now tuple.now) }
     ensures err { OnErr result (out.new ≡ out.old) }
 {

@@ -1,6 +1,6 @@
 // Which worker a tuple reaches.
 ghost use Rattle.std.specs.Prelude.{◌≡◌, ◌<◌, ◌≤◌, length};
-ghost use Rattle.jobs.specs.Job.{written};
+ghost use Rattle.jobs.specs.Job.{job_view};
 ghost use Rattle.operators.specs.Lanes.{worker_along, worker_among};
 
 use crate::fields::text_at;
@@ -12,8 +12,8 @@ use tuple_trace::{Tuple, spread};
 ///
 /// A count is reached by key and every other node by row. Takes no memory.
 pub fn lane_of(job: &Job, edge: u32, tuple: &Tuple) -> u32
-    requires { edge < length (written job.now).edges }
-    ensures { result ≡ worker_along (written job.now) edge tuple.now }
+    requires { edge < length (job_view job.now).edges }
+    ensures { result ≡ worker_along (job_view job.now) edge tuple.now }
 {
     let edge = job.dag.edge(edge);
     let node = &job.nodes.as_slice()[edge.to as usize];

@@ -1,7 +1,8 @@
 //! What an operator makes of one tuple, and which worker a tuple reaches.
 //!
-//! An operator is a plain function on a tuple and the counts of its node. Workers, lanes and requests are unknown here. The jobs that it
-//! belongs to, and their parts, are handed on from the crate `jobs`.
+//! An operator is a plain function on a tuple and the counts of its node. Workers, lanes and
+//! requests are unknown here. The jobs that it belongs to, and their parts, are handed on from the
+//! crate `jobs`.
 #![tactic(auto)]
 
 mod arithmetic;

@@ -1,7 +1,7 @@
 // The ports of a node, and how many outputs leave by them.
 ghost use Rattle.std.specs.Prelude.{◌≡◌, ◌==◌, IfOk};
 ghost use Rattle.std.specs.List.{list_any};
-ghost use Rattle.jobs.specs.Job.{written};
+ghost use Rattle.jobs.specs.Job.{job_view};
 ghost use Rattle.operators.specs.Ports.{most_outputs, out_ports};
 
 use jobs::{Func, Job, Shape, fan_out};
@@ -15,7 +15,7 @@ pub type Ports = Items<u32>;
 ///
 /// A node that the job doesn't have has no ports.
 pub fn out_ports(alloc: Global, job: &Job, node: u32) -> Result<Ports, NoMemory>
-    ensures { IfOk result (λ ports. ports ≡ out_ports (written job.now).edges node) }
+    ensures { IfOk result (λ ports. ports ≡ out_ports (job_view job.now).edges node) }
 {
     let mut ports = Ports::new(alloc);
     let edges = job.dag.all_edges();

@@ -9,7 +9,7 @@ use Rattle.tuple_trace.specs.declared.value.Value.{Value}
 use Rattle.tuple_trace.specs.declared.value.Value.TheVariants as value
 use Rattle.jobs.specs.Limits.{HasShortTexts, IsShort, text_max}
 use Rattle.jobs.specs.Weights.{weight}
-use Rattle.jobs.specs.Written.{Written}
+use Rattle.jobs.specs.JobView.{JobView}
 use Rattle.jobs.specs.declared.column.Column.{Column}
 use Rattle.jobs.specs.declared.column.ColumnKind.{ColumnKind}
 use Rattle.jobs.specs.declared.column.ColumnKind.TheVariants as kind
@@ -62,17 +62,17 @@ HasShortTexts-row_with : (row source : ℕ) (fields : Result (List Value) PFault
 HasShortTexts-row_with row source (Err fault) made short is = absurd (cc is)
 HasShortTexts-row_with row source (Ok fields) made short is = let same : fields ≡ made.tuple.fields = ap (fields_in fields) is in rw (← same) (short fields refl)
 
-HasShortTexts-row_by : (job : Written) (row : ℕ) (cells : List (List ℕ)) (source : Option ℕ) (made : Row) → row_by job row cells source ≡ Ok made → HasShortTexts made.tuple
+HasShortTexts-row_by : (job : JobView) (row : ℕ) (cells : List (List ℕ)) (source : Option ℕ) (made : Row) → row_by job row cells source ≡ Ok made → HasShortTexts made.tuple
 HasShortTexts-row_by job row cells None made is = absurd (cc is)
 HasShortTexts-row_by job row cells (Some source) made is =
     HasShortTexts-row_with row source (fields_from row 0 job.columns (drop 1 cells)) made (λ all ok. AreShort-fields_from row 0 job.columns (drop 1 cells) all ok) is
 
-HasShortTexts-row_of : (job : Written) (row : ℕ) (cells : List (List ℕ)) (made : Row) → row_of job row cells ≡ Ok made → HasShortTexts made.tuple
+HasShortTexts-row_of : (job : JobView) (row : ℕ) (cells : List (List ℕ)) (made : Row) → row_of job row cells ≡ Ok made → HasShortTexts made.tuple
 HasShortTexts-row_of job row cells made ok =
     HasShortTexts-row_by job row cells (source_named job (first_cell cells)) made (if-ok _ _ _ made (if-ok _ _ _ made ok))
 
 -- no row that was read has a longer text
-pub HaveShortTexts-rows_from : (job : Written) (row : ℕ) (records : List (List (List ℕ))) (rows : List Row) → rows_from job row records ≡ Ok rows → All (λ (r : Row). HasShortTexts r.tuple) rows
+pub HaveShortTexts-rows_from : (job : JobView) (row : ℕ) (records : List (List (List ℕ))) (rows : List Row) → rows_from job row records ≡ Ok rows → All (λ (r : Row). HasShortTexts r.tuple) rows
 unfolding rows_from
 HaveShortTexts-rows_from job row [] rows ok = let none : [] ≡ rows = cc ok in rw (← none) (All-nil _)
 HaveShortTexts-rows_from job row (first ∷ later) rows ok =
@@ -85,12 +85,12 @@ if-test : {A : Type 0} (b : Bool) (first : Result A PFault) (fault : PFault) (ma
 if-test true first fault made is = refl
 if-test false first fault made is = absurd (cc is)
 
-work-row_of : (job : Written) (row : ℕ) (cells : List (List ℕ)) (made : Row) → row_of job row cells ≡ Ok made → row * weight job ≤ work_max
+work-row_of : (job : JobView) (row : ℕ) (cells : List (List ℕ)) (made : Row) → row_of job row cells ≡ Ok made → row * weight job ≤ work_max
 work-row_of job row cells made ok =
     let within : nat_le (row * weight job) work_max ≡ true = if-test _ _ _ made ok in
     grind (arith, nat_tests)
 
-work-place : (job : Written) (row : ℕ) (records : List (List (List ℕ))) (rows : List Row) → rows_from job row records ≡ Ok rows → (k : ℕ) → k < length rows → (row + k) * weight job ≤ work_max
+work-place : (job : JobView) (row : ℕ) (records : List (List (List ℕ))) (rows : List Row) → rows_from job row records ≡ Ok rows → (k : ℕ) → k < length rows → (row + k) * weight job ≤ work_max
 unfolding rows_from
 work-place job row [] rows ok k within = let none : [] ≡ rows = cc ok in absurd (omega (arith, ap length none))
 work-place job row (first ∷ later) rows ok zero within =
@@ -104,7 +104,7 @@ work-place job row (first ∷ later) rows ok (suc k) within =
     subst (λ n. n * weight job ≤ work_max) same (work-place job (row + 1) later rest behind k inner)
 
 -- the number of rows times the weight of the job is within the limit
-pub work-rows_from : (job : Written) (records : List (List (List ℕ))) (rows : List Row) → rows_from job 1 records ≡ Ok rows → length rows * weight job ≤ work_max
+pub work-rows_from : (job : JobView) (records : List (List (List ℕ))) (rows : List Row) → rows_from job 1 records ≡ Ok rows → length rows * weight job ≤ work_max
 work-rows_from job records [] ok = omega arith
 work-rows_from job records (first ∷ rest) ok =
     let last = work-place job 1 records (first ∷ rest) ok (length rest) (omega arith) in

@@ -24,7 +24,7 @@ use Rattle.jobs.specs.Limits.{HasShortTexts, IsShort}
 use Rattle.jobs.specs.Nodes.{AreFromSources, IsSourceOf, is_source, is_source_node}
 use Rattle.jobs.specs.Ports.{are_ports, is_entered, may_enter}
 use Rattle.jobs.specs.Weights.{weight}
-use Rattle.jobs.specs.Written.{Written}
+use Rattle.jobs.specs.JobView.{JobView}
 use Rattle.payments.specs.Made.{draw_of, field_made, fields_made, made_rows, number_after, number_after_field, number_after_fields, number_after_row, row_made, rows_made_from, sources_from, value_made}
 use Rattle.payments.specs.Reading.{first_value, work_max}
 use Rattle.payments.proofs.Rest.{drop-item}
@@ -57,7 +57,7 @@ number_after_fields-end columns i number past = rw (drop_all i columns past) ref
 -- ---- the rows
 
 -- one more row
-pub rows_made_from-step : (job : Written) (number after row left : ℕ) (rows : List Row) (made : Row) → 0 < left → made ≡ row_made job number row → after ≡ number_after_row job number
+pub rows_made_from-step : (job : JobView) (number after row left : ℕ) (rows : List Row) (made : Row) → 0 < left → made ≡ row_made job number row → after ≡ number_after_row job number
     → (rows ++ made ∷ []) ++ rows_made_from job after (row + 1) (left - 1) ≡ rows ++ rows_made_from job number row left
 unfolding rows_made_from
 rows_made_from-step job number after row zero rows made some is next = absurd (omega (arith, some))
@@ -66,11 +66,11 @@ rows_made_from-step job number after row (suc left) rows made some is next =
     rw (same, is, next) (append_assoc rows (row_made job number row ∷ []) _)
 
 -- no row is left
-pub rows_made_from-end : (job : Written) (number row : ℕ) (rows : List Row) → rows ++ rows_made_from job number row 0 ≡ rows
+pub rows_made_from-end : (job : JobView) (number row : ℕ) (rows : List Row) → rows ++ rows_made_from job number row 0 ≡ rows
 unfolding rows_made_from
 rows_made_from-end job number row rows = append-nil rows
 
-pub length-rows_made_from : (job : Written) (number row count : ℕ) → length (rows_made_from job number row count) ≡ count
+pub length-rows_made_from : (job : JobView) (number row count : ℕ) → length (rows_made_from job number row count) ≡ count
 unfolding rows_made_from
 length-rows_made_from job number row zero = refl
 length-rows_made_from job number row (suc count) =
@@ -78,7 +78,7 @@ length-rows_made_from job number row (suc count) =
     omega (arith, rest)
 
 -- what holds of each row that is made
-each_made : (P : Row → Type 0) (job : Written) → ((number row : ℕ) → P (row_made job number row)) → (number row count : ℕ) → All P (rows_made_from job number row count)
+each_made : (P : Row → Type 0) (job : JobView) → ((number row : ℕ) → P (row_made job number row)) → (number row count : ℕ) → All P (rows_made_from job number row count)
 unfolding rows_made_from
 each_made P job each number row zero = All-nil P
 each_made P job each number row (suc count) =
@@ -107,7 +107,7 @@ AreShort-fields_made (column ∷ columns) number =
     All-cons IsShort (field_made column number) _ (IsShort-choice column.own column.kind _) (AreShort-fields_made columns (number_after_field column number))
 
 -- no row that is made has a longer text
-pub HaveShortTexts-rows_made_from : (job : Written) (number row count : ℕ) → All (λ (r : Row). HasShortTexts r.tuple) (rows_made_from job number row count)
+pub HaveShortTexts-rows_made_from : (job : JobView) (number row count : ℕ) → All (λ (r : Row). HasShortTexts r.tuple) (rows_made_from job number row count)
 HaveShortTexts-rows_made_from job = each_made (λ (r : Row). HasShortTexts r.tuple) job (λ number row. AreShort-fields_made job.columns (number_after number))
 
 -- ---- sources
@@ -162,7 +162,7 @@ sources_from-none place (first ∷ nodes) none zero node at =
 sources_from-none place (first ∷ nodes) none (suc i) node at =
     sources_from-none (place + 1) nodes (sources_from-cons (is_source first.func) place first nodes refl none).1 i node at
 
-module _ (job : Written) (n : ℕ) (order : List ℕ) (drawn : n ≡ length job.nodes) (dag : IsDag n job.edges order) (ports : HasPorts job) where
+module _ (job : JobView) (n : ℕ) (order : List ℕ) (drawn : n ≡ length job.nodes) (dag : IsDag n job.edges order) (ports : HasPorts job) where
   -- the first node of the order, which no edge enters
   abbrev front : ℕ
   front = get_or order 0 0
@@ -216,13 +216,13 @@ IsSource-found all (first ∷ nodes) place inside =
     (IsSource-found all nodes (place + 1) (λ i node at. subst (λ v. slice_get all v ≡ Some node) (next i) (inside (suc i) node at)))
 
 -- each row that is made enters by a source
-pub AreFromSources-rows_made_from : (job : Written) (number row count : ℕ) → 0 < length (sources_from 0 job.nodes) → AreFromSources job (rows_made_from job number row count)
+pub AreFromSources-rows_made_from : (job : JobView) (number row count : ℕ) → 0 < length (sources_from 0 job.nodes) → AreFromSources job (rows_made_from job number row count)
 AreFromSources-rows_made_from job number row count some =
     each_made (λ (r : Row). IsSourceOf job r.source) job (λ number row.
     IsSource-found job.nodes job.nodes 0 (λ i node at. let same : i ≡ 0 + i = omega arith in subst (λ v. slice_get job.nodes v ≡ Some node) same at) (draw_of (number_after number) % length (sources_from 0 job.nodes)) 0 (mod-lt _ some)) number row count
 
 -- the rows that are made, within the limit
-pub made_rows-ok : (job : Written) (seed count : ℕ) (made : List Row) → count * weight job ≤ work_max → made ≡ rows_made_from job seed 1 count → made_rows job seed count ≡ Ok made
+pub made_rows-ok : (job : JobView) (seed count : ℕ) (made : List Row) → count * weight job ≤ work_max → made ≡ rows_made_from job seed 1 count → made_rows job seed count ≡ Ok made
 made_rows-ok job seed count made within is =
     let test : nat_le (count * weight job) work_max ≡ true = grind (arith, nat_tests) in
     rw test (ap Ok (sym is))

@@ -7,27 +7,27 @@ use Rattle.std.specs.Prelude.{position, slice_get}
 use Rattle.tuple_trace.specs.declared.row.Row.{Row}
 use Rattle.tuple_trace.specs.declared.value.Value.{Value}
 use Rattle.jobs.specs.Nodes.{AreFromSources, IsSourceOf, is_source}
-use Rattle.jobs.specs.Written.{Written}
+use Rattle.jobs.specs.JobView.{JobView}
 use Rattle.payments.specs.declared.read.PFault.{PFault}
 use Rattle.payments.specs.Reading.{before, fields_from, first_cell, is_source_with, row_by, row_of, row_with, rows_from, source_named}
 use Rattle.payments.proofs.Rest.{after, after-before, after-end}
 
-rows_from-cons : (job : Written) (row : ℕ) (first : List (List ℕ)) (later : List (List (List ℕ))) → rows_from job row (first ∷ later) ≡ before (row_of job row first) (rows_from job (row + 1) later)
+rows_from-cons : (job : JobView) (row : ℕ) (first : List (List ℕ)) (later : List (List (List ℕ))) → rows_from job row (first ∷ later) ≡ before (row_of job row first) (rows_from job (row + 1) later)
 unfolding rows_from
 rows_from-cons job row first later = refl
 
 -- one more row
-pub rows_from-ok : (job : Written) (row : ℕ) (records later : List (List (List ℕ))) (first : List (List ℕ)) (rows : List Row) (made : Row) → records ≡ first ∷ later → row_of job row first ≡ Ok made
+pub rows_from-ok : (job : JobView) (row : ℕ) (records later : List (List (List ℕ))) (first : List (List ℕ)) (rows : List Row) (made : Row) → records ≡ first ∷ later → row_of job row first ≡ Ok made
     → after (rows ++ made ∷ []) (rows_from job (row + 1) later) ≡ after rows (rows_from job row records)
 rows_from-ok job row records later first rows made is ok = rw (is, rows_from-cons job row first later, ok) (sym (after-before rows made _))
 
 -- the first fault
-pub rows_from-fault : (job : Written) (row : ℕ) (records later : List (List (List ℕ))) (first : List (List ℕ)) (rows : List Row) (fault : PFault) → records ≡ first ∷ later → row_of job row first ≡ Err fault
+pub rows_from-fault : (job : JobView) (row : ℕ) (records later : List (List (List ℕ))) (first : List (List ℕ)) (rows : List Row) (fault : PFault) → records ≡ first ∷ later → row_of job row first ≡ Err fault
     → after rows (rows_from job row records) ≡ Err fault
 rows_from-fault job row records later first rows fault is err = rw (is, rows_from-cons job row first later, err) refl
 
 -- no record is left
-pub rows_from-end : (job : Written) (row : ℕ) (records : List (List (List ℕ))) (rows : List Row) → records ≡ [] → after rows (rows_from job row records) ≡ Ok rows
+pub rows_from-end : (job : JobView) (row : ℕ) (records : List (List (List ℕ))) (rows : List Row) → records ≡ [] → after rows (rows_from job row records) ≡ Ok rows
 unfolding rows_from
 rows_from-end job row records rows is = rw is (after-end rows)
 
@@ -46,16 +46,16 @@ both-left true b is = refl
 both-left false b is = is
 
 -- what a name finds is a source
-IsSourceOf-named : (job : Written) (name : List ℕ) (source : ℕ) → source_named job name ≡ Some source → IsSourceOf job source
+IsSourceOf-named : (job : JobView) (name : List ℕ) (source : ℕ) → source_named job name ≡ Some source → IsSourceOf job source
 IsSourceOf-named job name source is =
     let (node, at, passes) = position-slice_get (is_source_with name) job.nodes source is in
     rw at (both-left (is_source node.func) _ passes)
 
-IsSourceOf-row_with : (job : Written) (row source : ℕ) (fields : Result (List Value) PFault) (made : Row) → IsSourceOf job source → row_with row source fields ≡ Ok made → IsSourceOf job made.source
+IsSourceOf-row_with : (job : JobView) (row source : ℕ) (fields : Result (List Value) PFault) (made : Row) → IsSourceOf job source → row_with row source fields ≡ Ok made → IsSourceOf job made.source
 IsSourceOf-row_with job row source (Err fault) made is ok = absurd (cc ok)
 IsSourceOf-row_with job row source (Ok fields) made is ok = let same : source ≡ made.source = cc ok in rw (← same) is
 
-IsSourceOf-row_by : (job : Written) (row : ℕ) (name : List ℕ) (cells : List (List ℕ)) (source : Option ℕ) (made : Row) → source_named job name ≡ source → row_by job row cells source ≡ Ok made → IsSourceOf job made.source
+IsSourceOf-row_by : (job : JobView) (row : ℕ) (name : List ℕ) (cells : List (List ℕ)) (source : Option ℕ) (made : Row) → source_named job name ≡ source → row_by job row cells source ≡ Ok made → IsSourceOf job made.source
 IsSourceOf-row_by job row name cells None made named ok = absurd (cc ok)
 IsSourceOf-row_by job row name cells (Some source) made named ok = IsSourceOf-row_with job row source (fields_from row 0 job.columns (drop 1 cells)) made (IsSourceOf-named job name source named) ok
 
@@ -64,7 +64,7 @@ if-ok true first fault made is = is
 if-ok false first fault made is = absurd (cc is)
 
 -- a row that was read enters by a source
-IsSourceOf-row_of : (job : Written) (row : ℕ) (cells : List (List ℕ)) (made : Row) → row_of job row cells ≡ Ok made → IsSourceOf job made.source
+IsSourceOf-row_of : (job : JobView) (row : ℕ) (cells : List (List ℕ)) (made : Row) → row_of job row cells ≡ Ok made → IsSourceOf job made.source
 IsSourceOf-row_of job row cells made ok =
     IsSourceOf-row_by job row (first_cell cells) cells _ made refl (if-ok _ _ _ made (if-ok _ _ _ made ok))
 
@@ -75,7 +75,7 @@ before-ok (Ok item) (Err fault) whole is = absurd (cc is)
 before-ok (Ok item) (Ok rest) whole is = (item, rest, refl, refl, cc is)
 
 -- all rows that were read enter by sources
-pub AreFromSources-rows_from : (job : Written) (row : ℕ) (records : List (List (List ℕ))) (rows : List Row) → rows_from job row records ≡ Ok rows → AreFromSources job rows
+pub AreFromSources-rows_from : (job : JobView) (row : ℕ) (records : List (List (List ℕ))) (rows : List Row) → rows_from job row records ≡ Ok rows → AreFromSources job rows
 unfolding rows_from
 AreFromSources-rows_from job row [] rows ok = let none : [] ≡ rows = cc ok in rw (← none) (All-nil _)
 AreFromSources-rows_from job row (first ∷ later) rows ok =

@@ -5,7 +5,7 @@ use Rattle.tuple_trace.specs.declared.value.Value.{Value}
 use Rattle.tuple_trace.specs.declared.value.Value.TheVariants as value
 use Rattle.jobs.specs.Nodes.{is_source}
 use Rattle.jobs.specs.Weights.{weight}
-use Rattle.jobs.specs.Written.{Written}
+use Rattle.jobs.specs.JobView.{JobView}
 use Rattle.jobs.specs.declared.column.Column.{Column}
 use Rattle.jobs.specs.declared.column.ColumnKind.{ColumnKind}
 use Rattle.jobs.specs.declared.column.ColumnKind.TheVariants as kind
@@ -74,24 +74,24 @@ abbrev pub source_made : List NodeDef → ℕ → ℕ
 source_made nodes draw = get_or (sources_from 0 nodes) (draw % length (sources_from 0 nodes)) 0
 
 -- the row with this number: a draw for its source, also if there is only one, and then its fields
-abbrev pub row_made : Written → ℕ → ℕ → Row
+abbrev pub row_made : JobView → ℕ → ℕ → Row
 row_made job number row = record {
   source = source_made job.nodes (draw_of (number_after number));
   tuple = record { row = row; birth = []; issued = 0; fields = fields_made job.columns (number_after number); trace = [] };
 }
 
 -- the generator's number after a row
-abbrev pub number_after_row : Written → ℕ → ℕ
+abbrev pub number_after_row : JobView → ℕ → ℕ
 number_after_row job number = number_after_fields job.columns (number_after number)
 
 -- so many rows, of which the first has the number `row`
-unfoldable pub rows_made_from : Written → ℕ → ℕ → ℕ → List Row
+unfoldable pub rows_made_from : JobView → ℕ → ℕ → ℕ → List Row
 rows_made_from job number row zero = []
 rows_made_from job number row (suc count) =
     row_made job number row ∷ rows_made_from job (number_after_row job number) (row + 1) count
 
 -- the rows that are made, or the first row that is too much for the job. The generator's number starts as the seed
-abbrev pub made_rows : Written → ℕ → ℕ → Result (List Row) PFault
+abbrev pub made_rows : JobView → ℕ → ℕ → Result (List Row) PFault
 made_rows job seed count =
     if nat_le (count * weight job) work_max then Ok (rows_made_from job seed 1 count)
     else Err (fault.TooMuch (work_max / weight job + 1))

@@ -9,7 +9,7 @@ use Rattle.tuple_trace.specs.declared.value.Value.TheVariants as value
 use Rattle.jobs.specs.Limits.{text_max}
 use Rattle.jobs.specs.Nodes.{is_source}
 use Rattle.jobs.specs.Weights.{weight}
-use Rattle.jobs.specs.Written.{Written}
+use Rattle.jobs.specs.JobView.{JobView}
 use Rattle.jobs.specs.declared.column.Column.{Column}
 use Rattle.jobs.specs.declared.column.ColumnKind.{ColumnKind}
 use Rattle.jobs.specs.declared.column.ColumnKind.TheVariants as kind
@@ -23,7 +23,7 @@ abbrev pub given_names : List Column → List (List ℕ)
 given_names columns = map (λ column. column.name) (filter (λ column. not column.own) columns)
 
 -- the first record of a payments file
-abbrev pub header_of : Written → List (List ℕ)
+abbrev pub header_of : JobView → List (List ℕ)
 header_of job = codes "source" ∷ given_names job.columns
 
 -- the first of these cells is this text
@@ -36,7 +36,7 @@ abbrev pub is_source_with : List ℕ → NodeDef → Bool
 is_source_with name node = is_source node.func && pointwise nat_eq node.name name
 
 -- the number of the source with this name
-abbrev pub source_named : Written → List ℕ → Option ℕ
+abbrev pub source_named : JobView → List ℕ → Option ℕ
 source_named job name = position (is_source_with name) job.nodes
 
 -- what a cell of a row stands for in the column at this place
@@ -81,12 +81,12 @@ row_with row source (Err fault) = Err fault
 row_with row source (Ok fields) = Ok (record { source = source; tuple = record { row = row; birth = []; issued = 0; fields = fields; trace = [] } })
 
 -- the row whose source was looked for by its name
-abbrev pub row_by : Written → ℕ → List (List ℕ) → Option ℕ → Result Row PFault
+abbrev pub row_by : JobView → ℕ → List (List ℕ) → Option ℕ → Result Row PFault
 row_by job row cells None = Err (fault.Source row)
 row_by job row cells (Some source) = row_with row source (fields_from row 0 job.columns (drop 1 cells))
 
 -- the row of a record of the right length: its first cell names the source, the others are the fields
-abbrev pub row_from : Written → ℕ → List (List ℕ) → Result Row PFault
+abbrev pub row_from : JobView → ℕ → List (List ℕ) → Result Row PFault
 row_from job row cells = row_by job row cells (source_named job (first_cell cells))
 
 -- how many tuples a run may bring to its nodes
@@ -94,7 +94,7 @@ abbrev pub work_max : ℕ
 work_max = 1048576
 
 -- the row of a record, or what is wrong with it: first its number, then its length, its source, and its columns from left to right
-abbrev pub row_of : Written → ℕ → List (List ℕ) → Result Row PFault
+abbrev pub row_of : JobView → ℕ → List (List ℕ) → Result Row PFault
 row_of job row cells =
     if nat_le (row * weight job) work_max then
     if nat_eq (length cells) (length (header_of job)) then row_from job row cells
@@ -102,15 +102,15 @@ row_of job row cells =
     else Err (fault.TooMuch row)
 
 -- the rows of these records, of which the first has this number, or the first fault
-unfoldable pub rows_from : Written → ℕ → List (List (List ℕ)) → Result (List Row) PFault
+unfoldable pub rows_from : JobView → ℕ → List (List (List ℕ)) → Result (List Row) PFault
 rows_from job row [] = Ok []
 rows_from job row (first ∷ later) = before (row_of job row first) (rows_from job (row + 1) later)
 
 -- the rows behind a header
-abbrev pub rows_behind : Written → List (List (List ℕ)) → Result (List Row) PFault
+abbrev pub rows_behind : JobView → List (List (List ℕ)) → Result (List Row) PFault
 rows_behind job [] = Err fault.NoHeader
 rows_behind job (header ∷ later) = if pointwise (pointwise nat_eq) header (header_of job) then rows_from job 1 later else Err fault.Header
 
 -- the rows of a payments file, or its first fault
-abbrev pub rows_of : Written → List ℕ → Result (List Row) PFault
+abbrev pub rows_of : JobView → List ℕ → Result (List Row) PFault
 rows_of job bytes = rows_behind job (records default_config (strip_bom bytes))

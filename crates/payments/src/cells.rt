@@ -1,7 +1,10 @@
-ghost use Rattle.std.specs.Prelude.{◌≡◌, ◌≢◌, ◌∷◌, [], Ok, Err, IfOk, IfErr, OnErr, drop, nat_eq, codes};
+ghost use Rattle.std.specs.Prelude.{◌≡◌, ◌≢◌, ◌∷◌, [], Ok, Err, IfOk, IfErr, OnErr, drop, nat_eq};
+ghost use Rattle.std.specs.Prelude.{codes};
 ghost use Rattle.std.specs.Cmp.Lexicographic.{pointwise};
 ghost use Rattle.csv.specs.Records.{fields_of as cells_of};
-ghost use Rattle.payments.specs.Reading.{begins_with, cells_behind, field_of as field_of_column, fields_from, first_cell, first_value as first_value_of, given_names, value_of as value_of_cell};
+ghost use Rattle.payments.specs.Reading.{begins_with, cells_behind, field_of as field_of_column};
+ghost use Rattle.payments.specs.Reading.{fields_from, first_cell, first_value as first_value_of};
+ghost use Rattle.payments.specs.Reading.{given_names, value_of as value_of_cell};
 
 use crate::PFault;
 use crate::spelling::{amount, number};
@@ -49,8 +52,10 @@ pub(crate) fn fields_of(
     columns: &[Column],
     cells: &ByteRecord,
 ) -> Result<Fields, PFault>
-    ensures ok { IfOk result (λ fields. fields_from row 0 columns.now (drop 1 (cells_of cells.now)) ≡ Ok fields) }
-    ensures fault { IfErr result (λ fault. fault ≢ PFault.NoMemory → fields_from row 0 columns.now (drop 1 (cells_of cells.now)) ≡ Err fault) }
+    ensures ok { IfOk result (λ fields. fields_from row 0 columns.now (drop 1 (cells_of cells.now))
+        ≡ Ok fields) }
+    ensures fault { IfErr result (λ fault. fault ≢ PFault.NoMemory
+        → fields_from row 0 columns.now (drop 1 (cells_of cells.now)) ≡ Err fault) }
 {
     let mut fields = no_fields(alloc, columns)?;
     let mut next = 1;
@@ -76,9 +81,12 @@ fn field_of(
     cells: &ByteRecord,
     next: &mut usize,
 ) -> Result<Value, PFault>
-    ensures ok { IfOk result (λ field. field_of_column row place column.now (drop next.old (cells_of cells.now)) ≡ Ok field) }
-    ensures rest { drop next.new (cells_of cells.now) ≡ cells_behind column.now (drop next.old (cells_of cells.now)) }
-    ensures fault { IfErr result (λ fault. fault ≢ PFault.NoMemory → field_of_column row place column.now (drop next.old (cells_of cells.now)) ≡ Err fault) }
+    ensures ok { IfOk result (λ field. field_of_column row place column.now
+        (drop next.old (cells_of cells.now)) ≡ Ok field) }
+    ensures rest { drop next.new (cells_of cells.now)
+        ≡ cells_behind column.now (drop next.old (cells_of cells.now)) }
+    ensures fault { IfErr result (λ fault. fault ≢ PFault.NoMemory
+        → field_of_column row place column.now (drop next.old (cells_of cells.now)) ≡ Err fault) }
 {
     if column.own {
         Ok(first_value(alloc, column.kind))
@@ -90,7 +98,8 @@ fn field_of(
 /// The cell at the place `next`, which is then one further. No bytes where no cell is left.
 pub(crate) fn take_cell<'c>(cells: &'c ByteRecord, next: &mut usize) -> &'c [u8]
     ensures cell { result.now ≡ first_cell (drop next.old (cells_of cells.now)) }
-    ensures rest { drop next.new (cells_of cells.now) ≡ drop 1 (drop next.old (cells_of cells.now)) }
+    ensures rest { drop next.new (cells_of cells.now)
+        ≡ drop 1 (drop next.old (cells_of cells.now)) }
 {
     match cells.get(*next) {
         Some(cell) => {
@@ -109,7 +118,8 @@ fn value_of(
     cell: &[u8],
 ) -> Result<Value, PFault>
     ensures ok { IfOk result (λ value. value_of_cell row place kind cell.now ≡ Ok value) }
-    ensures fault { IfErr result (λ fault. fault ≢ PFault.NoMemory → value_of_cell row place kind cell.now ≡ Err fault) }
+    ensures fault { IfErr result (λ fault. fault ≢ PFault.NoMemory
+        → value_of_cell row place kind cell.now ≡ Err fault) }
 {
     let spelled = match kind {
         ColumnKind::Text if cell.len() <= TEXT_MAX => {
@@ -135,7 +145,8 @@ pub(crate) fn first_value(alloc: Global, kind: ColumnKind) -> Value
     }
 }
 
-/// A place as a number of 32 bits. A job with more columns or nodes than that has no room in memory.
+/// A place as a number of 32 bits. A job with more columns or nodes than that has no room in
+/// memory.
 pub(crate) fn number_of(place: usize) -> Result<u32, PFault>
     ensures ok { IfOk result (λ number. number ≡ place) }
     ensures err { IfErr result (λ fault. fault ≡ PFault.NoMemory) }

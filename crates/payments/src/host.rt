@@ -100,14 +100,16 @@ impl<R: Files + Drop> Shelf for HostShelf<R> {
     }
 }
 
-/// The bytes of a file, of which one more than the limit are read at most, so that a longer file shows.
+/// The bytes of a file, of which one more than the limit are read at most, so that a longer file
+/// shows.
 fn read_up_to<F: Read + Drop>(alloc: Global, file: F, limit: u64) -> io::Result<Vec<u8>> {
     let mut bytes = Vec::new(alloc);
     file.take(limit.saturating_add(1)).read_to_end(&mut bytes)?;
     Ok(bytes)
 }
 
-/// The standard output. It tells nothing of what was written. A write that takes nothing counts as a failure.
+/// The standard output. It tells nothing of what was written. A write that takes nothing counts as
+/// a failure.
 #[derive(Drop)]
 pub struct StdOut<R: Print + Drop> {
     rt: R,

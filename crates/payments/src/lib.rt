@@ -1,7 +1,8 @@
 //! Payments: the rows of a file, and the files and streams that a run reads and writes.
 //!
-//! A payments file is CSV. [`read_rows`] answers its rows, or its first fault with the place where it stands. What lies outside the
-//! program is met by the traits [`Shelf`] and [`Sink`] alone, so that a run is the same over the host and over a fake in memory.
+//! A payments file is CSV. [`read_rows`] answers its rows, or its first fault with the place where
+//! it stands. What lies outside the program is met by the traits [`Shelf`] and [`Sink`] alone, so
+//! that a run is the same over the host and over a fake in memory.
 #![tactic(auto)]
 
 mod cells;

@@ -1,10 +1,14 @@
-ghost use Rattle.std.specs.Prelude.{◌≡◌, ◌≢◌, ◌≤◌, ◌<◌, ◌*◌, ◌%◌, All, Ok, Err, IfOk, IfErr, OnOk, length};
-ghost use Rattle.jobs.specs.Job.{written};
+ghost use Rattle.std.specs.Prelude.{◌≡◌, ◌≢◌, ◌≤◌, ◌<◌, ◌*◌, ◌%◌, All, Ok, Err, IfOk, IfErr, OnOk};
+ghost use Rattle.std.specs.Prelude.{length};
+ghost use Rattle.jobs.specs.Job.{job_view};
 ghost use Rattle.jobs.specs.Nodes.{AreFromSources};
 ghost use Rattle.jobs.specs.Weights.{weight as weight_of};
 ghost use Rattle.jobs.specs.Limits.{HasShortTexts};
 ghost use Rattle.tuple_trace.specs.declared.row.Row.{Row as RowIs};
-ghost use Rattle.payments.specs.Made.{draw_of, field_made, fields_made, last_digit, made_rows, number_after, number_after_field, number_after_fields, number_after_row, row_made, rows_made_from, sources_from, text_made, value_made};
+ghost use Rattle.payments.specs.Made.{draw_of, field_made, fields_made, last_digit, made_rows};
+ghost use Rattle.payments.specs.Made.{number_after, number_after_field, number_after_fields};
+ghost use Rattle.payments.specs.Made.{number_after_row, row_made, rows_made_from, sources_from};
+ghost use Rattle.payments.specs.Made.{text_made, value_made};
 ghost use Rattle.payments.specs.Reading.{work_max};
 
 use crate::PFault;
@@ -16,20 +20,22 @@ use tuple_trace::{Births, Fields, NoMemory, Row, Rows, Tuple, Txt, Value, Visits
 
 /// So many rows for this job, as a generator makes them that starts from the seed.
 ///
-/// The generator's number is multiplied by 6364136223846793005 and raised by 1442695040888963407, modulo
-/// 2^64, for each draw. The draw is its highest 31 bits. Each row has one draw for its source, and one
-/// for each column that isn't own. A text is three keys such as `k1;k0;k9`, and a number is 0 to 20000.
+/// The generator's number is multiplied by 6364136223846793005 and raised by 1442695040888963407,
+/// modulo 2^64, for each draw. The draw is its highest 31 bits. Each row has one draw for its
+/// source, and one for each column that isn't own. A text is three keys such as `k1;k0;k9`, and a
+/// number is 0 to 20000.
 ///
 /// # Errors
 ///
-/// [`PFault::TooMuch`] if the number of rows times the weight of the job is above 1,048,576. It names the
-/// first row beyond the limit. The one other answer is out of memory.
+/// [`PFault::TooMuch`] if the number of rows times the weight of the job is above 1,048,576. It
+/// names the first row beyond the limit. The one other answer is out of memory.
 pub fn make_rows(alloc: Global, job: &Job, seed: u64, rows: u64) -> Result<Rows, PFault>
-    ensures ok { IfOk result (λ made. made_rows (written job.now) seed rows ≡ Ok made) }
-    ensures sources { IfOk result (λ made. AreFromSources (written job.now) made) }
-    ensures work { IfOk result (λ made. length made * weight_of (written job.now) ≤ work_max) }
+    ensures ok { IfOk result (λ made. made_rows (job_view job.now) seed rows ≡ Ok made) }
+    ensures sources { IfOk result (λ made. AreFromSources (job_view job.now) made) }
+    ensures work { IfOk result (λ made. length made * weight_of (job_view job.now) ≤ work_max) }
     ensures texts { IfOk result (λ made. All (λ (row : RowIs). HasShortTexts row.tuple) made) }
-    ensures fault { IfErr result (λ fault. fault ≢ PFault.NoMemory → made_rows (written job.now) seed rows ≡ Err fault) }
+    ensures fault { IfErr result (λ fault. fault ≢ PFault.NoMemory
+        → made_rows (job_view job.now) seed rows ≡ Err fault) }
 {
     let weight = weight(job);
     if rows.saturating_mul(weight) > WORK_MAX {
@@ -88,8 +94,9 @@ fn row_of(
 ) -> Result<Row, NoMemory>
     requires sources { sources.now ≡ sources_from 0 job.now.nodes }
     requires some { 0 < length sources.now }
-    ensures ok { IfOk result (λ made. made ≡ row_made (written job.now) draws.old.number row) }
-    ensures draws { OnOk result (draws.new.number ≡ number_after_row (written job.now) draws.old.number) }
+    ensures ok { IfOk result (λ made. made ≡ row_made (job_view job.now) draws.old.number row) }
+    ensures draws { OnOk result (draws.new.number
+        ≡ number_after_row (job_view job.now) draws.old.number) }
 {
     let source = sources[draws.next() as usize % sources.len()];
     Ok(Row {
@@ -106,7 +113,8 @@ fn row_of(
 
 fn fields_of(alloc: Global, columns: &[Column], draws: &mut Draws) -> Result<Fields, NoMemory>
     ensures ok { IfOk result (λ fields. fields ≡ fields_made columns.now draws.old.number) }
-    ensures draws { OnOk result (draws.new.number ≡ number_after_fields columns.now draws.old.number) }
+    ensures draws { OnOk result (draws.new.number
+        ≡ number_after_fields columns.now draws.old.number) }
 {
     let mut fields = no_fields(alloc, columns)?;
     for column in columns {
@@ -118,7 +126,8 @@ fn fields_of(alloc: Global, columns: &[Column], draws: &mut Draws) -> Result<Fie
 
 fn field_of(alloc: Global, column: &Column, draws: &mut Draws) -> Result<Value, NoMemory>
     ensures ok { IfOk result (λ field. field ≡ field_made column.now draws.old.number) }
-    ensures draws { OnOk result (draws.new.number ≡ number_after_field column.now draws.old.number) }
+    ensures draws { OnOk result (draws.new.number
+        ≡ number_after_field column.now draws.old.number) }
 {
     if column.own {
         return Ok(first_value(alloc, column.kind));

@@ -1,4 +1,6 @@
-ghost use Rattle.std.specs.Prelude.{◌≡◌, ◌≢◌, ◌+◌, ◌-◌, ◌^◌, ◌<◌, ◌≤◌, ◌++◌, [], ℕ, List, Option, None, Some, Err, false, length, max, min, option_copied, option_map, take, IfErr, IfOk, IfSome, IsSome, OnErr, OnOk};
+ghost use Rattle.std.specs.Prelude.{◌≡◌, ◌≢◌, ◌+◌, ◌-◌, ◌^◌, ◌<◌, ◌≤◌, ◌++◌, [], ℕ, List, Option};
+ghost use Rattle.std.specs.Prelude.{None, Some, Err, false, length, max, min, option_copied};
+ghost use Rattle.std.specs.Prelude.{option_map, take, IfErr, IfOk, IfSome, IsSome, OnErr, OnOk};
 ghost use Rattle.std.specs.FinMap as map;
 ghost use Rattle.payments.specs.Memory.{Plan, after_call, is_due, stored_files};
 
@@ -11,7 +13,8 @@ pub type Calls = Items<u64>;
 
 /// Files in memory. It tells what they hold, and fails at the calls that it was told to.
 ///
-/// Calls are numbered from 0 over reads, creations and appends alike. A read of a name without a file fails as well.
+/// Calls are numbered from 0 over reads, creations and appends alike. A read of a name without a
+/// file fails as well.
 #[derive(Debug, Drop)]
 pub struct MemoryShelf {
     alloc: Global,
@@ -38,7 +41,8 @@ impl MemoryShelf {
     ghost use Rattle.payments.specs.Causes.{Faults};
     ghost use Rattle.payments.specs.Memory.{faults_of, files_of, plan_of, step_of, target_of};
 
-    /// An empty shelf. An append takes at most `step` bytes, but at least one, and the calls with these numbers fail. Takes no memory.
+    /// An empty shelf. An append takes at most `step` bytes, but at least one, and the calls with
+    /// these numbers fail. Takes no memory.
     pub fn new(alloc: Global, step: u64, failing: Calls) -> Self
         ensures files { files_of result ≡ stored_files [] }
         ensures target { target_of result ≡ None }
@@ -91,12 +95,15 @@ impl MemoryShelf {
         self.failed.as_ref()
     }
 
-    /// Puts a file on the shelf, in place of one with the same name. What is appended goes nowhere until the next `create`.
+    /// Puts a file on the shelf, in place of one with the same name. What is appended goes nowhere
+    /// until the next `create`.
     ///
-    /// This is none of the calls that are counted. After [`ShelfFault::NoMemory`] the files are as before.
+    /// This is none of the calls that are counted. After [`ShelfFault::NoMemory`] the files are as
+    /// before.
     pub fn put(&mut self, name: Word, bytes: Bytes) -> Result<(), ShelfFault>
         ensures ok { OnOk result (files_of self.new ≡ map.insert (files_of self.old) name bytes) }
-        ensures err { IfErr result (λ fault. (fault ≡ ShelfFault.NoMemory) × (files_of self.new ≡ files_of self.old)) }
+        ensures err { IfErr result (λ fault. (fault ≡ ShelfFault.NoMemory)
+            × (files_of self.new ≡ files_of self.old)) }
         ensures closed { target_of self.new ≡ None }
         ensures faults { faults_of self.new ≡ faults_of self.old }
         ensures plan { plan_of self.new ≡ plan_of self.old }
@@ -106,9 +113,11 @@ impl MemoryShelf {
     }
 
     fn place(&mut self, file: File) -> Result<(), ShelfFault>
-        ensures ok { OnOk result (files_of self.new ≡ map.insert (files_of self.old) file.name file.bytes) }
+        ensures ok { OnOk result (files_of self.new
+            ≡ map.insert (files_of self.old) file.name file.bytes) }
         ensures newest { OnOk result (self.new.last ≡ Some file) }
-        ensures err { IfErr result (λ fault. (fault ≡ ShelfFault.NoMemory) × (files_of self.new ≡ files_of self.old)) }
+        ensures err { IfErr result (λ fault. (fault ≡ ShelfFault.NoMemory)
+            × (files_of self.new ≡ files_of self.old)) }
         ensures closed { self.new.is_open ≡ false }
         ensures faults { faults_of self.new ≡ faults_of self.old }
         ensures plan { plan_of self.new ≡ plan_of self.old }
@@ -129,12 +138,14 @@ impl MemoryShelf {
 impl Shelf for MemoryShelf {
     ghost use Rattle.payments.specs.Files.{Files, told_bytes, with_bytes, with_more};
     ghost use Rattle.payments.specs.Causes.{Faults, ReadCause, WriteCause};
-    ghost use Rattle.payments.specs.Memory.{append_of, create_of, faults_of, files_of, plan_of, read_of, shelf_state_of, step_of, target_of};
+    ghost use Rattle.payments.specs.Memory.{append_of, create_of, faults_of, files_of, plan_of};
+    ghost use Rattle.payments.specs.Memory.{read_of, shelf_state_of, step_of, target_of};
 
     ghost state = { shelf_state_of };
 
     fn read_all(&mut self, alloc: Global, name: &Word, limit: u64) -> Result<Bytes, ShelfFault>
-        ensures answer { result ≢ Err ShelfFault.NoMemory → result ≡ read_of self.old name.now limit }
+        ensures answer { result ≢ Err ShelfFault.NoMemory
+            → result ≡ read_of self.old name.now limit }
         ensures plan { plan_of self.new ≡ after_call (plan_of self.old) }
         ensures step { step_of self.new ≡ step_of self.old }
         ensures files { files_of self.new ≡ files_of self.old }
@@ -160,11 +171,13 @@ impl Shelf for MemoryShelf {
         ensures answer { result ≢ Err ShelfFault.NoMemory → result ≡ create_of self.old }
         ensures plan { plan_of self.new ≡ after_call (plan_of self.old) }
         ensures step { step_of self.new ≡ step_of self.old }
-        ensures made { OnOk result (files_of self.new ≡ map.insert (files_of self.old) name.now []) }
+        ensures made { OnOk result (files_of self.new
+            ≡ map.insert (files_of self.old) name.now []) }
         ensures target { OnOk result (target_of self.new ≡ Some name.now) }
         ensures unmade { OnErr result (files_of self.new ≡ files_of self.old) }
         ensures closed { OnErr result (target_of self.new ≡ None) }
-        ensures cause { WriteCause result (Some name.now) (faults_of self.old) (faults_of self.new) }
+        ensures cause { WriteCause result (Some name.now) (faults_of self.old)
+            (faults_of self.new) }
     {
         self.is_open = false;
         let fails = is_to_fail(&mut self.calls, &self.failing);
@@ -183,13 +196,17 @@ impl Shelf for MemoryShelf {
     fn append(&mut self, piece: &[u8]) -> Result<u64, ShelfFault>
         requires made { IsSome (target_of self.old) }
         requires some { 0 < length piece.now }
-        ensures answer { result ≢ Err ShelfFault.NoMemory → result ≡ append_of self.old (length piece.now) }
+        ensures answer { result ≢ Err ShelfFault.NoMemory
+            → result ≡ append_of self.old (length piece.now) }
         ensures plan { plan_of self.new ≡ after_call (plan_of self.old) }
         ensures step { step_of self.new ≡ step_of self.old }
-        ensures more { IfOk result (λ n. IfSome (target_of self.old) (λ name. Some (files_of self.new) ≡ with_more (Some (files_of self.old)) name (take n piece.now))) }
+        ensures more { IfOk result (λ n. IfSome (target_of self.old)
+            (λ name. Some (files_of self.new) ≡ with_more (Some (files_of self.old)) name
+            (take n piece.now))) }
         ensures err { OnErr result (files_of self.new ≡ files_of self.old) }
         ensures target { target_of self.new ≡ target_of self.old }
-        ensures cause { WriteCause result (target_of self.old) (faults_of self.old) (faults_of self.new) }
+        ensures cause { WriteCause result (target_of self.old) (faults_of self.old)
+            (faults_of self.new) }
     {
         if is_to_fail(&mut self.calls, &self.failing) {
             let name = match &self.last {
@@ -211,8 +228,12 @@ impl File {
     fn grow(&mut self, step: u64, piece: &[u8]) -> Result<u64, ShelfFault>
         requires { 0 < length piece.now }
         ensures count { IfOk result (λ n. n ≡ min (max step 1) (length piece.now)) }
-        ensures more { IfOk result (λ n. self.new ≡ record self.old { bytes = self.old.bytes ++ take n piece.now }) }
-        ensures err { IfErr result (λ fault. (self.new ≡ self.old) × (fault ≡ ShelfFault.NoMemory)) }
+        ensures more { IfOk result (λ n. self.new ≡ record self.old {
+          bytes = self.old.bytes
+              ++ take n piece.now;
+        }) }
+        ensures err { IfErr result (λ fault. (self.new ≡ self.old)
+            × (fault ≡ ShelfFault.NoMemory)) }
     {
         let count = step.max(1).min(piece.len() as u64);
         self.bytes
@@ -243,7 +264,8 @@ fn is_to_fail(calls: &mut u64, failing: &Calls) -> bool
     failing.as_slice().contains(&number)
 }
 
-/// A stream in memory. It tells what was written, takes each piece whole, and fails at the writes that it was told to.
+/// A stream in memory. It tells what was written, takes each piece whole, and fails at the writes
+/// that it was told to.
 #[derive(Debug, Drop)]
 pub struct MemorySink {
     failing: Calls,
@@ -255,7 +277,8 @@ pub struct MemorySink {
 impl MemorySink {
     ghost use Rattle.payments.specs.Memory.{sink_faults_of, sink_plan_of, written_of};
 
-    /// A stream to which nothing is written yet. The writes with these numbers fail. Takes no memory.
+    /// A stream to which nothing is written yet. The writes with these numbers fail. Takes no
+    /// memory.
     pub fn new(alloc: Global, failing: Calls) -> Self
         ensures written { written_of result ≡ [] }
         ensures faults { sink_faults_of result ≡ 0 }
@@ -286,15 +309,18 @@ impl MemorySink {
 
 impl Sink for MemorySink {
     ghost use Rattle.payments.specs.Causes.{SinkCause};
-    ghost use Rattle.payments.specs.Memory.{sink_faults_of, sink_plan_of, sink_state_of, write_of, written_of};
+    ghost use Rattle.payments.specs.Memory.{sink_faults_of, sink_plan_of, sink_state_of, write_of};
+    ghost use Rattle.payments.specs.Memory.{written_of};
 
     ghost state = { sink_state_of };
 
     fn write(&mut self, piece: &[u8]) -> Result<u64, SinkFault>
         requires some { 0 < length piece.now }
-        ensures answer { result ≢ Err SinkFault.NoMemory → result ≡ write_of self.old (length piece.now) }
+        ensures answer { result ≢ Err SinkFault.NoMemory
+            → result ≡ write_of self.old (length piece.now) }
         ensures plan { sink_plan_of self.new ≡ after_call (sink_plan_of self.old) }
-        ensures more { IfOk result (λ n. written_of self.new ≡ written_of self.old ++ take n piece.now) }
+        ensures more { IfOk result (λ n. written_of self.new
+            ≡ written_of self.old ++ take n piece.now) }
         ensures err { OnErr result (written_of self.new ≡ written_of self.old) }
         ensures cause { SinkCause result (sink_faults_of self.old) (sink_faults_of self.new) }
     {

@@ -1,4 +1,5 @@
-ghost use Rattle.std.specs.Prelude.{◌≡◌, ◌≤◌, ◌<◌, ◌++◌, [], None, Some, length, take, option_map, IfOk, IfSome, IsSome, IsErrOf, OnErr, OnOk};
+ghost use Rattle.std.specs.Prelude.{◌≡◌, ◌≤◌, ◌<◌, ◌++◌, [], None, Some, length, take, option_map};
+ghost use Rattle.std.specs.Prelude.{IfOk, IfSome, IsSome, IsErrOf, OnErr, OnOk};
 ghost use Rattle.payments.specs.Causes.{ReadCause, WriteCause, SinkCause};
 ghost use Rattle.payments.specs.Files.{told_bytes, with_bytes, with_more};
 ghost use Rattle.payments.specs.World.{ShelfState, SinkState};
@@ -18,14 +19,16 @@ pub enum ShelfFault {
 
 /// Files by their names, read whole and written front to back.
 ///
-/// Whether a shelf tells what its files hold is its own choice: one in memory does, one over the host can't.
+/// Whether a shelf tells what its files hold is its own choice: one in memory does, one over the
+/// host can't.
 pub trait Shelf {
     /// The files, if they are told; how many reads and writes have failed, and the file of the
     /// latest failure; and the file that takes what is appended, which the latest `create` made.
     /// A count never falls, and stays at 2^64 - 1.
     ghost state: { Self → ShelfState };
 
-    /// All bytes of a file, of which there are at most `limit`. A name without a file is read as no bytes, or refused.
+    /// All bytes of a file, of which there are at most `limit`. A name without a file is read as no
+    /// bytes, or refused.
     fn read_all(&mut self, alloc: Global, name: &Word, limit: u64) -> Result<Bytes, ShelfFault>
         ensures bytes { IfOk result (λ bytes.
             IfSome (told_bytes (state self.old).files name.now) (λ told. bytes ≡ told)) }

@@ -37,9 +37,11 @@ impl<'a> TextRecords<'a> {
         }
     }
 
-    /// Reads the next record into `cells`, and says whether there was one. Any error is want of memory.
+    /// Reads the next record into `cells`, and says whether there was one. Any error is want of
+    /// memory.
     pub(crate) fn next(&mut self, cells: &mut ByteRecord) -> Result<bool, PFault>
-        ensures ok { IfOk result (λ found. MatchBool found (self.old ≡ fields_of cells.new ∷ self.new) (self.old ≡ [])) }
+        ensures ok { IfOk result (λ found. MatchBool found (self.old
+            ≡ fields_of cells.new ∷ self.new) (self.old ≡ [])) }
         ensures err { IfErr result (λ fault. fault ≡ PFault.NoMemory) }
     {
         self.reader

@@ -1,8 +1,10 @@
 ghost use Rattle.std.specs.Prelude.{◌≡◌, ◌≢◌, Ok, Err, IfOk, IfErr, length};
 ghost use Rattle.csv.specs.Records.{fields_of as cells_of};
-ghost use Rattle.jobs.specs.Job.{written};
+ghost use Rattle.jobs.specs.Job.{job_view};
 ghost use Rattle.jobs.specs.Weights.{weight as weight_of};
-ghost use Rattle.payments.specs.Reading.{header_of, is_source_with as is_source_node_with, row_from as row_from_record, row_of as row_of_record, source_named as source_named_of};
+ghost use Rattle.payments.specs.Reading.{header_of, is_source_with as is_source_node_with};
+ghost use Rattle.payments.specs.Reading.{row_from as row_from_record, row_of as row_of_record};
+ghost use Rattle.payments.specs.Reading.{source_named as source_named_of};
 
 use crate::PFault;
 use crate::cells::{fields_of, number_of, take_cell};
@@ -11,10 +13,12 @@ use jobs::{Job, NodeDef, is_source};
 use std::alloc::Global;
 use tuple_trace::{Births, Row, Tuple, Visits};
 
-/// How many tuples a run may bring to its nodes: the number of a row times the weight of its job is at most this.
+/// How many tuples a run may bring to its nodes: the number of a row times the weight of its job is
+/// at most this.
 pub(crate) const WORK_MAX: u64 = 1 << 20;
 
-/// What every row of a file is measured by: the weight of the job, and how many cells the header has.
+/// What every row of a file is measured by: the weight of the job, and how many cells the header
+/// has.
 #[derive(Clone, Copy)]
 pub(crate) struct Measure {
     pub(crate) weight: u64,
@@ -29,10 +33,12 @@ pub(crate) fn row_of(
     row: u64,
     cells: &ByteRecord,
 ) -> Result<Row, PFault>
-    requires weight { measure.weight ≡ weight_of (written job.now) }
-    requires width { measure.width ≡ length (header_of (written job.now)) }
-    ensures ok { IfOk result (λ made. row_of_record (written job.now) row (cells_of cells.now) ≡ Ok made) }
-    ensures fault { IfErr result (λ fault. fault ≢ PFault.NoMemory → row_of_record (written job.now) row (cells_of cells.now) ≡ Err fault) }
+    requires weight { measure.weight ≡ weight_of (job_view job.now) }
+    requires width { measure.width ≡ length (header_of (job_view job.now)) }
+    ensures ok { IfOk result (λ made. row_of_record (job_view job.now) row (cells_of cells.now)
+        ≡ Ok made) }
+    ensures fault { IfErr result (λ fault. fault ≢ PFault.NoMemory
+        → row_of_record (job_view job.now) row (cells_of cells.now) ≡ Err fault) }
 {
     if row.saturating_mul(measure.weight) > WORK_MAX {
         return Err(PFault::TooMuch(row));
@@ -44,8 +50,10 @@ pub(crate) fn row_of(
 }
 
 fn row_from(alloc: Global, job: &Job, row: u64, cells: &ByteRecord) -> Result<Row, PFault>
-    ensures ok { IfOk result (λ made. row_from_record (written job.now) row (cells_of cells.now) ≡ Ok made) }
-    ensures fault { IfErr result (λ fault. fault ≢ PFault.NoMemory → row_from_record (written job.now) row (cells_of cells.now) ≡ Err fault) }
+    ensures ok { IfOk result (λ made. row_from_record (job_view job.now) row (cells_of cells.now)
+        ≡ Ok made) }
+    ensures fault { IfErr result (λ fault. fault ≢ PFault.NoMemory
+        → row_from_record (job_view job.now) row (cells_of cells.now) ≡ Err fault) }
 {
     let Some(source) = source_named(job, take_cell(cells, &mut 0)) else {
         return Err(PFault::Source(row));
@@ -64,7 +72,7 @@ fn row_from(alloc: Global, job: &Job, row: u64, cells: &ByteRecord) -> Result<Ro
 }
 
 fn source_named(job: &Job, name: &[u8]) -> Option<usize>
-    ensures { result ≡ source_named_of (written job.now) name.now }
+    ensures { result ≡ source_named_of (job_view job.now) name.now }
 {
     job.nodes
         .as_slice()

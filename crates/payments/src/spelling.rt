@@ -1,10 +1,12 @@
 ghost use Rattle.std.specs.Prelude.{◌≡◌, ◌-◌, ◌^◌, position, nat_eq, Bool};
 ghost use Rattle.tuple_trace.specs.Digits.{at_most, digits_of};
-ghost use Rattle.payments.specs.Spelling.{after_sign, amount_of, cents, size_of, with_sign, hundredths_of, is_negative, number_of, signed_of};
+ghost use Rattle.payments.specs.Spelling.{after_sign, amount_of, cents, size_of, with_sign};
+ghost use Rattle.payments.specs.Spelling.{hundredths_of, is_negative, number_of, signed_of};
 
 use tuple_trace::digits_up_to;
 
-/// The number that a cell spells: an optional `-` and one or more digits. None where it is spelled otherwise or no `i64`.
+/// The number that a cell spells: an optional `-` and one or more digits. None where it is spelled
+/// otherwise or no `i64`.
 #[tactic(auto, using(crate::proofs::SpellingLemmas::with_sign_at_most))]
 pub(crate) fn number(text: &[u8]) -> Option<i64>
     ensures { result ≡ number_of text.now }
@@ -13,7 +15,8 @@ pub(crate) fn number(text: &[u8]) -> Option<i64>
     in_range(negative, u128::from(digits(rest)?))
 }
 
-/// The cents of the amount that a cell spells: as a number, and behind its digits optionally a `.` with one or two more.
+/// The cents of the amount that a cell spells: as a number, and behind its digits optionally a `.`
+/// with one or two more.
 pub(crate) fn amount(text: &[u8]) -> Option<i64>
     ensures { result ≡ amount_of text.now }
 {
@@ -40,7 +43,8 @@ fn in_range(negative: bool, size: u128) -> Option<i64>
 
 /// A size past 2^64 - 1 is none, which is out of range in any case.
 fn size(text: &[u8]) -> Option<u128>
-    ensures { (negative : Bool) → with_sign negative result ≡ with_sign negative (size_of text.now) }
+    ensures { (negative : Bool) → with_sign negative result
+        ≡ with_sign negative (size_of text.now) }
 {
     match point_of(text) {
         None => sum(digits(text), Some(0)),

@@ -40,8 +40,10 @@ impl SureShelf {
     /// Puts a file on the shelf, in place of one with the same name. What is appended goes nowhere
     /// until the next `create`. After [`ShelfFault::NoMemory`] the files are as before.
     pub fn put(&mut self, name: Word, bytes: Bytes) -> Result<(), ShelfFault>
-        ensures ok { OnOk result (sure_files self.new ≡ map.insert (sure_files self.old) name bytes) }
-        ensures err { IfErr result (λ fault. (fault ≡ ShelfFault.NoMemory) × (sure_files self.new ≡ sure_files self.old)) }
+        ensures ok { OnOk result (sure_files self.new
+            ≡ map.insert (sure_files self.old) name bytes) }
+        ensures err { IfErr result (λ fault. (fault ≡ ShelfFault.NoMemory)
+            × (sure_files self.new ≡ sure_files self.old)) }
     {
         self.shelf.put(name, bytes)
     }

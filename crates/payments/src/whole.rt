@@ -5,7 +5,8 @@ ghost use Rattle.payments.specs.Files.{with_bytes, HoldsPrefix, HoldsProperPrefi
 use crate::{Shelf, ShelfFault, Sink, SinkFault};
 use tuple_trace::Word;
 
-/// Makes a file that holds this text and nothing else. Each append hands in all that is left of the text.
+/// Makes a file that holds this text and nothing else. Each append hands in all that is left of the
+/// text.
 ///
 /// After an error the file is as before if it couldn't be made. Else it holds a prefix of the text,
 /// which isn't all of it. No other file changes.

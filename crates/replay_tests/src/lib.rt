@@ -1,4 +1,5 @@
-//! Tests of `flow_model` and `flow_replay`. Jobs, requests and payments are the texts of their files.
+//! Tests of `flow_model` and `flow_replay`. Jobs, requests and payments are the texts of their
+//! files.
 #![tactic(auto)]
 
 #[cfg(test)]

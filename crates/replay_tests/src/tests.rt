@@ -1,5 +1,5 @@
 ghost use Rattle.std.specs.Prelude.{◌≡◌, IfOk, IfSome};
-ghost use Rattle.jobs.specs.Job.{written};
+ghost use Rattle.jobs.specs.Job.{job_view};
 ghost use Rattle.versions.specs.Judged.{AreAccepted};
 
 mod plans;
@@ -32,7 +32,7 @@ fn setup_of(alloc: Global, job: Job, requests: &str, ordered: bool) -> Option<Se
 }
 
 fn made(alloc: Global, job: Job, judged: Judged, ordered: bool) -> Result<Setup, NoMemory>
-    requires { AreAccepted (written job) judged.accepted }
+    requires { AreAccepted (job_view job) judged.accepted }
     ensures { IfOk result (λ setup. setup.job ≡ job) }
 {
     if ordered {

@@ -9,7 +9,7 @@ use Rattle.jobs.specs.declared.func.Func.TheVariants as func
 use Rattle.jobs.specs.declared.func.NodeDef.{NodeDef}
 use Rattle.jobs.specs.Nodes.{worker_count, workers_of}
 use Rattle.jobs.specs.Weights.{weight}
-use Rattle.jobs.specs.Written.{Written}
+use Rattle.jobs.specs.JobView.{JobView}
 use Rattle.sink_journal.specs.declared.journal.Entry.{Entry}
 use Rattle.sink_journal.specs.declared.journal.Feed.{Feed}
 use Rattle.sink_journal.specs.declared.journal.Feed.TheVariants as feed
@@ -65,11 +65,11 @@ sizes_words sizes =
     ++ codes " workers " ++ decimal sizes.workers ++ codes " weight " ++ decimal sizes.weight
 
 -- what is counted of a job: its workers are those that keep a journal
-abbrev pub sizes_of : Written → Sizes
+abbrev pub sizes_of : JobView → Sizes
 sizes_of job = record { nodes = length job.nodes; edges = length job.edges; workers = worker_count job.nodes; weight = weight job }
 
 -- the line that `check` prints
-abbrev pub sizes_line : Written → List ℕ
+abbrev pub sizes_line : JobView → List ℕ
 sizes_line job = sizes_words (sizes_of job) ++ codes "\n"
 
 -- ---- the plans of requests
@@ -108,14 +108,14 @@ abbrev pub part_count : List ℕ → ℕ
 part_count parts = count_by (is_part parts) (range_with_len 0 (length parts))
 
 -- the line of the plan of a request
-abbrev pub plan_line : Written → ℕ → Plan → List ℕ
+abbrev pub plan_line : JobView → ℕ → Plan → List ℕ
 plan_line job request plan =
     codes "request " ++ decimal request ++ codes " asked " ++ listed (node_names job.nodes plan.asked)
     ++ codes " members " ++ listed (node_names job.nodes plan.members) ++ codes " heads " ++ listed (node_names job.nodes plan.heads)
     ++ codes " parts " ++ decimal (part_count plan.part) ++ codes " edges " ++ listed (edge_names job.nodes job.edges plan.edges) ++ codes "\n"
 
 -- the lines of the plans of requests, which are counted from 1
-abbrev pub plan_lines : Written → List Plan → List ℕ
+abbrev pub plan_lines : JobView → List Plan → List ℕ
 plan_lines job plans = flat_map (λ (request, plan). plan_line job request plan) (enumerate_from 1 plans)
 
 -- ---- requests that are refused

@@ -1,7 +1,8 @@
 // What is counted of a run.
 ghost use Rattle.std.specs.Prelude.{◌≡◌, ◌+◌, IfOk, length, sum_by};
 ghost use Rattle.jobs.specs.Nodes.{worker_count};
-ghost use Rattle.report.specs.Lines.{alert_count as alert_count_of, met_by as met_by_func, met_count as met_count_of, row_count as row_count_of};
+ghost use Rattle.report.specs.Lines.{alert_count as alert_count_of, met_by as met_by_func};
+ghost use Rattle.report.specs.Lines.{met_count as met_count_of, row_count as row_count_of};
 
 use jobs::{Func, Job};
 use sink_journal::{Entry, Feed, Journal};
@@ -17,8 +18,8 @@ pub fn row_count(feeds: &[Feed]) -> usize
         .count()
 }
 
-/// How many tuples reached the sinks of a job whose workers have these journals. A number too great to be counted is more than memory
-/// holds.
+/// How many tuples reached the sinks of a job whose workers have these journals. A number too great
+/// to be counted is more than memory holds.
 pub fn alert_count(job: &Job, journals: &[Journal]) -> Result<usize, NoMemory>
     requires { length journals.now ≡ worker_count job.now.nodes }
     ensures { IfOk result (λ count. count ≡ alert_count_of job.now.nodes journals.now) }

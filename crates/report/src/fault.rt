@@ -1,5 +1,6 @@
 ghost use Rattle.std.specs.Prelude.{◌≡◌};
-ghost use Rattle.report.specs.Faults.{job_fault, payments_fault, requests_fault, save_fault, status_of as status_of_fault};
+ghost use Rattle.report.specs.Faults.{job_fault, payments_fault, requests_fault, save_fault};
+ghost use Rattle.report.specs.Faults.{status_of as status_of_fault};
 ghost use Rattle.report.specs.Faults.{limit_of};
 ghost use Rattle.report.specs.declared.fault.Fault.TheVariants.{NoMemory as OutOfMemory};
 

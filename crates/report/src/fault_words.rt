@@ -1,6 +1,7 @@
 // What is printed of a fault.
 ghost use Rattle.std.specs.Prelude.{Some};
-ghost use Rattle.report.specs.FaultWords.{fault_words, file_words, job_words, part_words, payments_words, requests_words, save_words, which_words};
+ghost use Rattle.report.specs.FaultWords.{fault_words, file_words, job_words, part_words};
+ghost use Rattle.report.specs.FaultWords.{payments_words, requests_words, save_words, which_words};
 
 use crate::fault::{Fault, FileIs};
 use job_file::{JobFault, Named, Part, ReqFileFault, Which};

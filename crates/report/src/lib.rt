@@ -1,4 +1,5 @@
-//! What the program prints: faults with their statuses, plans, refused requests, sizes and summaries.
+//! What the program prints: faults with their statuses, plans, refused requests, sizes and
+//! summaries.
 //!
 //! ```text
 //! let line = fault_line(alloc, Fault::Read(FileIs::Job))?;

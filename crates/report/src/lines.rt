@@ -1,7 +1,8 @@
 ghost use Rattle.std.specs.Prelude.{◌≡◌, Some, IfOk, string_bytes};
-ghost use Rattle.jobs.specs.Job.{written};
+ghost use Rattle.jobs.specs.Job.{job_view};
 ghost use Rattle.report.specs.FaultWords.{fault_line as fault_line_of};
-ghost use Rattle.report.specs.Lines.{sizes_line as sizes_line_of, sizes_of as sizes_of_job, summary_line as summary_line_of};
+ghost use Rattle.report.specs.Lines.{sizes_line as sizes_line_of, sizes_of as sizes_of_job};
+ghost use Rattle.report.specs.Lines.{summary_line as summary_line_of};
 
 use crate::fault::Fault;
 use jobs::{Job, weight, worker_count};
@@ -87,14 +88,14 @@ impl fmt::Display for Sizes {
 
 /// The line that `check` prints of a job.
 pub fn sizes_line(alloc: Global, job: &Job) -> Result<String, NoMemory>
-    ensures { IfOk result (λ line. string_bytes line ≡ sizes_line_of (written job.now)) }
+    ensures { IfOk result (λ line. string_bytes line ≡ sizes_line_of (job_view job.now)) }
 {
     let sizes = sizes_of(job);
     Ok(format!(in alloc; "{sizes}\n")?)
 }
 
 fn sizes_of(job: &Job) -> Sizes
-    ensures { result ≡ sizes_of_job (written job.now) }
+    ensures { result ≡ sizes_of_job (job_view job.now) }
 {
     Sizes {
         nodes: job.nodes.len(),

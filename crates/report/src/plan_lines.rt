@@ -1,8 +1,11 @@
 // The lines of the plans of requests.
 ghost use Rattle.std.specs.Prelude.{◌≡◌, ◌<◌, ◌≤◌, ◌++◌, IfOk, OnErr, OnOk, length, slice_get};
 ghost use Rattle.flow_dag.specs.Masks.{has};
-ghost use Rattle.jobs.specs.Job.{written};
-ghost use Rattle.report.specs.Lines.{edge_name as edge_name_of, edge_names as edge_names_of, is_part as is_part_of, listed as listed_of, name_of, node_names as node_names_of, part_count as part_count_of, plan_line, plan_lines};
+ghost use Rattle.jobs.specs.Job.{job_view};
+ghost use Rattle.report.specs.Lines.{edge_name as edge_name_of, edge_names as edge_names_of};
+ghost use Rattle.report.specs.Lines.{is_part as is_part_of, listed as listed_of, name_of};
+ghost use Rattle.report.specs.Lines.{node_names as node_names_of, part_count as part_count_of};
+ghost use Rattle.report.specs.Lines.{plan_line, plan_lines};
 
 use cover_planner::Plan;
 use flow_dag::{Edge, has_bit, has_wide_bit};
@@ -21,7 +24,7 @@ pub fn push_plans(
     plans: &[Plan],
     text: &mut Bytes,
 ) -> Result<(), NoMemory>
-    ensures ok { OnOk result (text.new ≡ text.old ++ plan_lines (written job.now) plans.now) }
+    ensures ok { OnOk result (text.new ≡ text.old ++ plan_lines (job_view job.now) plans.now) }
     ensures err { OnErr result (text.new ≡ text.old) }
 {
     let lines = lines_of(alloc, job, plans)?;
@@ -29,7 +32,7 @@ pub fn push_plans(
 }
 
 fn lines_of(alloc: Global, job: &Job, plans: &[Plan]) -> Result<Bytes, NoMemory>
-    ensures { IfOk result (λ lines. lines ≡ plan_lines (written job.now) plans.now) }
+    ensures { IfOk result (λ lines. lines ≡ plan_lines (job_view job.now) plans.now) }
 {
     let mut lines = Bytes::new(alloc);
     for (place, plan) in plans.iter().enumerate() {
@@ -45,7 +48,7 @@ fn push_plan(
     plan: &Plan,
     text: &mut Bytes,
 ) -> Result<(), NoMemory>
-    ensures { OnOk result (text.new ≡ text.old ++ plan_line (written job.now) request plan.now) }
+    ensures { OnOk result (text.new ≡ text.old ++ plan_line (job_view job.now) request plan.now) }
 {
     let (nodes, edges) = (job.nodes.as_slice(), job.dag.all_edges());
     let parts = part_count(&plan.part);

@@ -1,6 +1,7 @@
 // The lines of requests that are refused.
 ghost use Rattle.std.specs.Prelude.{◌≡◌, ◌++◌, Some, IfOk, OnErr, OnOk, map, string_bytes};
-ghost use Rattle.report.specs.Lines.{code_of as code_of_fault, noted as noted_as, refusal_words, refused_line as refused_line_of, refused_lines};
+ghost use Rattle.report.specs.Lines.{code_of as code_of_fault, noted as noted_as, refusal_words};
+ghost use Rattle.report.specs.Lines.{refused_line as refused_line_of, refused_lines};
 
 use sink_journal::{Noted, RefusalCode};
 use std::alloc::Global;

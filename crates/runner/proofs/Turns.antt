@@ -1,6 +1,6 @@
 -- A turn of a worker keeps what is true of its runner.
 use Rattle.std.proofs.Common.{◌≡◌, map, subst}
-use Rattle.flow_model.specs.Outline.{Outline}
+use Rattle.flow_model.specs.SetupView.{SetupView}
 use Rattle.flow_worker.specs.Endpoints.{LaneInIs, LaneOutIs, SameIn, SameOut}
 use Rattle.flow_worker.specs.Turning.{HasCause, IsDone, IsTurn, SameEndpoints}
 use Rattle.flow_worker.specs.Worker.{WorkerIs}
@@ -21,6 +21,6 @@ same_ends w v s =
     let o : map end_out v.outs ≡ map end_out w.outs = pairs_keep SameOut end_out w.outs v.outs same_out s.outs in
     λ k. record { ins = i k; outs = o k }
 
-pub turned_done : (setup : Outline) (result : turn_type.Turn) (w v : WorkerIs) → result ≡ turn.Done → IsTurn setup result w v → IsDone v
+pub turned_done : (setup : SetupView) (result : turn_type.Turn) (w v : WorkerIs) → result ≡ turn.Done → IsTurn setup result w v → IsDone v
 turned_done setup result w v e t =
     let P : turn_type.Turn → Type 0 = λ r. HasCause r w v in subst P e t.cause

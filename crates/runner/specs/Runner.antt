@@ -3,7 +3,7 @@ use Rattle.std.specs.Prelude.{◌≡◌, ℕ, Bool, true, List, map}
 use Rattle.lane_core.specs.Lane.{LaneId}
 use Rattle.lane_core.specs.declared.form.Origin.{Origin}
 use Rattle.flow_model.specs.Begin.{Begin}
-use Rattle.flow_model.specs.Outline.{Outline}
+use Rattle.flow_model.specs.SetupView.{SetupView}
 use Rattle.flow_worker.specs.Endpoints.{LaneInIs, LaneOutIs}
 use Rattle.flow_worker.specs.Turning.{IsDone}
 use Rattle.flow_worker.specs.Worker.{IsWorker, WorkerIs}
@@ -36,7 +36,7 @@ pub record RunnerIs : Type 0 where
 
 -- Each runner's worker has the law of a worker from the beginning on. The runner holds the setup,
 -- and knows its worker's number, and when it is done.
-pub record IsRunner (setup : Outline) (begin : Begin) (held : Outline) (number : ℕ) (w : WorkerIs)
+pub record IsRunner (setup : SetupView) (begin : Begin) (held : SetupView) (number : ℕ) (w : WorkerIs)
     (done : Bool) : Type 0 where
   pub setup_is : held ≡ setup
   pub number_is : number ≡ w.number

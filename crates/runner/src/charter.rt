@@ -17,10 +17,10 @@ impl Beginning for Brand {
 pub trait Charter {
     ghost use Rattle.std.specs.Prelude.{List};
     ghost use Rattle.flow_model.specs.Begin.{Begin};
-    ghost use Rattle.flow_model.specs.Outline.{Outline};
+    ghost use Rattle.flow_model.specs.SetupView.{SetupView};
     ghost use Rattle.runner.specs.Runner.{EndsIs};
 
-    ghost setup: { Outline };
+    ghost setup: { SetupView };
 
     ghost begin: { Begin };
 
@@ -29,10 +29,10 @@ pub trait Charter {
 
 impl Charter for Brand {
     ghost use Rattle.std.specs.Prelude.{[], false};
-    ghost use Rattle.flow_model.specs.Outline.{outline_of};
-    ghost use Rattle.jobs.specs.Written.{written_as};
+    ghost use Rattle.flow_model.specs.SetupView.{setup_view_of};
+    ghost use Rattle.jobs.specs.JobView.{job_view_as};
 
-    ghost setup = { outline_of (written_as [] [] [] []) [] [] 0 false };
+    ghost setup = { setup_view_of (job_view_as [] [] [] []) [] [] 0 false };
 
     ghost begin = { record { row = 0; turned = 0; states = [] } };
 

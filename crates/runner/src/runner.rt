@@ -1,5 +1,5 @@
 ghost use Rattle.std.specs.Prelude.{◌≡◌, ◌≢◌, IfOk, true, false};
-ghost use Rattle.flow_model.specs.Setup.{outline};
+ghost use Rattle.flow_model.specs.Setup.{setup_view};
 ghost use Rattle.flow_worker.specs.declared.worker.Turn.TheVariants.{Done};
 ghost use Rattle.flow_worker.specs.Turning.{IsDone};
 ghost use Rattle.flow_worker.specs.Worker.{IsWorker};
@@ -30,7 +30,7 @@ pub struct Runner<'s, L: Lanes, C: Charter> {
 }
 
 impl<'s, L: Lanes, C: Charter> Model for Runner<'s, L, C> {
-    ghost use Rattle.flow_model.specs.Setup.{outline};
+    ghost use Rattle.flow_model.specs.Setup.{setup_view};
     ghost use Rattle.runner.specs.Runner.{IsRunner, RunnerIs, ends_of};
 
     ghost Value = { RunnerIs };
@@ -42,7 +42,7 @@ impl<'s, L: Lanes, C: Charter> Model for Runner<'s, L, C> {
     } };
 
     ghost invariant = { λ r.
-        IsRunner C.setup C.begin (outline r.setup.now) r.number r.worker.value r.done };
+        IsRunner C.setup C.begin (setup_view r.setup.now) r.number r.worker.value r.done };
 }
 
 impl<'s, L: Lanes, C: Charter> Runner<'s, L, C> {
@@ -54,9 +54,9 @@ impl<'s, L: Lanes, C: Charter> Runner<'s, L, C> {
         number: u32,
         worker: Worker<L>,
     ) -> Result<Runner<'s, L, C>, NoMemory>
-        requires setup { outline setup.now ≡ C.setup }
+        requires setup { setup_view setup.now ≡ C.setup }
         requires number { number ≡ worker.number }
-        requires law { IsWorker (outline setup.now) C.begin worker }
+        requires law { IsWorker (setup_view setup.now) C.begin worker }
         ensures { IfOk result (λ r. r ≡ record {
           number = number;
           ends = ends_of worker;

@@ -116,8 +116,8 @@ fn look_if<'s, R: Wait, L: Lanes, G: Gate, C: Charter>(
     }
 }
 
-/// Visits each kept runner. Returns [`Turn::Done`] if all are done, [`Turn::NoMemory`] if one ran out
-/// of memory, and [`Turn::Idle`] if none moved something.
+/// Visits each kept runner. Returns [`Turn::Done`] if all are done, [`Turn::NoMemory`] if one ran
+/// out of memory, and [`Turn::Idle`] if none moved something.
 pub fn round<'s, L: Lanes, G: Gate, C: Charter>(
     need: &mut L::Need,
     gate: &G,
@@ -175,9 +175,9 @@ pub enum Stepped {
     NoMemory,
 }
 
-/// What a thread does once in its loop. It looks at the queue if asked: it pops a runner, visits it,
-/// and pushes it back unless it is done. It then visits the kept runners if the queue refused one of
-/// them; `held` says that it refused one that isn't done.
+/// What a thread does once in its loop. It looks at the queue if asked: it pops a runner, visits
+/// it, and pushes it back unless it is done. It then visits the kept runners if the queue refused
+/// one of them; `held` says that it refused one that isn't done.
 ///
 /// `kept` and the list of the pass stay the same runners. The pass keeps its parts.
 pub fn step<'s, R: Wait, L: Lanes, G: Gate, C: Charter>(

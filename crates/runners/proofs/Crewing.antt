@@ -5,13 +5,13 @@ use Rattle.std.specs.Result.{IfOk}
 use Rattle.std.proofs.lemmas.List.{append_assoc, length-map, map-append}
 use Rattle.std.proofs.lemmas.List.Elements.{All-head, All-push, All-tail}
 use Rattle.std.proofs.lemmas.Option.{slice_get-get_or, slice_get_within}
-use Rattle.jobs.specs.Job.{written}
+use Rattle.jobs.specs.Job.{job_view}
 use Rattle.flow_model.specs.Begin.{Begin}
-use Rattle.flow_model.specs.Outline.{Outline}
-use Rattle.flow_model.specs.Setup.{outline}
-use Rattle.flow_model.specs.Workers.{posts}
+use Rattle.flow_model.specs.SetupView.{SetupView}
+use Rattle.flow_model.specs.Setup.{setup_view}
+use Rattle.flow_model.specs.Workers.{workers_in}
 use Rattle.flow_model.specs.declared.setup.Setup.{Setup}
-use Rattle.flow_model.proofs.SizeLemmas.{posts-few}
+use Rattle.flow_model.proofs.SizeLemmas.{workers-few}
 use Rattle.flow_worker.specs.Pairs.{Each}
 use Rattle.flow_worker.specs.Worker.{IsWorker, WorkerIs}
 use Rattle.runners.specs.Crew.{AreWorkers, fixed_in, number_in, runner_of}
@@ -83,10 +83,10 @@ pub each_all : {X : Type 0} (P : X → Type 0) (xs : List X) → All P xs → Ea
 each_all P [] all = tt
 each_all P (x ∷ xs) all = (All-head P x xs all, each_all P xs (All-tail P x xs all))
 
-pub few_workers : (setup : Setup) (begin : Begin) (w : WorkerIs) → IsWorker (outline setup) begin w → w.number < 64
+pub few_workers : (setup : Setup) (begin : Begin) (w : WorkerIs) → IsWorker (setup_view setup) begin w → w.number < 64
 few_workers setup begin w law =
-    let within = slice_get_within (posts (written setup.job)) w.number law.post law.placed.post_is in
-    let few = posts-few (written setup.job) setup.job.lawful in omega (arith, within, few)
+    let within = slice_get_within (workers_in (job_view setup.job)) w.number law.post law.placed.who_is in
+    let few = workers-few (job_view setup.job) setup.job.lawful in omega (arith, within, few)
 
 abbrev with_number : ℕ → WorkerIs → RunnerIs
 with_number k w = record { number = k; ends = ends_of w; is_done = false }
@@ -116,7 +116,7 @@ module _ (charter : List EndsIs) where
   pushed all ws w r list less e f l b =
       given charter (map runner_of ws) list less (runner_of w) (l ∙ ap (λ (s : RunnerIs). without s.number list) f) (last all ws w list e b)
 
-pub law_last : (setup : Outline) (begin : Begin) (all ws : List WorkerIs) (w : WorkerIs) → all ≡ ws ++ w ∷ [] → All (IsWorker setup begin) all → All (IsWorker setup begin) ws × IsWorker setup begin w
+pub law_last : (setup : SetupView) (begin : Begin) (all ws : List WorkerIs) (w : WorkerIs) → all ≡ ws ++ w ∷ [] → All (IsWorker setup begin) all → All (IsWorker setup begin) ws × IsWorker setup begin w
 law_last setup begin all ws w e law =
     let P : List WorkerIs → Type 0 = λ vs. All (IsWorker setup begin) vs in
     last_and_rest (IsWorker setup begin) ws w (subst P e law)
@@ -128,7 +128,7 @@ numbers_last all ws w e n =
     last_number 0 ws w (subst P e n)
 
 -- workers with the numbers of workers in order are in order
-pub workers_again : (setup : Outline) (begin : Begin) (ws vs : List WorkerIs) → AreWorkers setup begin ws → map fixed_in vs ≡ map fixed_in ws → All (IsWorker setup begin) vs → AreWorkers setup begin vs
+pub workers_again : (setup : SetupView) (begin : Begin) (ws vs : List WorkerIs) → AreWorkers setup begin ws → map fixed_in vs ≡ map fixed_in ws → All (IsWorker setup begin) vs → AreWorkers setup begin vs
 workers_again setup begin ws vs was e law = record {
   number = λ i v at. let h = number_at 0 vs i v (same_numbers_in ws vs e ∙ (in_order ws was.number ∙ ap (range_with_len 0) (sym long))) at in omega (arith, h);
   law = at_all (IsWorker setup begin) vs law;

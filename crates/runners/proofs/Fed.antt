@@ -3,14 +3,14 @@ use Rattle.std.proofs.Common.{◌∙◌, Bool, List, refl}
 use Rattle.sink_journal.specs.declared.journal.Feed.{Feed}
 use Rattle.tuple_trace.specs.declared.row.Row.{Row}
 use Rattle.flow_model.specs.Begin.{Begin}
-use Rattle.flow_model.specs.Outline.{Outline}
+use Rattle.flow_model.specs.SetupView.{SetupView}
 use Rattle.coordinator.specs.Feeding.{IsFeeder}
 use Rattle.coordinator.specs.Turning.{IsTurn}
 use Rattle.coordinator.specs.Views.{FeederIs}
 use Rattle.coordinator.specs.declared.feeding.FeedTurn.{FeedTurn}
 use Rattle.runners.specs.Crew.{HasFed}
 
-module _ {Seed Rest : Type 0} (live : Bool) (setup : Outline) (begin : Begin) (rows : List Row) (kept : Seed → List Feed → Rest → Type 0) where
+module _ {Seed Rest : Type 0} (live : Bool) (setup : SetupView) (begin : Begin) (rows : List Row) (kept : Seed → List Feed → Rest → Type 0) where
   pub fed_none : (f : FeederIs) (r : Rest) → IsFeeder live setup begin rows f → HasFed live setup begin rows kept f r f r
   fed_none f r law = record { law = law; ends = refl; kept_is = λ seed k. k }
 

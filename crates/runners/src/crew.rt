@@ -2,7 +2,7 @@ ghost use Rattle.std.specs.Prelude.{◌≡◌, [], IfOk, OnOk, length, map};
 ghost use Rattle.std.specs.List.{All, range_with_len};
 ghost use Rattle.std.specs.List.Sorted.{IsNonDecreasingBy, IsPermutation};
 ghost use Rattle.crossbeam_queue.specs.SegTies.{IsSegPassOf};
-ghost use Rattle.flow_model.specs.Setup.{outline};
+ghost use Rattle.flow_model.specs.Setup.{setup_view};
 ghost use Rattle.flow_worker.specs.Turning.{IsDone};
 ghost use Rattle.flow_worker.specs.Worker.{IsWorker};
 ghost use Rattle.runners.specs.Crew.{fixed_in, number_in, runner_of};
@@ -19,8 +19,8 @@ use std::sync::atomic::{AtomicBool, Ordering};
 use std::thread;
 use tuple_trace::{Gate, NoMemory};
 
-/// Pushes the runner of each worker, from the last to the first. A refused push ends the run. The one
-/// error is out of memory.
+/// Pushes the runner of each worker, from the last to the first. A refused push ends the run. The
+/// one error is out of memory.
 pub fn push_all<'s, R: Wait, L: Lanes, C: Charter>(
     rt: &R,
     alloc: Global,
@@ -32,9 +32,9 @@ pub fn push_all<'s, R: Wait, L: Lanes, C: Charter>(
     requires queue { IsSegPassOf queue.now pass.old }
     requires parts { pass.old.me.view.client.parts ≡ 16 }
     requires listed { AreListed C.ends (map runner_of workers.items) pass.old.me.view.client.list }
-    requires setup { outline setup.now ≡ C.setup }
+    requires setup { setup_view setup.now ≡ C.setup }
     requires numbers { map number_in workers.items ≡ range_with_len 0 (length workers.items) }
-    requires law { All (IsWorker (outline setup.now) C.begin) workers.items }
+    requires law { All (IsWorker (setup_view setup.now) C.begin) workers.items }
     ensures queue { IsSegPassOf queue.now pass.new }
     ensures parts { pass.new.me.view.client.parts ≡ 16 }
     ensures listed { OnOk result (AreListed C.ends [] pass.new.me.view.client.list) }

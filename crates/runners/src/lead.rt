@@ -1,7 +1,7 @@
 ghost use Rattle.std.specs.Prelude.{◌≡◌, ◌<◌, IsTrue, true};
 ghost use Rattle.crossbeam_queue.specs.SegTies.{IsSegPassOf};
 ghost use Rattle.jobs.specs.Nodes.{AreFromSources};
-ghost use Rattle.flow_model.specs.Setup.{outline};
+ghost use Rattle.flow_model.specs.Setup.{setup_view};
 ghost use Rattle.coordinator.specs.Feeding.{IsFeeder};
 ghost use Rattle.coordinator.specs.declared.feeding.FeedTurn.TheVariants.{Done};
 ghost use Rattle.runners.specs.Crew.{HasFed};
@@ -45,14 +45,14 @@ pub fn lead<'s, R: Wait, L: Lanes, G: Gate, F: Feeding<L> + Drop, C: Charter>(
     requires queue { IsSegPassOf queue.now own.pass }
     requires some { 0 < own.pass.me.view.client.parts }
     requires listed { AreListed C.ends own.runners.items own.pass.me.view.client.list }
-    requires feeder { IsFeeder F.LIVE (outline setup.now) C.begin rows.now (F.feeder feeder) }
-    requires rows { AreFromSources (outline setup.now).job rows.now }
+    requires feeder { IsFeeder F.LIVE (setup_view setup.now) C.begin rows.now (F.feeder feeder) }
+    requires rows { AreFromSources (setup_view setup.now).job rows.now }
     ensures queue { IsSegPassOf queue.now result.own.pass }
     ensures parts { result.own.pass.me.view.client.parts
         ≡ own.entry.pass.me.view.client.parts }
     ensures listed { AreListed C.ends result.own.runners.items
         result.own.pass.me.view.client.list }
-    ensures feeder { HasFed F.LIVE (outline setup.now) C.begin rows.now F.kept
+    ensures feeder { HasFed F.LIVE (setup_view setup.now) C.begin rows.now F.kept
         (F.feeder feeder) (F.rest feeder) (F.feeder result.feeder) (F.rest result.feeder) }
     ensures fed { IsTrue result.fed → IsTrue (F.feeder result.feeder).stopped }
 {
@@ -106,9 +106,10 @@ fn feed<L: Lanes, G: Gate, F: Feeding<L>, C: Charter>(
     rows: &Rows,
     gate: &G,
 ) -> FeedTurn
-    requires feeder { IsFeeder F.LIVE (outline setup.now) C.begin rows.now (F.feeder feeder.old) }
-    requires rows { AreFromSources (outline setup.now).job rows.now }
-    ensures feeder { HasFed F.LIVE (outline setup.now) C.begin rows.now F.kept
+    requires feeder { IsFeeder F.LIVE (setup_view setup.now) C.begin rows.now
+        (F.feeder feeder.old) }
+    requires rows { AreFromSources (setup_view setup.now).job rows.now }
+    ensures feeder { HasFed F.LIVE (setup_view setup.now) C.begin rows.now F.kept
         (F.feeder feeder.old) (F.rest feeder.old) (F.feeder feeder.new) (F.rest feeder.new) }
     ensures done { result ≡ Done → IsTrue (F.feeder feeder.new).stopped }
 {

@@ -2,7 +2,7 @@ ghost use Rattle.std.specs.Prelude.{◌≡◌, ◌≤◌, IfOk, IsTrue, length, 
 ghost use Rattle.std.specs.List.{All, range_with_len};
 ghost use Rattle.crossbeam_queue.specs.SegTies.{IsSegPassOf};
 ghost use Rattle.jobs.specs.Nodes.{AreFromSources};
-ghost use Rattle.flow_model.specs.Setup.{outline};
+ghost use Rattle.flow_model.specs.Setup.{setup_view};
 ghost use Rattle.flow_worker.specs.Pairs.{Each};
 ghost use Rattle.flow_worker.specs.Turning.{IsDone};
 ghost use Rattle.flow_worker.specs.Worker.{IsWorker};
@@ -74,13 +74,13 @@ where
     R: Threads + Wait + Sync,
     requires some { 1 ≤ threads }
     requires few { threads ≤ 16 }
-    requires workers { AreWorkers (outline setup.now) B.begin workers.items }
-    requires feeder { IsFeeder F.LIVE (outline setup.now) B.begin rows.now (F.feeder feeder) }
-    requires rows { AreFromSources (outline setup.now).job rows.now }
-    ensures workers { IfOk result (λ r. AreWorkers (outline setup.now) B.begin r.workers.items) }
+    requires workers { AreWorkers (setup_view setup.now) B.begin workers.items }
+    requires feeder { IsFeeder F.LIVE (setup_view setup.now) B.begin rows.now (F.feeder feeder) }
+    requires rows { AreFromSources (setup_view setup.now).job rows.now }
+    ensures workers { IfOk result (λ r. AreWorkers (setup_view setup.now) B.begin r.workers.items) }
     ensures done { IfOk result (λ r. Each IsDone r.workers.items) }
     ensures fixed { IfOk result (λ r. map fixed_in r.workers.items ≡ map fixed_in workers.items) }
-    ensures feeder { IfOk result (λ r. HasFed F.LIVE (outline setup.now) B.begin rows.now F.kept
+    ensures feeder { IfOk result (λ r. HasFed F.LIVE (setup_view setup.now) B.begin rows.now F.kept
         (F.feeder feeder) (F.rest feeder) (F.feeder r.feeder) (F.rest r.feeder)) }
     ensures stopped { IfOk result (λ r. IsTrue (F.feeder r.feeder).stopped) }
 {
@@ -103,16 +103,16 @@ where
     R: Threads + Wait + Sync,
     requires some { 1 ≤ threads }
     requires few { threads ≤ 16 }
-    requires setup { outline setup.now ≡ C.setup }
+    requires setup { setup_view setup.now ≡ C.setup }
     requires ends { C.ends ≡ map ends_of workers.items }
     requires numbers { map number_in workers.items ≡ range_with_len 0 (length workers.items) }
-    requires law { All (IsWorker (outline setup.now) C.begin) workers.items }
-    requires feeder { IsFeeder F.LIVE (outline setup.now) C.begin rows.now (F.feeder feeder) }
-    requires rows { AreFromSources (outline setup.now).job rows.now }
-    ensures law { IfOk result (λ r. All (IsWorker (outline setup.now) C.begin) r.workers.items) }
+    requires law { All (IsWorker (setup_view setup.now) C.begin) workers.items }
+    requires feeder { IsFeeder F.LIVE (setup_view setup.now) C.begin rows.now (F.feeder feeder) }
+    requires rows { AreFromSources (setup_view setup.now).job rows.now }
+    ensures law { IfOk result (λ r. All (IsWorker (setup_view setup.now) C.begin) r.workers.items) }
     ensures done { IfOk result (λ r. All IsDone r.workers.items) }
     ensures fixed { IfOk result (λ r. map fixed_in r.workers.items ≡ map fixed_in workers.items) }
-    ensures feeder { IfOk result (λ r. HasFed F.LIVE (outline setup.now) C.begin rows.now F.kept
+    ensures feeder { IfOk result (λ r. HasFed F.LIVE (setup_view setup.now) C.begin rows.now F.kept
         (F.feeder feeder) (F.rest feeder) (F.feeder r.feeder) (F.rest r.feeder)) }
     ensures stopped { IfOk result (λ r. IsTrue (F.feeder r.feeder).stopped) }
 {
@@ -154,15 +154,15 @@ where
     requires queue { IsSegPassOf queue.now pass }
     requires parts { pass.me.view.client.parts ≡ 16 }
     requires listed { AreListed C.ends (map runner_of workers.items) pass.me.view.client.list }
-    requires setup { outline setup.now ≡ C.setup }
+    requires setup { setup_view setup.now ≡ C.setup }
     requires numbers { map number_in workers.items ≡ range_with_len 0 (length workers.items) }
-    requires law { All (IsWorker (outline setup.now) C.begin) workers.items }
-    requires feeder { IsFeeder F.LIVE (outline setup.now) C.begin rows.now (F.feeder feeder) }
-    requires rows { AreFromSources (outline setup.now).job rows.now }
+    requires law { All (IsWorker (setup_view setup.now) C.begin) workers.items }
+    requires feeder { IsFeeder F.LIVE (setup_view setup.now) C.begin rows.now (F.feeder feeder) }
+    requires rows { AreFromSources (setup_view setup.now).job rows.now }
     ensures once { IfOk result (λ r. HasEachOf (length C.ends) (numbers r.runners.items)) }
     ensures agree { IfOk result (λ r. All (Agrees C.ends) r.runners.items) }
     ensures done { IfOk result (λ r. All HasEnded r.runners.items) }
-    ensures feeder { IfOk result (λ r. HasFed F.LIVE (outline setup.now) C.begin rows.now F.kept
+    ensures feeder { IfOk result (λ r. HasFed F.LIVE (setup_view setup.now) C.begin rows.now F.kept
         (F.feeder feeder) (F.rest feeder) (F.feeder r.feeder) (F.rest r.feeder)) }
     ensures stopped { IfOk result (λ r. IsTrue (F.feeder r.feeder).stopped) }
 {
@@ -197,12 +197,12 @@ where
     requires queue { IsSegPassOf queue.now own.pass }
     requires parts { own.pass.me.view.client.parts ≡ 16 }
     requires listed { AreListed C.ends own.runners.items own.pass.me.view.client.list }
-    requires feeder { IsFeeder F.LIVE (outline setup.now) C.begin rows.now (F.feeder feeder) }
-    requires rows { AreFromSources (outline setup.now).job rows.now }
+    requires feeder { IsFeeder F.LIVE (setup_view setup.now) C.begin rows.now (F.feeder feeder) }
+    requires rows { AreFromSources (setup_view setup.now).job rows.now }
     ensures once { IfOk result (λ r. HasEachOf (length C.ends) (numbers r.runners.items)) }
     ensures agree { IfOk result (λ r. All (Agrees C.ends) r.runners.items) }
     ensures done { IfOk result (λ r. All HasEnded r.runners.items) }
-    ensures feeder { IfOk result (λ r. HasFed F.LIVE (outline setup.now) C.begin rows.now F.kept
+    ensures feeder { IfOk result (λ r. HasFed F.LIVE (setup_view setup.now) C.begin rows.now F.kept
         (F.feeder feeder) (F.rest feeder) (F.feeder r.feeder) (F.rest r.feeder)) }
     ensures stopped { IfOk result (λ r. IsTrue (F.feeder r.feeder).stopped) }
 {
@@ -219,13 +219,13 @@ where
             requires parts { load.own.pass.me.view.client.parts ≡ 16 }
             requires listed { AreListed C.ends load.own.runners.items
                 load.own.pass.me.view.client.list }
-            requires feeder { IsFeeder F.LIVE (outline setup.now) C.begin rows.now
+            requires feeder { IsFeeder F.LIVE (setup_view setup.now) C.begin rows.now
                 (F.feeder load.feeder) }
-            requires rows { AreFromSources (outline setup.now).job rows.now }
+            requires rows { AreFromSources (setup_view setup.now).job rows.now }
             ensures once { IfOk result (λ r. HasEachOf (length C.ends) (numbers r.runners.items)) }
             ensures agree { IfOk result (λ r. All (Agrees C.ends) r.runners.items) }
             ensures done { IfOk result (λ r. All HasEnded r.runners.items) }
-            ensures feeder { IfOk result (λ r. HasFed F.LIVE (outline setup.entry.now) C.begin
+            ensures feeder { IfOk result (λ r. HasFed F.LIVE (setup_view setup.entry.now) C.begin
                 rows.entry.now F.kept (F.feeder load.entry.feeder) (F.rest load.entry.feeder)
                 (F.feeder r.feeder) (F.rest r.feeder)) }
             ensures stopped { IfOk result (λ r. IsTrue (F.feeder r.feeder).stopped) }
@@ -268,12 +268,13 @@ where
     requires words { length words.now ≤ 15 }
     requires parts { load.own.pass.me.view.client.parts ≡ 16 }
     requires listed { AreListed C.ends load.own.runners.items load.own.pass.me.view.client.list }
-    requires feeder { IsFeeder F.LIVE (outline setup.now) C.begin rows.now (F.feeder load.feeder) }
-    requires rows { AreFromSources (outline setup.now).job rows.now }
+    requires feeder { IsFeeder F.LIVE (setup_view setup.now) C.begin rows.now
+        (F.feeder load.feeder) }
+    requires rows { AreFromSources (setup_view setup.now).job rows.now }
     ensures once { IfOk result (λ r. HasEachOf (length C.ends) (numbers r.runners.items)) }
     ensures agree { IfOk result (λ r. All (Agrees C.ends) r.runners.items) }
     ensures done { IfOk result (λ r. All HasEnded r.runners.items) }
-    ensures feeder { IfOk result (λ r. HasFed F.LIVE (outline setup.now) C.begin rows.now F.kept
+    ensures feeder { IfOk result (λ r. HasFed F.LIVE (setup_view setup.now) C.begin rows.now F.kept
         (F.feeder load.entry.feeder) (F.rest load.entry.feeder) (F.feeder r.feeder)
         (F.rest r.feeder)) }
     ensures stopped { IfOk result (λ r. IsTrue (F.feeder r.feeder).stopped) }

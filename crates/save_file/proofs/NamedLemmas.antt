@@ -7,10 +7,10 @@ use Rattle.std.proofs.lemmas.Bool.{le-leb, le-ltb, lt-ltb, ltb-true}
 use Rattle.std.proofs.lemmas.List.Sums.{position_or_len_is}
 use Rattle.std.proofs.lemmas.Option.{slice_get-get_or}
 use Rattle.jobs.specs.Nodes.{is_count}
-use Rattle.jobs.specs.Written.{Written}
+use Rattle.jobs.specs.JobView.{JobView}
 use Rattle.jobs.specs.declared.func.NodeDef.{NodeDef}
-use Rattle.flow_model.specs.Outline.{Post}
-use Rattle.flow_model.specs.Workers.{nobody, post_at, posts}
+use Rattle.flow_model.specs.SetupView.{Worker}
+use Rattle.flow_model.specs.Workers.{nobody, nth_worker, workers_in}
 use Rattle.flow_model.proofs.WorkerLemmas.{worker_with}
 use Rattle.jobs.specs.Limits.{text_max}
 use Rattle.savepoint.specs.SaveReading.{Placed, Spelled, is_named_by, is_place, placed_by, placed_of}
@@ -35,55 +35,55 @@ same_some : (a b : NodeDef) → Some a ≡ Some b → a ≡ b
 same_some a b e = cc e
 
 -- the worker's node is the one at its number, and its function is that node's
-pub named-by : (job : Written) (w : ℕ) (name : List ℕ) (place : ℤ) (def : NodeDef) (n index : ℕ) (items : List NodeDef) → w < length (posts job) → n ≡ (post_at job w).node → index ≡ (post_at job w).place
+pub named-by : (job : JobView) (w : ℕ) (name : List ℕ) (place : ℤ) (def : NodeDef) (n index : ℕ) (items : List NodeDef) → w < length (workers_in job) → n ≡ (nth_worker job w).node → index ≡ (nth_worker job w).place
     → n < length job.nodes → items ≡ job.nodes → def ≡ get_or items n def
-    → is_named job name place (post_at job w) ≡ ((is_count def.func && pointwise nat_eq name def.name) && is_place place index)
+    → is_named job name place (nth_worker job w) ≡ ((is_count def.func && pointwise nat_eq name def.name) && is_place place index)
 named-by job w name place def n index items lt node_is place_is within items_are is =
-    let post : Post = post_at job w in
-    let there : slice_get (posts job) w ≡ Some post = slice_get-get_or (posts job) w nobody lt in
-    let worker = (worker_with job w post there).1 in
-    let at : slice_get job.nodes post.node ≡ Some def =
+    let who : Worker = nth_worker job w in
+    let there : slice_get (workers_in job) w ≡ Some who = slice_get-get_or (workers_in job) w nobody lt in
+    let worker = (worker_with job w who there).1 in
+    let at : slice_get job.nodes who.node ≡ Some def =
     ap (slice_get job.nodes) (sym node_is) ∙ (slice_get-get_or job.nodes n def within ∙ ap Some (sym (is ∙ ap (λ l. get_or l n def) items_are))) in
     let same : worker.def ≡ def = same_some worker.def def (sym worker.node_is ∙ at) in
-    let func : is_count post.func ≡ is_count def.func = ap is_count worker.func_is ∙ ap (λ d. is_count d.func) same in
-    let named : pointwise nat_eq name (name_of (slice_get job.nodes post.node)) ≡ pointwise nat_eq name def.name = ap (λ o. pointwise nat_eq name (name_of o)) at in
-    ap (λ b. b && (pointwise nat_eq name (name_of (slice_get job.nodes post.node)) && is_place place post.place)) func
-    ∙ (ap (λ b. is_count def.func && (b && is_place place post.place)) named
+    let func : is_count who.func ≡ is_count def.func = ap is_count worker.func_is ∙ ap (λ d. is_count d.func) same in
+    let named : pointwise nat_eq name (name_of (slice_get job.nodes who.node)) ≡ pointwise nat_eq name def.name = ap (λ o. pointwise nat_eq name (name_of o)) at in
+    ap (λ b. b && (pointwise nat_eq name (name_of (slice_get job.nodes who.node)) && is_place place who.place)) func
+    ∙ (ap (λ b. is_count def.func && (b && is_place place who.place)) named
     ∙ (ap (λ k. is_count def.func && (pointwise nat_eq name def.name && is_place place k)) (sym place_is)
     ∙ and_assoc (is_count def.func) (pointwise nat_eq name def.name) (is_place place index)))
 
-pub numbered : (job : Written) (i : ℕ) (post : Post) → slice_get (posts job) i ≡ Some post → post.number ≡ 0 + i
-numbered job i post at = let e = (worker_with job i post at).0 in omega (arith, e)
+pub numbered : (job : JobView) (i : ℕ) (who : Worker) → slice_get (workers_in job) i ≡ Some who → who.number ≡ 0 + i
+numbered job i who at = let e = (worker_with job i who at).0 in omega (arith, e)
 
 -- ---- a count has a worker
 
-placed-within : (job : Written) (s : Spelled) (p : Placed) → placed_of job s ≡ Some p → p.worker < length (posts job)
+placed-within : (job : JobView) (s : Spelled) (p : Placed) → placed_of job s ≡ Some p → p.worker < length (workers_in job)
 placed-within job s p is = by_length (nat_le (length s.key) text_max) is
   where
-    by_place : (b : Bool) → nat_lt (position_or_len (is_named_by job s) (posts job)) (length (posts job)) ≡ b
-        → option_map (placed_by s) (cond b (Some (position_or_len (is_named_by job s) (posts job))) None) ≡ Some p → p.worker < length (posts job)
+    by_place : (b : Bool) → nat_lt (position_or_len (is_named_by job s) (workers_in job)) (length (workers_in job)) ≡ b
+        → option_map (placed_by s) (cond b (Some (position_or_len (is_named_by job s) (workers_in job))) None) ≡ Some p → p.worker < length (workers_in job)
     by_place true less e =
-        let same : position_or_len (is_named_by job s) (posts job) ≡ p.worker = cc e in
-        subst (λ w. w < length (posts job)) same (ltb-true (position_or_len (is_named_by job s) (posts job)) (length (posts job)) less)
+        let same : position_or_len (is_named_by job s) (workers_in job) ≡ p.worker = cc e in
+        subst (λ w. w < length (workers_in job)) same (ltb-true (position_or_len (is_named_by job s) (workers_in job)) (length (workers_in job)) less)
     by_place false less e = absurd (cc e)
 
-    by_length : (b : Bool) → (if b then option_map (placed_by s) (position (is_named_by job s) (posts job)) else None) ≡ Some p → p.worker < length (posts job)
-    by_length true e = by_place (nat_lt (position_or_len (is_named_by job s) (posts job)) (length (posts job))) refl e
+    by_length : (b : Bool) → (if b then option_map (placed_by s) (position (is_named_by job s) (workers_in job)) else None) ≡ Some p → p.worker < length (workers_in job)
+    by_length true e = by_place (nat_lt (position_or_len (is_named_by job s) (workers_in job)) (length (workers_in job))) refl e
     by_length false e = absurd (cc e)
 
-each-within : (job : Written) (spelled : List Spelled) (i : ℕ) (p : Placed) → i < length (map (placed_of job) spelled) → get_or (map (placed_of job) spelled) i (Some p) ≡ Some p → p.worker < length (posts job)
+each-within : (job : JobView) (spelled : List Spelled) (i : ℕ) (p : Placed) → i < length (map (placed_of job) spelled) → get_or (map (placed_of job) spelled) i (Some p) ≡ Some p → p.worker < length (workers_in job)
 each-within job [] i p lt at = absurd (omega (arith, lt))
 each-within job (s ∷ spelled) zero p lt at = placed-within job s p at
 each-within job (s ∷ spelled) (suc i) p lt at = each-within job spelled i p (omega (arith, lt)) at
 
-pub named-within : (job : Written) (counts : List (Option Placed)) → ((spelled : List Spelled) × (counts ≡ map (placed_of job) spelled)) → (i : ℕ) (p : Placed) → i < length counts → get_or counts i (Some p) ≡ Some p
-    → p.worker < length (posts job)
+pub named-within : (job : JobView) (counts : List (Option Placed)) → ((spelled : List Spelled) × (counts ≡ map (placed_of job) spelled)) → (i : ℕ) (p : Placed) → i < length counts → get_or counts i (Some p) ≡ Some p
+    → p.worker < length (workers_in job)
 named-within job counts (spelled, is) i p lt at =
     each-within job spelled i p (subst (λ l. i < length l) is lt) (subst (λ l. get_or l i (Some p) ≡ Some p) is at)
 
-pub worker-there : (job : Written) (w : ℕ) → w < length (posts job) → slice_get (posts job) w ≡ Some (post_at job w)
-worker-there job w lt = slice_get-get_or (posts job) w nobody lt
+pub worker-there : (job : JobView) (w : ℕ) → w < length (workers_in job) → slice_get (workers_in job) w ≡ Some (nth_worker job w)
+worker-there job w lt = slice_get-get_or (workers_in job) w nobody lt
 
 -- no worker is named
-pub none_placed : (job : Written) (name key : List ℕ) (place count : ℤ) → length key ≤ 48 → position (is_named job name place) (posts job) ≡ None → placed_of job (spelled_with name place key count) ≡ None
+pub none_placed : (job : JobView) (name key : List ℕ) (place count : ℤ) → length key ≤ 48 → position (is_named job name place) (workers_in job) ≡ None → placed_of job (spelled_with name place key count) ≡ None
 none_placed job name key place count le none = rw (le-leb (length key) 48 le) (ap (option_map (placed_by (spelled_with name place key count))) none)

@@ -3,15 +3,15 @@ use Rattle.std.proofs.Common.{◌≡◌, ◌∙◌, ◌+◌, ◌++◌, ℕ, zero
 use Rattle.std.specs.FinMap.{entries}
 use Rattle.std.proofs.lemmas.Grind.{flat_map-append}
 use Rattle.jobs.specs.Nodes.{workers_of}
-use Rattle.jobs.specs.Written.{Written}
+use Rattle.jobs.specs.JobView.{JobView}
 use Rattle.jobs.specs.declared.func.Func.{Func}
 use Rattle.jobs.specs.declared.func.NodeDef.{NodeDef}
 use Rattle.keyed_state.specs.Counts.{Counts}
 use Rattle.sink_journal.specs.Records.{records_text}
 use Rattle.flow_model.specs.Begin.{Begin}
-use Rattle.flow_model.specs.Outline.{Post}
-use Rattle.flow_model.specs.Workers.{posts_at, posts_from}
-use Rattle.flow_model.proofs.PostLemmas.{length-posts_at}
+use Rattle.flow_model.specs.SetupView.{Worker}
+use Rattle.flow_model.specs.Workers.{node_workers, workers_from}
+use Rattle.flow_model.proofs.WorkerListLemmas.{length-node_workers}
 use Rattle.savepoint.specs.SaveText.{count_record, head_record, name_of, save_text, worker_records}
 use Rattle.save_file.specs.ByNode.{node_records, nodes_records, nodes_text}
 
@@ -28,23 +28,23 @@ zip_append [] ys zs = refl
 zip_append (x ∷ xs) ys [] = sym (zip_none ys [] refl)
 zip_append (x ∷ xs) ys (z ∷ zs) = ap (λ l. (x, z) ∷ l) (zip_append xs ys zs)
 
-at_node : (job : Written) (def : NodeDef) (number node : ℕ) (f : Func) (place count : ℕ) (states : List Counts) → slice_get job.nodes node ≡ Some def
-    → flat_map (worker_records job) (zip (posts_at number node f place count) states) ≡ node_records def.name place (take count states)
+at_node : (job : JobView) (def : NodeDef) (number node : ℕ) (f : Func) (place count : ℕ) (states : List Counts) → slice_get job.nodes node ≡ Some def
+    → flat_map (worker_records job) (zip (node_workers number node f place count) states) ≡ node_records def.name place (take count states)
 at_node job def number node f place zero states is = refl
 at_node job def number node f place (suc count) [] is = refl
 at_node job def number node f place (suc count) (s ∷ states) is =
     let here : map (count_record (name_of (slice_get job.nodes node)) place) (entries s) ≡ map (count_record def.name place) (entries s)
     = ap (λ o. map (count_record (name_of o) place) (entries s)) is in
-    ap (λ (l : List Record). l ++ flat_map (worker_records job) (zip (posts_at (number + 1) node f (place + 1) count) states)) here
+    ap (λ (l : List Record). l ++ flat_map (worker_records job) (zip (node_workers (number + 1) node f (place + 1) count) states)) here
     ∙ ap (λ (l : List Record). map (count_record def.name place) (entries s) ++ l) (at_node job def (number + 1) node f (place + 1) count states is)
 
-from_node : (job : Written) (number node : ℕ) (defs : List NodeDef) (states : List Counts) → ((i : ℕ) → slice_get defs i ≡ slice_get job.nodes (node + i))
-    → flat_map (worker_records job) (zip (posts_from number node defs) states) ≡ nodes_records defs states
+from_node : (job : JobView) (number node : ℕ) (defs : List NodeDef) (states : List Counts) → ((i : ℕ) → slice_get defs i ≡ slice_get job.nodes (node + i))
+    → flat_map (worker_records job) (zip (workers_from number node defs) states) ≡ nodes_records defs states
 from_node job number node [] states h = refl
 from_node job number node (def ∷ more) states h =
-    let own : List Post = posts_at number node def.func 0 (workers_of def) in
-    let others : List Post = posts_from (number + workers_of def) (node + 1) more in
-    let n : length own ≡ workers_of def = length-posts_at number node def.func 0 (workers_of def) in
+    let own : List Worker = node_workers number node def.func 0 (workers_of def) in
+    let others : List Worker = workers_from (number + workers_of def) (node + 1) more in
+    let n : length own ≡ workers_of def = length-node_workers number node def.func 0 (workers_of def) in
     let is : slice_get job.nodes node ≡ Some def = ap (slice_get job.nodes) (let e : node ≡ node + 0 = omega arith in e) ∙ sym (h 0) in
     let tail : (i : ℕ) → slice_get more i ≡ slice_get job.nodes ((node + 1) + i)
     = λ i. h (suc i) ∙ ap (slice_get job.nodes) (let e : node + suc i ≡ (node + 1) + i = omega arith in e) in
@@ -55,6 +55,6 @@ from_node job number node (def ∷ more) states h =
     (ap (λ (k : ℕ). flat_map (worker_records job) (zip others (drop k states))) n ∙ from_node job (number + workers_of def) (node + 1) more (drop (workers_of def) states) tail)))
 
 -- the text that is written node by node is the text of the savepoint
-pub save_by_node : (job : Written) (begin : Begin) → nodes_text job.nodes begin ≡ save_text job begin
+pub save_by_node : (job : JobView) (begin : Begin) → nodes_text job.nodes begin ≡ save_text job begin
 save_by_node job begin =
     ap (λ (l : List Record). records_text (head_record begin.row begin.turned ∷ l)) (sym (from_node job 0 0 job.nodes begin.states (λ i. ap (slice_get job.nodes) (let e : i ≡ 0 + i = omega arith in e))))

@@ -11,7 +11,7 @@ use Rattle.std.specs.Int.{saturate_signed}
 use Rattle.std.proofs.Math.IntN.{+ℤ_idl}
 use Rattle.std.proofs.Math.Nat.{min-eq_left}
 use Rattle.keyed_state.specs.Counts.{Counts, clamp, raised}
-use Rattle.flow_model.specs.Outline.{Post}
+use Rattle.flow_model.specs.SetupView.{Worker}
 use Rattle.savepoint.specs.SaveReading.{Placed, counts_at, one_more, one_placed, stands_behind}
 use Rattle.savepoint.specs.declared.fault.SaveFault.{SaveFault}
 use Rattle.savepoint.specs.declared.fault.SaveFault.TheVariants as fault
@@ -99,60 +99,60 @@ none_found p w (q ∷ qs) e h = go (q.worker == w) refl (none_found p w qs e h.1
     go true is none = rw (is, key_other (eqb-true q.worker w is) h.0) none
     go false is none = rw is none
 
-new_key : (p : Placed) (done : List Placed) (post : Post) → p.worker ≡ post.number → AllBefore p done → get (counts_at done post) p.key ≡ None
-new_key p done post e h = get-from_entries nat_list_cmp_total (map pair (filter (is_of post.number) done)) p.key ∙ none_found p post.number done e h
+new_key : (p : Placed) (done : List Placed) (who : Worker) → p.worker ≡ who.number → AllBefore p done → get (counts_at done who) p.key ≡ None
+new_key p done who e h = get-from_entries nat_list_cmp_total (map pair (filter (is_of who.number) done)) p.key ∙ none_found p who.number done e h
 
 get_or_map : {A B : Type 0} (f : A → B) (xs : List A) (i : ℕ) (x : A) (d : B) → slice_get xs i ≡ Some x → get_or (map f xs) i d ≡ f x
 get_or_map f [] i x d at = absurd (cc at)
 get_or_map f (y ∷ xs) zero x d at = let same : y ≡ x = cc at in ap f same
 get_or_map f (y ∷ xs) (suc i) x d at = get_or_map f xs i x d at
 
-pub key-new : (p : Placed) (done : List Placed) (posts : List Post) (post : Post) (d : Counts) → slice_get posts p.worker ≡ Some post → post.number ≡ p.worker → AllBefore p done
-    → get (get_or (map (counts_at done) posts) p.worker d) p.key ≡ None
-key-new p done posts post d at e h = ap (λ (c : Counts). get c p.key) (get_or_map (counts_at done) posts p.worker post d at) ∙ new_key p done post (sym e) h
+pub key-new : (p : Placed) (done : List Placed) (workers_in : List Worker) (who : Worker) (d : Counts) → slice_get workers_in p.worker ≡ Some who → who.number ≡ p.worker → AllBefore p done
+    → get (get_or (map (counts_at done) workers_in) p.worker d) p.key ≡ None
+key-new p done workers_in who d at e h = ap (λ (c : Counts). get c p.key) (get_or_map (counts_at done) workers_in p.worker who d at) ∙ new_key p done who (sym e) h
 
 -- ---- what it changes
 
-others_stay : (done : List Placed) (p : Placed) (post : Post) → (p.worker == post.number) ≡ false → counts_at (done ++ p ∷ []) post ≡ counts_at done post
-others_stay done p post other =
-    let none : filter (is_of post.number) (p ∷ []) ≡ [] = rw other refl in
-    ap (λ (l : List Placed). from_entries (map pair l)) (filter-append (is_of post.number) done (p ∷ []) ∙ (ap (λ (l : List Placed). filter (is_of post.number) done ++ l) none ∙ append-nil (filter (is_of post.number) done)))
+others_stay : (done : List Placed) (p : Placed) (who : Worker) → (p.worker == who.number) ≡ false → counts_at (done ++ p ∷ []) who ≡ counts_at done who
+others_stay done p who other =
+    let none : filter (is_of who.number) (p ∷ []) ≡ [] = rw other refl in
+    ap (λ (l : List Placed). from_entries (map pair l)) (filter-append (is_of who.number) done (p ∷ []) ∙ (ap (λ (l : List Placed). filter (is_of who.number) done ++ l) none ∙ append-nil (filter (is_of who.number) done)))
 
-own_grow : (done : List Placed) (p : Placed) (post : Post) → p.worker ≡ post.number → AllBefore p done → counts_at (done ++ p ∷ []) post ≡ insert (counts_at done post) p.key p.count
-own_grow done p post e h =
-    let one : filter (is_of post.number) (p ∷ []) ≡ p ∷ [] = rw (eq-eqb p.worker post.number e) refl in
-    let own : List Placed = filter (is_of post.number) done in
-    ap (λ (l : List Placed). from_entries (map pair l)) (filter-append (is_of post.number) done (p ∷ []) ∙ ap (λ (l : List Placed). own ++ l) one)
+own_grow : (done : List Placed) (p : Placed) (who : Worker) → p.worker ≡ who.number → AllBefore p done → counts_at (done ++ p ∷ []) who ≡ insert (counts_at done who) p.key p.count
+own_grow done p who e h =
+    let one : filter (is_of who.number) (p ∷ []) ≡ p ∷ [] = rw (eq-eqb p.worker who.number e) refl in
+    let own : List Placed = filter (is_of who.number) done in
+    ap (λ (l : List Placed). from_entries (map pair l)) (filter-append (is_of who.number) done (p ∷ []) ∙ ap (λ (l : List Placed). own ++ l) one)
     ∙ (ap from_entries (map-append pair own (p ∷ []))
-    ∙ from_entries_push nat_list_cmp_total (slice_cmp-IsAntisymmetric nat_cmp-IsAntisymmetric) (map pair own) p.key p.count (none_found p post.number done e h))
+    ∙ from_entries_push nat_list_cmp_total (slice_cmp-IsAntisymmetric nat_cmp-IsAntisymmetric) (map pair own) p.key p.count (none_found p who.number done e h))
 
-abbrev AreNumbered : ℕ → List Post → Type 0
-AreNumbered k posts = (i : ℕ) (post : Post) → slice_get posts i ≡ Some post → post.number ≡ k + i
+abbrev AreNumbered : ℕ → List Worker → Type 0
+AreNumbered k workers_in = (i : ℕ) (who : Worker) → slice_get workers_in i ≡ Some who → who.number ≡ k + i
 
-numbered_tail : (k : ℕ) (post : Post) (posts : List Post) → AreNumbered k (post ∷ posts) → AreNumbered (k + 1) posts
-numbered_tail k post posts h i q at = let e : q.number ≡ k + suc i = h (suc i) q at in omega (arith, e)
+numbered_tail : (k : ℕ) (who : Worker) (workers_in : List Worker) → AreNumbered k (who ∷ workers_in) → AreNumbered (k + 1) workers_in
+numbered_tail k who workers_in h i q at = let e : q.number ≡ k + suc i = h (suc i) q at in omega (arith, e)
 
-later_stay : (done : List Placed) (p : Placed) (k : ℕ) (posts : List Post) → AreNumbered k posts → p.worker < k → map (counts_at done) posts ≡ map (counts_at (done ++ p ∷ [])) posts
+later_stay : (done : List Placed) (p : Placed) (k : ℕ) (workers_in : List Worker) → AreNumbered k workers_in → p.worker < k → map (counts_at done) workers_in ≡ map (counts_at (done ++ p ∷ [])) workers_in
 later_stay done p k [] h lt = refl
-later_stay done p k (post ∷ posts) h lt =
-    let e : post.number ≡ k + 0 = h 0 post refl in
-    let other : (p.worker == post.number) ≡ false = ne_eqb p.worker post.number (omega (arith, lt, e)) in
-    ap (λ (c : Counts). c ∷ map (counts_at done) posts) (sym (others_stay done p post other))
-    ∙ ap (λ (l : List Counts). counts_at (done ++ p ∷ []) post ∷ l) (later_stay done p (k + 1) posts (numbered_tail k post posts h) (omega (arith, lt)))
+later_stay done p k (who ∷ workers_in) h lt =
+    let e : who.number ≡ k + 0 = h 0 who refl in
+    let other : (p.worker == who.number) ≡ false = ne_eqb p.worker who.number (omega (arith, lt, e)) in
+    ap (λ (c : Counts). c ∷ map (counts_at done) workers_in) (sym (others_stay done p who other))
+    ∙ ap (λ (l : List Counts). counts_at (done ++ p ∷ []) who ∷ l) (later_stay done p (k + 1) workers_in (numbered_tail k who workers_in h) (omega (arith, lt)))
 
-pub one-grows : (done : List Placed) (p : Placed) (k w : ℕ) (posts : List Post) (d : Counts) → AllBefore p done → AreNumbered k posts → p.worker ≡ k + w → w < length posts
-    → slice_set (map (counts_at done) posts) w (insert (get_or (map (counts_at done) posts) w d) p.key p.count) ≡ map (counts_at (done ++ p ∷ [])) posts
+pub one-grows : (done : List Placed) (p : Placed) (k w : ℕ) (workers_in : List Worker) (d : Counts) → AllBefore p done → AreNumbered k workers_in → p.worker ≡ k + w → w < length workers_in
+    → slice_set (map (counts_at done) workers_in) w (insert (get_or (map (counts_at done) workers_in) w d) p.key p.count) ≡ map (counts_at (done ++ p ∷ [])) workers_in
 one-grows done p k w [] d h n is lt = absurd (omega (arith, lt))
-one-grows done p k zero (post ∷ posts) d h n is lt =
-    let e : post.number ≡ k + 0 = n 0 post refl in
-    let same : p.worker ≡ post.number = omega (arith, is, e) in
-    ap (λ (c : Counts). c ∷ map (counts_at done) posts) (sym (own_grow done p post same h))
-    ∙ ap (λ (l : List Counts). counts_at (done ++ p ∷ []) post ∷ l) (later_stay done p (k + 1) posts (numbered_tail k post posts n) (omega (arith, is)))
-one-grows done p k (suc w) (post ∷ posts) d h n is lt =
-    let e : post.number ≡ k + 0 = n 0 post refl in
-    let other : (p.worker == post.number) ≡ false = ne_eqb p.worker post.number (omega (arith, is, e)) in
-    ap (λ (c : Counts). c ∷ slice_set (map (counts_at done) posts) w (insert (get_or (map (counts_at done) posts) w d) p.key p.count)) (sym (others_stay done p post other))
-    ∙ ap (λ (l : List Counts). counts_at (done ++ p ∷ []) post ∷ l) (one-grows done p (k + 1) w posts d h (numbered_tail k post posts n) (omega (arith, is)) (omega (arith, lt)))
+one-grows done p k zero (who ∷ workers_in) d h n is lt =
+    let e : who.number ≡ k + 0 = n 0 who refl in
+    let same : p.worker ≡ who.number = omega (arith, is, e) in
+    ap (λ (c : Counts). c ∷ map (counts_at done) workers_in) (sym (own_grow done p who same h))
+    ∙ ap (λ (l : List Counts). counts_at (done ++ p ∷ []) who ∷ l) (later_stay done p (k + 1) workers_in (numbered_tail k who workers_in n) (omega (arith, is)))
+one-grows done p k (suc w) (who ∷ workers_in) d h n is lt =
+    let e : who.number ≡ k + 0 = n 0 who refl in
+    let other : (p.worker == who.number) ≡ false = ne_eqb p.worker who.number (omega (arith, is, e)) in
+    ap (λ (c : Counts). c ∷ slice_set (map (counts_at done) workers_in) w (insert (get_or (map (counts_at done) workers_in) w d) p.key p.count)) (sym (others_stay done p who other))
+    ∙ ap (λ (l : List Counts). counts_at (done ++ p ∷ []) who ∷ l) (one-grows done p (k + 1) w workers_in d h (numbered_tail k who workers_in n) (omega (arith, is)) (omega (arith, lt)))
 
 -- ---- its count
 

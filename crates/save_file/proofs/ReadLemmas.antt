@@ -2,12 +2,12 @@
 use Rattle.std.proofs.Common.{◌≡◌, ◌≢◌, ◌∙◌, ◌<◌, ◌≤◌, ◌+◌, ◌++◌, ◌==◌, ℕ, zero, suc, Bool, true, false, List, [], ◌∷◌, Option, Some, None, Result, Ok, Err, refl, sym, subst, ap, arith, add-one, append_assoc, drop, get_or, length, map, nat_lt, option_map, take, if◌then◌else◌}
 use Rattle.std.proofs.lemmas.Bool.{eq-eqb, le-ltb, lt-ltb, ne_eqb}
 use Rattle.std.proofs.lemmas.List.{append-nil, drop_more}
-use Rattle.jobs.specs.Written.{Written}
+use Rattle.jobs.specs.JobView.{JobView}
 use Rattle.keyed_state.specs.Counts.{Counts}
 use Rattle.flow_model.specs.Begin.{Begin}
-use Rattle.flow_model.specs.Outline.{Outline}
+use Rattle.flow_model.specs.SetupView.{SetupView}
 use Rattle.flow_model.specs.Requests.{afters}
-use Rattle.flow_model.specs.Workers.{posts}
+use Rattle.flow_model.specs.Workers.{workers_in}
 use Rattle.savepoint.specs.Parts.{issued_up_to}
 use Rattle.savepoint.specs.SaveReading.{Placed, Spelled, begin_at, begin_by, begin_in, begin_with, counts_at, head_of, one_more, one_placed, one_spelled, placed_from, placed_of, spelled_from, spelled_of, stands_behind}
 use Rattle.savepoint.specs.declared.fault.SaveFault.{SaveFault}
@@ -39,17 +39,17 @@ after-more first item (Ok later) = ap Ok (sym (append_assoc first (item ∷ []) 
 after-more first item (Err fault) = refl
 
 -- one record more
-pub read-more : (job : Written) (number : ℕ) (counts : List (Option Placed)) (placed : Option Placed) (cells : List (List ℕ)) (old new : List (List (List ℕ)))
+pub read-more : (job : JobView) (number : ℕ) (counts : List (Option Placed)) (placed : Option Placed) (cells : List (List ℕ)) (old new : List (List (List ℕ)))
     → old ≡ cells ∷ new → option_map (placed_of job) (spelled_of cells) ≡ Some placed
     → after (counts ++ placed ∷ []) (read_from job (number + 1) new) ≡ after counts (read_from job number old)
 read-more job number counts placed cells old new is made =
     sym (after-more counts placed (read_from job (number + 1) new))
     ∙ (ap (λ o. after counts (one_read number o (read_from job (number + 1) new))) (sym made) ∙ ap (λ rs. after counts (read_from job number rs)) (sym is))
 
-pub read-end : (job : Written) (number : ℕ) (counts : List (Option Placed)) (old : List (List (List ℕ))) → old ≡ [] → after counts (read_from job number old) ≡ Ok counts
+pub read-end : (job : JobView) (number : ℕ) (counts : List (Option Placed)) (old : List (List (List ℕ))) → old ≡ [] → after counts (read_from job number old) ≡ Ok counts
 read-end job number counts old is = ap (λ rs. after counts (read_from job number rs)) is ∙ ap Ok (append-nil counts)
 
-pub read-fault : (job : Written) (number : ℕ) (counts : List (Option Placed)) (cells : List (List ℕ)) (old new : List (List (List ℕ)))
+pub read-fault : (job : JobView) (number : ℕ) (counts : List (Option Placed)) (cells : List (List ℕ)) (old new : List (List (List ℕ)))
     → old ≡ cells ∷ new → spelled_of cells ≡ None → after counts (read_from job number old) ≡ Err (fault.Shape number)
 read-fault job number counts cells old new is none =
     ap (λ rs. after counts (read_from job number rs)) is
@@ -57,12 +57,12 @@ read-fault job number counts cells old new is none =
 
 -- ---- what is read tells what is spelled
 
-pub record IsRead (job : Written) (number : ℕ) (records : List (List (List ℕ))) (counts : List (Option Placed)) : Type 0 where
+pub record IsRead (job : JobView) (number : ℕ) (records : List (List (List ℕ))) (counts : List (Option Placed)) : Type 0 where
   pub spelled : List Spelled
   pub is : spelled_from number records ≡ Ok spelled
   pub counts_are : counts ≡ map (placed_of job) spelled
 
-pub read-spelled : (job : Written) (number : ℕ) (records : List (List (List ℕ))) (counts : List (Option Placed)) → read_from job number records ≡ Ok counts → IsRead job number records counts
+pub read-spelled : (job : JobView) (number : ℕ) (records : List (List (List ℕ))) (counts : List (Option Placed)) → read_from job number records ≡ Ok counts → IsRead job number records counts
 read-spelled job number [] counts is = record { spelled = []; is = refl; counts_are = cc is }
 read-spelled job number (first ∷ later) counts is = go (spelled_of first) (read_from job (number + 1) later) refl refl is (read-spelled job (number + 1) later)
   where
@@ -79,7 +79,7 @@ read-spelled job number (first ∷ later) counts is = go (spelled_of first) (rea
           counts_are = (let f : placed_of job spelled ∷ more ≡ counts = cc e in sym f) ∙ ap (λ l. placed_of job spelled ∷ l) r.counts_are;
         }
 
-pub fault-spelled : (job : Written) (number : ℕ) (records : List (List (List ℕ))) (f : SaveFault) → read_from job number records ≡ Err f → spelled_from number records ≡ Err f
+pub fault-spelled : (job : JobView) (number : ℕ) (records : List (List (List ℕ))) (f : SaveFault) → read_from job number records ≡ Err f → spelled_from number records ≡ Err f
 fault-spelled job number [] f is = absurd (cc is)
 fault-spelled job number (first ∷ later) f is = go (spelled_of first) (read_from job (number + 1) later) refl refl is (fault-spelled job (number + 1) later f)
   where
@@ -95,7 +95,7 @@ fault-spelled job number (first ∷ later) f is = go (spelled_of first) (read_fr
 
 -- ---- the order
 
-pub placed-steps : (job : Written) (number : ℕ) (before : Option Placed) (spelled : List Spelled) → placed_from job number before spelled ≡ placed_in number before (map (placed_of job) spelled)
+pub placed-steps : (job : JobView) (number : ℕ) (before : Option Placed) (spelled : List Spelled) → placed_from job number before spelled ≡ placed_in number before (map (placed_of job) spelled)
 placed-steps job number before [] = refl
 placed-steps job number before (first ∷ later) = one_step (placed_of job first) (λ p. placed-steps job (number + 1) (Some p) later)
   where
@@ -145,22 +145,22 @@ order-more counts i before p x lt is some behind =
 
 -- ---- the whole text
 
-pub begin-none : (setup : Outline) (rows : ℕ) (all : List (List (List ℕ))) → all ≡ [] → begin_in setup rows all ≡ Err (fault.Shape 0)
+pub begin-none : (setup : SetupView) (rows : ℕ) (all : List (List (List ℕ))) → all ≡ [] → begin_in setup rows all ≡ Err (fault.Shape 0)
 begin-none setup rows all is = ap (begin_in setup rows) is
 
-pub begin-headless : (setup : Outline) (rows : ℕ) (cells : List (List ℕ)) (all later : List (List (List ℕ))) → all ≡ cells ∷ later → head_of cells ≡ None → begin_in setup rows all ≡ Err (fault.Shape 0)
+pub begin-headless : (setup : SetupView) (rows : ℕ) (cells : List (List ℕ)) (all later : List (List (List ℕ))) → all ≡ cells ∷ later → head_of cells ≡ None → begin_in setup rows all ≡ Err (fault.Shape 0)
 begin-headless setup rows cells all later is none = ap (begin_in setup rows) is ∙ ap (λ o. begin_by setup rows o (spelled_from 1 later)) none
 
-by_head : (setup : Outline) (rows : ℕ) (cells : List (List ℕ)) (all later : List (List (List ℕ))) (head : ℕ × ℕ) (spelled : Result (List Spelled) SaveFault)
+by_head : (setup : SetupView) (rows : ℕ) (cells : List (List ℕ)) (all later : List (List (List ℕ))) (head : ℕ × ℕ) (spelled : Result (List Spelled) SaveFault)
     → all ≡ cells ∷ later → head_of cells ≡ Some head → spelled_from 1 later ≡ spelled → begin_in setup rows all ≡ begin_by setup rows (Some head) spelled
 by_head setup rows cells all later head spelled is at made =
     ap (begin_in setup rows) is ∙ (ap (λ o. begin_by setup rows o (spelled_from 1 later)) at ∙ ap (begin_by setup rows (Some head)) made)
 
-pub begin-misspelled : (setup : Outline) (rows : ℕ) (cells : List (List ℕ)) (all later : List (List (List ℕ))) (head : ℕ × ℕ) (f : SaveFault)
+pub begin-misspelled : (setup : SetupView) (rows : ℕ) (cells : List (List ℕ)) (all later : List (List (List ℕ))) (head : ℕ × ℕ) (f : SaveFault)
     → all ≡ cells ∷ later → head_of cells ≡ Some head → read_from setup.job 1 later ≡ Err f → begin_in setup rows all ≡ Err f
 begin-misspelled setup rows cells all later head f is at made = by_head setup rows cells all later head (Err f) is at (fault-spelled setup.job 1 later f made)
 
-pub begin-read : (setup : Outline) (rows : ℕ) (cells : List (List ℕ)) (all later : List (List (List ℕ))) (head : ℕ × ℕ) (counts : List (Option Placed)) (answer : Result Begin SaveFault)
+pub begin-read : (setup : SetupView) (rows : ℕ) (cells : List (List ℕ)) (all later : List (List (List ℕ))) (head : ℕ × ℕ) (counts : List (Option Placed)) (answer : Result Begin SaveFault)
     → all ≡ cells ∷ later → head_of cells ≡ Some head → read_from setup.job 1 later ≡ Ok counts
     → ((spelled : List Spelled) → counts ≡ map (placed_of setup.job) spelled → begin_at setup rows head spelled ≡ answer) → begin_in setup rows all ≡ answer
 begin-read setup rows cells all later head counts answer is at made h =
@@ -168,7 +168,7 @@ begin-read setup rows cells all later head counts answer is at made h =
     by_head setup rows cells all later head (Ok r.spelled) is at r.is ∙ h r.spelled r.counts_are
 
 -- the counts that were read were spelled
-pub named-read : (job : Written) (later : List (List (List ℕ))) (counts : List (Option Placed)) → read_from job 1 later ≡ Ok counts → (spelled : List Spelled) × (counts ≡ map (placed_of job) spelled)
+pub named-read : (job : JobView) (later : List (List (List ℕ))) (counts : List (Option Placed)) → read_from job 1 later ≡ Ok counts → (spelled : List Spelled) × (counts ≡ map (placed_of job) spelled)
 named-read job later counts made = let r = read-spelled job 1 later counts made in (r.spelled, r.counts_are)
 
 -- ---- the beginning
@@ -176,28 +176,28 @@ named-read job later counts made = let r = read-spelled job 1 later counts made 
 not_less : (rows row : ℕ) → row ≤ rows → nat_lt rows row ≡ false
 not_less rows row le = le-ltb rows row le
 
-pub at-past : (setup : Outline) (rows row turned : ℕ) (spelled : List Spelled) → rows < row → begin_at setup rows (row, turned) spelled ≡ Err (fault.Past row)
+pub at-past : (setup : SetupView) (rows row turned : ℕ) (spelled : List Spelled) → rows < row → begin_at setup rows (row, turned) spelled ≡ Err (fault.Past row)
 at-past setup rows row turned spelled less = rw (lt-ltb rows row less) refl
 
-abbrev issued_in : Outline → ℕ → ℕ → ℕ
+abbrev issued_in : SetupView → ℕ → ℕ → ℕ
 issued_in setup rows row = issued_up_to row rows (afters setup.requests)
 
-pub at-count : (setup : Outline) (rows row turned : ℕ) (spelled : List Spelled) → row ≤ rows → turned ≢ issued_in setup rows row
+pub at-count : (setup : SetupView) (rows row turned : ℕ) (spelled : List Spelled) → row ≤ rows → turned ≢ issued_in setup rows row
     → begin_at setup rows (row, turned) spelled ≡ Err (fault.Count (issued_in setup rows row))
 at-count setup rows row turned spelled le other = rw (not_less rows row le, ne_eqb turned (issued_in setup rows row) other) refl
 
-at_order : (setup : Outline) (rows row turned : ℕ) (counts : List (Option Placed)) (spelled : List Spelled) (made : Result (List Placed) SaveFault) → row ≤ rows → turned ≡ issued_in setup rows row
+at_order : (setup : SetupView) (rows row turned : ℕ) (counts : List (Option Placed)) (spelled : List Spelled) (made : Result (List Placed) SaveFault) → row ≤ rows → turned ≡ issued_in setup rows row
     → counts ≡ map (placed_of setup.job) spelled → placed_in 1 None counts ≡ made → begin_at setup rows (row, turned) spelled ≡ begin_with setup.job row turned made
 at_order setup rows row turned counts spelled made le same is order =
     let here : begin_at setup rows (row, turned) spelled ≡ begin_with setup.job row turned (placed_from setup.job 1 None spelled) = rw (not_less rows row le, eq-eqb turned (issued_in setup rows row) same) refl in
     here ∙ ap (begin_with setup.job row turned) (placed-steps setup.job 1 None spelled ∙ (ap (placed_in 1 None) (sym is) ∙ order))
 
-pub at-misplaced : (setup : Outline) (rows row turned : ℕ) (counts : List (Option Placed)) (spelled : List Spelled) (f : SaveFault) → row ≤ rows → turned ≡ issued_in setup rows row
+pub at-misplaced : (setup : SetupView) (rows row turned : ℕ) (counts : List (Option Placed)) (spelled : List Spelled) (f : SaveFault) → row ≤ rows → turned ≡ issued_in setup rows row
     → counts ≡ map (placed_of setup.job) spelled → placed_in 1 None counts ≡ Err f → begin_at setup rows (row, turned) spelled ≡ Err f
 at-misplaced setup rows row turned counts spelled f le same is order = at_order setup rows row turned counts spelled (Err f) le same is order
 
-pub at-placed : (setup : Outline) (rows row turned : ℕ) (counts : List (Option Placed)) (spelled : List Spelled) (states : List Counts) → row ≤ rows → turned ≡ issued_in setup rows row
-    → counts ≡ map (placed_of setup.job) spelled → placed_in 1 None counts ≡ Ok (there counts) → states ≡ map (counts_at (there counts)) (posts setup.job)
+pub at-placed : (setup : SetupView) (rows row turned : ℕ) (counts : List (Option Placed)) (spelled : List Spelled) (states : List Counts) → row ≤ rows → turned ≡ issued_in setup rows row
+    → counts ≡ map (placed_of setup.job) spelled → placed_in 1 None counts ≡ Ok (there counts) → states ≡ map (counts_at (there counts)) (workers_in setup.job)
     → begin_at setup rows (row, turned) spelled ≡ Ok (record { row = row; turned = turned; states = states })
 at-placed setup rows row turned counts spelled states le same is order made =
     at_order setup rows row turned counts spelled (Ok (there counts)) le same is order

@@ -2,9 +2,9 @@
 use Rattle.std.specs.Prelude.{ℕ, ℤ, pos, ◌+◌, Bool, List, [], ◌∷◌, ◌++◌, Option, Some, None, Result, Ok, Err, min, nat_le, option_map}
 use Rattle.std.specs.Cmp.Lexicographic.{slice_cmp}
 use Rattle.std.specs.Ordering.{is_lt, nat_cmp}
-use Rattle.jobs.specs.Written.{Written}
+use Rattle.jobs.specs.JobView.{JobView}
 use Rattle.versions.specs.declared.request.Request.{Request}
-use Rattle.flow_model.specs.Outline.{Post}
+use Rattle.flow_model.specs.SetupView.{Worker}
 use Rattle.savepoint.specs.SaveReading.{Placed, Spelled, is_named_by, one_more, one_placed, placed_of, spelled_of}
 use Rattle.savepoint.specs.declared.fault.SaveFault.{SaveFault}
 use Rattle.savepoint.specs.declared.fault.SaveFault.TheVariants as fault
@@ -14,8 +14,8 @@ spelled_with name place key count =
     record { name = name; place = place; key = key; count = count }
 
 -- the worker counts, and has this node's name and this place
-abbrev pub is_named : Written → List ℕ → ℤ → Post → Bool
-is_named job name place post = is_named_by job (spelled_with name place [] (pos 0)) post
+abbrev pub is_named : JobView → List ℕ → ℤ → Worker → Bool
+is_named job name place who = is_named_by job (spelled_with name place [] (pos 0)) who
 
 -- the key comes before the other by its bytes
 abbrev pub is_before : List ℕ → List ℕ → Bool
@@ -30,7 +30,7 @@ one_read number (Some placed) later = one_more placed later
 
 -- what the records spell, each in its place, if it has one; the first has this number
 abbrev pub read_from :
-    Written → ℕ → List (List (List ℕ)) → Result (List (Option Placed)) SaveFault
+    JobView → ℕ → List (List (List ℕ)) → Result (List (Option Placed)) SaveFault
 read_from job number [] = Ok []
 read_from job number (first ∷ later) =
     one_read number (option_map (placed_of job) (spelled_of first)) (read_from job (number + 1) later)

@@ -1,6 +1,6 @@
 ghost use Rattle.std.specs.Prelude.{◌≡◌, filter, length};
 ghost use Rattle.flow_model.specs.Requests.{afters};
-ghost use Rattle.flow_model.specs.Setup.{outline};
+ghost use Rattle.flow_model.specs.Setup.{setup_view};
 ghost use Rattle.savepoint.specs.Parts.{issued_up_to as issued_up_to_of};
 ghost use Rattle.save_file.specs.Steps.{is_issued};
 
@@ -11,7 +11,7 @@ use versions::Request;
 ///
 /// A request is issued after the row that it waits for, and after the last row if there are fewer.
 pub fn issued_up_to(setup: &Setup, row: u64, rows: u64) -> u64
-    ensures { result ≡ issued_up_to_of row rows (afters (outline setup.now).requests) }
+    ensures { result ≡ issued_up_to_of row rows (afters (setup_view setup.now).requests) }
 {
     issued_in(setup.judged.accepted.as_slice(), row, rows) as u64
 }

@@ -2,10 +2,13 @@
 ghost use Rattle.std.specs.Prelude.{◌≡◌, ◌<◌, ◌&&◌, IfOk, length, nat_eq, option_copied, position};
 ghost use Rattle.std.specs.Cmp.Lexicographic.{pointwise};
 ghost use Rattle.jobs.specs.Nodes.{is_count};
-ghost use Rattle.flow_model.specs.Setup.{outline};
-ghost use Rattle.flow_model.specs.Workers.{post_at, posts};
-ghost use Rattle.savepoint.specs.SaveReading.{is_place as is_place_of, placed_of as placed_of_spelled, stands_behind as stands_behind_of};
-ghost use Rattle.save_file.specs.Steps.{is_before as is_before_of, is_named as is_named_of, spelled_with};
+ghost use Rattle.flow_model.specs.Setup.{setup_view};
+ghost use Rattle.flow_model.specs.Workers.{nth_worker, workers_in};
+ghost use Rattle.savepoint.specs.SaveReading.{is_place as is_place_of};
+ghost use Rattle.savepoint.specs.SaveReading.{placed_of as placed_of_spelled};
+ghost use Rattle.savepoint.specs.SaveReading.{stands_behind as stands_behind_of};
+ghost use Rattle.save_file.specs.Steps.{is_before as is_before_of, is_named as is_named_of};
+ghost use Rattle.save_file.specs.Steps.{spelled_with};
 ghost use Rattle.save_file.specs.Views.{spelled_view};
 
 use flow_model::Setup;
@@ -45,7 +48,7 @@ pub(crate) fn placed_of(
     setup: &Setup,
     spelled: Spelled<'_>,
 ) -> Result<Option<Placed>, NoMemory>
-    ensures { IfOk result (λ placed. placed ≡ placed_of_spelled (outline setup.now).job
+    ensures { IfOk result (λ placed. placed ≡ placed_of_spelled (setup_view setup.now).job
         (spelled_view spelled.entry)) }
 {
     let Spelled {
@@ -65,7 +68,7 @@ fn placed_at(
     key: &[u8],
     count: i64,
 ) -> Result<Option<Placed>, NoMemory>
-    ensures { IfOk result (λ placed. placed ≡ placed_of_spelled (outline setup.now).job
+    ensures { IfOk result (λ placed. placed ≡ placed_of_spelled (setup_view setup.now).job
         (spelled_with name.now place key.now count)) }
 {
     if key.len() > TEXT_MAX {
@@ -82,8 +85,8 @@ fn placed_at(
 }
 
 fn worker_named(setup: &Setup, name: &[u8], place: i64) -> Option<u32>
-    ensures { result ≡ position (is_named_of (outline setup.now).job name.now place)
-        (posts (outline setup.now).job) }
+    ensures { result ≡ position (is_named_of (setup_view setup.now).job name.now place)
+        (workers_in (setup_view setup.now).job) }
 {
     for worker in 0..setup.workers() {
         if is_named(setup, worker, name, place) {
@@ -94,9 +97,9 @@ fn worker_named(setup: &Setup, name: &[u8], place: i64) -> Option<u32>
 }
 
 fn is_named(setup: &Setup, worker: u32, name: &[u8], place: i64) -> bool
-    requires { worker < length (posts (outline setup.now).job) }
-    ensures { result ≡ is_named_of (outline setup.now).job name.now place
-        (post_at (outline setup.now).job worker) }
+    requires { worker < length (workers_in (setup_view setup.now).job) }
+    ensures { result ≡ is_named_of (setup_view setup.now).job name.now place
+        (nth_worker (setup_view setup.now).job worker) }
 {
     let at = setup.worker_at(worker);
     let node = &setup.job.nodes.as_slice()[at.node as usize];

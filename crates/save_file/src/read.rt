@@ -1,10 +1,13 @@
-ghost use Rattle.std.specs.Prelude.{◌≡◌, ◌≢◌, ◌<◌, Ok, Err, Some, None, IfErr, IfOk, OnOk, List, get_or, length, map, option_map, slice_set};
+ghost use Rattle.std.specs.Prelude.{◌≡◌, ◌≢◌, ◌<◌, Ok, Err, Some, None, IfErr, IfOk, OnOk, List};
+ghost use Rattle.std.specs.Prelude.{get_or, length, map, option_map, slice_set};
 ghost use Rattle.std.specs.FinMap.{get, insert};
 ghost use Rattle.keyed_state.specs.Counts.{Counts as CountsIs};
 ghost use Rattle.csv.specs.Records.{fields_of};
-ghost use Rattle.flow_model.specs.Setup.{outline};
-ghost use Rattle.flow_model.specs.Workers.{posts};
-ghost use Rattle.savepoint.specs.SaveReading.{Spelled as SpelledIs, begin_at as begin_at_of, counts_at, head_of as head_of_record, placed_of as placed_of_spelled, save_of, spelled_of};
+ghost use Rattle.flow_model.specs.Setup.{setup_view};
+ghost use Rattle.flow_model.specs.Workers.{workers_in};
+ghost use Rattle.savepoint.specs.SaveReading.{Spelled as SpelledIs, begin_at as begin_at_of};
+ghost use Rattle.savepoint.specs.SaveReading.{counts_at, head_of as head_of_record};
+ghost use Rattle.savepoint.specs.SaveReading.{placed_of as placed_of_spelled, save_of, spelled_of};
 ghost use Rattle.savepoint.specs.declared.fault.SaveFault.TheVariants.{Shape as ShapeOf};
 ghost use Rattle.save_file.specs.Steps.{placed_in, read_from, there};
 ghost use Rattle.save_file.specs.Views.{spelled_view};
@@ -33,9 +36,9 @@ type Counts = Items<Option<Placed>>;
 ///
 /// The fault of the text, or out of memory.
 pub fn read_save(alloc: Global, setup: &Setup, rows: u64, bytes: &[u8]) -> Result<Start, SaveFault>
-    ensures ok { IfOk result (λ start. save_of (outline setup.now) rows bytes.now ≡ Ok start) }
+    ensures ok { IfOk result (λ start. save_of (setup_view setup.now) rows bytes.now ≡ Ok start) }
     ensures fault { IfErr result (λ fault. fault ≢ SaveFault.NoMemory →
-        save_of (outline setup.now) rows bytes.now ≡ Err fault) }
+        save_of (setup_view setup.now) rows bytes.now ≡ Err fault) }
 {
     let mut records = TextRecords::of(alloc, bytes);
     let mut cells = ByteRecord::new(alloc);
@@ -70,9 +73,9 @@ fn counts_in(
     cells: &mut ByteRecord,
 ) -> Result<Counts, SaveFault>
     ensures ok { IfOk result (λ counts.
-        read_from (outline setup.now).job 1 records.old ≡ Ok counts) }
+        read_from (setup_view setup.now).job 1 records.old ≡ Ok counts) }
     ensures fault { IfErr result (λ fault. fault ≢ SaveFault.NoMemory →
-        read_from (outline setup.now).job 1 records.old ≡ Err fault) }
+        read_from (setup_view setup.now).job 1 records.old ≡ Err fault) }
 {
     let mut counts = Counts::new(alloc);
     for number in 1..u64::MAX {
@@ -91,7 +94,7 @@ fn count_in(
     number: u64,
     cells: &ByteRecord,
 ) -> Result<Option<Placed>, SaveFault>
-    ensures ok { IfOk result (λ placed. option_map (placed_of_spelled (outline setup.now).job)
+    ensures ok { IfOk result (λ placed. option_map (placed_of_spelled (setup_view setup.now).job)
         (spelled_of (fields_of cells.now)) ≡ Some placed) }
     ensures fault { IfErr result (λ fault. fault ≢ SaveFault.NoMemory →
         (spelled_of (fields_of cells.now) ≡ None) × (fault ≡ ShapeOf number)) }
@@ -126,13 +129,13 @@ fn begin_at(
     counts: &[Option<Placed>],
 ) -> Result<Start, SaveFault>
     requires { (spelled : List SpelledIs) ×
-        (counts.now ≡ map (placed_of_spelled (outline setup.now).job) spelled) }
+        (counts.now ≡ map (placed_of_spelled (setup_view setup.now).job) spelled) }
     ensures ok { IfOk result (λ start. (spelled : List SpelledIs) →
-        counts.now ≡ map (placed_of_spelled (outline setup.now).job) spelled →
-        begin_at_of (outline setup.now) rows (row, turned) spelled ≡ Ok start) }
+        counts.now ≡ map (placed_of_spelled (setup_view setup.now).job) spelled →
+        begin_at_of (setup_view setup.now) rows (row, turned) spelled ≡ Ok start) }
     ensures fault { IfErr result (λ fault. fault ≢ SaveFault.NoMemory → (spelled : List SpelledIs) →
-        counts.now ≡ map (placed_of_spelled (outline setup.now).job) spelled →
-        begin_at_of (outline setup.now) rows (row, turned) spelled ≡ Err fault) }
+        counts.now ≡ map (placed_of_spelled (setup_view setup.now).job) spelled →
+        begin_at_of (setup_view setup.now) rows (row, turned) spelled ≡ Err fault) }
 {
     let issued = issued_up_to(setup, row, rows);
     if row > rows {
@@ -171,10 +174,10 @@ fn check_order(counts: &[Option<Placed>]) -> Result<(), SaveFault>
 // The counts of each worker. All counts have a place, and come in order.
 fn states_of(alloc: Global, setup: &Setup, counts: &[Option<Placed>]) -> Result<States, NoMemory>
     requires named { (spelled : List SpelledIs) ×
-        (counts.now ≡ map (placed_of_spelled (outline setup.now).job) spelled) }
+        (counts.now ≡ map (placed_of_spelled (setup_view setup.now).job) spelled) }
     requires order { placed_in 1 None counts.now ≡ Ok (there counts.now) }
     ensures { IfOk result (λ states. states ≡
-        map (counts_at (there counts.now)) (posts (outline setup.now).job)) }
+        map (counts_at (there counts.now)) (workers_in (setup_view setup.now).job)) }
 {
     let Start { states, .. } = Start::first(alloc, setup)?;
     let mut states = states.into_vec();
@@ -190,8 +193,10 @@ fn states_of(alloc: Global, setup: &Setup, counts: &[Option<Placed>]) -> Result<
 // Gives the worker of a count this count, whose key is new to it.
 fn add(states: &mut Vec<Keyed>, placed: &Placed) -> Result<(), NoMemory>
     requires within { placed.now.worker < length states.old.items }
-    requires new { (d : CountsIs) → get (get_or states.old.items placed.now.worker d) placed.now.key ≡ None }
-    ensures { OnOk result ((d : CountsIs) → states.new.items ≡ slice_set states.old.items placed.now.worker
+    requires new { (d : CountsIs) → get (get_or states.old.items placed.now.worker d) placed.now.key
+        ≡ None }
+    ensures { OnOk result ((d : CountsIs) → states.new.items
+        ≡ slice_set states.old.items placed.now.worker
         (insert (get_or states.old.items placed.now.worker d) placed.now.key placed.now.count)) }
 {
     states[placed.worker as usize].add(placed.key.as_slice(), placed.count)?;

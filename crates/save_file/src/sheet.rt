@@ -16,13 +16,15 @@ pub(crate) struct Sheet {
 
 impl Model for Sheet {
     ghost use Rattle.std.specs.Prelude.{◌≡◌, ◌++◌, false, List, ℕ};
-    ghost use Rattle.csv.specs.Writing.{default_writer, writer_under, writer_pending, writer_setup, fields_written, has_written};
+    ghost use Rattle.csv.specs.Writing.{default_writer, writer_under, writer_pending, writer_setup};
+    ghost use Rattle.csv.specs.Writing.{fields_written, has_written};
 
     ghost Value = { List ℕ };
 
     ghost view = { λ a. (writer_under a.writer).items ++ writer_pending a.writer };
 
-    ghost invariant = { λ a. (writer_setup a.writer ≡ default_writer) × (fields_written a.writer ≡ 0) × (has_written a.writer ≡ false) };
+    ghost invariant = { λ a. (writer_setup a.writer ≡ default_writer)
+        × (fields_written a.writer ≡ 0) × (has_written a.writer ≡ false) };
 }
 
 impl Sheet {

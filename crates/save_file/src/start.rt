@@ -1,5 +1,5 @@
 ghost use Rattle.std.specs.Prelude.{◌≡◌, IfOk};
-ghost use Rattle.flow_model.specs.Record.{told};
+ghost use Rattle.flow_model.specs.Record.{record_view};
 ghost use Rattle.savepoint.specs.Parts.{start_of as start_of_run};
 
 use flow_model::{RunRecord, Start};
@@ -12,7 +12,7 @@ use tuple_trace::NoMemory;
 ///
 /// The only error is out of memory.
 pub fn start_of(alloc: Global, ran: &RunRecord, rows: u64) -> Result<Start, NoMemory>
-    ensures { IfOk result (λ start. start ≡ start_of_run rows (told ran.now)) }
+    ensures { IfOk result (λ start. start ≡ start_of_run rows (record_view ran.now)) }
 {
     Ok(Start {
         row: rows,

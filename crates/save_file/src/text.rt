@@ -1,6 +1,6 @@
 ghost use Rattle.std.specs.Prelude.{◌≡◌, ◌++◌, ◌∷◌, [], IfOk, OnOk, length, map};
 ghost use Rattle.std.specs.FinMap as finite;
-ghost use Rattle.jobs.specs.Job.{written};
+ghost use Rattle.jobs.specs.Job.{job_view};
 ghost use Rattle.jobs.specs.Nodes.{worker_count};
 ghost use Rattle.sink_journal.specs.Records.{record_text, records_text};
 ghost use Rattle.savepoint.specs.SaveText.{count_record, head_record, save_text as save_text_of};
@@ -23,7 +23,7 @@ use tuple_trace::{Bytes, NoMemory};
 /// error is out of memory.
 pub fn save_text(alloc: Global, job: &Job, start: &Start) -> Result<Bytes, NoMemory>
     requires { length start.now.states ≡ worker_count job.now.nodes }
-    ensures { IfOk result (λ text. text ≡ save_text_of (written job.now) start.now) }
+    ensures { IfOk result (λ text. text ≡ save_text_of (job_view job.now) start.now) }
 {
     by_node(alloc, job, start)
 }

@@ -4,7 +4,7 @@ use Rattle.std.specs.List.{list_any, zip}
 use Rattle.std.proofs.lemmas.List.{length-take, take-append-drop}
 use Rattle.std.proofs.lemmas.List.Folds.{list_any-append}
 use Rattle.jobs.specs.declared.func.NodeDef.{NodeDef}
-use Rattle.jobs.specs.Written.{Written}
+use Rattle.jobs.specs.JobView.{JobView}
 use Rattle.versions.specs.Book.{accepted, first_book}
 use Rattle.versions.specs.Judged.{AreAccepted, accepting, by_fault, judged_from, refusing}
 use Rattle.versions.specs.Judging.{fault_of}
@@ -12,7 +12,7 @@ use Rattle.versions.specs.declared.book.Current.{Current}
 use Rattle.versions.specs.declared.fault.QFault.{QFault}
 use Rattle.versions.specs.declared.request.Request.{Request}
 use Rattle.flow_model.specs.Covers.{plan_of}
-use Rattle.flow_model.specs.Outline.{Outline}
+use Rattle.flow_model.specs.SetupView.{SetupView}
 use Rattle.flow_model.specs.Planned.{IsPlanned, is_made_split, is_split_node, makes_split, splits_at}
 use Rattle.flow_model.specs.Requests.{request_at}
 use Rattle.savepoint.specs.Parts.{first_of}
@@ -41,11 +41,11 @@ get_zip (a ∷ xs) (b ∷ ys) (suc k) x y g h = get_zip xs ys k x y g h
 
 -- ---- plans and requests
 
-pub plan_first : (setup : Outline) (m r : ℕ) → r ≤ m → plan_of (first_of setup m) r ≡ plan_of setup r
+pub plan_first : (setup : SetupView) (m r : ℕ) → r ≤ m → plan_of (first_of setup m) r ≡ plan_of setup r
 plan_first setup m zero le = refl
 plan_first setup m (suc r) le = get_take m r setup.plans (omega arith)
 
-pub request_first : (setup : Outline) (m r : ℕ) → r ≤ m → request_at (first_of setup m) r ≡ request_at setup r
+pub request_first : (setup : SetupView) (m r : ℕ) → r ≤ m → request_at (first_of setup m) r ≡ request_at setup r
 request_first setup m zero le = refl
 request_first setup m (suc r) le = get_take m r setup.requests (omega arith)
 
@@ -64,7 +64,7 @@ splits_take nodes m requests node =
     or_weaker (is_split_node (slice_get nodes node)) (is_made_split (take m requests) node) (is_made_split requests node)
     (any_take (λ (request : Request). list_any (makes_split node) request.changes) m requests)
 
-pub IsPlanned-first_of : (setup : Outline) (m : ℕ) → IsPlanned setup → IsPlanned (first_of setup m)
+pub IsPlanned-first_of : (setup : SetupView) (m : ℕ) → IsPlanned setup → IsPlanned (first_of setup m)
 IsPlanned-first_of setup m is = record {
   splits = λ node splits. is.splits node (splits_take setup.job.nodes m setup.requests node splits);
   one_each = length-take m setup.plans ∙ (ap (min m) is.one_each ∙ sym (length-take m setup.requests));
@@ -73,7 +73,7 @@ IsPlanned-first_of setup m is = record {
   ordered = λ ordered s r request plan le g h. is.ordered ordered s r request plan le (take_get m s setup.requests request g) (take_get m r setup.plans plan h);
 }
 
-judged_first : (job : Written) (book : List Current) (last place m : ℕ) (requests : List Request) → (judged_from job book last place requests).refused ≡ []
+judged_first : (job : JobView) (book : List Current) (last place m : ℕ) (requests : List Request) → (judged_from job book last place requests).refused ≡ []
     → (judged_from job book last place (take m requests)).refused ≡ []
 unfolding judged_from
 judged_first job book last place zero requests e = refl
@@ -88,5 +88,5 @@ judged_first job book last place (suc m) (r ∷ rest) e = go (fault_of book job 
     go (Some q) f later = absurd (cc)
 
 -- the first of requests that are accepted are accepted
-pub AreAccepted-take : (job : Written) (m : ℕ) (requests : List Request) → AreAccepted job requests → AreAccepted job (take m requests)
+pub AreAccepted-take : (job : JobView) (m : ℕ) (requests : List Request) → AreAccepted job requests → AreAccepted job (take m requests)
 AreAccepted-take job m requests e = judged_first job (first_book job.nodes) 0 1 m requests e

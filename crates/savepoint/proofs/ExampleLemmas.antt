@@ -16,7 +16,7 @@ use Rattle.flow_model.specs.Lanes.{lanes}
 use Rattle.flow_model.specs.declared.topology.Lane.{Lane}
 use Rattle.flow_model.specs.Replay.{shown}
 use Rattle.flow_model.specs.Run.{IsRun, IsRunFrom, IsWorked, put_by}
-use Rattle.flow_model.specs.Workers.{posts}
+use Rattle.flow_model.specs.Workers.{workers_in}
 use Rattle.flow_model.proofs.EachLemmas.{OfEach, OfEachLane, Worked, of_each-gets, of_each_lane-gets, run-by_parts}
 use Rattle.flow_model.proofs.LawChecks.{finished-by_check}
 use Rattle.savepoint.specs.Parts.{AreParts, first_of, joined, start_of}
@@ -28,7 +28,7 @@ none_yet = get-empty (slice_cmp nat_cmp) (codes "ann")
 one_yet : get (seen (pos 1)) (codes "ann") ≡ Some (pos 1)
 one_yet = get-insert nat_list_cmp_total empty (codes "ann") (pos 1) (codes "ann")
 
-first_worked : OfEach (Worked (first_of tally_setup 1)) (posts tallied) (at_first tally_setup).states first_half.journals first_half.states
+first_worked : OfEach (Worked (first_of tally_setup 1)) (workers_in tallied) (at_first tally_setup).states first_half.journals first_half.states
 first_worked = (
   record { finished = finished-by_check _ _ refl; state_is = rw none_yet refl },
   (record { finished = finished-by_check _ _ refl; state_is = refl }, tt),
@@ -40,7 +40,7 @@ first_run = run-by_parts (take 1 two_rows) first_half refl refl refl first_worke
 abbrev begin : Begin
 begin = start_of 1 first_half
 
-second_worked : OfEach (IsWorked tally_setup begin) (posts tallied) begin.states second_half.journals second_half.states
+second_worked : OfEach (IsWorked tally_setup begin) (workers_in tallied) begin.states second_half.journals second_half.states
 second_worked = (
   record { finished = finished-by_check _ _ refl; state_is = rw one_yet refl },
   (record { finished = finished-by_check _ _ refl; state_is = refl }, tt),
@@ -58,7 +58,7 @@ second_run = record {
   one_start_each = refl;
   one_journal_each = refl;
   one_state_each = refl;
-  worked = of_each-gets (IsWorked tally_setup begin) (posts tallied) begin.states second_half.journals second_half.states second_worked;
+  worked = of_each-gets (IsWorked tally_setup begin) (workers_in tallied) begin.states second_half.journals second_half.states second_worked;
   tied = λ n lane journal at there. sym (of_each_lane-gets SecondTied (lanes tallied) second_tied n lane at) ∙ ap (option_map (shown tally_setup n)) there;
 }
 

@@ -3,7 +3,7 @@ use Rattle.std.proofs.Common.{◌≡◌, ◌∙◌, ◌<◌, ◌≤◌, ◌+◌,
 use Rattle.std.proofs.lemmas.Bool.{le-leb}
 use Rattle.std.proofs.lemmas.Bool.Decides.{nat_tests}
 use Rattle.std.proofs.lemmas.List.{append-nil}
-use Rattle.jobs.specs.Written.{Written}
+use Rattle.jobs.specs.JobView.{JobView}
 use Rattle.sink_journal.specs.declared.journal.Feed.{Feed}
 use Rattle.sink_journal.specs.declared.journal.Feed.TheVariants as feed
 use Rattle.tuple_trace.specs.declared.row.Row.{Row}
@@ -130,7 +130,7 @@ issued_in (feed.Fed row ∷ more) = issued_in more
 issued_in (feed.Issued request ∷ more) = suc (issued_in more)
 issued_in (feed.Stopped ∷ more) = issued_in more
 
-pub fed_puts-append : (job : Written) (rows : List Row) (issued next : ℕ) (xs ys : List Feed) → next ≡ issued + issued_in xs
+pub fed_puts-append : (job : JobView) (rows : List Row) (issued next : ℕ) (xs ys : List Feed) → next ≡ issued + issued_in xs
     → fed_puts job rows issued (xs ++ ys) ≡ fed_puts job rows issued xs ++ fed_puts job rows next ys
 fed_puts-append job rows issued next [] ys e = let f : issued ≡ next = omega arith in ap (λ k. fed_puts job rows k ys) f
 fed_puts-append job rows issued next (feed.Fed number ∷ xs) ys e =
@@ -168,7 +168,7 @@ row_first rows n zero le = refl
 row_first rows n (suc place) le = get_take n place rows (omega arith)
 
 -- the first part feeds what the whole does
-pub fed_puts_first : (job : Written) (rows : List Row) (n issued : ℕ) (feeds : List Feed) → FedUpTo n feeds → fed_puts job (take n rows) issued feeds ≡ fed_puts job rows issued (unstopped feeds)
+pub fed_puts_first : (job : JobView) (rows : List Row) (n issued : ℕ) (feeds : List Feed) → FedUpTo n feeds → fed_puts job (take n rows) issued feeds ≡ fed_puts job rows issued (unstopped feeds)
 fed_puts_first job rows n issued [] h = refl
 fed_puts_first job rows n issued (feed.Fed number ∷ more) h =
     ap (λ o. fed_put job issued o ++ fed_puts job (take n rows) issued more) (row_first rows n number h.0)
@@ -177,7 +177,7 @@ fed_puts_first job rows n issued (feed.Issued r ∷ more) h = fed_puts_first job
 fed_puts_first job rows n issued (feed.Stopped ∷ more) h = fed_puts_first job rows n issued more h
 
 -- a tuple was fed under no more requests than the feed issues
-pub fed_issued : (job : Written) (rows : List Row) (issued : ℕ) (feeds : List Feed) (p : Put) (t : Tuple) → IsIn p (fed_puts job rows issued feeds) → p.item ≡ item.Carry t → t.issued ≤ issued + issued_in feeds
+pub fed_issued : (job : JobView) (rows : List Row) (issued : ℕ) (feeds : List Feed) (p : Put) (t : Tuple) → IsIn p (fed_puts job rows issued feeds) → p.item ≡ item.Carry t → t.issued ≤ issued + issued_in feeds
 fed_issued job rows issued [] p t i e = absurd i
 fed_issued job rows issued (feed.Fed number ∷ more) p t i e =
     elim (in_cases p (fed_put job issued (row_at rows number)) (fed_puts job rows issued more) i) [

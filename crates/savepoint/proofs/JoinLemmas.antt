@@ -16,17 +16,17 @@ use Rattle.tuple_trace.specs.declared.tuple.Item.{Item}
 use Rattle.tuple_trace.specs.declared.tuple.Item.TheVariants as item
 use Rattle.tuple_trace.specs.declared.tuple.Tuple.{Tuple}
 use Rattle.versions.specs.declared.request.Request.{Request}
-use Rattle.flow_model.specs.Begin.{Begin, at_first, local_at}
+use Rattle.flow_model.specs.Begin.{Begin, at_first, view_at}
 use Rattle.flow_model.specs.Feeding.{fed, fed_puts, feed_after, feed_from, issued_at_first}
-use Rattle.flow_model.specs.Law.{IsExecution, Progress, Station, initial, progress_after}
+use Rattle.flow_model.specs.Law.{IsExecution, Progress, Duties, initial, progress_after}
 use Rattle.flow_model.specs.declared.topology.Lane.{Lane}
-use Rattle.flow_model.specs.Outline.{Outline, Post}
+use Rattle.flow_model.specs.SetupView.{SetupView, Worker}
 use Rattle.flow_model.specs.Points.{turned}
-use Rattle.flow_model.specs.Replay.{Local, Put, after_all, item_on, items_on, sent, shown}
+use Rattle.flow_model.specs.Replay.{StateView, Put, after_all, item_on, items_on, sent, shown}
 use Rattle.flow_model.specs.Requests.{afters}
 use Rattle.flow_model.specs.Run.{IsRunFrom, IsWorked, Ran, put_by, ran_as, sent_by}
-use Rattle.flow_model.specs.Station.{dues_after, station}
-use Rattle.flow_model.specs.Workers.{posts}
+use Rattle.flow_model.specs.Duties.{dues_after, duties}
+use Rattle.flow_model.specs.Workers.{workers_in}
 use Rattle.flow_model.proofs.ElementLemmas.{IsIn, at_of_all, in_of_contains}
 use Rattle.flow_model.proofs.JobLemmas.{IsWired}
 use Rattle.flow_model.proofs.JournalLemmas.{IsExecution-append, after_all-append, dues_turned, progress_after-append, sent-append, shown-append}
@@ -52,19 +52,19 @@ get_joined first second w x y g h = slice_get-map joined_journal (zip first seco
 
 -- ---- what is in force
 
-abbrev local_by : Func → Counts → ℕ → ℕ → Local
-local_by func counts last ended = record { func = func; counts = counts; last = last; ended = ended }
+abbrev view_by : Func → Counts → ℕ → ℕ → StateView
+view_by func counts last ended = record { func = func; counts = counts; last = last; ended = ended }
 
 abbrev progress_by : List ℕ → List ℕ → Progress
 progress_by dues marked = record { dues = dues; marked = marked; ended = [] }
 
-same_local : (a b : Local) → a.func ≡ b.func → a.counts ≡ b.counts → a.last ≡ b.last → a.ended ≡ b.ended → a ≡ b
-same_local a b f c l e =
-    ap (λ (x : Func). local_by x a.counts a.last a.ended) f
-    ∙ (ap (λ (x : Counts). local_by b.func x a.last a.ended) c ∙ (ap (λ x. local_by b.func b.counts x a.ended) l ∙ ap (λ x. local_by b.func b.counts b.last x) e))
+same_view : (a b : StateView) → a.func ≡ b.func → a.counts ≡ b.counts → a.last ≡ b.last → a.ended ≡ b.ended → a ≡ b
+same_view a b f c l e =
+    ap (λ (x : Func). view_by x a.counts a.last a.ended) f
+    ∙ (ap (λ (x : Counts). view_by b.func x a.last a.ended) c ∙ (ap (λ x. view_by b.func b.counts x a.ended) l ∙ ap (λ x. view_by b.func b.counts b.last x) e))
 
 -- what the parts take of a setup
-pub record Kept (setup : Outline) : Type 0 where
+pub record Kept (setup : SetupView) : Type 0 where
   pub wired : IsWired setup.job
   pub covers : HasCovers setup
   pub one_each : length setup.plans ≡ length setup.requests
@@ -72,78 +72,78 @@ pub record Kept (setup : Outline) : Type 0 where
 -- ---- one worker
 
 -- a worker whose first journal is finished, without having met a tuple that was fed under later requests
-module _ (setup : Outline) (kept : Kept setup) (m : ℕ) (le : m ≤ length setup.plans) (post : Post) (is : IsWorker setup.job post) (x : List Entry) (s : Counts)
-    (a : IsWorked (first_of setup m) (at_first (first_of setup m)) post empty x s) (fed_under : (l : ℕ) (t : Tuple) → IsIn (entry.Met l t) x → t.issued ≤ m)
+module _ (setup : SetupView) (kept : Kept setup) (m : ℕ) (le : m ≤ length setup.plans) (who : Worker) (is : IsWorker setup.job who) (x : List Entry) (s : Counts)
+    (a : IsWorked (first_of setup m) (at_first (first_of setup m)) who empty x s) (fed_under : (l : ℕ) (t : Tuple) → IsIn (entry.Met l t) x → t.issued ≤ m)
   where
-    abbrev old : Station
-    old = station (first_of setup m) 0 post
+    abbrev old : Duties
+    old = duties (first_of setup m) 0 who
 
-    abbrev new : Station
-    new = station setup 0 post
+    abbrev new : Duties
+    new = duties setup 0 who
 
     abbrev later : List ℕ
-    later = dues_after setup m post.node
+    later = dues_after setup m who.node
 
     law : IsExecution old (initial old) x
     law = a.finished.lawful.execution
 
     early : (r : ℕ) → IsIn r old.dues → r ≤ m
     early r i =
-        let c = covers_within (first_of setup m) r post.node (due_covers (first_of setup m) 0 post.node r i) in
+        let c = covers_within (first_of setup m) r who.node (due_covers (first_of setup m) 0 who.node r i) in
         omega (arith, c.1, length-take-le m setup.plans le)
 
     above : (r : ℕ) → IsIn r later → m < r
-    above r i = rising_in m r later (dues_rise setup m post.node m (omega arith)) i
+    above r i = rising_in m r later (dues_rise setup m who.node m (omega arith)) i
 
     pub names : NamesUpTo m x
     names = names_up_to m old (initial old) x law early
 
     none_due : (progress_after (initial old) x).dues ≡ []
     none_due =
-        let lane = kept.wired.reached post is in
+        let lane = kept.wired.reached who is in
         ended_undue old (initial old) x lane.0 law (λ k j. absurd j)
         (in_of_contains lane.0 (progress_after (initial old) x).ended (at_of_all (Contains (progress_after (initial old) x).ended) lane.0 old.lanes a.finished.ended lane.1))
 
-    begins : with_later setup m post later above (initial old) ≡ initial new
-    begins = ap (λ (dues : List ℕ). progress_by dues []) (sym (dues_both setup m post.node le))
+    begins : with_later setup m who later above (initial old) ≡ initial new
+    begins = ap (λ (dues : List ℕ). progress_by dues []) (sym (dues_both setup m who.node le))
 
     -- without its ends it is lawful under the whole setup
     pub first_law : IsExecution new (initial new) (endless x)
-    first_law = subst (λ (p : Progress). IsExecution new p (endless x)) begins (goes_on setup m post later above (initial old) x law early fed_under)
+    first_law = subst (λ (p : Progress). IsExecution new p (endless x)) begins (goes_on setup m who later above (initial old) x law early fed_under)
 
     -- and leaves what a later journal begins with
-    pub first_to : progress_after (initial new) (endless x) ≡ initial (station setup m post)
+    pub first_to : progress_after (initial new) (endless x) ≡ initial (duties setup m who)
     first_to =
         ap (λ (p : Progress). progress_after p (endless x)) (sym begins)
-        ∙ (goes_to setup m post later above (initial old) x law
+        ∙ (goes_to setup m who later above (initial old) x law
         ∙ (ap (λ (dues : List ℕ). progress_by (dues ++ later) (progress_after (initial old) x).marked) none_due
         ∙ ap (λ (marked : List ℕ). progress_by later marked) a.finished.lawful.no_open_turn))
 
-    first_turned : turned (endless x) ≡ dues_after (first_of setup m) 0 post.node
+    first_turned : turned (endless x) ≡ dues_after (first_of setup m) 0 who.node
     first_turned =
         endless_turned x
         ∙ (sym (append-nil (turned x)) ∙ (ap (λ (l : List ℕ). turned x ++ l) (sym none_due) ∙ sym (dues_turned old (initial old) x law)))
 
-    abbrev reached : Local
-    reached = after_all setup post (local_at setup 0 post empty) (endless x)
+    abbrev reached : StateView
+    reached = after_all setup who (view_at setup 0 who empty) (endless x)
 
-    replayed : reached ≡ unended (after_all (first_of setup m) post (local_at (first_of setup m) 0 post empty) x)
-    replayed = replay_first setup m post (local_at (first_of setup m) 0 post empty) x names
+    replayed : reached ≡ unended (after_all (first_of setup m) who (view_at (first_of setup m) 0 who empty) x)
+    replayed = replay_first setup m who (view_at (first_of setup m) 0 who empty) x names
 
-    pub first_local : reached ≡ local_at setup m post s
-    first_local =
-        same_local reached (local_at setup m post s)
-        (after_func setup post (local_at setup 0 post empty) (endless x)
-        ∙ (ap (func_by setup post.node post.func) (first_turned ∙ first_dues setup m post.node le) ∙ func_covering setup kept.covers post.node post.func m))
-        (ap (λ (l : Local). l.counts) replayed ∙ sym a.state_is)
-        (after_last setup post (local_at setup 0 post empty) (endless x)
-        ∙ (ap (last_by 0) (first_turned ∙ first_dues setup m post.node le) ∙ last_covering setup kept.covers post.node m))
-        (ap (λ (l : Local). l.ended) replayed)
+    pub first_view_of : reached ≡ view_at setup m who s
+    first_view_of =
+        same_view reached (view_at setup m who s)
+        (after_func setup who (view_at setup 0 who empty) (endless x)
+        ∙ (ap (func_by setup who.node who.func) (first_turned ∙ first_dues setup m who.node le) ∙ func_covering setup kept.covers who.node who.func m))
+        (ap (λ (l : StateView). l.counts) replayed ∙ sym a.state_is)
+        (after_last setup who (view_at setup 0 who empty) (endless x)
+        ∙ (ap (last_by 0) (first_turned ∙ first_dues setup m who.node le) ∙ last_covering setup kept.covers who.node m))
+        (ap (λ (l : StateView). l.ended) replayed)
 
-    pub joined_worked : (y : List Entry) (s' : Counts) (begin : Begin) → begin.turned ≡ m → IsWorked setup begin post s y s' → IsWorked setup (at_first setup) post empty (endless x ++ y) s'
+    pub joined_worked : (y : List Entry) (s' : Counts) (begin : Begin) → begin.turned ≡ m → IsWorked setup begin who s y s' → IsWorked setup (at_first setup) who empty (endless x ++ y) s'
     joined_worked y s' begin turned_is b' =
-        let m' = station setup m post in
-        let b : IsWorked setup (record begin { turned = m }) post s y s' = subst (λ k. IsWorked setup (record begin { turned = k }) post s y s') turned_is b' in
+        let m' = duties setup m who in
+        let b : IsWorked setup (record begin { turned = m }) who s y s' = subst (λ k. IsWorked setup (record begin { turned = k }) who s y s') turned_is b' in
         let whole : progress_after (initial new) (endless x ++ y) ≡ progress_after (initial m') y =
         progress_after-append (initial new) (endless x) y ∙ ap (λ (p : Progress). progress_after p y) first_to in
         record {
@@ -151,7 +151,7 @@ module _ (setup : Outline) (kept : Kept setup) (m : ℕ) (le : m ≤ length setu
             lawful = record {
               execution = (IsExecution-append new (initial new) (endless x) y).1 (
                 first_law,
-                subst (λ (p : Progress). IsExecution new p y) (sym first_to) (same_law setup m post (initial m') y b.finished.lawful.execution),
+                subst (λ (p : Progress). IsExecution new p y) (sym first_to) (same_law setup m who (initial m') y b.finished.lawful.execution),
               );
               no_open_turn = ap (λ (p : Progress). p.marked) whole ∙ b.finished.lawful.no_open_turn;
             };
@@ -159,41 +159,41 @@ module _ (setup : Outline) (kept : Kept setup) (m : ℕ) (le : m ≤ length setu
           };
           state_is =
               b.state_is
-              ∙ ap (λ (l : Local). l.counts)
-              (ap (λ (l : Local). after_all setup post l y) (sym first_local) ∙ sym (after_all-append setup post (local_at setup 0 post empty) (endless x) y));
+              ∙ ap (λ (l : StateView). l.counts)
+              (ap (λ (l : StateView). after_all setup who l y) (sym first_view_of) ∙ sym (after_all-append setup who (view_at setup 0 who empty) (endless x) y));
         }
 
 -- ---- the whole run
 
-sent_some : (setup : Outline) (begin : Begin) (lane : Lane) (p : Option Post) (c : Option Counts) (j : Option (List Entry)) (xs : List Item) → sent_by setup begin lane p c j ≡ Some xs
-    → (post : Post) × (counts : Counts) × (journal : List Entry) × (p ≡ Some post) × (c ≡ Some counts) × (j ≡ Some journal)
-    × (sent setup post (local_at setup begin.turned post counts) lane journal ≡ xs)
-sent_some setup begin lane (Some post) (Some counts) (Some journal) xs e = (post, counts, journal, refl, refl, refl, cc)
-sent_some setup begin lane (Some post) (Some counts) None xs e = absurd (cc)
-sent_some setup begin lane (Some post) None j xs e = absurd (cc)
+sent_some : (setup : SetupView) (begin : Begin) (lane : Lane) (p : Option Worker) (c : Option Counts) (j : Option (List Entry)) (xs : List Item) → sent_by setup begin lane p c j ≡ Some xs
+    → (who : Worker) × (counts : Counts) × (journal : List Entry) × (p ≡ Some who) × (c ≡ Some counts) × (j ≡ Some journal)
+    × (sent setup who (view_at setup begin.turned who counts) lane journal ≡ xs)
+sent_some setup begin lane (Some who) (Some counts) (Some journal) xs e = (who, counts, journal, refl, refl, refl, cc)
+sent_some setup begin lane (Some who) (Some counts) None xs e = absurd (cc)
+sent_some setup begin lane (Some who) None j xs e = absurd (cc)
 sent_some setup begin lane None c j xs e = absurd (cc)
 
 -- what both parts have of a worker
-record Both (setup : Outline) (m : ℕ) (begin : Begin) (ja : List (List Entry)) (sa : List Counts) (jb : List (List Entry)) (sb : List Counts) (w : ℕ) : Type 0 where
-  post : Post
+record Both (setup : SetupView) (m : ℕ) (begin : Begin) (ja : List (List Entry)) (sa : List Counts) (jb : List (List Entry)) (sb : List Counts) (w : ℕ) : Type 0 where
+  who : Worker
   x : List Entry
   y : List Entry
   s : Counts
   s' : Counts
-  post_is : slice_get (posts setup.job) w ≡ Some post
+  who_is : slice_get (workers_in setup.job) w ≡ Some who
   x_is : slice_get ja w ≡ Some x
   y_is : slice_get jb w ≡ Some y
   s_is : slice_get sa w ≡ Some s
   s'_is : slice_get sb w ≡ Some s'
-  first : IsWorked (first_of setup m) (at_first (first_of setup m)) post empty x s
-  second : IsWorked setup begin post s y s'
+  first : IsWorked (first_of setup m) (at_first (first_of setup m)) who empty x s
+  second : IsWorked setup begin who s y s'
 
-module _ (setup : Outline) (rows : List Row) (n m : ℕ) (kept : Kept setup) (within : n ≤ length rows) (le : m ≤ length setup.requests)
+module _ (setup : SetupView) (rows : List Row) (n m : ℕ) (kept : Kept setup) (within : n ≤ length rows) (le : m ≤ length setup.requests)
     (split : AreSplit n (length rows) m (afters setup.requests)) (fa fb : List Feed) (ja jb : List (List Entry)) (sa sb : List Counts)
     (g : Running (take n rows) (ran_as (first_of setup m) fa ja sa))
     (b : IsRunFrom (record { row = n; turned = m; states = sa }) rows (ran_as setup fb jb sb))
   where
-    abbrev cut : Outline
+    abbrev cut : SetupView
     cut = first_of setup m
 
     abbrev one : Ran
@@ -205,23 +205,23 @@ module _ (setup : Outline) (rows : List Row) (n m : ℕ) (kept : Kept setup) (wi
     le_plans : m ≤ length setup.plans
     le_plans = let e = kept.one_each in omega arith
 
-    empty_there : (w : ℕ) (post : Post) → slice_get (posts setup.job) w ≡ Some post → slice_get (at_first setup).states w ≡ Some empty
-    empty_there w post e = slice_get-map (λ (post : Post). empty) (posts setup.job) w ∙ ap (option_map (λ (post : Post). empty)) e
+    empty_there : (w : ℕ) (who : Worker) → slice_get (workers_in setup.job) w ≡ Some who → slice_get (at_first setup).states w ≡ Some empty
+    empty_there w who e = slice_get-map (λ (who : Worker). empty) (workers_in setup.job) w ∙ ap (option_map (λ (who : Worker). empty)) e
 
-    both : (w : ℕ) → w < length (posts setup.job) → Both setup m begin ja sa jb sb w
+    both : (w : ℕ) → w < length (workers_in setup.job) → Both setup m begin ja sa jb sb w
     both w lt =
-        let p = item_at (posts setup.job) w lt in
+        let p = item_at (workers_in setup.job) w lt in
         let x = item_at ja w (omega (arith, g.run.one_journal_each)) in
         let s = item_at sa w (omega (arith, g.run.one_state_each)) in
         let y = item_at jb w (omega (arith, b.one_journal_each)) in
         let s' = item_at sb w (omega (arith, b.one_state_each)) in
         record {
-          post = p.0;
+          who = p.0;
           x = x.0;
           y = y.0;
           s = s.0;
           s' = s'.0;
-          post_is = p.1;
+          who_is = p.1;
           x_is = x.1;
           y_is = y.1;
           s_is = s.1;
@@ -264,33 +264,33 @@ module _ (setup : Outline) (rows : List Row) (n m : ℕ) (kept : Kept setup) (wi
 
     -- ---- workers
 
-    fed_under : (w : ℕ) (x : List Entry) → w < length (posts setup.job) → slice_get ja w ≡ Some x → (l : ℕ) (t : Tuple) → IsIn (entry.Met l t) x → t.issued ≤ m
+    fed_under : (w : ℕ) (x : List Entry) → w < length (workers_in setup.job) → slice_get ja w ≡ Some x → (l : ℕ) (t : Tuple) → IsIn (entry.Met l t) x → t.issued ≤ m
     fed_under w x lt e l t i =
         let k : t.issued ≤ issued_in fa = met_issued (take n rows) one g w l t lt (subst (λ (j : List Entry). IsIn (entry.Met l t) j) (sym (journal_is one w x e)) i) in
         omega (arith, k, issued_is)
 
-    module _ (w : ℕ) (lt : w < length (posts setup.job)) (h : Both setup m begin ja sa jb sb w) where
-      worker : IsWorker setup.job h.post
-      worker = (worker_with setup.job w h.post h.post_is).1
+    module _ (w : ℕ) (lt : w < length (workers_in setup.job)) (h : Both setup m begin ja sa jb sb w) where
+      worker : IsWorker setup.job h.who
+      worker = (worker_with setup.job w h.who h.who_is).1
 
       under : (l : ℕ) (t : Tuple) → IsIn (entry.Met l t) h.x → t.issued ≤ m
       under = fed_under w h.x lt h.x_is
 
       names_here : NamesUpTo m h.x
-      names_here = names setup kept m le_plans h.post worker h.x h.s h.first under
+      names_here = names setup kept m le_plans h.who worker h.x h.s h.first under
 
-      local_here : after_all setup h.post (local_at setup 0 h.post empty) (endless h.x) ≡ local_at setup m h.post h.s
-      local_here = first_local setup kept m le_plans h.post worker h.x h.s h.first under
+      view_here : after_all setup h.who (view_at setup 0 h.who empty) (endless h.x) ≡ view_at setup m h.who h.s
+      view_here = first_view_of setup kept m le_plans h.who worker h.x h.s h.first under
 
-      worked_here : IsWorked setup (at_first setup) h.post empty (endless h.x ++ h.y) h.s'
-      worked_here = joined_worked setup kept m le_plans h.post worker h.x h.s h.first under h.y h.s' begin refl h.second
+      worked_here : IsWorked setup (at_first setup) h.who empty (endless h.x ++ h.y) h.s'
+      worked_here = joined_worked setup kept m le_plans h.who worker h.x h.s h.first under h.y h.s' begin refl h.second
 
-      sent_here : (lane : Lane) → sent setup h.post (local_at setup 0 h.post empty) lane (endless h.x ++ h.y)
-          ≡ no_last (sent cut h.post (local_at cut 0 h.post empty) lane h.x) ++ sent setup h.post (local_at setup m h.post h.s) lane h.y
+      sent_here : (lane : Lane) → sent setup h.who (view_at setup 0 h.who empty) lane (endless h.x ++ h.y)
+          ≡ no_last (sent cut h.who (view_at cut 0 h.who empty) lane h.x) ++ sent setup h.who (view_at setup m h.who h.s) lane h.y
       sent_here lane =
-          sent-append setup h.post (local_at setup 0 h.post empty) lane (endless h.x) h.y
-          ∙ (ap (λ (items : List Item). items ++ sent setup h.post (after_all setup h.post (local_at setup 0 h.post empty) (endless h.x)) lane h.y) (sym (sent_first setup m h.post (local_at cut 0 h.post empty) lane h.x names_here))
-          ∙ ap (λ (l : Local). no_last (sent cut h.post (local_at cut 0 h.post empty) lane h.x) ++ sent setup h.post l lane h.y) local_here)
+          sent-append setup h.who (view_at setup 0 h.who empty) lane (endless h.x) h.y
+          ∙ (ap (λ (items : List Item). items ++ sent setup h.who (after_all setup h.who (view_at setup 0 h.who empty) (endless h.x)) lane h.y) (sym (sent_first setup m h.who (view_at cut 0 h.who empty) lane h.x names_here))
+          ∙ ap (λ (l : StateView). no_last (sent cut h.who (view_at cut 0 h.who empty) lane h.x) ++ sent setup h.who l lane h.y) view_here)
 
     -- ---- lanes
 
@@ -305,42 +305,42 @@ module _ (setup : Outline) (rows : List Row) (n m : ℕ) (kept : Kept setup) (wi
         ∙ (ap (λ (items : List Item). items ++ (fed setup.job rows m lane fb ++ item.Last ∷ [])) (sym (fed_stays setup.job (take n rows) 0 lane fa) ∙ ap no_last x)
         ∙ ap (λ (items : List Item). no_last xs ++ items) y)))
     put_both lane (Some v) xs ys p q =
-        let (post, counts, journal, post_is, counts_is, journal_is, first) = sent_some cut (at_first cut) lane (slice_get (posts setup.job) v) (slice_get (at_first setup).states v) (slice_get ja v) xs p in
-        let (post', counts', journal', post_is', counts_is', journal_is', second) = sent_some setup begin lane (slice_get (posts setup.job) v) (slice_get sa v) (slice_get jb v) ys q in
-        let lt : v < length (posts setup.job) = slice_get_within (posts setup.job) v post post_is in
+        let (who, counts, journal, who_is, counts_is, journal_is, first) = sent_some cut (at_first cut) lane (slice_get (workers_in setup.job) v) (slice_get (at_first setup).states v) (slice_get ja v) xs p in
+        let (who', counts', journal', who_is', counts_is', journal_is', second) = sent_some setup begin lane (slice_get (workers_in setup.job) v) (slice_get sa v) (slice_get jb v) ys q in
+        let lt : v < length (workers_in setup.job) = slice_get_within (workers_in setup.job) v who who_is in
         go lt (both v lt) p q
       where
-        go : v < length (posts setup.job) → Both setup m begin ja sa jb sb v
-            → sent_by cut (at_first cut) lane (slice_get (posts setup.job) v) (slice_get (at_first setup).states v) (slice_get ja v) ≡ Some xs
-            → sent_by setup begin lane (slice_get (posts setup.job) v) (slice_get sa v) (slice_get jb v) ≡ Some ys
-            → sent_by setup (at_first setup) lane (slice_get (posts setup.job) v) (slice_get (at_first setup).states v) (slice_get (map joined_journal (zip ja jb)) v) ≡ Some (no_last xs ++ ys)
+        go : v < length (workers_in setup.job) → Both setup m begin ja sa jb sb v
+            → sent_by cut (at_first cut) lane (slice_get (workers_in setup.job) v) (slice_get (at_first setup).states v) (slice_get ja v) ≡ Some xs
+            → sent_by setup begin lane (slice_get (workers_in setup.job) v) (slice_get sa v) (slice_get jb v) ≡ Some ys
+            → sent_by setup (at_first setup) lane (slice_get (workers_in setup.job) v) (slice_get (at_first setup).states v) (slice_get (map joined_journal (zip ja jb)) v) ≡ Some (no_last xs ++ ys)
         go lt h p q =
-            let p' : Some (sent cut h.post (local_at cut 0 h.post empty) lane h.x) ≡ Some xs = rw (h.post_is, empty_there v h.post h.post_is, h.x_is) at p in
-            let q' : Some (sent setup h.post (local_at setup m h.post h.s) lane h.y) ≡ Some ys = rw (h.post_is, h.s_is, h.y_is) at q in
-            let x : sent cut h.post (local_at cut 0 h.post empty) lane h.x ≡ xs = cc in
-            let y : sent setup h.post (local_at setup m h.post h.s) lane h.y ≡ ys = cc in
-            rw (h.post_is, empty_there v h.post h.post_is, get_joined ja jb v h.x h.y h.x_is h.y_is) (
+            let p' : Some (sent cut h.who (view_at cut 0 h.who empty) lane h.x) ≡ Some xs = rw (h.who_is, empty_there v h.who h.who_is, h.x_is) at p in
+            let q' : Some (sent setup h.who (view_at setup m h.who h.s) lane h.y) ≡ Some ys = rw (h.who_is, h.s_is, h.y_is) at q in
+            let x : sent cut h.who (view_at cut 0 h.who empty) lane h.x ≡ xs = cc in
+            let y : sent setup h.who (view_at setup m h.who h.s) lane h.y ≡ ys = cc in
+            rw (h.who_is, empty_there v h.who h.who_is, get_joined ja jb v h.x h.y h.x_is h.y_is) (
             ap Some (sent_here v lt h lane
-            ∙ (ap (λ (items : List Item). no_last items ++ sent setup h.post (local_at setup m h.post h.s) lane h.y) x ∙ ap (λ (items : List Item). no_last xs ++ items) y)))
+            ∙ (ap (λ (items : List Item). no_last items ++ sent setup h.who (view_at setup m h.who h.s) lane h.y) x ∙ ap (λ (items : List Item). no_last xs ++ items) y)))
 
     pub joined_run : IsRunFrom (at_first setup) rows (ran_as setup (unstopped fa ++ fb) (map joined_journal (zip ja jb)) sb)
     joined_run = record {
       feed = whole_feed;
-      one_start_each = length-map (posts setup.job) (λ (post : Post). empty);
+      one_start_each = length-map (workers_in setup.job) (λ (who : Worker). empty);
       one_journal_each =
-          length-map (zip ja jb) joined_journal ∙ (length-zip ja jb ∙ (let k : min (length ja) (length jb) ≡ length (posts setup.job) = omega (arith, g.run.one_journal_each, b.one_journal_each) in k));
+          length-map (zip ja jb) joined_journal ∙ (length-zip ja jb ∙ (let k : min (length ja) (length jb) ≡ length (workers_in setup.job) = omega (arith, g.run.one_journal_each, b.one_journal_each) in k));
       one_state_each = b.one_state_each;
-      worked = λ w post counts journal state p c j s.
-          let lt : w < length (posts setup.job) = slice_get_within (posts setup.job) w post p in
+      worked = λ w who counts journal state p c j s.
+          let lt : w < length (workers_in setup.job) = slice_get_within (workers_in setup.job) w who p in
           let h : Both setup m begin ja sa jb sb w = both w lt in
-          let e : post ≡ h.post = same_Some post h.post (sym p ∙ h.post_is) in
-          let f : counts ≡ empty = same_Some counts empty (sym c ∙ empty_there w h.post h.post_is) in
+          let e : who ≡ h.who = same_Some who h.who (sym p ∙ h.who_is) in
+          let f : counts ≡ empty = same_Some counts empty (sym c ∙ empty_there w h.who h.who_is) in
           let i : journal ≡ endless h.x ++ h.y = same_Some journal (endless h.x ++ h.y) (sym j ∙ get_joined ja jb w h.x h.y h.x_is h.y_is) in
           let k : state ≡ h.s' = same_Some state h.s' (sym s ∙ h.s'_is) in
           rw (e, f, i, k) (worked_here w lt h);
       tied = λ k lane journal at j.
           let l : lane.receiver < length (map joined_journal (zip ja jb)) = slice_get_within (map joined_journal (zip ja jb)) lane.receiver journal j in
-          let lt : lane.receiver < length (posts setup.job) =
+          let lt : lane.receiver < length (workers_in setup.job) =
           omega (arith, l, length-map (zip ja jb) joined_journal, length-zip ja jb, g.run.one_journal_each) in
           let h : Both setup m begin ja sa jb sb lane.receiver = both lane.receiver lt in
           let i : journal ≡ endless h.x ++ h.y = same_Some journal (endless h.x ++ h.y) (sym j ∙ get_joined ja jb lane.receiver h.x h.y h.x_is h.y_is) in

@@ -4,7 +4,7 @@ use Rattle.std.specs.List.{cons_option}
 use Rattle.std.proofs.lemmas.List.{append-nil}
 use Rattle.std.proofs.lemmas.List.Elements.{filter-append}
 use Rattle.cover_planner.specs.declared.cover.Plan.{Plan}
-use Rattle.jobs.specs.Written.{Written}
+use Rattle.jobs.specs.JobView.{JobView}
 use Rattle.jobs.specs.declared.func.Func.{Func}
 use Rattle.sink_journal.specs.declared.journal.Entry.{Entry}
 use Rattle.sink_journal.specs.declared.journal.Entry.TheVariants as entry
@@ -19,11 +19,11 @@ use Rattle.flow_model.specs.Covers.{covers, holds_edge, plan_of}
 use Rattle.flow_model.specs.Feeding.{fed, fed_puts}
 use Rattle.flow_model.specs.Lanes.{is_same_lane, lanes_out}
 use Rattle.flow_model.specs.declared.topology.Lane.{Lane}
-use Rattle.flow_model.specs.Outline.{Outline, Post}
+use Rattle.flow_model.specs.SetupView.{SetupView, Worker}
 use Rattle.flow_model.specs.Points.{turned}
-use Rattle.flow_model.specs.Replay.{Local, Put, after, after_all, came_in, items_on, marker, marker_by, put_on_each, puts, sent, shown, with_change}
+use Rattle.flow_model.specs.Replay.{StateView, Put, after, after_all, came_in, items_on, marker, marker_by, put_on_each, puts, sent, shown, with_change}
 use Rattle.flow_model.specs.Requests.{change_in, change_of, changes, func_after, func_with}
-use Rattle.flow_model.specs.Station.{numbers_from}
+use Rattle.flow_model.specs.Duties.{numbers_from}
 use Rattle.flow_model.proofs.ElementLemmas.{IsIn}
 use Rattle.flow_model.proofs.PlannedLemmas.{HasCovers}
 use Rattle.flow_model.proofs.RunLemmas.{in_fed_puts}
@@ -36,28 +36,28 @@ use Rattle.savepoint.proofs.EndlessLemmas.{NamesUpTo}
 -- ---- what is in force
 
 -- what is in force, where no lane has ended
-abbrev pub unended : Local → Local
-unended local = record local { ended = 0 }
+abbrev pub unended : StateView → StateView
+unended view = record view { ended = 0 }
 
-turn_first : (setup : Outline) (m : ℕ) (post : Post) (local : Local) (r : ℕ) → r ≤ m
-    → after setup post (unended local) (entry.Turned r) ≡ unended (after (first_of setup m) post local (entry.Turned r))
-turn_first setup m post local r le =
-    ap (λ (o : Option Request). record (with_change (change_in o post.node) (unended local)) { last = r }) (sym (request_first setup m r le))
-    ∙ go (change_of (first_of setup m) r post.node)
+turn_first : (setup : SetupView) (m : ℕ) (who : Worker) (view : StateView) (r : ℕ) → r ≤ m
+    → after setup who (unended view) (entry.Turned r) ≡ unended (after (first_of setup m) who view (entry.Turned r))
+turn_first setup m who view r le =
+    ap (λ (o : Option Request). record (with_change (change_in o who.node) (unended view)) { last = r }) (sym (request_first setup m r le))
+    ∙ go (change_of (first_of setup m) r who.node)
   where
-    go : (o : Option Change) → ◌≡◌ {A = Local} (record (with_change o (unended local)) { last = r }) (unended (record (with_change o local) { last = r }))
+    go : (o : Option Change) → ◌≡◌ {A = StateView} (record (with_change o (unended view)) { last = r }) (unended (record (with_change o view) { last = r }))
     go None = refl
     go (Some change) = refl
 
-pub replay_first : (setup : Outline) (m : ℕ) (post : Post) (local : Local) (journal : List Entry) → NamesUpTo m journal
-    → after_all setup post (unended local) (endless journal) ≡ unended (after_all (first_of setup m) post local journal)
-replay_first setup m post local [] h = refl
-replay_first setup m post local (entry.Met l t ∷ more) h = replay_first setup m post (after (first_of setup m) post local (entry.Met l t)) more h
-replay_first setup m post local (entry.Marked l r ∷ more) h = replay_first setup m post local more h.1
-replay_first setup m post local (entry.Turned r ∷ more) h =
-    ap (λ (local : Local). after_all setup post local (endless more)) (turn_first setup m post local r h.0)
-    ∙ replay_first setup m post (after (first_of setup m) post local (entry.Turned r)) more h.1
-replay_first setup m post local (entry.Ended l ∷ more) h = replay_first setup m post (after (first_of setup m) post local (entry.Ended l)) more h
+pub replay_first : (setup : SetupView) (m : ℕ) (who : Worker) (view : StateView) (journal : List Entry) → NamesUpTo m journal
+    → after_all setup who (unended view) (endless journal) ≡ unended (after_all (first_of setup m) who view journal)
+replay_first setup m who view [] h = refl
+replay_first setup m who view (entry.Met l t ∷ more) h = replay_first setup m who (after (first_of setup m) who view (entry.Met l t)) more h
+replay_first setup m who view (entry.Marked l r ∷ more) h = replay_first setup m who view more h.1
+replay_first setup m who view (entry.Turned r ∷ more) h =
+    ap (λ (view : StateView). after_all setup who view (endless more)) (turn_first setup m who view r h.0)
+    ∙ replay_first setup m who (after (first_of setup m) who view (entry.Turned r)) more h.1
+replay_first setup m who view (entry.Ended l ∷ more) h = replay_first setup m who (after (first_of setup m) who view (entry.Ended l)) more h
 
 -- ---- items without ends
 
@@ -91,37 +91,37 @@ dropped lane (p ∷ ps) h = go (is_same_lane p.lane lane) (ap is_last (h p (inl 
 
 -- ---- what is sent
 
-turn_puts : (setup : Outline) (m : ℕ) (post : Post) (local : Local) (r : ℕ) → r ≤ m → puts (first_of setup m) post local (entry.Turned r) ≡ puts setup post (unended local) (entry.Turned r)
-turn_puts setup m post local r le =
-    ap (λ (o : Option Plan). flat_map (λ mark. put_on_each mark (filter (λ (lane : Lane). holds_edge o lane.edge) (lanes_out setup.job post.number))) (marker_by r o)) (plan_first setup m r le)
+turn_puts : (setup : SetupView) (m : ℕ) (who : Worker) (view : StateView) (r : ℕ) → r ≤ m → puts (first_of setup m) who view (entry.Turned r) ≡ puts setup who (unended view) (entry.Turned r)
+turn_puts setup m who view r le =
+    ap (λ (o : Option Plan). flat_map (λ mark. put_on_each mark (filter (λ (lane : Lane). holds_edge o lane.edge) (lanes_out setup.job who.number))) (marker_by r o)) (plan_first setup m r le)
 
-pub sent_first : (setup : Outline) (m : ℕ) (post : Post) (local : Local) (lane : Lane) (journal : List Entry) → NamesUpTo m journal
-    → no_last (sent (first_of setup m) post local lane journal) ≡ sent setup post (unended local) lane (endless journal)
-sent_first setup m post local lane [] h = refl
-sent_first setup m post local lane (entry.Met l t ∷ more) h =
-    let cut : Outline = first_of setup m in
-    let here : List Item = items_on lane (puts cut post local (entry.Met l t)) in
-    let none : (p : Put) → IsIn p (puts cut post local (entry.Met l t)) → is_last p.item ≡ false = λ p i. ap is_last (puts_come cut post local (entry.Met l t) p i).1 in
-    no_last-append here (sent cut post (after cut post local (entry.Met l t)) lane more)
-    ∙ (ap (λ (items : List Item). items ++ no_last (sent cut post (after cut post local (entry.Met l t)) lane more)) (kept lane (puts cut post local (entry.Met l t)) none)
-    ∙ ap (λ (items : List Item). here ++ items) (sent_first setup m post (after cut post local (entry.Met l t)) lane more h))
-sent_first setup m post local lane (entry.Marked l r ∷ more) h = sent_first setup m post local lane more h.1
-sent_first setup m post local lane (entry.Turned r ∷ more) h =
-    let cut : Outline = first_of setup m in
+pub sent_first : (setup : SetupView) (m : ℕ) (who : Worker) (view : StateView) (lane : Lane) (journal : List Entry) → NamesUpTo m journal
+    → no_last (sent (first_of setup m) who view lane journal) ≡ sent setup who (unended view) lane (endless journal)
+sent_first setup m who view lane [] h = refl
+sent_first setup m who view lane (entry.Met l t ∷ more) h =
+    let cut : SetupView = first_of setup m in
+    let here : List Item = items_on lane (puts cut who view (entry.Met l t)) in
+    let none : (p : Put) → IsIn p (puts cut who view (entry.Met l t)) → is_last p.item ≡ false = λ p i. ap is_last (puts_come cut who view (entry.Met l t) p i).1 in
+    no_last-append here (sent cut who (after cut who view (entry.Met l t)) lane more)
+    ∙ (ap (λ (items : List Item). items ++ no_last (sent cut who (after cut who view (entry.Met l t)) lane more)) (kept lane (puts cut who view (entry.Met l t)) none)
+    ∙ ap (λ (items : List Item). here ++ items) (sent_first setup m who (after cut who view (entry.Met l t)) lane more h))
+sent_first setup m who view lane (entry.Marked l r ∷ more) h = sent_first setup m who view lane more h.1
+sent_first setup m who view lane (entry.Turned r ∷ more) h =
+    let cut : SetupView = first_of setup m in
     let x : Entry = entry.Turned r in
-    let none : (p : Put) → IsIn p (puts cut post local x) → is_last p.item ≡ false = λ p i. ap is_last (puts_come cut post local x p i).2 in
-    let later : no_last (sent cut post (after cut post local x) lane more) ≡ sent setup post (after setup post (unended local) x) lane (endless more) =
-    sent_first setup m post (after cut post local x) lane more h.1 ∙ ap (λ (local : Local). sent setup post local lane (endless more)) (sym (turn_first setup m post local r h.0)) in
-    no_last-append (items_on lane (puts cut post local x)) (sent cut post (after cut post local x) lane more)
-    ∙ (ap (λ (items : List Item). items ++ no_last (sent cut post (after cut post local x) lane more)) (kept lane (puts cut post local x) none)
-    ∙ (ap (λ (ps : List Put). items_on lane ps ++ no_last (sent cut post (after cut post local x) lane more)) (turn_puts setup m post local r h.0)
-    ∙ ap (λ (items : List Item). items_on lane (puts setup post (unended local) x) ++ items) later))
-sent_first setup m post local lane (entry.Ended n ∷ more) h =
-    let cut : Outline = first_of setup m in
+    let none : (p : Put) → IsIn p (puts cut who view x) → is_last p.item ≡ false = λ p i. ap is_last (puts_come cut who view x p i).2 in
+    let later : no_last (sent cut who (after cut who view x) lane more) ≡ sent setup who (after setup who (unended view) x) lane (endless more) =
+    sent_first setup m who (after cut who view x) lane more h.1 ∙ ap (λ (view : StateView). sent setup who view lane (endless more)) (sym (turn_first setup m who view r h.0)) in
+    no_last-append (items_on lane (puts cut who view x)) (sent cut who (after cut who view x) lane more)
+    ∙ (ap (λ (items : List Item). items ++ no_last (sent cut who (after cut who view x) lane more)) (kept lane (puts cut who view x) none)
+    ∙ (ap (λ (ps : List Put). items_on lane ps ++ no_last (sent cut who (after cut who view x) lane more)) (turn_puts setup m who view r h.0)
+    ∙ ap (λ (items : List Item). items_on lane (puts setup who (unended view) x) ++ items) later))
+sent_first setup m who view lane (entry.Ended n ∷ more) h =
+    let cut : SetupView = first_of setup m in
     let x : Entry = entry.Ended n in
-    no_last-append (items_on lane (puts cut post local x)) (sent cut post (after cut post local x) lane more)
-    ∙ (ap (λ (items : List Item). items ++ no_last (sent cut post (after cut post local x) lane more)) (dropped lane (puts cut post local x) (puts_come cut post local x))
-    ∙ sent_first setup m post (after cut post local x) lane more h)
+    no_last-append (items_on lane (puts cut who view x)) (sent cut who (after cut who view x) lane more)
+    ∙ (ap (λ (items : List Item). items ++ no_last (sent cut who (after cut who view x) lane more)) (dropped lane (puts cut who view x) (puts_come cut who view x))
+    ∙ sent_first setup m who (after cut who view x) lane more h)
 
 -- ---- what is shown
 
@@ -129,7 +129,7 @@ marks_stay : (r : ℕ) (o : Option Plan) → no_last (marker_by r o) ≡ marker_
 marks_stay r None = refl
 marks_stay r (Some plan) = refl
 
-pub shown_first : (setup : Outline) (m n : ℕ) (journal : List Entry) → NamesUpTo m journal → no_last (shown (first_of setup m) n journal) ≡ shown setup n (endless journal)
+pub shown_first : (setup : SetupView) (m n : ℕ) (journal : List Entry) → NamesUpTo m journal → no_last (shown (first_of setup m) n journal) ≡ shown setup n (endless journal)
 shown_first setup m n [] h = refl
 shown_first setup m n (entry.Met l t ∷ more) h =
     no_last-append (came_in (first_of setup m) n (entry.Met l t)) (shown (first_of setup m) n more)
@@ -156,7 +156,7 @@ shown_first setup m n (entry.Ended l ∷ more) h =
     go true = refl
     go false = refl
 
-pub fed_stays : (job : Written) (rows : List Row) (issued : ℕ) (lane : Lane) (feeds : List Feed) → no_last (fed job rows issued lane feeds ++ item.Last ∷ []) ≡ fed job rows issued lane feeds
+pub fed_stays : (job : JobView) (rows : List Row) (issued : ℕ) (lane : Lane) (feeds : List Feed) → no_last (fed job rows issued lane feeds ++ item.Last ∷ []) ≡ fed job rows issued lane feeds
 fed_stays job rows issued lane feeds =
     no_last-append (fed job rows issued lane feeds) (item.Last ∷ [])
     ∙ (append-nil (no_last (fed job rows issued lane feeds))
@@ -165,7 +165,7 @@ fed_stays job rows issued lane feeds =
 -- ---- where the second part begins
 
 -- the function after these requests were turned, and the latest of them
-abbrev pub func_by : Outline → ℕ → Func → List ℕ → Func
+abbrev pub func_by : SetupView → ℕ → Func → List ℕ → Func
 func_by setup node f [] = f
 func_by setup node f (r ∷ more) = func_by setup node (func_with (change_of setup r node) f) more
 
@@ -173,25 +173,25 @@ abbrev pub last_by : ℕ → List ℕ → ℕ
 last_by last [] = last
 last_by last (r ∷ more) = last_by r more
 
-with_func : (o : Option Change) (local : Local) → (with_change o local).func ≡ func_with o local.func
-with_func None local = refl
-with_func (Some change) local = refl
+with_func : (o : Option Change) (view : StateView) → (with_change o view).func ≡ func_with o view.func
+with_func None view = refl
+with_func (Some change) view = refl
 
-pub after_func : (setup : Outline) (post : Post) (local : Local) (journal : List Entry) → (after_all setup post local journal).func ≡ func_by setup post.node local.func (turned journal)
-after_func setup post local [] = refl
-after_func setup post local (entry.Met l t ∷ more) = after_func setup post (after setup post local (entry.Met l t)) more
-after_func setup post local (entry.Marked l r ∷ more) = after_func setup post local more
-after_func setup post local (entry.Turned r ∷ more) =
-    after_func setup post (after setup post local (entry.Turned r)) more
-    ∙ ap (λ (f : Func). func_by setup post.node f (turned more)) (with_func (change_of setup r post.node) local)
-after_func setup post local (entry.Ended l ∷ more) = after_func setup post (after setup post local (entry.Ended l)) more
+pub after_func : (setup : SetupView) (who : Worker) (view : StateView) (journal : List Entry) → (after_all setup who view journal).func ≡ func_by setup who.node view.func (turned journal)
+after_func setup who view [] = refl
+after_func setup who view (entry.Met l t ∷ more) = after_func setup who (after setup who view (entry.Met l t)) more
+after_func setup who view (entry.Marked l r ∷ more) = after_func setup who view more
+after_func setup who view (entry.Turned r ∷ more) =
+    after_func setup who (after setup who view (entry.Turned r)) more
+    ∙ ap (λ (f : Func). func_by setup who.node f (turned more)) (with_func (change_of setup r who.node) view)
+after_func setup who view (entry.Ended l ∷ more) = after_func setup who (after setup who view (entry.Ended l)) more
 
-pub after_last : (setup : Outline) (post : Post) (local : Local) (journal : List Entry) → (after_all setup post local journal).last ≡ last_by local.last (turned journal)
-after_last setup post local [] = refl
-after_last setup post local (entry.Met l t ∷ more) = after_last setup post (after setup post local (entry.Met l t)) more
-after_last setup post local (entry.Marked l r ∷ more) = after_last setup post local more
-after_last setup post local (entry.Turned r ∷ more) = after_last setup post (after setup post local (entry.Turned r)) more
-after_last setup post local (entry.Ended l ∷ more) = after_last setup post (after setup post local (entry.Ended l)) more
+pub after_last : (setup : SetupView) (who : Worker) (view : StateView) (journal : List Entry) → (after_all setup who view journal).last ≡ last_by view.last (turned journal)
+after_last setup who view [] = refl
+after_last setup who view (entry.Met l t ∷ more) = after_last setup who (after setup who view (entry.Met l t)) more
+after_last setup who view (entry.Marked l r ∷ more) = after_last setup who view more
+after_last setup who view (entry.Turned r ∷ more) = after_last setup who (after setup who view (entry.Turned r)) more
+after_last setup who view (entry.Ended l ∷ more) = after_last setup who (after setup who view (entry.Ended l)) more
 
 pub endless_turned : (journal : List Entry) → turned (endless journal) ≡ turned journal
 endless_turned [] = refl
@@ -200,7 +200,7 @@ endless_turned (entry.Marked l r ∷ more) = endless_turned more
 endless_turned (entry.Turned r ∷ more) = ap (λ (l : List ℕ). r ∷ l) (endless_turned more)
 endless_turned (entry.Ended l ∷ more) = endless_turned more
 
-func_by-append : (setup : Outline) (node : ℕ) (f : Func) (xs ys : List ℕ) → func_by setup node f (xs ++ ys) ≡ func_by setup node (func_by setup node f xs) ys
+func_by-append : (setup : SetupView) (node : ℕ) (f : Func) (xs ys : List ℕ) → func_by setup node f (xs ++ ys) ≡ func_by setup node (func_by setup node f xs) ys
 func_by-append setup node f [] ys = refl
 func_by-append setup node f (x ∷ xs) ys = func_by-append setup node (func_with (change_of setup x node) f) xs ys
 
@@ -212,7 +212,7 @@ one_more : (first count next : ℕ) → next ≡ first + count → numbers_from 
 one_more first zero next e = let f : first ≡ next = omega arith in ap (λ k. k ∷ []) f
 one_more first (suc count) next e = ap (λ (l : List ℕ). first ∷ l) (one_more (first + 1) count next (omega arith))
 
-module _ (setup : Outline) (covered : HasCovers setup) (node : ℕ) where
+module _ (setup : SetupView) (covered : HasCovers setup) (node : ℕ) where
   abbrev pub covering : ℕ → List ℕ
   covering m = filter (λ r. covers setup r node) (numbers_from 1 m)
 

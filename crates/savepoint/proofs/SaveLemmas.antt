@@ -8,15 +8,15 @@ use Rattle.std.proofs.lemmas.Bool.{cases_lt, eq-eqb}
 use Rattle.std.proofs.lemmas.Bool.Decides.{nat_tests}
 use Rattle.jobs.specs.Law.{IsLawful}
 use Rattle.jobs.specs.Nodes.{is_count, most_workers}
-use Rattle.jobs.specs.Written.{Written}
+use Rattle.jobs.specs.JobView.{JobView}
 use Rattle.jobs.specs.declared.func.Func.{Func}
 use Rattle.jobs.specs.declared.func.Func.TheVariants as func
 use Rattle.jobs.specs.declared.func.NodeDef.{NodeDef}
 use Rattle.keyed_state.specs.Counts.{Counts}
 use Rattle.flow_model.specs.Begin.{Begin}
-use Rattle.flow_model.specs.Outline.{Outline, Post}
+use Rattle.flow_model.specs.SetupView.{SetupView, Worker}
 use Rattle.flow_model.specs.Requests.{afters}
-use Rattle.flow_model.specs.Workers.{posts}
+use Rattle.flow_model.specs.Workers.{workers_in}
 use Rattle.flow_model.proofs.ElementLemmas.{IsIn, at_of_all, in_any, in_flat_map, in_map, in_of_place, place_of_in}
 use Rattle.flow_model.proofs.WorkerLemmas.{IsWorker, all_workers, worker_with}
 use Rattle.savepoint.specs.Parts.{issued_up_to}
@@ -39,12 +39,12 @@ few_workers (func.Split split) = lit≤ tt
 few_workers func.Replicate = lit≤ tt
 few_workers (func.Sink listed) = lit≤ tt
 
-small_place : (job : Written) → IsLawful job → (post : Post) → IsWorker job post → post.place < 2 ^ 63
-small_place job is post w =
-    let node = at_of_all (λ (node : NodeDef). (1 ≤ node.workers) × (node.workers ≤ most_workers node.func)) w.def job.nodes is.limits.workers (in_of_place w.def job.nodes post.node w.node_is) in
+small_place : (job : JobView) → IsLawful job → (who : Worker) → IsWorker job who → who.place < 2 ^ 63
+small_place job is who w =
+    let node = at_of_all (λ (node : NodeDef). (1 ≤ node.workers) × (node.workers ≤ most_workers node.func)) w.def job.nodes is.limits.workers (in_of_place w.def job.nodes who.node w.node_is) in
     omega (arith, w.place, all_workers w.def w.no_source, node.1, few_workers w.def.func)
 
-distinct_names : (job : Written) → IsLawful job → HasDistinctNames job
+distinct_names : (job : JobView) → IsLawful job → HasDistinctNames job
 distinct_names job is i j a b g h e =
     elim (cases_lt i j) [
       | inl lt ↦ absurd (twice i j a b g h lt e)
@@ -81,13 +81,13 @@ mapped_back {A} {B} f (x ∷ xs) (y ∷ ys) l h =
 
 -- ---- the savepoint
 
-module _ (setup : Outline) (rows : ℕ) (begin : Begin) (lawful : IsLawful setup.job) (can : CanSave setup rows begin) where
-  abbrev workers : List (Post × Counts)
-  workers = zip (posts setup.job) begin.states
+module _ (setup : SetupView) (rows : ℕ) (begin : Begin) (lawful : IsLawful setup.job) (can : CanSave setup rows begin) where
+  abbrev workers : List (Worker × Counts)
+  workers = zip (workers_in setup.job) begin.states
 
   numbered : AreNumbered 0 workers
   numbered k p g =
-      let z = zip_get (posts setup.job) begin.states k p g in
+      let z = zip_get (workers_in setup.job) begin.states k p g in
       let n = (worker_with setup.job k p.0 z.0).0 in
       omega (arith, n)
 
@@ -97,18 +97,18 @@ module _ (setup : Outline) (rows : ℕ) (begin : Begin) (lawful : IsLawful setup
       let p = in_flat_map counts_of q workers i in
       let e = in_map (λ (e : List ℕ × ℤ). (p.0.0, e)) q (entries p.0.1) p.2 in
       let k = place_of_in p.0 workers p.1 in
-      let z = zip_get (posts setup.job) begin.states k.0 p.0 k.1 in
-      let post : q.0 ≡ p.0.0 = ap (λ (r : Count). r.0) e.2 in
+      let z = zip_get (workers_in setup.job) begin.states k.0 p.0 k.1 in
+      let who : q.0 ≡ p.0.0 = ap (λ (r : Count). r.0) e.2 in
       let entry : q.1 ≡ e.0 = ap (λ (r : Count). r.1) e.2 in
       let each = at_of_all (λ (counts : Counts). All (λ (e : List ℕ × ℤ). (length e.0 ≤ 48) × FitsSigned w64 e.1) (entries counts)) p.0.1 begin.states can.short (in_of_place p.0.1 begin.states k.0 z.1) in
       let one = at_of_all (λ (e : List ℕ × ℤ). (length e.0 ≤ 48) × FitsSigned w64 e.1) e.0 (entries p.0.1) each e.1 in (
-        subst (IsWorker setup.job) (sym post) (worker_with setup.job k.0 p.0.0 z.0).1,
-        ap (λ (r : Post). is_count r.func) post ∙ counts_here p.0 k.0 z.0 z.1 e.0 e.1 (is_count p.0.0.func) refl,
+        subst (IsWorker setup.job) (sym who) (worker_with setup.job k.0 p.0.0 z.0).1,
+        ap (λ (r : Worker). is_count r.func) who ∙ counts_here p.0 k.0 z.0 z.1 e.0 e.1 (is_count p.0.0.func) refl,
         subst (λ (e : List ℕ × ℤ). length e.0 ≤ 48) (sym entry) one.0,
         subst (λ (e : List ℕ × ℤ). FitsSigned w64 e.1) (sym entry) one.1,
       )
     where
-      counts_here : (p : Post × Counts) (k : ℕ) → slice_get (posts setup.job) k ≡ Some p.0 → slice_get begin.states k ≡ Some p.1 → (e : List ℕ × ℤ) → IsIn e (entries p.1)
+      counts_here : (p : Worker × Counts) (k : ℕ) → slice_get (workers_in setup.job) k ≡ Some p.0 → slice_get begin.states k ≡ Some p.1 → (e : List ℕ × ℤ) → IsIn e (entries p.1)
           → (b : Bool) → is_count p.0.func ≡ b → is_count p.0.func ≡ true
       counts_here p k g h e i true is = is
       counts_here p k g h e i false is = let none : entries p.1 ≡ [] = can.counts k p.0 p.1 g h is in absurd (rw none at i)
@@ -121,11 +121,11 @@ module _ (setup : Outline) (rows : ℕ) (begin : Begin) (lawful : IsLawful setup
       all-placed setup.job 1 None (all_counts workers) (λ q i. let w = of_worker q i in placed-count setup.job (distinct_names setup.job lawful) q w.0 w.1 w.2)
       (all_behind 0 workers None tt numbered)
 
-  states : map (counts_at (map placed_as (all_counts workers))) (posts setup.job) ≡ begin.states
+  states : map (counts_at (map placed_as (all_counts workers))) (workers_in setup.job) ≡ begin.states
   states =
-      mapped_back (counts_at (map placed_as (all_counts workers))) (posts setup.job) begin.states can.one_each (λ k post counts g h.
-      let n : post.number ≡ k = (worker_with setup.job k post g).0 in
-      counts-back workers post counts numbered (subst (λ j. slice_get workers j ≡ Some (post, counts)) (sym n) (get_zip (posts setup.job) begin.states k post counts g h)))
+      mapped_back (counts_at (map placed_as (all_counts workers))) (workers_in setup.job) begin.states can.one_each (λ k who counts g h.
+      let n : who.number ≡ k = (worker_with setup.job k who g).0 in
+      counts-back workers who counts numbered (subst (λ j. slice_get workers j ≡ Some (who, counts)) (sym n) (get_zip (workers_in setup.job) begin.states k who counts g h)))
 
   head : head_of (head_record begin.row begin.turned) ≡ Some (begin.row, begin.turned)
   head = rw (head-decimal begin.row can.row, head-decimal begin.turned can.turned) refl

@@ -15,7 +15,7 @@ use Rattle.jobs.specs.Ports.{has_port, leaves}
 use Rattle.jobs.specs.declared.func.NodeDef.{NodeDef}
 use Rattle.jobs.specs.Limits.{HasLimits, Oversize, entry_oversize, first_oversize, kept, oversize, table_oversize, text_oversize, value_oversize}
 use Rattle.jobs.specs.declared.fault.Which.TheVariants as which
-use Rattle.jobs.specs.Written.{Written}
+use Rattle.jobs.specs.JobView.{JobView}
 use Rattle.jobs.specs.declared.column.Column.{Column}
 use Rattle.jobs.specs.declared.func.Func.{Func}
 use Rattle.jobs.specs.declared.func.Func.TheVariants as func
@@ -43,8 +43,8 @@ use Rattle.versions.specs.declared.request.Change.{Change}
 use Rattle.versions.specs.declared.request.Request.{Request}
 use Rattle.flow_model.specs.Feeding.{fed, fed_puts, fed_tuple, row_at}
 use Rattle.flow_model.specs.declared.topology.Lane.{Lane}
-use Rattle.flow_model.specs.Outline.{Outline, Post}
-use Rattle.flow_model.specs.Replay.{Local, Put, after, came_in, put_out, puts, sent, shown, visit_at, with_change}
+use Rattle.flow_model.specs.SetupView.{SetupView, Worker}
+use Rattle.flow_model.specs.Replay.{StateView, Put, after, came_in, put_out, puts, sent, shown, visit_at, with_change}
 use Rattle.flow_model.specs.Requests.{change_of}
 use Rattle.flow_model.specs.Run.{Ran}
 use Rattle.flow_model.proofs.AgreementLemmas.{met_shown}
@@ -52,10 +52,10 @@ use Rattle.flow_model.proofs.ElementLemmas.{IsIn, all_of_at, at_of_all, flat_map
 use Rattle.flow_model.proofs.KindLemmas.{change_there}
 use Rattle.flow_model.proofs.LaneLemmas.{LaneIn, lane_in}
 use Rattle.flow_model.proofs.MarkerLemmas.{met_on_lane}
-use Rattle.flow_model.proofs.RunLemmas.{HasWorker, Running, execution, fed_there, in_fed_puts, sender_of, sent_there, start_of, station_of}
+use Rattle.flow_model.proofs.RunLemmas.{HasWorker, Running, execution, fed_there, in_fed_puts, sender_of, sent_there, start_of, duties_of}
 use Rattle.flow_model.proofs.SendingLemmas.{in_items, puts_come}
 use Rattle.flow_model.proofs.StoryLemmas.{Moment, entry_in, put_then, sent-story, story}
-use Rattle.flow_model.proofs.WorkerLemmas.{IsWorker, Stands, begun, journal_of, post_of, worker_is}
+use Rattle.flow_model.proofs.WorkerLemmas.{IsWorker, Stands, begun, journal_of, worker_no, worker_is}
 use Rattle.jobs.specs.Limits.{HasShortTexts}
 use Rattle.versions.specs.Kept.{HaveLimits}
 use Rattle.savepoint.proofs.SmallLemmas.{short_text}
@@ -160,7 +160,7 @@ short_tuple tuple h = all_of_at IsShort tuple.fields h
 
 -- ---- what a function makes of short texts
 
-pub short_outputs : (job : Written) (visit : Visit) (f : Func) (counts : Counts) (tuple : Tuple) → All (λ (table : Table). table_oversize table ≡ None) job.tables → oversize f ≡ None → AreShort tuple.fields
+pub short_outputs : (job : JobView) (visit : Visit) (f : Func) (counts : Counts) (tuple : Tuple) → All (λ (table : Table). table_oversize table ≡ None) job.tables → oversize f ≡ None → AreShort tuple.fields
     → (o : Output) → IsIn o (outputs job visit f counts tuple) → AreShort o.tuple.fields
 short_outputs job visit func.Source counts tuple limits e h o i = absurd i
 short_outputs job visit (func.Filter conds) counts tuple limits e h o i = go (list_all (meets job.columns tuple.fields) conds) (has_port job.edges visit.node 1) i
@@ -199,34 +199,34 @@ short_outputs job visit (func.Sink listed) counts tuple limits e h o i = absurd 
 -- ---- a run
 
 -- at each moment the function in force is short
-short_func : (setup : Outline) (post : Post) (local : Local) (journal : List Entry) (m : Moment) → HaveLimits setup.requests → oversize local.func ≡ None → IsIn m (story setup post local journal) → oversize m.local.func ≡ None
-short_func setup post local [] m h e i = absurd i
-short_func setup post local (x ∷ more) m h e (inl p) = ap (λ (m : Moment). oversize m.local.func) p ∙ e
-short_func setup post local (x ∷ more) m h e (inr i) = short_func setup post (after setup post local x) more m h (next x) i
+short_func : (setup : SetupView) (who : Worker) (view : StateView) (journal : List Entry) (m : Moment) → HaveLimits setup.requests → oversize view.func ≡ None → IsIn m (story setup who view journal) → oversize m.view.func ≡ None
+short_func setup who view [] m h e i = absurd i
+short_func setup who view (x ∷ more) m h e (inl p) = ap (λ (m : Moment). oversize m.view.func) p ∙ e
+short_func setup who view (x ∷ more) m h e (inr i) = short_func setup who (after setup who view x) more m h (next x) i
   where
-    turned : (r : ℕ) (o : Option Change) → change_of setup r post.node ≡ o → oversize (with_change o local).func ≡ None
+    turned : (r : ℕ) (o : Option Change) → change_of setup r who.node ≡ o → oversize (with_change o view).func ≡ None
     turned r None g = e
     turned r (Some change) g =
-        let (request, asked, among, at) = change_there setup r post.node change g in
+        let (request, asked, among, at) = change_there setup r who.node change g in
         at_of_all (λ (change : Change). oversize change.func ≡ None) change request.changes (at_of_all (λ (request : Request). All (λ (change : Change). oversize change.func ≡ None) request.changes) request setup.requests h asked) among
 
-    next : (x : Entry) → oversize (after setup post local x).func ≡ None
+    next : (x : Entry) → oversize (after setup who view x).func ≡ None
     next (entry.Met l t) = e
     next (entry.Marked l r) = e
-    next (entry.Turned r) = turned r (change_of setup r post.node) refl
+    next (entry.Turned r) = turned r (change_of setup r who.node) refl
     next (entry.Ended l) = e
 
 module _ (rows : List Row) (ran : Ran) (g : Running rows ran) (limits : HasLimits ran.setup.job) (requests : HaveLimits ran.setup.requests) (short : (row : Row) → IsIn row rows → AreShort row.tuple.fields) where
   -- what is met is short, worker after worker in the order of their nodes
-  short_below : (bound w l : ℕ) (t : Tuple) → HasWorker ran w → g.wired.rank (post_of ran.setup w).node < bound → IsIn (entry.Met l t) (journal_of ran w) → AreShort t.fields
+  short_below : (bound w l : ℕ) (t : Tuple) → HasWorker ran w → g.wired.rank (worker_no ran.setup w).node < bound → IsIn (entry.Met l t) (journal_of ran w) → AreShort t.fields
   short_below zero w l t lt b i = absurd (omega arith)
   short_below (suc bound) w l t lt b i =
-      let is : IsWorker ran.setup.job (post_of ran.setup w) = (worker_is ran.setup w lt).1 in
-      let k : LaneIn ran.setup.job (post_of ran.setup w) l = lane_in ran.setup.job (post_of ran.setup w) l is (met_on_lane (station_of ran w) (start_of ran w) (journal_of ran w) l t (execution rows ran g w lt) i) in
+      let is : IsWorker ran.setup.job (worker_no ran.setup w) = (worker_is ran.setup w lt).1 in
+      let k : LaneIn ran.setup.job (worker_no ran.setup w) l = lane_in ran.setup.job (worker_no ran.setup w) l is (met_on_lane (duties_of ran w) (start_of ran w) (journal_of ran w) l t (execution rows ran g w lt) i) in
       let up : g.wired.rank k.edge.from < g.wired.rank k.edge.to = g.wired.forward k.lane.edge k.edge k.edge_is in
-      let here : g.wired.rank k.edge.to ≡ g.wired.rank (post_of ran.setup w).node = ap g.wired.rank k.to in
+      let here : g.wired.rank k.edge.to ≡ g.wired.rank (worker_no ran.setup w).node = ap g.wired.rank k.to in
       by_sender k (flat_map_in (came_in ran.setup l) (entry.Met l t) (item.Carry t) (journal_of ran w) i (met_shown ran.setup l t))
-      (λ v n u lv nv j. short_below bound v n u lv (let e : g.wired.rank (post_of ran.setup v).node ≡ g.wired.rank k.edge.from = ap g.wired.rank nv in omega arith) j)
+      (λ v n u lv nv j. short_below bound v n u lv (let e : g.wired.rank (worker_no ran.setup v).node ≡ g.wired.rank k.edge.from = ap g.wired.rank nv in omega arith) j)
       (sender_of rows ran g k.edge.from k.lane.sender k.sends)
     where
       fed_short : (lane : Lane) → IsIn (item.Carry t) (fed ran.setup.job rows 0 lane ran.feeds ++ item.Last ∷ []) → AreShort t.fields
@@ -247,34 +247,34 @@ module _ (rows : List Row) (ran : Ran) (g : Running rows ran) (limits : HasLimit
           row_in (suc place) row e = in_of_place row rows place e
 
       sent_short : (s : ℕ) (lane : Lane) → HasWorker ran s → ((n : ℕ) (u : Tuple) → IsIn (entry.Met n u) (journal_of ran s) → AreShort u.fields)
-          → IsIn (item.Carry t) (sent ran.setup (post_of ran.setup s) (begun ran.setup s) lane (journal_of ran s)) → AreShort t.fields
+          → IsIn (item.Carry t) (sent ran.setup (worker_no ran.setup s) (begun ran.setup s) lane (journal_of ran s)) → AreShort t.fields
       sent_short s lane ls met i =
-          let post : Post = post_of ran.setup s in
-          let ws : IsWorker ran.setup.job post = (worker_is ran.setup s ls).1 in
-          let x = in_flat_map (put_then ran.setup post lane) (item.Carry t) (story ran.setup post (begun ran.setup s) (journal_of ran s))
-          (subst (λ (xs : List Item). IsIn (item.Carry t) xs) (sent-story ran.setup post (begun ran.setup s) lane (journal_of ran s)) i) in
-          let p = in_items lane (puts ran.setup post x.0.local x.0.entry) (item.Carry t) x.2 in
-          let def : oversize post.func ≡ None = ap oversize ws.func_is ∙ at_of_all (λ (node : NodeDef). oversize node.func ≡ None) ws.def ran.setup.job.nodes limits.functions (in_of_place ws.def ran.setup.job.nodes post.node ws.node_is) in
-          by_entry post x.0.local x.0.entry (short_func ran.setup post (begun ran.setup s) (journal_of ran s) x.0 requests def x.1) (λ n u e. met n u (subst (λ (y : Entry). IsIn y (journal_of ran s)) e (entry_in ran.setup post (begun ran.setup s) (journal_of ran s) x.0 x.1))) p.0 p.1 p.3
+          let who : Worker = worker_no ran.setup s in
+          let ws : IsWorker ran.setup.job who = (worker_is ran.setup s ls).1 in
+          let x = in_flat_map (put_then ran.setup who lane) (item.Carry t) (story ran.setup who (begun ran.setup s) (journal_of ran s))
+          (subst (λ (xs : List Item). IsIn (item.Carry t) xs) (sent-story ran.setup who (begun ran.setup s) lane (journal_of ran s)) i) in
+          let p = in_items lane (puts ran.setup who x.0.view x.0.entry) (item.Carry t) x.2 in
+          let def : oversize who.func ≡ None = ap oversize ws.func_is ∙ at_of_all (λ (node : NodeDef). oversize node.func ≡ None) ws.def ran.setup.job.nodes limits.functions (in_of_place ws.def ran.setup.job.nodes who.node ws.node_is) in
+          by_entry who x.0.view x.0.entry (short_func ran.setup who (begun ran.setup s) (journal_of ran s) x.0 requests def x.1) (λ n u e. met n u (subst (λ (y : Entry). IsIn y (journal_of ran s)) e (entry_in ran.setup who (begun ran.setup s) (journal_of ran s) x.0 x.1))) p.0 p.1 p.3
         where
-          by_entry : (post : Post) (local : Local) (e : Entry) → oversize local.func ≡ None → ((n : ℕ) (u : Tuple) → e ≡ entry.Met n u → AreShort u.fields) → (p : Put) → IsIn p (puts ran.setup post local e) → item.Carry t ≡ p.item → AreShort t.fields
-          by_entry post local (entry.Met n u) f met p i same =
-              let o = in_map (put_out ran.setup.job post) p (outputs ran.setup.job (visit_at post local) local.func local.counts u) i in
+          by_entry : (who : Worker) (view : StateView) (e : Entry) → oversize view.func ≡ None → ((n : ℕ) (u : Tuple) → e ≡ entry.Met n u → AreShort u.fields) → (p : Put) → IsIn p (puts ran.setup who view e) → item.Carry t ≡ p.item → AreShort t.fields
+          by_entry who view (entry.Met n u) f met p i same =
+              let o = in_map (put_out ran.setup.job who) p (outputs ran.setup.job (visit_at who view) view.func view.counts u) i in
               let both : item.Carry t ≡ item.Carry o.0.tuple = same ∙ ap (λ (p : Put). p.item) o.2 in
               let e : t ≡ o.0.tuple = cc in
-              subst (λ (t : Tuple). AreShort t.fields) (sym e) (short_outputs ran.setup.job (visit_at post local) local.func local.counts u limits.texts f (met n u refl) o.0 o.1)
-          by_entry post local (entry.Marked n r) f met p i same = absurd i
-          by_entry post local (entry.Turned r) f met p i same =
-              let c = puts_come ran.setup post local (entry.Turned r) p i in
+              subst (λ (t : Tuple). AreShort t.fields) (sym e) (short_outputs ran.setup.job (visit_at who view) view.func view.counts u limits.texts f (met n u refl) o.0 o.1)
+          by_entry who view (entry.Marked n r) f met p i same = absurd i
+          by_entry who view (entry.Turned r) f met p i same =
+              let c = puts_come ran.setup who view (entry.Turned r) p i in
               let both : item.Carry t ≡ item.Mark r c.0.nodes = same ∙ c.2 in
               absurd (cc)
-          by_entry post local (entry.Ended n) f met p i same =
-              let c = puts_come ran.setup post local (entry.Ended n) p i in
+          by_entry who view (entry.Ended n) f met p i same =
+              let c = puts_come ran.setup who view (entry.Ended n) p i in
               let both : item.Carry t ≡ item.Last = same ∙ c in
               absurd (cc)
 
-      by_sender : (k : LaneIn ran.setup.job (post_of ran.setup w) l) → IsIn (item.Carry t) (shown ran.setup l (journal_of ran w))
-          → ((v n : ℕ) (u : Tuple) → HasWorker ran v → (post_of ran.setup v).node ≡ k.edge.from → IsIn (entry.Met n u) (journal_of ran v) → AreShort u.fields)
+      by_sender : (k : LaneIn ran.setup.job (worker_no ran.setup w) l) → IsIn (item.Carry t) (shown ran.setup l (journal_of ran w))
+          → ((v n : ℕ) (u : Tuple) → HasWorker ran v → (worker_no ran.setup v).node ≡ k.edge.from → IsIn (entry.Met n u) (journal_of ran v) → AreShort u.fields)
           → ((k.lane.sender ≡ None) × (is_source_node (slice_get ran.setup.job.nodes k.edge.from) ≡ true)) ⊎ ((s : ℕ) × (k.lane.sender ≡ Some s) × Stands ran.setup k.edge.from s) → AreShort t.fields
       by_sender k i earlier (inl f) = fed_short k.lane (subst (λ (xs : List Item). IsIn (item.Carry t) xs) (fed_there rows ran g l w lt k f.0) i)
       by_sender k i earlier (inr s) =
@@ -283,4 +283,4 @@ module _ (rows : List Row) (ran : Ran) (g : Running rows ran) (limits : HasLimit
 
   -- every tuple that is met has short texts
   pub all_short : (w l : ℕ) (t : Tuple) → HasWorker ran w → IsIn (entry.Met l t) (journal_of ran w) → HasShortTexts t
-  all_short w l t lt i = short_tuple t (short_below (suc (g.wired.rank (post_of ran.setup w).node)) w l t lt (omega arith) i)
+  all_short w l t lt i = short_tuple t (short_below (suc (g.wired.rank (worker_no ran.setup w).node)) w l t lt (omega arith) i)

@@ -6,7 +6,7 @@ use Rattle.std.specs.FinMap.{empty, entries, from_entries, get-empty, get-from_e
 use Rattle.std.specs.Ordering.{nat_cmp}
 use Rattle.std.proofs.lemmas.Option.{slice_get-map, slice_get_within}
 use Rattle.jobs.specs.Nodes.{is_count}
-use Rattle.jobs.specs.Written.{Written}
+use Rattle.jobs.specs.JobView.{JobView}
 use Rattle.jobs.specs.declared.func.Func.{Func}
 use Rattle.jobs.specs.declared.func.Func.TheVariants as func
 use Rattle.jobs.specs.declared.func.NodeDef.{NodeDef}
@@ -20,12 +20,12 @@ use Rattle.tuple_trace.specs.declared.row.Row.{Row}
 use Rattle.tuple_trace.specs.declared.tuple.Tuple.{Tuple}
 use Rattle.versions.specs.Kept.{KeepKinds}
 use Rattle.versions.specs.declared.request.Change.{Change}
-use Rattle.flow_model.specs.Begin.{at_first, local_at}
-use Rattle.flow_model.specs.Outline.{Outline, Post}
-use Rattle.flow_model.specs.Replay.{Local, after, after_all, with_change}
+use Rattle.flow_model.specs.Begin.{at_first, view_at}
+use Rattle.flow_model.specs.SetupView.{SetupView, Worker}
+use Rattle.flow_model.specs.Replay.{StateView, after, after_all, with_change}
 use Rattle.flow_model.specs.Requests.{change_of}
 use Rattle.flow_model.specs.Run.{Ran}
-use Rattle.flow_model.specs.Workers.{posts}
+use Rattle.flow_model.specs.Workers.{workers_in}
 use Rattle.flow_model.proofs.KindLemmas.{AreAlike, alike_self, changed_alike}
 use Rattle.flow_model.proofs.RunLemmas.{Running}
 use Rattle.flow_model.proofs.WorkerLemmas.{IsWorker, item_at, worker_with}
@@ -48,7 +48,7 @@ carried_none carry.Reset counts e = refl
 carried_none (carry.Scale by over) counts e = rw (none_there counts e) none_made
 carried_none (carry.DropBelow least) counts e = rw (none_there counts e) none_made
 
-counts_none : (job : Written) (f : Func) (counts : Counts) (t : Tuple) → is_count f ≡ false → counts_after job f counts t ≡ counts
+counts_none : (job : JobView) (f : Func) (counts : Counts) (t : Tuple) → is_count f ≡ false → counts_after job f counts t ≡ counts
 counts_none job func.Source counts t n = refl
 counts_none job (func.Filter conds) counts t n = refl
 counts_none job (func.Map steps) counts t n = refl
@@ -58,31 +58,31 @@ counts_none job (func.Split split) counts t n = refl
 counts_none job func.Replicate counts t n = refl
 counts_none job (func.Sink listed) counts t n = refl
 
-module _ (setup : Outline) (kinds : KeepKinds setup.job setup.requests) (post : Post) (def : NodeDef) (there : slice_get setup.job.nodes post.node ≡ Some def) (none : is_count def.func ≡ false) where
-  stay_none : (local : Local) (journal : List Entry) → AreAlike setup.job.edges post.node def.func local.func → local.counts ≡ empty → (after_all setup post local journal).counts ≡ empty
-  stay_none local [] a e = e
-  stay_none local (entry.Met l t ∷ more) a e =
-      stay_none (after setup post local (entry.Met l t)) more a (counts_none setup.job local.func local.counts t (a.count ∙ none) ∙ e)
-  stay_none local (entry.Marked l r ∷ more) a e = stay_none local more a e
-  stay_none local (entry.Turned r ∷ more) a e =
-      let k = turned (change_of setup r post.node) refl in
-      stay_none (after setup post local (entry.Turned r)) more k.0 k.1
+module _ (setup : SetupView) (kinds : KeepKinds setup.job setup.requests) (who : Worker) (def : NodeDef) (there : slice_get setup.job.nodes who.node ≡ Some def) (none : is_count def.func ≡ false) where
+  stay_none : (view : StateView) (journal : List Entry) → AreAlike setup.job.edges who.node def.func view.func → view.counts ≡ empty → (after_all setup who view journal).counts ≡ empty
+  stay_none view [] a e = e
+  stay_none view (entry.Met l t ∷ more) a e =
+      stay_none (after setup who view (entry.Met l t)) more a (counts_none setup.job view.func view.counts t (a.count ∙ none) ∙ e)
+  stay_none view (entry.Marked l r ∷ more) a e = stay_none view more a e
+  stay_none view (entry.Turned r ∷ more) a e =
+      let k = turned (change_of setup r who.node) refl in
+      stay_none (after setup who view (entry.Turned r)) more k.0 k.1
     where
-      turned : (o : Option Change) → change_of setup r post.node ≡ o → AreAlike setup.job.edges post.node def.func (with_change o local).func × ((with_change o local).counts ≡ empty)
+      turned : (o : Option Change) → change_of setup r who.node ≡ o → AreAlike setup.job.edges who.node def.func (with_change o view).func × ((with_change o view).counts ≡ empty)
       turned None g = (a, e)
-      turned (Some change) g = (changed_alike setup r post.node def change kinds there g, carried_none change.carry local.counts e)
-  stay_none local (entry.Ended l ∷ more) a e = stay_none (after setup post local (entry.Ended l)) more a e
+      turned (Some change) g = (changed_alike setup r who.node def change kinds there g, carried_none change.carry view.counts e)
+  stay_none view (entry.Ended l ∷ more) a e = stay_none (after setup who view (entry.Ended l)) more a e
 
 -- at the end of a run only workers of counts have counts
-pub counts-alone : (rows : List Row) (ran : Ran) (g : Running rows ran) (w : ℕ) (post : Post) (state : Counts) → slice_get (posts ran.setup.job) w ≡ Some post → slice_get ran.states w ≡ Some state
-    → is_count post.func ≡ false → entries state ≡ []
-counts-alone rows ran g w post state p s n =
-    let is : IsWorker ran.setup.job post = (worker_with ran.setup.job w post p).1 in
-    let lt : w < length (posts ran.setup.job) = slice_get_within (posts ran.setup.job) w post p in
+pub counts-alone : (rows : List Row) (ran : Ran) (g : Running rows ran) (w : ℕ) (who : Worker) (state : Counts) → slice_get (workers_in ran.setup.job) w ≡ Some who → slice_get ran.states w ≡ Some state
+    → is_count who.func ≡ false → entries state ≡ []
+counts-alone rows ran g w who state p s n =
+    let is : IsWorker ran.setup.job who = (worker_with ran.setup.job w who p).1 in
+    let lt : w < length (workers_in ran.setup.job) = slice_get_within (workers_in ran.setup.job) w who p in
     let journal = item_at ran.journals w (omega (arith, g.run.one_journal_each)) in
-    let at : slice_get (at_first ran.setup).states w ≡ Some empty = slice_get-map (λ (post : Post). empty) (posts ran.setup.job) w ∙ ap (option_map (λ (post : Post). empty)) p in
-    let worked = g.run.worked w post empty journal.0 state p at journal.1 s in
+    let at : slice_get (at_first ran.setup).states w ≡ Some empty = slice_get-map (λ (who : Worker). empty) (workers_in ran.setup.job) w ∙ ap (option_map (λ (who : Worker). empty)) p in
+    let worked = g.run.worked w who empty journal.0 state p at journal.1 s in
     let none : is_count is.def.func ≡ false = ap is_count (sym is.func_is) ∙ n in
-    let alike : AreAlike ran.setup.job.edges post.node is.def.func post.func =
-    subst (λ (f : Func). AreAlike ran.setup.job.edges post.node is.def.func f) (sym is.func_is) (alike_self ran.setup.job.edges post.node is.def.func) in
-    none_there state (worked.state_is ∙ stay_none ran.setup g.kinds post is.def is.node_is none (local_at ran.setup 0 post empty) journal.0 alike refl)
+    let alike : AreAlike ran.setup.job.edges who.node is.def.func who.func =
+    subst (λ (f : Func). AreAlike ran.setup.job.edges who.node is.def.func f) (sym is.func_is) (alike_self ran.setup.job.edges who.node is.def.func) in
+    none_there state (worked.state_is ∙ stay_none ran.setup g.kinds who is.def is.node_is none (view_at ran.setup 0 who empty) journal.0 alike refl)

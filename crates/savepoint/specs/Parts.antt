@@ -7,14 +7,14 @@ use Rattle.sink_journal.specs.declared.journal.Feed.{Feed}
 use Rattle.sink_journal.specs.declared.journal.Feed.TheVariants as feed
 use Rattle.tuple_trace.specs.declared.row.Row.{Row}
 use Rattle.flow_model.specs.Begin.{Begin}
-use Rattle.flow_model.specs.Outline.{Outline}
+use Rattle.flow_model.specs.SetupView.{SetupView}
 use Rattle.flow_model.specs.Requests.{afters}
 use Rattle.flow_model.specs.Run.{IsRun, IsRunSince, Ran, ran_as}
 
 -- ---- where a part ends and the next begins
 
 -- the setup with only its first `turned` requests and their plans; all else stays
-abbrev pub first_of : Outline → ℕ → Outline
+abbrev pub first_of : SetupView → ℕ → SetupView
 first_of setup turned =
     record setup { requests = take turned setup.requests; plans = take turned setup.plans }
 
@@ -29,7 +29,7 @@ start_of row ran =
 
 -- The first part is a run of the first `row` rows with the requests that are issued up to there.
 -- The second part is a run of all rows and the whole setup from where the first has ended.
-pub record AreParts (setup : Outline) (rows : List Row) (row : ℕ) (first second : Ran)
+pub record AreParts (setup : SetupView) (rows : List Row) (row : ℕ) (first second : Ran)
     : Type 0 where
   pub within : row ≤ length rows
   pub begins :
@@ -63,7 +63,7 @@ abbrev pub joined_journal : List Entry × List Entry → List Entry
 joined_journal both = endless both.0 ++ both.1
 
 -- the first feed and journals, each followed by the second, and the counts of the second
-abbrev pub joined : Outline → Ran → Ran → Ran
+abbrev pub joined : SetupView → Ran → Ran → Ran
 joined setup first second =
     ran_as setup (unstopped first.feeds ++ second.feeds)
     (map joined_journal (zip first.journals second.journals)) second.states

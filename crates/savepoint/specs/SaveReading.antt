@@ -8,14 +8,14 @@ use Rattle.std.specs.Ordering.{is_lt}
 use Rattle.csv.specs.Reading.{default_config, records, strip_bom}
 use Rattle.tuple_trace.specs.Digits.{at_most, digits_of}
 use Rattle.jobs.specs.Nodes.{is_count}
-use Rattle.jobs.specs.Written.{Written}
+use Rattle.jobs.specs.JobView.{JobView}
 use Rattle.keyed_state.specs.Counts.{Counts}
 use Rattle.jobs.specs.Limits.{text_max}
 use Rattle.payments.specs.Spelling.{number_of}
 use Rattle.flow_model.specs.Begin.{Begin}
-use Rattle.flow_model.specs.Outline.{Outline, Post}
+use Rattle.flow_model.specs.SetupView.{SetupView, Worker}
 use Rattle.flow_model.specs.Requests.{afters}
-use Rattle.flow_model.specs.Workers.{posts}
+use Rattle.flow_model.specs.Workers.{workers_in}
 use Rattle.savepoint.specs.Parts.{issued_up_to}
 use Rattle.savepoint.specs.SaveText.{name_of}
 use Rattle.savepoint.specs.declared.fault.SaveFault.{SaveFault}
@@ -90,21 +90,21 @@ is_place (pos n) place = n == place
 is_place (negsuc n) place = false
 
 -- the worker counts, and is the one that is named
-abbrev pub is_named_by : Written → Spelled → Post → Bool
-is_named_by job spelled post =
-    is_count post.func
-    && (is_text (name_of (slice_get job.nodes post.node)) spelled.name
-    && is_place spelled.place post.place)
+abbrev pub is_named_by : JobView → Spelled → Worker → Bool
+is_named_by job spelled who =
+    is_count who.func
+    && (is_text (name_of (slice_get job.nodes who.node)) spelled.name
+    && is_place spelled.place who.place)
 
 -- the count at the worker with this number
 abbrev pub placed_by : Spelled → ℕ → Placed
 placed_by spelled worker = record { worker = worker; key = spelled.key; count = spelled.count }
 
 -- a count in its place, if the named worker counts and the key isn't too long
-abbrev pub placed_of : Written → Spelled → Option Placed
+abbrev pub placed_of : JobView → Spelled → Option Placed
 placed_of job spelled =
     if nat_le (length spelled.key) text_max
-    then option_map (placed_by spelled) (position (is_named_by job spelled) (posts job)) else None
+    then option_map (placed_by spelled) (position (is_named_by job spelled) (workers_in job)) else None
 
 -- the count comes after the one before it: at a later worker, or with a later key by its bytes
 abbrev pub stands_behind : Option Placed → Placed → Bool
@@ -122,7 +122,7 @@ one_placed number before (Some placed) later =
 
 -- these counts in their places; the first has this number and comes after `before`
 abbrev pub placed_from :
-    Written → ℕ → Option Placed → List Spelled → Result (List Placed) SaveFault
+    JobView → ℕ → Option Placed → List Spelled → Result (List Placed) SaveFault
 placed_from job number before [] = Ok []
 placed_from job number before (first ∷ later) =
     one_placed number before (placed_of job first)
@@ -131,19 +131,19 @@ placed_from job number before (first ∷ later) =
 -- ---- the beginning
 
 -- the counts of a worker
-abbrev pub counts_at : List Placed → Post → Counts
-counts_at placed post =
+abbrev pub counts_at : List Placed → Worker → Counts
+counts_at placed who =
     from_entries (map (λ (p : Placed). (p.key, p.count))
-    (filter (λ (p : Placed). p.worker == post.number) placed))
+    (filter (λ (p : Placed). p.worker == who.number) placed))
 
 -- the beginning with these counts
-abbrev pub begin_with : Written → ℕ → ℕ → Result (List Placed) SaveFault → Result Begin SaveFault
+abbrev pub begin_with : JobView → ℕ → ℕ → Result (List Placed) SaveFault → Result Begin SaveFault
 begin_with job row turned (Err fault) = Err fault
 begin_with job row turned (Ok placed) =
-    Ok (record { row = row; turned = turned; states = map (counts_at placed) (posts job) })
+    Ok (record { row = row; turned = turned; states = map (counts_at placed) (workers_in job) })
 
 -- the beginning after this row and these many requests, of `rows` rows
-abbrev pub begin_at : Outline → ℕ → ℕ × ℕ → List Spelled → Result Begin SaveFault
+abbrev pub begin_at : SetupView → ℕ → ℕ × ℕ → List Spelled → Result Begin SaveFault
 begin_at setup rows (row, turned) spelled =
     if nat_lt rows row then Err (fault.Past row) else
     (if turned == issued_up_to row rows (afters setup.requests)
@@ -151,33 +151,33 @@ begin_at setup rows (row, turned) spelled =
     else Err (fault.Count (issued_up_to row rows (afters setup.requests))))
 
 abbrev pub begin_by :
-    Outline → ℕ → Option (ℕ × ℕ) → Result (List Spelled) SaveFault → Result Begin SaveFault
+    SetupView → ℕ → Option (ℕ × ℕ) → Result (List Spelled) SaveFault → Result Begin SaveFault
 begin_by setup rows None later = Err (fault.Shape 0)
 begin_by setup rows (Some head) (Err fault) = Err fault
 begin_by setup rows (Some head) (Ok spelled) = begin_at setup rows head spelled
 
 -- the beginning that these records tell; their form is judged first, then the row, the number of
 -- requests and the counts
-abbrev pub begin_in : Outline → ℕ → List (List (List ℕ)) → Result Begin SaveFault
+abbrev pub begin_in : SetupView → ℕ → List (List (List ℕ)) → Result Begin SaveFault
 begin_in setup rows [] = Err (fault.Shape 0)
 begin_in setup rows (head ∷ later) = begin_by setup rows (head_of head) (spelled_from 1 later)
 
 -- the beginning that a text tells, or the text's first fault
-abbrev pub save_of : Outline → ℕ → List ℕ → Result Begin SaveFault
+abbrev pub save_of : SetupView → ℕ → List ℕ → Result Begin SaveFault
 save_of setup rows bytes = begin_in setup rows (records default_config (strip_bom bytes))
 
 -- What can be saved and read again: the row is one of the rows, and the requests are those that
 -- are issued up to it. Each worker has counts of short keys that fit 64 bits. A worker that doesn't
 -- count has none.
-pub record CanSave (setup : Outline) (rows : ℕ) (begin : Begin) : Type 0 where
+pub record CanSave (setup : SetupView) (rows : ℕ) (begin : Begin) : Type 0 where
   pub within : begin.row ≤ rows
   pub row : begin.row < 2 ^ 63
   pub turned : begin.turned < 2 ^ 63
   pub issued : begin.turned ≡ issued_up_to begin.row rows (afters setup.requests)
-  pub one_each : length begin.states ≡ length (posts setup.job)
+  pub one_each : length begin.states ≡ length (workers_in setup.job)
   pub counts :
-      (w : ℕ) (post : Post) (counts : Counts) → slice_get (posts setup.job) w ≡ Some post →
-      slice_get begin.states w ≡ Some counts → is_count post.func ≡ false → entries counts ≡ []
+      (w : ℕ) (who : Worker) (counts : Counts) → slice_get (workers_in setup.job) w ≡ Some who →
+      slice_get begin.states w ≡ Some counts → is_count who.func ≡ false → entries counts ≡ []
   pub short :
       All (λ (counts : Counts).
       All (λ (e : List ℕ × ℤ). (length e.0 ≤ text_max) × FitsSigned w64 e.1) (entries counts))

@@ -3,13 +3,13 @@ use Rattle.std.specs.Prelude.{ℕ, ℤ, List, [], ◌∷◌, Option, Some, None,
 use Rattle.std.specs.Fmt.{signed_decimal}
 use Rattle.std.specs.FinMap.{entries}
 use Rattle.std.specs.List.{flat_map, zip}
-use Rattle.jobs.specs.Written.{Written}
+use Rattle.jobs.specs.JobView.{JobView}
 use Rattle.jobs.specs.declared.func.NodeDef.{NodeDef}
 use Rattle.keyed_state.specs.Counts.{Counts}
 use Rattle.sink_journal.specs.Records.{records_text}
 use Rattle.flow_model.specs.Begin.{Begin}
-use Rattle.flow_model.specs.Outline.{Post}
-use Rattle.flow_model.specs.Workers.{posts}
+use Rattle.flow_model.specs.SetupView.{Worker}
+use Rattle.flow_model.specs.Workers.{workers_in}
 
 -- the first record: what the text is, the row, and how many requests were turned
 abbrev pub head_record : ℕ → ℕ → List (List ℕ)
@@ -24,16 +24,16 @@ name_of None = []
 name_of (Some def) = def.name
 
 -- the records of a worker, in the order of its keys by their bytes
-abbrev pub worker_records : Written → Post × Counts → List (List (List ℕ))
-worker_records job (post, counts) =
-    map (count_record (name_of (slice_get job.nodes post.node)) post.place) (entries counts)
+abbrev pub worker_records : JobView → Worker × Counts → List (List (List ℕ))
+worker_records job (who, counts) =
+    map (count_record (name_of (slice_get job.nodes who.node)) who.place) (entries counts)
 
 -- all records: the workers come in the order of their numbers
-abbrev pub save_records : Written → Begin → List (List (List ℕ))
+abbrev pub save_records : JobView → Begin → List (List (List ℕ))
 save_records job begin =
     head_record begin.row begin.turned
-    ∷ flat_map (worker_records job) (zip (posts job) begin.states)
+    ∷ flat_map (worker_records job) (zip (workers_in job) begin.states)
 
 -- the whole text
-abbrev pub save_text : Written → Begin → List ℕ
+abbrev pub save_text : JobView → Begin → List ℕ
 save_text job begin = records_text (save_records job begin)

@@ -3,7 +3,7 @@ use Rattle.std.specs.Prelude.{ℕ, ℤ, pos, List, [], ◌∷◌, false, true, c
 use Rattle.std.specs.FinMap.{empty, from_entries, insert}
 use Rattle.keyed_state.specs.Counts.{Counts}
 use Rattle.keyed_state.specs.declared.carry.Carry.TheVariants as carry
-use Rattle.jobs.specs.Written.{Written, written_as}
+use Rattle.jobs.specs.JobView.{JobView, job_view_as}
 use Rattle.jobs.specs.declared.column.ColumnKind.TheVariants as kind
 use Rattle.jobs.specs.declared.func.Func.{Func}
 use Rattle.jobs.specs.declared.func.Func.TheVariants as func
@@ -17,7 +17,7 @@ use Rattle.tuple_trace.specs.declared.value.Value.TheVariants as value
 use Rattle.versions.specs.declared.request.Request.{Request}
 use Rattle.flow_model.specs.Begin.{Begin}
 use Rattle.flow_model.specs.FourPayments.{filter_alone, node_of}
-use Rattle.flow_model.specs.Outline.{Outline, outline_of}
+use Rattle.flow_model.specs.SetupView.{SetupView, setup_view_of}
 use Rattle.flow_model.specs.Run.{Ran, ran_as}
 use Rattle.savepoint.specs.Parts.{first_of}
 
@@ -26,8 +26,8 @@ abbrev pub counting : ℤ → Func
 counting by = func.Count (record { key = 0; add = operand.Number by; into = 1 })
 
 -- a source, a count and a sink in a row
-abbrev pub tallied : Written
-tallied = written_as
+abbrev pub tallied : JobView
+tallied = job_view_as
     (record { name = codes "name"; kind = kind.Text; own = false }
     ∷ record { name = codes "seen"; kind = kind.Number; own = true }
     ∷ [])
@@ -45,8 +45,8 @@ by_ten = record {
   changes = record { node = 1; from = 0; func = counting (pos 10); carry = carry.Keep } ∷ [];
 }
 
-abbrev pub tally_setup : Outline
-tally_setup = outline_of tallied (by_ten ∷ []) (filter_alone ∷ []) 0 false
+abbrev pub tally_setup : SetupView
+tally_setup = setup_view_of tallied (by_ten ∷ []) (filter_alone ∷ []) 0 false
 
 -- a row of one name, with the name's count so far
 abbrev pub named : ℕ → ℤ → ℕ → List Visit → Tuple

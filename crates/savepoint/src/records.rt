@@ -2,9 +2,9 @@ ghost use Rattle.std.specs.Prelude.{◌≡◌, ◌≤◌, ◌++◌, ℕ, IfOk, L
 ghost use Rattle.std.specs.List.{zip};
 ghost use Rattle.tuple_trace.specs.Rows.{AreRows};
 ghost use Rattle.tuple_trace.specs.declared.row.Row.{Row};
-ghost use Rattle.flow_model.specs.Record.{told};
+ghost use Rattle.flow_model.specs.Record.{record_view};
 ghost use Rattle.flow_model.specs.Run.{IsRun};
-ghost use Rattle.flow_model.specs.Setup.{outline};
+ghost use Rattle.flow_model.specs.Setup.{setup_view};
 ghost use Rattle.savepoint.specs.Parts.{
   AreParts,
   first_of as first_of_is,
@@ -24,8 +24,8 @@ use tuple_trace::{Items, NoMemory};
 ///
 /// The job, its topology, the refused requests, the mask of the splits and the mode stay.
 pub fn first_of(setup: Setup, turned: u64) -> Setup
-    requires { turned ≤ length (outline setup).requests }
-    ensures cut { outline result ≡ first_of_is (outline setup) turned }
+    requires { turned ≤ length (setup_view setup).requests }
+    ensures cut { setup_view result ≡ first_of_is (setup_view setup) turned }
     ensures job { result.job ≡ setup.job }
     ensures refused { result.judged.refused ≡ setup.judged.refused }
 {
@@ -60,12 +60,12 @@ pub fn join(
     first: RunRecord,
     second: RunRecord,
 ) -> Result<RunRecord, NoMemory>
-    ensures told { IfOk result (λ ran.
-        told ran ≡ joined (outline setup) (told first) (told second)) }
+    ensures record_view { IfOk result (λ ran.
+        record_view ran ≡ joined (setup_view setup) (record_view first) (record_view second)) }
     ensures same { IfOk result (λ ran. ran.setup ≡ setup) }
     ensures run { IfOk result (λ ran. (rows : List Row) (row : ℕ) → AreRows rows →
-        AreParts (outline setup) rows row (told first) (told second) →
-        IsRun (outline setup) rows (told ran)) }
+        AreParts (setup_view setup) rows row (record_view first) (record_view second) →
+        IsRun (setup_view setup) rows (record_view ran)) }
 {
     Ok(RunRecord {
         setup,

@@ -5,7 +5,7 @@ use Rattle.std.proofs.lemmas.Option.{same_Some}
 use Rattle.sink_journal.specs.declared.journal.Entry.{Entry}
 use Rattle.sink_journal.specs.declared.journal.Entry.TheVariants as entry
 use Rattle.tuple_trace.specs.declared.row.Row.{Row}
-use Rattle.flow_model.specs.Outline.{Post}
+use Rattle.flow_model.specs.SetupView.{Worker}
 use Rattle.flow_model.specs.Requests.{changes}
 use Rattle.flow_model.specs.Run.{Ran}
 use Rattle.flow_model.specs.Serial.{newest}
@@ -79,17 +79,17 @@ step-end turned request journal xs e = rw e (go turned)
 -- ---- the workers
 
 -- the worker is of a node that the request changes, and meets the row after its turn
-abbrev pub is_new_at : Ran → ℕ → ℕ → Post → Bool
-is_new_at ran request row post = changes ran.setup request post.node && meets_new request row (slice_get ran.journals post.number)
+abbrev pub is_new_at : Ran → ℕ → ℕ → Worker → Bool
+is_new_at ran request row who = changes ran.setup request who.node && meets_new request row (slice_get ran.journals who.number)
 
-new_among : (ran : Ran) (request row : ℕ) (workers : List Post)
-    → any_after request row (journals_at ran.journals (filter (λ (post : Post). changes ran.setup request post.node) workers)) ≡ list_any (is_new_at ran request row) workers
+new_among : (ran : Ran) (request row : ℕ) (workers : List Worker)
+    → any_after request row (journals_at ran.journals (filter (λ (who : Worker). changes ran.setup request who.node) workers)) ≡ list_any (is_new_at ran request row) workers
 new_among ran request row [] = refl
-new_among ran request row (post ∷ workers) = go (changes ran.setup request post.node) (slice_get ran.journals post.number) refl (new_among ran request row workers)
+new_among ran request row (who ∷ workers) = go (changes ran.setup request who.node) (slice_get ran.journals who.number) refl (new_among ran request row workers)
   where
-    go : (b : Bool) (o : Option (List Entry)) → slice_get ran.journals post.number ≡ o
-        → any_after request row (journals_at ran.journals (filter (λ (post : Post). changes ran.setup request post.node) workers)) ≡ list_any (is_new_at ran request row) workers
-        → any_after request row (journals_at ran.journals (cond b (post ∷ filter (λ (post : Post). changes ran.setup request post.node) workers) (filter (λ (post : Post). changes ran.setup request post.node) workers))) ≡ ((b && meets_new request row o) || list_any (is_new_at ran request row) workers)
+    go : (b : Bool) (o : Option (List Entry)) → slice_get ran.journals who.number ≡ o
+        → any_after request row (journals_at ran.journals (filter (λ (who : Worker). changes ran.setup request who.node) workers)) ≡ list_any (is_new_at ran request row) workers
+        → any_after request row (journals_at ran.journals (cond b (who ∷ filter (λ (who : Worker). changes ran.setup request who.node) workers) (filter (λ (who : Worker). changes ran.setup request who.node) workers))) ≡ ((b && meets_new request row o) || list_any (is_new_at ran request row) workers)
     go false o e h = h
     go true None e h = rw e h
     go true (Some journal) e h = rw e (ap (λ b. meets_row row (after_turn request journal) || b) h)
@@ -102,26 +102,26 @@ drop_get (y ∷ xs) (suc i) x g =
     let e : suc (i + 1) ≡ suc i + 1 = omega arith in drop_get xs i x g ∙ ap (λ n. x ∷ drop n (y ∷ xs)) e
 
 -- the next worker is of a node that the request changes
-pub worker-changed : (ran : Ran) (request w : ℕ) (workers : List Post) (post : Post) (xs : List ℕ) → slice_get workers w ≡ Some post → post.number ≡ w → changes ran.setup request post.node ≡ true
+pub worker-changed : (ran : Ran) (request w : ℕ) (workers : List Worker) (who : Worker) (xs : List ℕ) → slice_get workers w ≡ Some who → who.number ≡ w → changes ran.setup request who.node ≡ true
     → numbered (λ row. list_any (is_new_at ran request row) (drop (w + 1) workers)) request 1 (numbered (λ row. meets_new request row (slice_get ran.journals w)) request 1 xs)
     ≡ numbered (λ row. list_any (is_new_at ran request row) (drop w workers)) request 1 xs
-worker-changed ran request w workers post xs there number changed =
+worker-changed ran request w workers who xs there number changed =
     numbered-split (λ row. meets_new request row (slice_get ran.journals w)) (λ row. list_any (is_new_at ran request row) (drop (w + 1) workers))
     (λ row. list_any (is_new_at ran request row) (drop w workers)) request 1 xs
-    (λ row. ap (list_any (is_new_at ran request row)) (drop_get workers w post there)
-    ∙ (ap (λ b. (b && meets_new request row (slice_get ran.journals post.number)) || list_any (is_new_at ran request row) (drop (w + 1) workers)) changed
+    (λ row. ap (list_any (is_new_at ran request row)) (drop_get workers w who there)
+    ∙ (ap (λ b. (b && meets_new request row (slice_get ran.journals who.number)) || list_any (is_new_at ran request row) (drop (w + 1) workers)) changed
     ∙ ap (λ n. meets_new request row (slice_get ran.journals n) || list_any (is_new_at ran request row) (drop (w + 1) workers)) number))
 
 -- it is of another node
-pub worker-unchanged : (ran : Ran) (request w : ℕ) (workers : List Post) (post : Post) (xs : List ℕ) → slice_get workers w ≡ Some post → changes ran.setup request post.node ≡ false
+pub worker-unchanged : (ran : Ran) (request w : ℕ) (workers : List Worker) (who : Worker) (xs : List ℕ) → slice_get workers w ≡ Some who → changes ran.setup request who.node ≡ false
     → numbered (λ row. list_any (is_new_at ran request row) (drop (w + 1) workers)) request 1 xs ≡ numbered (λ row. list_any (is_new_at ran request row) (drop w workers)) request 1 xs
-worker-unchanged ran request w workers post xs there unchanged =
+worker-unchanged ran request w workers who xs there unchanged =
     numbered-same (λ row. list_any (is_new_at ran request row) (drop (w + 1) workers)) (λ row. list_any (is_new_at ran request row) (drop w workers)) request 1 xs
-    (λ row. sym (ap (list_any (is_new_at ran request row)) (drop_get workers w post there)
-    ∙ ap (λ b. (b && meets_new request row (slice_get ran.journals post.number)) || list_any (is_new_at ran request row) (drop (w + 1) workers)) unchanged))
+    (λ row. sym (ap (list_any (is_new_at ran request row)) (drop_get workers w who there)
+    ∙ ap (λ b. (b && meets_new request row (slice_get ran.journals who.number)) || list_any (is_new_at ran request row) (drop (w + 1) workers)) unchanged))
 
-pub new_anywhere : (ran : Ran) (request row : ℕ) (workers : List Post) → list_any (is_new_at ran request row) workers
-    ≡ any_after request row (journals_at ran.journals (filter (λ (post : Post). changes ran.setup request post.node) workers))
+pub new_anywhere : (ran : Ran) (request row : ℕ) (workers : List Worker) → list_any (is_new_at ran request row) workers
+    ≡ any_after request row (journals_at ran.journals (filter (λ (who : Worker). changes ran.setup request who.node) workers))
 new_anywhere ran request row workers = sym (new_among ran request row workers)
 
 -- ---- the rows

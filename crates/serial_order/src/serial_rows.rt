@@ -1,7 +1,7 @@
 ghost use Rattle.std.specs.Prelude.{◌≡◌, IfOk, replicate, slice_get};
-ghost use Rattle.flow_model.specs.Record.{told};
+ghost use Rattle.flow_model.specs.Record.{record_view};
 ghost use Rattle.flow_model.specs.Requests.{changes};
-ghost use Rattle.flow_model.specs.Setup.{outline};
+ghost use Rattle.flow_model.specs.Setup.{setup_view};
 ghost use Rattle.flow_model.specs.Whole.{is_new};
 ghost use Rattle.versions.specs.Book.{is_named as is_named_in};
 ghost use Rattle.serial_order.specs.Places.{meets_new, numbered};
@@ -22,7 +22,7 @@ pub type Serial = Items<u64>;
 /// If the record is a run of these rows in ordered mode, the row comes after exactly the requests
 /// up to this one. The only error is out of memory.
 pub fn serial(alloc: Global, ran: &RunRecord, rows: &Rows) -> Result<Serial, NoMemory>
-    ensures { IfOk result (λ serial. serial ≡ serials (told ran.now) rows.now) }
+    ensures { IfOk result (λ serial. serial ≡ serials (record_view ran.now) rows.now) }
 {
     let listed = rows.as_slice();
     let mut numbers = zeros(alloc, listed.len())?;
@@ -44,7 +44,7 @@ fn zeros(alloc: Global, count: usize) -> Result<Serial, NoMemory>
 
 // Gives the rows that are new at a request the request's number.
 fn number_new(ran: &RunRecord, request: u64, numbers: &mut Serial)
-    ensures { numbers.new ≡ numbered (is_new (told ran.now) request) request 1 numbers.old }
+    ensures { numbers.new ≡ numbered (is_new (record_view ran.now) request) request 1 numbers.old }
 {
     for worker in 0..ran.setup.workers() {
         if is_changed(&ran.setup, request, ran.setup.node_of(worker)) {
@@ -56,7 +56,7 @@ fn number_new(ran: &RunRecord, request: u64, numbers: &mut Serial)
 // Gives the rows that a worker meets after its turn of a request the request's number.
 fn number_at_worker(ran: &RunRecord, worker: u32, request: u64, numbers: &mut Serial)
     ensures { numbers.new ≡
-        numbered (λ row. meets_new request row (slice_get (told ran.now).journals worker))
+        numbered (λ row. meets_new request row (slice_get (record_view ran.now).journals worker))
         request 1 numbers.old }
 {
     if let Some(journal) = ran.journals.as_slice().get(worker as usize) {
@@ -65,7 +65,7 @@ fn number_at_worker(ran: &RunRecord, worker: u32, request: u64, numbers: &mut Se
 }
 
 fn is_changed(setup: &Setup, request: u64, node: u32) -> bool
-    ensures { result ≡ changes (outline setup.now) request node }
+    ensures { result ≡ changes (setup_view setup.now) request node }
 {
     match setup.request(request) {
         Some(request) => is_named(request.changes.as_slice(), node),

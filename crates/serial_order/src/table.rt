@@ -1,7 +1,7 @@
 ghost use Rattle.std.specs.Prelude.{◌≡◌, ℕ, IfOk, slice_get};
 ghost use Rattle.flow_model.specs.Requests.{func_after as func_after_of};
 ghost use Rattle.flow_model.specs.Serial.{table_at as table_at_of};
-ghost use Rattle.flow_model.specs.Setup.{outline};
+ghost use Rattle.flow_model.specs.Setup.{setup_view};
 
 use flow_model::Setup;
 use jobs::Func;
@@ -15,7 +15,7 @@ pub type FuncTable = Items<Func>;
 /// these that changes it, or else the job's. The only error is out of memory.
 pub fn table_at(alloc: Global, setup: &Setup, k: u64) -> Result<FuncTable, NoMemory>
     ensures { IfOk result (λ table. (node : ℕ) →
-        slice_get table node ≡ table_at_of (outline setup.now) k node) }
+        slice_get table node ≡ table_at_of (setup_view setup.now) k node) }
 {
     let mut table = FuncTable::new(alloc);
     for (node, def) in setup.job.nodes.as_slice().iter().enumerate() {
@@ -32,7 +32,7 @@ fn copy_of(func: &Func) -> Result<Func, NoMemory>
 
 // The function of a node after the first requests, if the job gives it this one.
 fn func_after<'a>(setup: &'a Setup, node: u32, func: &'a Func, k: u64) -> &'a Func
-    ensures { result.now ≡ func_after_of (outline setup.now) node func.now k }
+    ensures { result.now ≡ func_after_of (setup_view setup.now) node func.now k }
 {
     let mut latest = func;
     for place in 0..k {

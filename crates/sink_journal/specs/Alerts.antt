@@ -2,7 +2,7 @@
 use Rattle.std.specs.Prelude.{ℕ, List, [], ◌∷◌, ◌++◌, Option, Some, None, take, drop, map, decimal, codes, slice_get, if◌then◌else◌, nat_eq}
 use Rattle.std.specs.List.{enumerate_from, filter_map, flat_map, list_any}
 use Rattle.jobs.specs.Nodes.{workers_of}
-use Rattle.jobs.specs.Written.{Written}
+use Rattle.jobs.specs.JobView.{JobView}
 use Rattle.jobs.specs.declared.column.Column.{Column}
 use Rattle.jobs.specs.declared.column.ColumnKind.{ColumnKind}
 use Rattle.jobs.specs.declared.func.Func.{Func}
@@ -56,5 +56,5 @@ all_alerts columns (node ∷ nodes) journals =
     node_alerts columns node (take (workers_of node) journals) ++ all_alerts columns nodes (drop (workers_of node) journals)
 
 -- the whole text
-abbrev pub alerts : Written → List (List Entry) → List ℕ
+abbrev pub alerts : JobView → List (List Entry) → List ℕ
 alerts job journals = records_text (header job.columns ∷ all_alerts job.columns job.nodes journals)

@@ -4,7 +4,7 @@ use Rattle.std.specs.FinMap.{entries}
 use Rattle.std.specs.Fmt.{signed_decimal}
 use Rattle.std.specs.List.{join_with_byte}
 use Rattle.jobs.specs.Nodes.{workers_of}
-use Rattle.jobs.specs.Written.{Written}
+use Rattle.jobs.specs.JobView.{JobView}
 use Rattle.jobs.specs.declared.func.NodeDef.{NodeDef}
 use Rattle.keyed_state.specs.Counts.{Counts}
 use Rattle.sink_journal.specs.Records.{records_text}
@@ -77,10 +77,10 @@ nodes_records (node ∷ nodes) journals states =
     ++ nodes_records nodes (drop (workers_of node) journals) (drop (workers_of node) states)
 
 -- all records after the header
-abbrev pub audit_records : Written → List Noted → List Feed → List (List Entry) → List Counts → List (List (List ℕ))
+abbrev pub audit_records : JobView → List Noted → List Feed → List (List Entry) → List Counts → List (List (List ℕ))
 audit_records job refused feeds journals states =
     map refused_fields refused ++ map feed_fields feeds ++ nodes_records job.nodes journals states
 
 -- the whole text
-abbrev pub audit : Written → List Noted → List Feed → List (List Entry) → List Counts → List ℕ
+abbrev pub audit : JobView → List Noted → List Feed → List (List Entry) → List Counts → List ℕ
 audit job refused feeds journals states = records_text (audit_header ∷ audit_records job refused feeds journals states)

@@ -1,7 +1,7 @@
 ghost use Rattle.std.specs.Prelude.{◌≡◌, ◌++◌, ◌∷◌, [], IfOk, OnOk, length, nat_eq, slice_get};
 ghost use Rattle.std.specs.List.{list_any};
 ghost use Rattle.csv.specs.Writing.{default_writer, field_text, fields_text};
-ghost use Rattle.jobs.specs.Job.{written};
+ghost use Rattle.jobs.specs.Job.{job_view};
 ghost use Rattle.jobs.specs.Nodes.{worker_count};
 ghost use Rattle.sink_journal.specs.Alerts.{alert, alerts, cells, header, layout as layout_of};
 ghost use Rattle.sink_journal.specs.Alerts.{node_alerts, sink_alerts};
@@ -22,7 +22,7 @@ use tuple_trace::{Bytes, NoMemory, Tuple, Value, number_in, text_in};
 /// is empty. Fields are quoted where they need it, and a line feed ends each record.
 pub fn alerts_text(alloc: Global, job: &Job, journals: &Journals) -> Result<Bytes, NoMemory>
     requires { length journals.now ≡ worker_count job.now.nodes }
-    ensures { IfOk result (λ text. text ≡ alerts (written job.now) journals.now) }
+    ensures { IfOk result (λ text. text ≡ alerts (job_view job.now) journals.now) }
 {
     let columns = job.columns.as_slice();
     let mut lines = Lines::with_room(alloc, 0);

@@ -2,7 +2,7 @@ ghost use Rattle.std.specs.Prelude.{◌≡◌, ◌++◌, ◌∷◌, [], false, S
 ghost use Rattle.std.specs.Prelude.{codes, decimal, length, map};
 ghost use Rattle.std.specs.FinMap as finite;
 ghost use Rattle.csv.specs.Writing.{default_writer, fields_text, needs_quotes};
-ghost use Rattle.jobs.specs.Job.{written};
+ghost use Rattle.jobs.specs.Job.{job_view};
 ghost use Rattle.jobs.specs.Nodes.{worker_count};
 ghost use Rattle.sink_journal.specs.Audit.{audit as audit_of, audit_header};
 ghost use Rattle.sink_journal.specs.Audit.{code_word, dotted, shown};
@@ -61,7 +61,7 @@ pub fn audit_text(
     requires journals { length journals.now ≡ worker_count job.now.nodes }
     requires states { length states.now ≡ worker_count job.now.nodes }
     ensures { IfOk result (λ text. text ≡
-        audit_of (written job.now) refused.now feeds.now journals.now states.now) }
+        audit_of (job_view job.now) refused.now feeds.now journals.now states.now) }
 {
     let mut audit = Audit::new(alloc, record_count(feeds, journals));
     audit.write_header()?;

@@ -6,7 +6,7 @@ use Rattle.std.proofs.lemmas.Bool.{cases_eq, eq-eqb, le-ltb, ne_eqb, or_right}
 use Rattle.std.proofs.lemmas.List.Elements.{All-weaker}
 use Rattle.std.proofs.lemmas.List.Folds.{list_any_none}
 use Rattle.jobs.specs.Nodes.{AreFromSources, IsSourceOf}
-use Rattle.jobs.specs.Written.{Written}
+use Rattle.jobs.specs.JobView.{JobView}
 use Rattle.sink_journal.specs.declared.journal.Entry.{Entry}
 use Rattle.sink_journal.specs.declared.journal.Entry.TheVariants as entry
 use Rattle.sink_journal.specs.declared.journal.Feed.TheVariants as feed
@@ -19,15 +19,15 @@ use Rattle.versions.specs.Judged.{judged, judged_from}
 use Rattle.versions.specs.Judging.{first_with}
 use Rattle.flow_model.specs.Lanes.{lane_of}
 use Rattle.flow_model.specs.declared.topology.Lane.{Lane}
-use Rattle.flow_model.specs.Outline.{Outline, outline_of}
+use Rattle.flow_model.specs.SetupView.{SetupView, setup_view_of}
 use Rattle.cover_planner.specs.declared.cover.Plan.{Plan}
 use Rattle.keyed_state.specs.Counts.{Counts}
 use Rattle.sink_journal.specs.declared.journal.Feed.{Feed}
 use Rattle.flow_model.specs.Begin.{at_first}
 use Rattle.flow_model.specs.Covers.{covers, plan_of}
-use Rattle.flow_model.specs.Record.{told}
+use Rattle.flow_model.specs.Record.{record_view}
 use Rattle.flow_model.specs.Requests.{changes}
-use Rattle.flow_model.specs.Setup.{outline}
+use Rattle.flow_model.specs.Setup.{setup_view}
 use Rattle.flow_model.specs.Feeding.{fed, fed_put, fed_puts, fed_tuple, feed_after, issued_after, row_at}
 use Rattle.flow_model.specs.Replay.{items_on, marker_by, shown}
 use Rattle.flow_model.specs.Run.{IsRunFrom, ran_as}
@@ -89,14 +89,14 @@ comes-append row (item ∷ items) later =
     ap (λ (b : Bool). is_of row item || b) (comes-append row items later) ∙ or_assoc (is_of row item) (comes row items) (comes row later)
 
 -- what shows no tuple adds no row
-shows_none : (setup : Outline) (row : ℕ) (b : Bool) (plan : Option Plan) (request : ℕ) (later : List Item) →
+shows_none : (setup : SetupView) (row : ℕ) (b : Bool) (plan : Option Plan) (request : ℕ) (later : List Item) →
     comes row (cond b (marker_by request plan) [] ++ later) ≡ true → comes row later ≡ true
 shows_none setup row true None request later come = come
 shows_none setup row true (Some plan) request later come = come
 shows_none setup row false plan request later come = come
 
 -- a tuple that came by the lane was met
-comes_met : (setup : Outline) (row : ℕ) (journal : List Entry) → comes row (shown setup 0 journal) ≡ true → meets_row row journal ≡ true
+comes_met : (setup : SetupView) (row : ℕ) (journal : List Entry) → comes row (shown setup 0 journal) ≡ true → meets_row row journal ≡ true
 comes_met setup row [] come = absurd (cc)
 comes_met setup row (entry.Met from tuple ∷ later) come = go (from == 0) (tuple.row == row) (comes_met setup row later) come
   where
@@ -190,13 +190,13 @@ or_second false b is none = is
 -- in a run of its job and its request the filter turns between the rows up to `after` and the later ones
 turns : (least : ℤ) (after : ℕ) (next : ℤ) (rows : List Row) → AreRows rows → AreFromSources (first_job least) rows →
     (plans : List Plan) (splits : ℕ) (ordered : Bool) (feeds : List Feed) (journals : List (List Entry)) (states : List Counts) →
-    let setup = outline_of (first_job least) (first_request after next ∷ []) plans splits ordered in
+    let setup = setup_view_of (first_job least) (first_request after next ∷ []) plans splits ordered in
     let ran = ran_as setup feeds journals states in
     covers setup 1 1 ≡ true → IsRunFrom (at_first setup) rows ran → IsInOrder (length rows) ran →
     (journal : List Entry) → slice_get journals 0 ≡ Some journal → TurnsAfterRow journal 1 after (length rows)
 turns least after next rows are sources plans splits ordered feeds journals states covered run order journal at =
     let job = first_job least in
-    let setup = outline_of job (first_request after next ∷ []) plans splits ordered in
+    let setup = setup_view_of job (first_request after next ∷ []) plans splits ordered in
     let total : ℕ = length rows in
     let turned = order 0 (record { number = 0; node = 1; place = 0; func = at_least least }) journal refl at 1 covered in
     let shows : fed job rows 0 into_big feeds ++ item.Last ∷ [] ≡ shown setup 0 journal = (let tie = run.tied 0 into_big journal refl at in cc) in
@@ -220,7 +220,7 @@ turns least after next rows are sources plans splits ordered feeds journals stat
 
 pub first_runs : (asked : FirstAsked) (files : Option Files) (rows : List Row) (done : Done) → AreRowsOf files asked.payments (asked_job asked) rows →
     AreRows rows → AreFromSources (asked_job asked) rows → IsRunOf AreSame false (asked_job asked) (first_request asked.after asked.least_after ∷ []) rows done →
-    IsInOrder (length rows) (told done.ran) → IsFirstRun asked files done
+    IsInOrder (length rows) (record_view done.ran) → IsFirstRun asked files done
 first_runs asked files rows done of are sources run in_order =
     let least = asked.least in
     let after = asked.after in
@@ -232,17 +232,17 @@ first_runs asked files rows done of are sources run in_order =
     let ordered = made.ordered in
     let is_judged = judged_first least after next in
     let accepted : made.judged.accepted ≡ first_request after next ∷ [] = run.setup.accepted ∙ ap (λ (j : Judged). j.accepted) is_judged in
-    let setup = outline_of (first_job least) (first_request after next ∷ []) plans splits ordered in
-    let of_setup : outline made ≡ setup =
-    ap (λ (j : Written). outline_of j made.judged.accepted plans splits ordered) run.setup.job_is
-    ∙ ap (λ (requests : List Request). outline_of (first_job least) requests plans splits ordered) accepted in
-    let changed : changes (outline made) 1 1 ≡ true = subst (λ (o : Outline). changes o 1 1 ≡ true) (sym of_setup) refl in
-    let has = has_covers (outline made) made.planned in
-    let covered : covers setup 1 1 ≡ true = subst (λ (o : Outline). covers o 1 1 ≡ true) of_setup (has.asked 1 1 (has.changed 1 1 changed)) in
+    let setup = setup_view_of (first_job least) (first_request after next ∷ []) plans splits ordered in
+    let of_setup : setup_view made ≡ setup =
+    ap (λ (j : JobView). setup_view_of j made.judged.accepted plans splits ordered) run.setup.job_is
+    ∙ ap (λ (requests : List Request). setup_view_of (first_job least) requests plans splits ordered) accepted in
+    let changed : changes (setup_view made) 1 1 ≡ true = subst (λ (o : SetupView). changes o 1 1 ≡ true) (sym of_setup) refl in
+    let has = has_covers (setup_view made) made.planned in
+    let covered : covers setup 1 1 ≡ true = subst (λ (o : SetupView). covers o 1 1 ≡ true) of_setup (has.asked 1 1 (has.changed 1 1 changed)) in
     let runs : IsRunFrom (at_first setup) rows (ran_as setup ran.feeds ran.journals ran.states) =
-    subst (λ (o : Outline). IsRunFrom (at_first o) rows (ran_as o ran.feeds ran.journals ran.states)) of_setup run.run.run in
+    subst (λ (o : SetupView). IsRunFrom (at_first o) rows (ran_as o ran.feeds ran.journals ran.states)) of_setup run.run.run in
     let order : IsInOrder (length rows) (ran_as setup ran.feeds ran.journals ran.states) =
-    subst (λ (o : Outline). IsInOrder (length rows) (ran_as o ran.feeds ran.journals ran.states)) of_setup in_order in
+    subst (λ (o : SetupView). IsInOrder (length rows) (ran_as o ran.feeds ran.journals ran.states)) of_setup in_order in
     record {
       rows = rows;
       of_rows = of;

@@ -1,6 +1,6 @@
 -- What the files that a call reads are answered by.
 use Rattle.std.proofs.Common.{◌≡◌, ◌⊎◌, ◌∙◌, inl, inr, ℕ, List, Option, None, Some, Ok, Err, refl, sym, ap, subst}
-use Rattle.jobs.specs.Written.{Written}
+use Rattle.jobs.specs.JobView.{JobView}
 use Rattle.job_file.specs.Job.{Excludes, HaveOneFault, IsJobIn}
 use Rattle.job_file.specs.RequestFile.{requests_of}
 use Rattle.payments.specs.Reading.{rows_of}
@@ -58,7 +58,7 @@ follows_first asked old new answer a =
     ]
 
 -- a request file that was read
-pub follows_requests : (name : List ℕ) (old new : World) (answer : Option Fault) (job : Written) (requests : List Request) → AreRequestsOf old.shelf.files name job requests →
+pub follows_requests : (name : List ℕ) (old new : World) (answer : Option Fault) (job : JobView) (requests : List Request) → AreRequestsOf old.shelf.files name job requests →
     FollowsFile file.Requests (RefusesRequests job) name old new answer
 follows_requests name old new answer job requests of =
     follows_read file.Requests (λ bytes. requests_of job bytes ≡ Ok requests) (RefusesRequests job) name old new answer (no_requests job requests) of
@@ -73,7 +73,7 @@ follows_no_setup : Excludes → HaveOneFault → (asked : PlanAsked) (old betwee
 follows_no_setup excludes have asked old between new why same none =
     elim none [
       | inl unread ↦
-          let excused : (job : Written) → TellsJob old.shelf.files asked.job job → IsExcused old new (Some why) =
+          let excused : (job : JobView) → TellsJob old.shelf.files asked.job job → IsExcused old new (Some why) =
           λ job tells. unread_excused file.Job (λ bytes. IsJobIn bytes job) RefusesJob asked.job old between new why (no_job excludes job) tells same unread in
           record {
             job = follows_unread file.Job RefusesJob asked.job old between new why (sole_job have) same unread;
@@ -81,8 +81,8 @@ follows_no_setup excludes have asked old between new why same none =
             done = λ job requests tells more. inr (excused job tells);
           }
       | inr (read, of, unread) ↦
-          let here : (job : Written) → TellsJob old.shelf.files asked.job job → AreNoRequests old.shelf.files asked.requests job old.shelf.faults between.shelf.faults why =
-          λ job tells. subst (λ (j : Written). AreNoRequests old.shelf.files asked.requests j old.shelf.faults between.shelf.faults why) (same_job old.shelf.files asked.job read job of tells) unread in
+          let here : (job : JobView) → TellsJob old.shelf.files asked.job job → AreNoRequests old.shelf.files asked.requests job old.shelf.faults between.shelf.faults why =
+          λ job tells. subst (λ (j : JobView). AreNoRequests old.shelf.files asked.requests j old.shelf.faults between.shelf.faults why) (same_job old.shelf.files asked.job read job of tells) unread in
           record {
             job = follows_read file.Job (λ bytes. IsJobIn bytes read) RefusesJob asked.job old new (Some why) (no_job excludes read) of;
             requests = λ job tells. follows_unread file.Requests (RefusesRequests job) asked.requests old between new why (sole_requests job) same (here job tells);
@@ -100,7 +100,7 @@ follows_plan excludes have asked old new answer a =
           record {
             job = follows_read file.Job (λ bytes. IsJobIn bytes of.job) RefusesJob asked.job old new answer.fault (no_job excludes of.job) of.of_job;
             requests = λ job tells. follows_requests asked.requests old new answer.fault job of.requests
-                (subst (λ (j : Written). AreRequestsOf old.shelf.files asked.requests j of.requests) (same_job old.shelf.files asked.job of.job job of.of_job tells) of.of_requests);
+                (subst (λ (j : JobView). AreRequestsOf old.shelf.files asked.requests j of.requests) (same_job old.shelf.files asked.job of.job job of.of_job tells) of.of_requests);
             done = λ job requests tells more. done_or_excused (setup_lines p.setup) old a.between new answer.fault p.lines.prints a.prints;
           }
     ]
@@ -112,7 +112,7 @@ follows_no_run excludes have asked old between new why same none =
     elim none [
       | inl unread ↦
           let plan = follows_no_setup excludes have asked.plan old between new why same unread in
-          let excused : (job : Written) (requests : List Request) → TellsJob old.shelf.files asked.plan.job job → TellsRequests old.shelf.files asked.plan.requests job requests →
+          let excused : (job : JobView) (requests : List Request) → TellsJob old.shelf.files asked.plan.job job → TellsRequests old.shelf.files asked.plan.requests job requests →
           IsExcused old new (Some why) = λ job requests tells more. excused_where_undone old new why (plan.done job requests tells more) in
           record {
             job = plan.job;
@@ -121,12 +121,12 @@ follows_no_run excludes have asked old between new why same none =
             done = λ job requests rows tells more most. inr (excused job requests tells more);
           }
       | inr (read, requested, of_job, of_requests, unread) ↦
-          let here : (job : Written) → TellsJob old.shelf.files asked.plan.job job → AreNoRows old.shelf.files asked.payments job old.shelf.faults between.shelf.faults why =
-          λ job tells. subst (λ (j : Written). AreNoRows old.shelf.files asked.payments j old.shelf.faults between.shelf.faults why) (same_job old.shelf.files asked.plan.job read job of_job tells) unread in
+          let here : (job : JobView) → TellsJob old.shelf.files asked.plan.job job → AreNoRows old.shelf.files asked.payments job old.shelf.faults between.shelf.faults why =
+          λ job tells. subst (λ (j : JobView). AreNoRows old.shelf.files asked.payments j old.shelf.faults between.shelf.faults why) (same_job old.shelf.files asked.plan.job read job of_job tells) unread in
           record {
             job = follows_read file.Job (λ bytes. IsJobIn bytes read) RefusesJob asked.plan.job old new (Some why) (no_job excludes read) of_job;
             requests = λ job tells. follows_requests asked.plan.requests old new (Some why) job requested
-                (subst (λ (j : Written). AreRequestsOf old.shelf.files asked.plan.requests j requested) (same_job old.shelf.files asked.plan.job read job of_job tells) of_requests);
+                (subst (λ (j : JobView). AreRequestsOf old.shelf.files asked.plan.requests j requested) (same_job old.shelf.files asked.plan.job read job of_job tells) of_requests);
             payments = λ job requests tells more. follows_unread file.Payments (RefusesRows job) asked.payments old between new why (sole_rows job) same (here job tells);
             done = λ job requests rows tells more most. inr (unread_excused file.Payments (λ bytes. rows_of job bytes ≡ Ok rows) (RefusesRows job) asked.payments
                 old between new why (no_rows job rows) most same (here job tells));
@@ -139,13 +139,13 @@ follows_run excludes have asked old new answer a =
       | inl s ↦ subst (λ (x : Answer). FollowsRun asked old new x.fault) (sym s.answer_is) (follows_no_run excludes have asked old a.between new s.why a.prints.shelf s.cause)
       | inr r ↦
           let of = r.is_so in
-          let same : (job : Written) → TellsJob old.shelf.files asked.plan.job job → of.job ≡ job = λ job tells. same_job old.shelf.files asked.plan.job of.job job of.of_job tells in
+          let same : (job : JobView) → TellsJob old.shelf.files asked.plan.job job → of.job ≡ job = λ job tells. same_job old.shelf.files asked.plan.job of.job job of.of_job tells in
           record {
             job = follows_read file.Job (λ bytes. IsJobIn bytes of.job) RefusesJob asked.plan.job old new answer.fault (no_job excludes of.job) of.of_job;
             requests = λ job tells. follows_requests asked.plan.requests old new answer.fault job of.requests
-                (subst (λ (j : Written). AreRequestsOf old.shelf.files asked.plan.requests j of.requests) (same job tells) of.of_requests);
+                (subst (λ (j : JobView). AreRequestsOf old.shelf.files asked.plan.requests j of.requests) (same job tells) of.of_requests);
             payments = λ job requests tells more. follows_read file.Payments (λ bytes. rows_of job bytes ≡ Ok of.rows) (RefusesRows job) asked.payments old new answer.fault
-                (no_rows job of.rows) (subst (λ (j : Written). AreRowsOf old.shelf.files asked.payments j of.rows) (same job tells) of.of_rows);
+                (no_rows job of.rows) (subst (λ (j : JobView). AreRowsOf old.shelf.files asked.payments j of.rows) (same job tells) of.of_rows);
             done = λ job requests rows tells more most. ran_or_excused (files_of asked.alerts (Some asked.audit) None r.done) (run_lines r.done) old a.between new answer.fault r.ends a.prints;
           }
     ]
@@ -153,13 +153,13 @@ follows_run excludes have asked old new answer a =
 -- ---- rows that are made
 
 -- rows that aren't made for a fault
-made_fault : (asked : MakeAsked) (job : Written) (old new : World) (why : Fault) (code : PFault) → MakesNoRows asked job why → made_rows job asked.seed asked.rows ≡ Err code
+made_fault : (asked : MakeAsked) (job : JobView) (old new : World) (why : Fault) (code : PFault) → MakesNoRows asked job why → made_rows job asked.seed asked.rows ≡ Err code
     → ◌≡◌ {A = Option Fault} (Some why) (Some (fault.Payments code)) ⊎ IsExcused old new (Some why)
 made_fault asked job old new (fault.Payments other) code (some, is) refused = inl (ap (λ (c : PFault). Some (fault.Payments c)) (cc (sym is ∙ refused)))
 made_fault asked job old new fault.NoMemory code makes refused = inr (inr refl)
 made_fault asked job old new _ code makes refused = absurd makes
 
-not_made : (asked : MakeAsked) (job : Written) (old new : World) (why : Fault) (rows : List Row) → MakesNoRows asked job why → made_rows job asked.seed asked.rows ≡ Ok rows → IsExcused old new (Some why)
+not_made : (asked : MakeAsked) (job : JobView) (old new : World) (why : Fault) (rows : List Row) → MakesNoRows asked job why → made_rows job asked.seed asked.rows ≡ Ok rows → IsExcused old new (Some why)
 not_made asked job old new (fault.Payments other) rows (some, is) made = absurd (cc (sym is ∙ made))
 not_made asked job old new fault.NoMemory rows makes made = inr refl
 not_made asked job old new _ rows makes made = absurd makes
@@ -170,7 +170,7 @@ follows_not_made : Excludes → HaveOneFault → (asked : MakeAsked) (old betwee
 follows_not_made excludes have asked old between new why same none =
     elim none [
       | inl unread ↦
-          let excused : (job : Written) → TellsJob old.shelf.files asked.job job → IsExcused old new (Some why) =
+          let excused : (job : JobView) → TellsJob old.shelf.files asked.job job → IsExcused old new (Some why) =
           λ job tells. unread_excused file.Job (λ bytes. IsJobIn bytes job) RefusesJob asked.job old between new why (no_job excludes job) tells same unread in
           record {
             job = follows_unread file.Job RefusesJob asked.job old between new why (sole_job have) same unread;
@@ -178,8 +178,8 @@ follows_not_made excludes have asked old between new why same none =
             done = λ job rows tells made. inr (excused job tells);
           }
       | inr (read, of, makes, counted) ↦
-          let here : (job : Written) → TellsJob old.shelf.files asked.job job → MakesNoRows asked job why =
-          λ job tells. subst (λ (j : Written). MakesNoRows asked j why) (same_job old.shelf.files asked.job read job of tells) makes in
+          let here : (job : JobView) → TellsJob old.shelf.files asked.job job → MakesNoRows asked job why =
+          λ job tells. subst (λ (j : JobView). MakesNoRows asked j why) (same_job old.shelf.files asked.job read job of tells) makes in
           record {
             job = follows_read file.Job (λ bytes. IsJobIn bytes read) RefusesJob asked.job old new (Some why) (no_job excludes read) of;
             rows = λ job code tells refused. made_fault asked job old new why code (here job tells) refused;
@@ -193,8 +193,8 @@ follows_make excludes have asked old new answer a =
       | inl s ↦ subst (λ (x : Answer). FollowsMake asked old new x.fault) (sym s.answer_is) (follows_not_made excludes have asked old a.between new s.why a.prints.shelf s.cause)
       | inr r ↦
           let of = r.is_so in
-          let made : (job : Written) → TellsJob old.shelf.files asked.job job → made_rows job asked.seed asked.rows ≡ Ok of.rows =
-          λ job tells. subst (λ (j : Written). made_rows j asked.seed asked.rows ≡ Ok of.rows) (same_job old.shelf.files asked.job of.job job of.of_job tells) of.of_rows in
+          let made : (job : JobView) → TellsJob old.shelf.files asked.job job → made_rows job asked.seed asked.rows ≡ Ok of.rows =
+          λ job tells. subst (λ (j : JobView). made_rows j asked.seed asked.rows ≡ Ok of.rows) (same_job old.shelf.files asked.job of.job job of.of_job tells) of.of_rows in
           record {
             job = follows_read file.Job (λ bytes. IsJobIn bytes of.job) RefusesJob asked.job old new answer.fault (no_job excludes of.job) of.of_job;
             rows = λ job code tells refused. absurd (cc (sym (made job tells) ∙ refused));

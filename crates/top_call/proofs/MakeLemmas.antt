@@ -1,7 +1,7 @@
 -- Rows that are made, and run without requests.
 use Rattle.std.proofs.Common.{◌≡◌, ◌≢◌, ◌∙◌, [], List, Option, Ok, Err, refl, false}
 use Rattle.command_line.specs.Asked.{MakeAsked}
-use Rattle.jobs.specs.Written.{Written}
+use Rattle.jobs.specs.JobView.{JobView}
 use Rattle.payments.specs.Files.{Files}
 use Rattle.payments.specs.Made.{made_rows}
 use Rattle.payments.specs.declared.read.PFault.{PFault}
@@ -16,17 +16,17 @@ use Rattle.call_steps.specs.Running.{IsRunOf}
 use Rattle.call_steps.specs.declared.running.Done.{Done}
 
 -- without a request none is refused
-judged_none : (job : Written) → (judged job []).refused ≡ []
+judged_none : (job : JobView) → (judged job []).refused ≡ []
 unfolding judged_from
 judged_none job = refl
 
-pub made_run : (asked : MakeAsked) (files : Option Files) (job : Written) (rows : List Row) (done : Done) → IsJobOf files asked.job job → made_rows job asked.seed asked.rows ≡ Ok rows
+pub made_run : (asked : MakeAsked) (files : Option Files) (job : JobView) (rows : List Row) (done : Done) → IsJobOf files asked.job job → made_rows job asked.seed asked.rows ≡ Ok rows
     → IsRunOf AreSame false job [] rows done → IsMadeRun asked files done
 made_run asked files job rows done of made run =
     record { job = job; rows = rows; of_job = of; of_rows = made; run = run; accepted = run.refused ∙ (run.setup.refused ∙ judged_none job) }
 
 -- why no rows are made
-pub makes_no_rows : (asked : MakeAsked) (job : Written) (code : PFault) → (code ≢ rows.NoMemory → made_rows job asked.seed asked.rows ≡ Err code) → MakesNoRows asked job (payments_fault code)
+pub makes_no_rows : (asked : MakeAsked) (job : JobView) (code : PFault) → (code ≢ rows.NoMemory → made_rows job asked.seed asked.rows ≡ Err code) → MakesNoRows asked job (payments_fault code)
 makes_no_rows asked job rows.NoMemory why = tt
 makes_no_rows asked job rows.NoHeader why = (λ e. absurd (cc e), why (λ e. absurd (cc e)))
 makes_no_rows asked job rows.Header why = (λ e. absurd (cc e), why (λ e. absurd (cc e)))

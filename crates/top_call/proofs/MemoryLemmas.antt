@@ -11,7 +11,7 @@ use Rattle.top_call.specs.First.{asked_job}
 use Rattle.call_steps.specs.declared.answer.Answer.{Answer}
 use Rattle.payments.specs.World.{World}
 use Rattle.call_steps.specs.Outside.{IsExcused, PrintsFault}
-use Rattle.flow_model.specs.Setup.{outline}
+use Rattle.flow_model.specs.Setup.{setup_view}
 use Rattle.call_steps.specs.Reading.{RefusesJob, RefusesRequests, RefusesRows, RefusesSave}
 use Rattle.report.specs.declared.fault.Fault.{Fault}
 use Rattle.report.specs.declared.fault.Fault.TheVariants as fault
@@ -84,7 +84,7 @@ follows_memory (Resume asked) old new = record {
   job = follows_excused file.Job RefusesJob asked.run.plan.job old new (Some fault.NoMemory) (no_memory old new);
   requests = λ job tells. follows_excused file.Requests (RefusesRequests job) asked.run.plan.requests old new (Some fault.NoMemory) (no_memory old new);
   payments = λ job requests tells more. follows_excused file.Payments (RefusesRows job) asked.run.payments old new (Some fault.NoMemory) (no_memory old new);
-  save = λ job requests rows setup tells. follows_excused file.Save (RefusesSave (outline setup) (length rows)) asked.save old new (Some fault.NoMemory) (no_memory old new);
+  save = λ job requests rows setup tells. follows_excused file.Save (RefusesSave (setup_view setup) (length rows)) asked.save old new (Some fault.NoMemory) (no_memory old new);
   done = λ job requests rows setup start tells more. inr (no_memory old new);
 }
 follows_memory (Help about) old new = inr (no_memory old new)

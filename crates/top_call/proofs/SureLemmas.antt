@@ -3,7 +3,7 @@ use Rattle.std.proofs.Common.{◌≡◌, ◌⊎◌, ◌≤◌, ◌∙◌, ◌∷
 use Rattle.std.specs.Prelude.{⊤}
 use Rattle.command_line.specs.Asked.{Asked, Check, First, Help, Make, MakeAsked, Plan, PlanAsked, Resume, ResumeAsked, Run, RunAsked, Save, Version}
 use Rattle.command_line.specs.Help.{help_of, version_line}
-use Rattle.jobs.specs.Written.{Written}
+use Rattle.jobs.specs.JobView.{JobView}
 use Rattle.payments.specs.Causes.{Faults}
 use Rattle.payments.specs.Files.{Files}
 use Rattle.report.specs.Faults.{status_for}
@@ -25,8 +25,8 @@ use Rattle.top_call.specs.Plan.{IsNoSetup, setup_lines}
 use Rattle.call_steps.specs.Reading.{IsUnread, RefusesJob, RefusesRequests, RefusesRows, RefusesSave}
 use Rattle.top_call.specs.Run.{IsNoRun}
 use Rattle.top_call.specs.Resume.{IsNoResume}
-use Rattle.flow_model.specs.Outline.{Outline}
-use Rattle.flow_model.specs.Setup.{outline}
+use Rattle.flow_model.specs.SetupView.{SetupView}
+use Rattle.flow_model.specs.Setup.{setup_view}
 use Rattle.call_steps.specs.Running.{files_of, run_lines}
 use Rattle.top_call.specs.Sure.{IsSure, IsSureStatus, SureCallsEndWell}
 use Rattle.call_steps.specs.declared.answer.Answer.{Answer}
@@ -90,15 +90,15 @@ of_job : IsOfBytes RefusesJob
 of_job (fault.Job code) bytes refused = tt
 of_job _ bytes refused = absurd refused
 
-of_requests : (job : Written) → IsOfBytes (RefusesRequests job)
+of_requests : (job : JobView) → IsOfBytes (RefusesRequests job)
 of_requests job (fault.Requests code) bytes refused = tt
 of_requests job _ bytes refused = absurd refused
 
-of_rows : (job : Written) → IsOfBytes (RefusesRows job)
+of_rows : (job : JobView) → IsOfBytes (RefusesRows job)
 of_rows job (fault.Payments code) bytes refused = tt
 of_rows job _ bytes refused = absurd refused
 
-of_save : (setup : Outline) (rows : ℕ) → IsOfBytes (RefusesSave setup rows)
+of_save : (setup : SetupView) (rows : ℕ) → IsOfBytes (RefusesSave setup rows)
 of_save setup rows (fault.Save code) bytes refused = tt
 of_save setup rows _ bytes refused = absurd refused
 
@@ -131,10 +131,10 @@ no_resume_own : (asked : ResumeAsked) (files : Option Files) (old new : World) (
 no_resume_own asked files old new why sure later none =
     elim none [
       | inl none ↦ no_run_own asked.run files old new why sure later none
-      | inr none ↦ unread_own file.Save (RefusesSave (outline none.setup) (length none.rows)) files asked.save old new why (of_save (outline none.setup) (length none.rows)) sure later none.unread
+      | inr none ↦ unread_own file.Save (RefusesSave (setup_view none.setup) (length none.rows)) files asked.save old new why (of_save (setup_view none.setup) (length none.rows)) sure later none.unread
     ]
 
-no_rows_own : (asked : MakeAsked) (job : Written) (why : Fault) → MakesNoRows asked job why → IsOwn (Some why)
+no_rows_own : (asked : MakeAsked) (job : JobView) (why : Fault) → MakesNoRows asked job why → IsOwn (Some why)
 no_rows_own asked job (fault.Payments code) none = tt
 no_rows_own asked job fault.NoMemory none = tt
 no_rows_own asked job _ none = absurd none

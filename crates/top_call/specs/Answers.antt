@@ -19,8 +19,8 @@ use Rattle.report.specs.declared.fault.Fault.TheVariants as fault
 use Rattle.top_call.specs.declared.top.Outcome.{Outcome}
 
 -- what a call came to, but for its status
-abbrev pub answer_of : Outcome → Answer
-answer_of outcome = record { fault = outcome.fault; refused = outcome.refused; ran = outcome.ran; start = outcome.start }
+abbrev pub outcome_view : Outcome → Answer
+outcome_view outcome = record { fault = outcome.fault; refused = outcome.refused; ran = outcome.ran; start = outcome.start }
 
 -- what a call answers, leaves and prints that was asked this
 abbrev pub Answers : Asked → World → World → Answer → Type 0

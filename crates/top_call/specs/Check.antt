@@ -1,6 +1,6 @@
 -- What a call of `check` answers, why, and what it leaves.
 use Rattle.std.specs.Prelude.{◌≡◌, ◌⊎◌, ℕ, List, [], Option, None}
-use Rattle.jobs.specs.Written.{Written}
+use Rattle.jobs.specs.JobView.{JobView}
 use Rattle.call_steps.specs.Ends.{PrintsLines, Stops}
 use Rattle.report.specs.Lines.{sizes_line}
 use Rattle.payments.specs.World.{World}
@@ -11,7 +11,7 @@ use Rattle.report.specs.declared.fault.Fault.{Fault}
 
 -- it read a job, and came to printing its sizes; it changed no file
 pub record PrintsSizes (name : List ℕ) (old new : World) (answer : Answer) : Type 0 where
-  pub job : Written
+  pub job : JobView
   pub of_file : IsJobOf old.shelf.files name job
   pub lines : PrintsLines (sizes_line job) old new answer.fault
   pub refused : answer.refused ≡ []
@@ -31,4 +31,4 @@ pub record AnswersCheck (name : List ℕ) (old new : World) (answer : Answer) : 
 -- the answer, seen from the job file
 pub record FollowsCheck (name : List ℕ) (old new : World) (answer : Option Fault) : Type 0 where
   pub job : FollowsJob name old new answer
-  pub done : (job : Written) → TellsJob old.shelf.files name job → (answer ≡ None) ⊎ IsExcused old new answer
+  pub done : (job : JobView) → TellsJob old.shelf.files name job → (answer ≡ None) ⊎ IsExcused old new answer

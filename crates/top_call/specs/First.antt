@@ -1,10 +1,10 @@
 -- What a call of `first` answers, why, and what it leaves.
 use Rattle.std.specs.Prelude.{◌≡◌, ◌⊎◌, ◌<◌, ◌≤◌, ℕ, true, false, List, [], ◌∷◌, Option, None, Some, length, slice_get}
-use Rattle.jobs.specs.Written.{Written}
+use Rattle.jobs.specs.JobView.{JobView}
 use Rattle.payments.specs.Files.{Files}
 use Rattle.sink_journal.specs.declared.journal.Entry.{Entry}
 use Rattle.tuple_trace.specs.declared.row.Row.{Row}
-use Rattle.flow_model.specs.Record.{told}
+use Rattle.flow_model.specs.Record.{record_view}
 use Rattle.flow_model.specs.Whole.{after_turn, before_turn, meets_row}
 use Rattle.flow_replay.specs.Order.{IsInOrder}
 use Rattle.command_line.specs.Asked.{FirstAsked}
@@ -22,7 +22,7 @@ use Rattle.call_steps.specs.declared.running.Done.{Done}
 -- ---- the run
 
 -- the job that was asked for
-abbrev pub asked_job : FirstAsked → Written
+abbrev pub asked_job : FirstAsked → JobView
 asked_job asked = first_job asked.least
 
 -- the journal met the row before the turn of the request and not after
@@ -47,7 +47,7 @@ pub record IsFirstRun (asked : FirstAsked) (files : Option Files) (done : Done) 
   pub of_rows : AreRowsOf files asked.payments (asked_job asked) rows
   pub run : IsRunOf AreSame false (asked_job asked) (first_request asked.after asked.least_after ∷ []) rows done
   pub accepted : done.refused ≡ []
-  pub order : IsInOrder (length rows) (told done.ran)
+  pub order : IsInOrder (length rows) (record_view done.ran)
   pub turns : (journal : List Entry) → slice_get done.ran.journals 0 ≡ Some journal → TurnsAfterRow journal 1 asked.after (length rows)
 
 -- ---- the answer

@@ -1,7 +1,7 @@
 -- What a call of `make` answers, why, and what it leaves.
 use Rattle.std.specs.Prelude.{◌≡◌, ◌≢◌, ◌⊎◌, ⊤, List, [], Option, None, Some, Ok, Err, false}
 use Rattle.command_line.specs.Asked.{MakeAsked}
-use Rattle.jobs.specs.Written.{Written}
+use Rattle.jobs.specs.JobView.{JobView}
 use Rattle.payments.specs.Causes.{Faults}
 use Rattle.payments.specs.Files.{Files}
 use Rattle.payments.specs.Made.{made_rows}
@@ -21,7 +21,7 @@ use Rattle.call_steps.specs.declared.running.Done.{Done}
 
 -- the rows that were run are those that are made for the job of the file, and no request was made
 pub record IsMadeRun (asked : MakeAsked) (files : Option Files) (done : Done) : Type 0 where
-  pub job : Written
+  pub job : JobView
   pub rows : List Row
   pub of_job : IsJobOf files asked.job job
   pub of_rows : made_rows job asked.seed asked.rows ≡ Ok rows
@@ -29,7 +29,7 @@ pub record IsMadeRun (asked : MakeAsked) (files : Option Files) (done : Done) : 
   pub accepted : done.refused ≡ []
 
 -- no rows are made for the job, for this fault; memory may run out
-abbrev pub MakesNoRows : MakeAsked → Written → Fault → Type 0
+abbrev pub MakesNoRows : MakeAsked → JobView → Fault → Type 0
 MakesNoRows asked job (fault.Payments code) = (code ≢ rows.NoMemory) × (made_rows job asked.seed asked.rows ≡ Err code)
 MakesNoRows asked job fault.NoMemory = ⊤
 MakesNoRows asked job _ = ⊥
@@ -37,7 +37,7 @@ MakesNoRows asked job _ = ⊥
 -- why there is no run: no job was read, or else no rows were made for it
 abbrev pub IsNotMade : MakeAsked → Option Files → Faults → Faults → Fault → Type 0
 IsNotMade asked files old new why =
-    IsNoJob files asked.job old new why ⊎ ((job : Written) × IsJobOf files asked.job job × MakesNoRows asked job why × (new ≡ old))
+    IsNoJob files asked.job old new why ⊎ ((job : JobView) × IsJobOf files asked.job job × MakesNoRows asked job why × (new ≡ old))
 
 -- ---- the answer
 
@@ -63,7 +63,7 @@ pub record AnswersMake (asked : MakeAsked) (old new : World) (answer : Answer) :
 -- the answer, seen from the job file: the rows are looked at if it holds a job
 pub record FollowsMake (asked : MakeAsked) (old new : World) (answer : Option Fault) : Type 0 where
   pub job : FollowsJob asked.job old new answer
-  pub rows : (job : Written) (code : PFault) → TellsJob old.shelf.files asked.job job → made_rows job asked.seed asked.rows ≡ Err code →
+  pub rows : (job : JobView) (code : PFault) → TellsJob old.shelf.files asked.job job → made_rows job asked.seed asked.rows ≡ Err code →
       (answer ≡ Some (fault.Payments code)) ⊎ IsExcused old new answer
-  pub done : (job : Written) (rows : List Row) → TellsJob old.shelf.files asked.job job → made_rows job asked.seed asked.rows ≡ Ok rows →
+  pub done : (job : JobView) (rows : List Row) → TellsJob old.shelf.files asked.job job → made_rows job asked.seed asked.rows ≡ Ok rows →
       (answer ≡ None) ⊎ IsExcused old new answer

@@ -1,7 +1,7 @@
 -- What a call of `plan` answers, why, and what it leaves.
 use Rattle.std.specs.Prelude.{◌≡◌, ◌⊎◌, ◌++◌, ℕ, List, Option, None}
-use Rattle.jobs.specs.Job.{written}
-use Rattle.jobs.specs.Written.{Written}
+use Rattle.jobs.specs.Job.{job_view}
+use Rattle.jobs.specs.JobView.{JobView}
 use Rattle.payments.specs.Causes.{Faults}
 use Rattle.payments.specs.Files.{Files}
 use Rattle.versions.specs.declared.request.Request.{Request}
@@ -20,7 +20,7 @@ use Rattle.report.specs.declared.fault.Fault.{Fault}
 
 -- the setup is that of what the files hold
 pub record IsSetupOf (asked : PlanAsked) (files : Option Files) (setup : Setup) : Type 0 where
-  pub job : Written
+  pub job : JobView
   pub requests : List Request
   pub of_job : IsJobOf files asked.job job
   pub of_requests : AreRequestsOf files asked.requests job requests
@@ -30,13 +30,13 @@ pub record IsSetupOf (asked : PlanAsked) (files : Option Files) (setup : Setup) 
 abbrev pub IsNoSetup : PlanAsked → Option Files → Faults → Faults → Fault → Type 0
 IsNoSetup asked files old new why =
     IsNoJob files asked.job old new why
-    ⊎ ((job : Written) × IsJobOf files asked.job job × AreNoRequests files asked.requests job old new why)
+    ⊎ ((job : JobView) × IsJobOf files asked.job job × AreNoRequests files asked.requests job old new why)
 
 -- ---- the answer
 
 -- what is printed of a setup: the plan of each accepted request, and then each refused request
 abbrev pub setup_lines : Setup → List ℕ
-setup_lines setup = plan_lines (written setup.job) setup.plans ++ refused_lines setup.judged.refused
+setup_lines setup = plan_lines (job_view setup.job) setup.plans ++ refused_lines setup.judged.refused
 
 -- it made the setup of what the files hold, and came to printing its lines; it changed no file
 pub record PrintsSetup (asked : PlanAsked) (old new : World) (answer : Answer) : Type 0 where
@@ -60,6 +60,6 @@ pub record AnswersPlan (asked : PlanAsked) (old new : World) (answer : Answer) :
 -- the answer, seen from the files: each is looked at where those before it hold what they should
 pub record FollowsPlan (asked : PlanAsked) (old new : World) (answer : Option Fault) : Type 0 where
   pub job : FollowsJob asked.job old new answer
-  pub requests : (job : Written) → TellsJob old.shelf.files asked.job job → FollowsRequests job asked.requests old new answer
-  pub done : (job : Written) (requests : List Request) → TellsJob old.shelf.files asked.job job → TellsRequests old.shelf.files asked.requests job requests →
+  pub requests : (job : JobView) → TellsJob old.shelf.files asked.job job → FollowsRequests job asked.requests old new answer
+  pub done : (job : JobView) (requests : List Request) → TellsJob old.shelf.files asked.job job → TellsRequests old.shelf.files asked.requests job requests →
       (answer ≡ None) ⊎ IsExcused old new answer

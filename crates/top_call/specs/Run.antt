@@ -1,6 +1,6 @@
 -- What a call of `run` answers, why, and what it leaves.
 use Rattle.std.specs.Prelude.{◌≡◌, ◌⊎◌, List, Option, None, Some}
-use Rattle.jobs.specs.Written.{Written}
+use Rattle.jobs.specs.JobView.{JobView}
 use Rattle.payments.specs.Causes.{Faults}
 use Rattle.payments.specs.Files.{Files}
 use Rattle.tuple_trace.specs.declared.row.Row.{Row}
@@ -19,7 +19,7 @@ use Rattle.call_steps.specs.declared.running.Done.{Done}
 
 -- what was run is what the files hold
 pub record IsRunOfFiles (asked : RunAsked) (files : Option Files) (done : Done) : Type 0 where
-  pub job : Written
+  pub job : JobView
   pub requests : List Request
   pub rows : List Row
   pub of_job : IsJobOf files asked.plan.job job
@@ -31,7 +31,7 @@ pub record IsRunOfFiles (asked : RunAsked) (files : Option Files) (done : Done) 
 abbrev pub IsNoRun : RunAsked → Option Files → Faults → Faults → Fault → Type 0
 IsNoRun asked files old new why =
     IsNoSetup asked.plan files old new why
-    ⊎ ((job : Written) × (requests : List Request) × IsJobOf files asked.plan.job job × AreRequestsOf files asked.plan.requests job requests
+    ⊎ ((job : JobView) × (requests : List Request) × IsJobOf files asked.plan.job job × AreRequestsOf files asked.plan.requests job requests
     × AreNoRows files asked.payments job old new why)
 
 -- ---- the answer
@@ -49,8 +49,8 @@ pub record AnswersRun (asked : RunAsked) (old new : World) (answer : Answer) : T
 -- the answer, seen from the files: each is looked at where those before it hold what they should
 pub record FollowsRun (asked : RunAsked) (old new : World) (answer : Option Fault) : Type 0 where
   pub job : FollowsJob asked.plan.job old new answer
-  pub requests : (job : Written) → TellsJob old.shelf.files asked.plan.job job → FollowsRequests job asked.plan.requests old new answer
-  pub payments : (job : Written) (requests : List Request) → TellsJob old.shelf.files asked.plan.job job → TellsRequests old.shelf.files asked.plan.requests job requests →
+  pub requests : (job : JobView) → TellsJob old.shelf.files asked.plan.job job → FollowsRequests job asked.plan.requests old new answer
+  pub payments : (job : JobView) (requests : List Request) → TellsJob old.shelf.files asked.plan.job job → TellsRequests old.shelf.files asked.plan.requests job requests →
       FollowsRows job asked.payments old new answer
-  pub done : (job : Written) (requests : List Request) (rows : List Row) → TellsJob old.shelf.files asked.plan.job job →
+  pub done : (job : JobView) (requests : List Request) (rows : List Row) → TellsJob old.shelf.files asked.plan.job job →
       TellsRequests old.shelf.files asked.plan.requests job requests → TellsRows old.shelf.files asked.payments job rows → (answer ≡ None) ⊎ IsExcused old new answer

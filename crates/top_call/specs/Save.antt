@@ -1,6 +1,6 @@
 -- What a call of `save` answers, why, and what it leaves.
 use Rattle.std.specs.Prelude.{◌⊎◌, List, Option, None, Some, length, min}
-use Rattle.jobs.specs.Written.{Written}
+use Rattle.jobs.specs.JobView.{JobView}
 use Rattle.payments.specs.Files.{Files}
 use Rattle.payments.specs.World.{World}
 use Rattle.tuple_trace.specs.declared.row.Row.{Row}
@@ -18,7 +18,7 @@ use Rattle.top_call.specs.Run.{FollowsRun, IsNoRun}
 
 -- what was run is the first part of what the files hold
 pub record IsSavedRun (asked : SaveAsked) (files : Option Files) (done : Done) : Type 0 where
-  pub job : Written
+  pub job : JobView
   pub requests : List Request
   pub rows : List Row
   pub of_job : IsJobOf files asked.run.plan.job job

@@ -1,5 +1,5 @@
 ghost use Rattle.std.specs.Result.{result_err};
-ghost use Rattle.jobs.specs.Job.{written};
+ghost use Rattle.jobs.specs.Job.{job_view};
 ghost use Rattle.top_call.specs.Check.{EndsCheck};
 ghost use Rattle.report.specs.Lines.{sizes_line as sizes_line_of};
 ghost use Rattle.payments.specs.World.{world};
@@ -38,7 +38,7 @@ pub fn check_command<S: Shelf, O: Sink>(
 
 #[tactic(auto, using(call_steps::proofs::PrintLemmas::prints_nothing))]
 fn print_sizes<O: Sink>(alloc: Global, job: &Job, out: &mut O) -> Result<(), Fault>
-    ensures { Prints (sizes_line_of (written job.now))
+    ensures { Prints (sizes_line_of (job_view job.now))
         (O.state out.old) (O.state out.new) (result_err result) }
 {
     let line = sizes_line(alloc, job)?;

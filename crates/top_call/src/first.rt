@@ -13,7 +13,8 @@ use payments::{Shelf, Sink};
 use report::Fault;
 use std::alloc::Global;
 
-/// Reads the payments and runs them, stores the alerts and prints the summary. The first fault ends it.
+/// Reads the payments and runs them, stores the alerts and prints the summary. The first fault ends
+/// it.
 pub fn first_command<S: Shelf, O: Sink>(
     alloc: Global,
     first: &First,
@@ -39,8 +40,10 @@ pub fn first_command<S: Shelf, O: Sink>(
 // Reads the payments and runs them, with the one request.
 fn run_first<S: Shelf>(alloc: Global, first: &First, shelf: &mut S) -> Result<Done, Fault>
     ensures run { IfOk result (IsFirstRun (first_asked first.now) (S.state shelf.old).files) }
-    ensures journals { IfOk result (λ done. length done.ran.journals ≡ worker_count done.ran.setup.job.nodes) }
-    ensures states { IfOk result (λ done. length done.ran.states ≡ worker_count done.ran.setup.job.nodes) }
+    ensures journals { IfOk result (λ done. length done.ran.journals
+        ≡ worker_count done.ran.setup.job.nodes) }
+    ensures states { IfOk result (λ done. length done.ran.states
+        ≡ worker_count done.ran.setup.job.nodes) }
     ensures kept { OnOk result (S.state shelf.new ≡ S.state shelf.old) }
     ensures files { (S.state shelf.new).files ≡ (S.state shelf.old).files }
     ensures target { (S.state shelf.new).target ≡ (S.state shelf.old).target }

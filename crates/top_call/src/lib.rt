@@ -1,7 +1,7 @@
 //! The top call of `fries`: consistent live reconfiguration of a pipelined dataflow.
 //!
-//! The program changes operators while tuples flow, and is proved to let no row see half of a change. [`fries`] is the call that `main`
-//! makes; its contract is what the program promises.
+//! The program changes operators while tuples flow, and is proved to let no row see half of a
+//! change. [`fries`] is the call that `main` makes; its contract is what the program promises.
 //!
 //! ```text
 //! let outcome = fries(&rt, rt.alloc(), &words, &mut shelf, &mut out, &OpenGate);

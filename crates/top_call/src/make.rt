@@ -1,7 +1,7 @@
 ghost use Rattle.std.specs.Prelude.{◌≡◌, Ok, IfOk, IfErr, OnOk, length};
 ghost use Rattle.std.specs.Result.{result_err};
 ghost use Rattle.command_line.specs.Asked.{IsThreads, make_asked};
-ghost use Rattle.jobs.specs.Job.{written};
+ghost use Rattle.jobs.specs.Job.{job_view};
 ghost use Rattle.jobs.specs.Nodes.{AreFromSources, worker_count};
 ghost use Rattle.payments.specs.Made.{made_rows};
 ghost use Rattle.top_call.specs.Make.{EndsMake, IsMadeRun, IsNotMade, MakesNoRows};
@@ -23,7 +23,8 @@ use versions::Requests;
 /// How many items a lane holds where no option says so.
 const CAPACITY: u32 = 16;
 
-/// Reads a job, makes rows for it, runs them without requests, and prints the summary. It changes no file. The first fault ends it.
+/// Reads a job, makes rows for it, runs them without requests, and prints the summary. It changes
+/// no file. The first fault ends it.
 pub fn make_command<R, S, O, G>(
     rt: &R,
     alloc: Global,
@@ -72,7 +73,8 @@ where
     G: Gate + Sync,
     requires { IsThreads make.now.threads }
     ensures run { IfOk result (IsMadeRun (make_asked make.now) (S.state shelf.old).files) }
-    ensures journals { IfOk result (λ done. length done.ran.journals ≡ worker_count done.ran.setup.job.nodes) }
+    ensures journals { IfOk result (λ done. length done.ran.journals
+        ≡ worker_count done.ran.setup.job.nodes) }
     ensures kept { OnOk result (S.state shelf.new ≡ S.state shelf.old) }
     ensures files { (S.state shelf.new).files ≡ (S.state shelf.old).files }
     ensures target { (S.state shelf.new).target ≡ (S.state shelf.old).target }
@@ -91,9 +93,10 @@ where
 
 #[tactic(auto, using(crate::proofs::MakeLemmas::makes_no_rows))]
 fn rows_made(alloc: Global, job: &Job, make: &Make) -> Result<Rows, Fault>
-    ensures rows { IfOk result (λ rows. made_rows (written job.now) make.now.seed make.now.rows ≡ Ok rows) }
-    ensures sources { IfOk result (λ rows. AreFromSources (written job.now) rows) }
-    ensures cause { IfErr result (MakesNoRows (make_asked make.now) (written job.now)) }
+    ensures rows { IfOk result (λ rows. made_rows (job_view job.now) make.now.seed make.now.rows
+        ≡ Ok rows) }
+    ensures sources { IfOk result (λ rows. AreFromSources (job_view job.now) rows) }
+    ensures cause { IfErr result (MakesNoRows (make_asked make.now) (job_view job.now)) }
 {
     Ok(make_rows(alloc, job, make.seed, make.rows)?)
 }

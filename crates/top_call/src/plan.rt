@@ -3,7 +3,8 @@ ghost use Rattle.std.specs.Result.{result_err};
 ghost use Rattle.command_line.specs.Asked.{plan_asked};
 ghost use Rattle.payments.specs.World.{world};
 ghost use Rattle.call_steps.specs.Outside.{Prints};
-ghost use Rattle.top_call.specs.Plan.{EndsPlan, IsNoSetup, IsSetupOf, setup_lines as setup_lines_of};
+ghost use Rattle.top_call.specs.Plan.{EndsPlan, IsNoSetup, IsSetupOf};
+ghost use Rattle.top_call.specs.Plan.{setup_lines as setup_lines_of};
 
 use call_steps::{Answer, job_in, print, requests_in, setup_of};
 use command_line::PlanFiles;
@@ -14,7 +15,8 @@ use std::alloc::Global;
 use tuple_trace::{Bytes, NoMemory};
 use versions::{Judged, Refusals};
 
-/// Reads a job and its requests, and prints the plan of each accepted request and then each refused one. The first fault ends it.
+/// Reads a job and its requests, and prints the plan of each accepted request and then each refused
+/// one. The first fault ends it.
 pub fn plan_command<S: Shelf, O: Sink>(
     alloc: Global,
     files: &PlanFiles,

@@ -24,8 +24,8 @@ struct Resumed {
     start: Start,
 }
 
-/// Reads a job, its requests and its payments, judges the requests, and then reads a savepoint. Runs
-/// the later payments from there, stores the alerts and then the audit, and prints the refused
+/// Reads a job, its requests and its payments, judges the requests, and then reads a savepoint.
+/// Runs the later payments from there, stores the alerts and then the audit, and prints the refused
 /// requests and the summary. The first fault ends it.
 pub fn resume_command<R, S, O, G>(
     rt: &R,

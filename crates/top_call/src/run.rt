@@ -13,9 +13,9 @@ use std::sync::Wait;
 use std::thread::Threads;
 use tuple_trace::Gate;
 
-/// Reads a job, its requests and its payments, judges the requests and runs the payments, stores the
-/// alerts and then the audit, and prints the refused requests and the summary. The first fault ends
-/// it.
+/// Reads a job, its requests and its payments, judges the requests and runs the payments, stores
+/// the alerts and then the audit, and prints the refused requests and the summary. The first fault
+/// ends it.
 pub fn run_command<R, S, O, G>(
     rt: &R,
     alloc: Global,
@@ -60,8 +60,10 @@ where
     G: Gate + Sync,
     requires { IsSize files.now.size }
     ensures run { IfOk result (IsRunOfFiles (run_asked files.now) (S.state shelf.old).files) }
-    ensures journals { IfOk result (λ done. length done.ran.journals ≡ worker_count done.ran.setup.job.nodes) }
-    ensures states { IfOk result (λ done. length done.ran.states ≡ worker_count done.ran.setup.job.nodes) }
+    ensures journals { IfOk result (λ done. length done.ran.journals
+        ≡ worker_count done.ran.setup.job.nodes) }
+    ensures states { IfOk result (λ done. length done.ran.states
+        ≡ worker_count done.ran.setup.job.nodes) }
     ensures kept { OnOk result (S.state shelf.new ≡ S.state shelf.old) }
     ensures files { (S.state shelf.new).files ≡ (S.state shelf.old).files }
     ensures target { (S.state shelf.new).target ≡ (S.state shelf.old).target }

@@ -1,7 +1,9 @@
 ghost use Rattle.std.specs.Prelude.{◌≡◌, IfNone, IfSome};
 ghost use Rattle.std.specs.Result.{result_err};
-ghost use Rattle.top_call.specs.Answers.{answer_of, Answers, AnswersUsage, Follows};
-ghost use Rattle.command_line.specs.Asked.{IsSize, IsSized, IsThreads, asked_by, asked_of, first_asked, make_asked, plan_asked, resume_asked, run_asked, save_asked};
+ghost use Rattle.top_call.specs.Answers.{outcome_view, Answers, AnswersUsage, Follows};
+ghost use Rattle.command_line.specs.Asked.{IsSize, IsSized, IsThreads, asked_by, asked_of};
+ghost use Rattle.command_line.specs.Asked.{first_asked, make_asked, plan_asked, resume_asked};
+ghost use Rattle.command_line.specs.Asked.{run_asked, save_asked};
 ghost use Rattle.top_call.specs.Check.{AnswersCheck, FollowsCheck};
 ghost use Rattle.call_steps.specs.Ends.{stopped};
 ghost use Rattle.report.specs.FaultWords.{fault_line as fault_line_of};
@@ -41,11 +43,13 @@ use versions::Refusals;
 /// What a call of the program came to.
 #[derive(Drop)]
 pub struct Outcome {
-    /// The status that the program ends with: that of the fault; without one 0, and 8 where a request was refused.
+    /// The status that the program ends with: that of the fault; without one 0, and 8 where a
+    /// request was refused.
     pub status: u8,
     /// What ended the call early, if anything did.
     pub fault: Option<Fault>,
-    /// The requests that judging refused, in the order of their file; none where the call came to no judging.
+    /// The requests that judging refused, in the order of their file; none where the call came to
+    /// no judging.
     pub refused: Refusals,
     /// What the run did, if one was completed.
     pub ran: Option<RunRecord>,
@@ -55,9 +59,10 @@ pub struct Outcome {
 
 /// Does what the words ask for, and answers what it came to.
 ///
-/// The words are those after the program's name. Files are reached by the shelf alone, and what is printed goes to `out`. A fault ends
-/// the call: nothing is done after it but to print its line, and once `out` has refused not even that. The statuses are those of
-/// [`Fault::status`]. `run` and `make` start as many threads as their words ask for, and their workers call the gate.
+/// The words are those after the program's name. Files are reached by the shelf alone, and what is
+/// printed goes to `out`. A fault ends the call: nothing is done after it but to print its line,
+/// and once `out` has refused not even that. The statuses are those of [`Fault::status`]. `run` and
+/// `make` start as many threads as their words ask for, and their workers call the gate.
 pub fn fries<R, S, O, G>(
     rt: &R,
     alloc: Global,
@@ -74,11 +79,11 @@ where
     ensures usage { IfNone (asked_of words.now) (AnswersUsage
         (world (S.state shelf.old) (O.state out.old))
         (world (S.state shelf.new) (O.state out.new))
-        (answer_of result)) }
+        (outcome_view result)) }
     ensures answers { IfSome (asked_of words.now) (λ asked. Answers asked
         (world (S.state shelf.old) (O.state out.old))
         (world (S.state shelf.new) (O.state out.new))
-        (answer_of result)) }
+        (outcome_view result)) }
     ensures file { IfSome (asked_of words.now) (λ asked. Follows asked
         (world (S.state shelf.old) (O.state out.old))
         (world (S.state shelf.new) (O.state out.new))
@@ -360,7 +365,8 @@ fn answer_fault<O: Sink>(alloc: Global, fault: Fault, out: &mut O) -> Answer
     Answer::stopped(alloc, fault)
 }
 
-// Prints the line of a fault, unless it is the output that failed. What printing it comes to changes no answer.
+// Prints the line of a fault, unless it is the output that failed. What printing it comes to
+// changes no answer.
 #[tactic(auto, using(call_steps::proofs::PrintLemmas::reports))]
 fn report<O: Sink>(alloc: Global, fault: Option<Fault>, out: &mut O)
     ensures { PrintsReport fault (O.state out.old) (O.state out.new) }

@@ -3,7 +3,7 @@ use Rattle.std.proofs.Common.{◌≡◌, ◌<◌, ◌+◌, ℕ, Bool, true, fals
 use Rattle.std.specs.Prelude.{All, nat_le, if◌then◌else◌}
 use Rattle.std.proofs.lemmas.Bool.{leb-false}
 use Rattle.std.proofs.lemmas.List.Elements.{All-cons}
-use Rattle.jobs.specs.Written.{Written}
+use Rattle.jobs.specs.JobView.{JobView}
 use Rattle.jobs.proofs.LimitLemmas.{option_or-none}
 use Rattle.versions.specs.declared.book.Current.{Current}
 use Rattle.versions.specs.declared.judging.Code.TheVariants as code
@@ -20,7 +20,7 @@ use Rattle.versions.specs.Judged.{AreAccepted, NameNodes, accepting, by_fault, j
 abbrev pub IsInside : ℕ → Change → Type 0
 IsInside nodes change = change.node < nodes
 
-none-inside : (book : List Current) (job : Written) (before changes : List Change) → first_with code.NoNode book job before changes ≡ None → All (IsInside (length job.nodes)) changes
+none-inside : (book : List Current) (job : JobView) (before changes : List Change) → first_with code.NoNode book job before changes ≡ None → All (IsInside (length job.nodes)) changes
 unfolding first_with
 none-inside book job before [] e = λ k d lt. absurd (omega arith)
 none-inside book job before (c ∷ changes) e = go (nat_le (length job.nodes) c.node) refl e (none-inside book job (before ++ c ∷ []) changes)
@@ -31,10 +31,10 @@ none-inside book job before (c ∷ changes) e = go (nat_le (length job.nodes) c.
     go true is f later = absurd (cc)
     go false is f later = All-cons (IsInside (length job.nodes)) c changes (leb-false (length job.nodes) c.node is) (later f)
 
-free-inside : (book : List Current) (job : Written) (request : Request) (last : ℕ) → fault_of book job request last ≡ None → All (IsInside (length job.nodes)) request.changes
+free-inside : (book : List Current) (job : JobView) (request : Request) (last : ℕ) → fault_of book job request last ≡ None → All (IsInside (length job.nodes)) request.changes
 free-inside book job request last free = none-inside book job [] request.changes (named-none fault.NoNode (first_with code.NoNode book job [] request.changes) (option_or-none _ _ free).0)
 
-judged-inside : (job : Written) (book : List Current) (last place : ℕ) (requests : List Request) → (judged_from job book last place requests).refused ≡ []
+judged-inside : (job : JobView) (book : List Current) (last place : ℕ) (requests : List Request) → (judged_from job book last place requests).refused ≡ []
     → NameNodes job requests
 unfolding judged_from
 judged-inside job book last place [] e = λ k d lt. absurd (omega arith)
@@ -48,10 +48,10 @@ judged-inside job book last place (r ∷ rest) e =
     go None is f later = All-cons (λ (request : Request). All (IsInside (length job.nodes)) request.changes) r rest (free-inside book job r last is) (later f)
     go (Some q) is f later = absurd (cc)
 
-pub accepted-inside : (job : Written) (requests : List Request) → AreAccepted job requests → NameNodes job requests
+pub accepted-inside : (job : JobView) (requests : List Request) → AreAccepted job requests → NameNodes job requests
 accepted-inside job requests e = judged-inside job (first_book job.nodes) 0 1 requests e
 
-alone : (job : Written) (book : List Current) (last place place' : ℕ) (requests : List Request)
+alone : (job : JobView) (book : List Current) (last place place' : ℕ) (requests : List Request)
     → (judged_from job book last place' (judged_from job book last place requests).accepted).refused ≡ []
 unfolding judged_from
 alone job book last place place' [] = refl
@@ -65,5 +65,5 @@ alone job book last place place' (r ∷ rest) =
     go None is taken left = rw is taken
     go (Some q) is taken left = left
 
-pub accepted-alone : (job : Written) (requests : List Request) → AreAccepted job (judged job requests).accepted
+pub accepted-alone : (job : JobView) (requests : List Request) → AreAccepted job (judged job requests).accepted
 accepted-alone job requests = alone job (first_book job.nodes) 0 1 1 requests

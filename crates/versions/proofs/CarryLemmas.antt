@@ -8,7 +8,7 @@ use Rattle.std.proofs.lemmas.List.Elements.{All-cons, All-nil}
 use Rattle.keyed_state.specs.Counts.{CanCarry}
 use Rattle.keyed_state.specs.declared.carry.Carry.{Carry}
 use Rattle.keyed_state.specs.declared.carry.Carry.TheVariants as carry
-use Rattle.jobs.specs.Written.{Written}
+use Rattle.jobs.specs.JobView.{JobView}
 use Rattle.versions.specs.declared.book.Current.{Current}
 use Rattle.versions.specs.declared.judging.Code.TheVariants as code
 use Rattle.versions.specs.declared.fault.QFault.{QFault}
@@ -30,14 +30,14 @@ good_carry counts carry.Reset e = tt
 good_carry counts (carry.Scale by over) e = not_below over (pos 1) (or_parts (not counts) (int_lt over (pos 1)) e).1
 good_carry counts (carry.DropBelow least) e = tt
 
-free-carry : (book : List Current) (job : Written) (request : Request) (last : ℕ) → fault_of book job request last ≡ None → CarriesWell request
+free-carry : (book : List Current) (job : JobView) (request : Request) (last : ℕ) → fault_of book job request last ≡ None → CarriesWell request
 free-carry book job request last free =
     let none = (free_parts book job request last free).1 in
     λ i d lt.
     let change : Change = get_or request.changes i d in
     good_carry (is_count_at (slice_get job.nodes change.node)) change.carry (none_each code.BadCarry book job [] request.changes none i change (slice_get-get_or request.changes i d lt))
 
-judged-carry : (job : Written) (book : List Current) (last place : ℕ) (requests : List Request) → (judged_from job book last place requests).refused ≡ [] → CarryWell requests
+judged-carry : (job : JobView) (book : List Current) (last place : ℕ) (requests : List Request) → (judged_from job book last place requests).refused ≡ [] → CarryWell requests
 unfolding judged_from
 judged-carry job book last place [] e = All-nil CarriesWell
 judged-carry job book last place (r ∷ rest) e = go (fault_of book job r last) refl e (judged-carry job (accepted book r.changes) r.after (place + 1) rest)
@@ -49,5 +49,5 @@ judged-carry job book last place (r ∷ rest) e = go (fault_of book job r last) 
     go None is f later = All-cons CarriesWell r rest (free-carry book job r last is) (later f)
     go (Some q) is f later = absurd (cc)
 
-pub accepted-carry : (job : Written) (requests : List Request) → AreAccepted job requests → CarryWell requests
+pub accepted-carry : (job : JobView) (requests : List Request) → AreAccepted job requests → CarryWell requests
 accepted-carry job requests e = judged-carry job (first_book job.nodes) 0 1 requests e

@@ -8,7 +8,7 @@ use Rattle.std.proofs.lemmas.List.{length-map}
 use Rattle.std.proofs.lemmas.Option.{same_Some, slice_get-get_or, slice_get-map, slice_get_within}
 use Rattle.std.proofs.lemmas.List.Elements.{All-cons, All-head, All-tail}
 use Rattle.jobs.specs.Nodes.{fan_out, is_free}
-use Rattle.jobs.specs.Written.{Written}
+use Rattle.jobs.specs.JobView.{JobView}
 use Rattle.jobs.specs.declared.func.Func.{Func}
 use Rattle.jobs.specs.declared.func.Func.TheVariants as func
 use Rattle.jobs.specs.declared.func.NodeDef.{NodeDef}
@@ -28,11 +28,11 @@ use Rattle.versions.proofs.FirstLemmas.{named-none}
 use Rattle.versions.proofs.YoungLemmas.{none_each, same_place}
 
 -- the function is the one that the job gives the node, or may replace it there
-abbrev pub MayStand : Written → ℕ → NodeDef → Func → Type 0
+abbrev pub MayStand : JobView → ℕ → NodeDef → Func → Type 0
 MayStand job n node f = (f ≡ node.func) ⊎ (may_replace node.func f node.roof (leaves_once job.edges n) ≡ true)
 
 -- so it is with each function of the book
-pub record IsKept (job : Written) (book : List Current) : Type 0 where
+pub record IsKept (job : JobView) (book : List Current) : Type 0 where
   pub long : length book ≡ length job.nodes
   pub stands : (n : ℕ) (current : Current) (node : NodeDef) → slice_get book n ≡ Some current → slice_get job.nodes n ≡ Some node → MayStand job n node current.func
 
@@ -85,7 +85,7 @@ replaces a b c roof once ab bc =
         free v.0 t.1 u.1
 
 -- a function that may stand at the node, and one that may replace it
-stands_after : (job : Written) (n : ℕ) (node : NodeDef) (current f : Func) → MayStand job n node current → may_replace current f node.roof (leaves_once job.edges n) ≡ true
+stands_after : (job : JobView) (n : ℕ) (node : NodeDef) (current f : Func) → MayStand job n node current → may_replace current f node.roof (leaves_once job.edges n) ≡ true
     → may_replace node.func f node.roof (leaves_once job.edges n) ≡ true
 stands_after job n node current f (inl same) may = subst (λ (g : Func). may_replace g f node.roof (leaves_once job.edges n) ≡ true) same may
 stands_after job n node current f (inr kept) may = replaces node.func current f node.roof (leaves_once job.edges n) kept may
@@ -101,7 +101,7 @@ last_three None None None None None None None h none = (refl, refl, none)
 last_three _ _ _ _ _ _ _ h none = absurd (cc)
 
 -- a request without a fault changes no kinds, carries no counts badly, and has none of the faults of a whole request
-pub free_parts : (book : List Current) (job : Written) (request : Request) (last : ℕ) → fault_of book job request last ≡ None
+pub free_parts : (book : List Current) (job : JobView) (request : Request) (last : ℕ) → fault_of book job request last ≡ None
     → (first_with code.KindOrKey book job [] request.changes ≡ None) × (first_with code.BadCarry book job [] request.changes ≡ None)
     × (whole_fault request last ≡ None)
 free_parts book job request last free =
@@ -115,7 +115,7 @@ free_parts book job request last free =
     )
 
 -- a request without a fault keeps the kinds of the functions that a book has
-free-kept : (book : List Current) (job : Written) (request : Request) (last : ℕ) → IsKept job book → fault_of book job request last ≡ None → All (KeepsKind job) request.changes
+free-kept : (book : List Current) (job : JobView) (request : Request) (last : ℕ) → IsKept job book → fault_of book job request last ≡ None → All (KeepsKind job) request.changes
 free-kept book job request last kept free =
     let none = (free_parts book job request last free).0 in
     λ i d lt node there.
@@ -141,7 +141,7 @@ free-kept book job request last kept free =
         stands_after job change.node node current.func change.func stands moved
 
 -- the book after changes that keep the kinds keeps them too
-kept_after : (job : Written) (book : List Current) (changes : List Change) → IsKept job book → All (KeepsKind job) changes → IsKept job (accepted book changes)
+kept_after : (job : JobView) (book : List Current) (changes : List Change) → IsKept job book → All (KeepsKind job) changes → IsKept job (accepted book changes)
 unfolding accepted
 kept_after job book [] kept all = kept
 kept_after job book (change ∷ rest) kept all =
@@ -164,7 +164,7 @@ kept_after job book (change ∷ rest) kept all =
           | inr ne ↦ kept.stands n current node (sym (other_place book change.node n entry ne) ∙ at) there
         ]
 
-kept_at_first : (job : Written) → IsKept job (first_book job.nodes)
+kept_at_first : (job : JobView) → IsKept job (first_book job.nodes)
 kept_at_first job = record { long = length-map job.nodes (λ (d : NodeDef). record { version = 0; func = d.func }); stands = stands }
   where
     stands : (n : ℕ) (current : Current) (node : NodeDef) → slice_get (first_book job.nodes) n ≡ Some current → slice_get job.nodes n ≡ Some node → MayStand job n node current.func
@@ -173,7 +173,7 @@ kept_at_first job = record { long = length-map job.nodes (λ (d : NodeDef). reco
         let is = same_Some (record { version = 0; func = node.func }) current (sym made ∙ at) in
         inl (rw (← is) refl)
 
-judged-kept : (job : Written) (book : List Current) (last place : ℕ) (requests : List Request) → IsKept job book → (judged_from job book last place requests).refused ≡ [] → KeepKinds job requests
+judged-kept : (job : JobView) (book : List Current) (last place : ℕ) (requests : List Request) → IsKept job book → (judged_from job book last place requests).refused ≡ [] → KeepKinds job requests
 unfolding judged_from
 judged-kept job book last place [] kept e = λ k d lt. absurd (omega arith)
 judged-kept job book last place (r ∷ rest) kept e = go (fault_of book job r last) refl e (λ later. judged-kept job (accepted book r.changes) r.after (place + 1) rest later)
@@ -187,14 +187,14 @@ judged-kept job book last place (r ∷ rest) kept e = go (fault_of book job r la
         All-cons (λ (request : Request). All (KeepsKind job) request.changes) r rest all (later (kept_after job book r.changes kept all) f)
     go (Some q) is f later = absurd (cc)
 
-pub accepted-kept : (job : Written) (requests : List Request) → AreAccepted job requests → KeepKinds job requests
+pub accepted-kept : (job : JobView) (requests : List Request) → AreAccepted job requests → KeepKinds job requests
 accepted-kept job requests e = judged-kept job (first_book job.nodes) 0 1 requests (kept_at_first job) e
 
 not_below : (a b : ℕ) → nat_lt a b ≡ false → b ≤ a
 not_below a b e = grind (arith, nat_tests)
 
 -- a request without a fault waits for no earlier row than the one before it
-free-after : (book : List Current) (job : Written) (request : Request) (last : ℕ) → fault_of book job request last ≡ None → last ≤ request.after
+free-after : (book : List Current) (job : JobView) (request : Request) (last : ℕ) → fault_of book job request last ≡ None → last ≤ request.after
 free-after book job request last free =
     let whole = (free_parts book job request last free).2 in
     go (is_empty request.changes) refl (nat_lt request.after last) refl whole
@@ -205,7 +205,7 @@ free-after book job request last free =
     go false some true is e = absurd (cc)
     go false some false is e = not_below request.after last is
 
-judged-order : (job : Written) (book : List Current) (last place : ℕ) (requests : List Request) → (judged_from job book last place requests).refused ≡ [] → AreInOrder last requests
+judged-order : (job : JobView) (book : List Current) (last place : ℕ) (requests : List Request) → (judged_from job book last place requests).refused ≡ [] → AreInOrder last requests
 unfolding judged_from
 judged-order job book last place [] e = tt
 judged-order job book last place (r ∷ rest) e = go (fault_of book job r last) refl e (judged-order job (accepted book r.changes) r.after (place + 1) rest)
@@ -217,5 +217,5 @@ judged-order job book last place (r ∷ rest) e = go (fault_of book job r last) 
     go None is f later = (free-after book job r last is, later f)
     go (Some q) is f later = absurd (cc)
 
-pub accepted-order : (job : Written) (requests : List Request) → AreAccepted job requests → AreInOrder 0 requests
+pub accepted-order : (job : JobView) (requests : List Request) → AreAccepted job requests → AreInOrder 0 requests
 accepted-order job requests e = judged-order job (first_book job.nodes) 0 1 requests e

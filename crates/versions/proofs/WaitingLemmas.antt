@@ -2,7 +2,7 @@
 use Rattle.std.proofs.Common.{◌≡◌, ◌∙◌, ◌+◌, ◌≤◌, ℕ, List, [], ◌∷◌, Bool, true, false, Option, Some, None, cond, nat_lt, refl, sym, subst, ap, arith, map}
 use Rattle.std.specs.Option.{option_or}
 use Rattle.std.proofs.lemmas.Bool.Decides.{nat_tests}
-use Rattle.jobs.specs.Written.{Written}
+use Rattle.jobs.specs.JobView.{JobView}
 use Rattle.versions.specs.Book.{accepted}
 use Rattle.versions.specs.Judged.{accepting, by_fault, judged_from, refusing}
 use Rattle.versions.specs.Judging.{fault_of, first_with, is_empty, named, stale, whole_fault}
@@ -31,7 +31,7 @@ all_swap [] y z e f = f e
 all_swap (x ∷ xs) y z e f = or_swap x (all_or xs y) (all_or xs z) e (λ e. all_swap xs y z e f)
 
 -- the faults of changes
-abbrev change_faults : List Current → Written → List Change → List (Option QFault)
+abbrev change_faults : List Current → JobView → List Change → List (Option QFault)
 change_faults book job changes =
     named fault.NoNode (first_with code.NoNode book job [] changes) ∷ named fault.Fixed (first_with code.Fixed book job [] changes)
     ∷ named fault.NodeTwice (first_with code.NodeTwice book job [] changes) ∷ stale book changes (first_with code.Stale book job [] changes)
@@ -50,7 +50,7 @@ whole_free q r last later same le free =
     go true b e = absurd (cc)
     go false b e = ap (λ t. cond t (Some (fault.Backwards later)) None) (not_below r.after later le)
 
-fault_free : (book : List Current) (job : Written) (q r : Request) (last later : ℕ) → r.changes ≡ q.changes → later ≤ r.after → fault_of book job q last ≡ None → fault_of book job r later ≡ None
+fault_free : (book : List Current) (job : JobView) (q r : Request) (last later : ℕ) → r.changes ≡ q.changes → later ≤ r.after → fault_of book job q last ≡ None → fault_of book job r later ≡ None
 fault_free book job q r last later same le free =
     ap (λ (cs : List Change). all_or (change_faults book job cs) (whole_fault r later)) same
     ∙ all_swap (change_faults book job q.changes) (whole_fault q last) (whole_fault r later) free (whole_free q r last later same le)
@@ -61,7 +61,7 @@ head_same x y xs ys e = cc
 tail_same : (x y : List Change) (xs ys : List (List Change)) → x ∷ xs ≡ y ∷ ys → xs ≡ ys
 tail_same x y xs ys e = cc
 
-pub accepted_like : (job : Written) (book : List Current) (last later place : ℕ) (qs rs : List Request) → changes_of rs ≡ changes_of qs → (judged_from job book last place qs).refused ≡ [] → AreInOrder later rs
+pub accepted_like : (job : JobView) (book : List Current) (last later place : ℕ) (qs rs : List Request) → changes_of rs ≡ changes_of qs → (judged_from job book last place qs).refused ≡ [] → AreInOrder later rs
     → (judged_from job book later place rs).refused ≡ []
 unfolding judged_from
 accepted_like job book last later place [] [] same e o = refl

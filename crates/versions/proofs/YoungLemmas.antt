@@ -7,7 +7,7 @@ use Rattle.std.proofs.lemmas.Bool.Decides.{nat_tests}
 use Rattle.std.proofs.lemmas.List.{append-nil}
 use Rattle.std.specs.List.{slice_get}
 use Rattle.std.specs.Prelude.{nat_le}
-use Rattle.jobs.specs.Written.{Written}
+use Rattle.jobs.specs.JobView.{JobView}
 use Rattle.jobs.specs.declared.func.NodeDef.{NodeDef}
 use Rattle.jobs.proofs.LimitLemmas.{option_or-none}
 use Rattle.versions.specs.declared.book.Current.{Current}
@@ -46,7 +46,7 @@ below_change book v node bound small below n current is =
     ]
 
 -- each change raises a version by at most one
-pub IsYoung-accepted : (job : Written) (book : List Current) (cs : List Change) (bound : ℕ) → IsYoung job book bound → IsYoung job (accepted book cs) (bound + length cs)
+pub IsYoung-accepted : (job : JobView) (book : List Current) (cs : List Change) (bound : ℕ) → IsYoung job book bound → IsYoung job (accepted book cs) (bound + length cs)
 unfolding accepted
 IsYoung-accepted job book [] bound young = record { long = young.long; below = λ n current is. omega (arith, young.below n current is) }
 IsYoung-accepted job book (c ∷ cs) bound young =
@@ -56,7 +56,7 @@ IsYoung-accepted job book (c ∷ cs) bound young =
     let rest = IsYoung-accepted job (with_change book c.node c.func) cs (bound + 1) here in
     record { long = rest.long; below = λ n current is. omega (arith, rest.below n current is) }
 
-pub none_each : (k : Code) (book : List Current) (job : Written) (before cs : List Change) → first_with k book job before cs ≡ None
+pub none_each : (k : Code) (book : List Current) (job : JobView) (before cs : List Change) → first_with k book job before cs ≡ None
     → (i : ℕ) (c : Change) → slice_get cs i ≡ Some c → has_fault k book job (before ++ take i cs) c ≡ false
 none_each k book job before [] none i c at = absurd cc
 none_each k book job before (d ∷ rest) none zero c at =
@@ -78,7 +78,7 @@ not_above : (a b : ℕ) → nat_le a b ≡ false → b < a
 not_above a b e = grind (arith, nat_tests)
 
 -- a request without a fault can be accepted
-pub CanAccept-fault_of : (job : Written) (book : List Current) (r : Request) (last bound : ℕ) → IsYoung job book bound → bound < 2 ^ 64 - 1 → fault_of book job r last ≡ None → CanAccept book r.changes
+pub CanAccept-fault_of : (job : JobView) (book : List Current) (r : Request) (last bound : ℕ) → IsYoung job book bound → bound < 2 ^ 64 - 1 → fault_of book job r last ≡ None → CanAccept book r.changes
 CanAccept-fault_of job book r last bound young room free =
     let one = option_or-none (named fault.NoNode (first_with code.NoNode book job [] r.changes)) _ free in
     let two = option_or-none (named fault.Fixed (first_with code.Fixed book job [] r.changes)) _ one.1 in
@@ -103,5 +103,5 @@ first_long : (nodes : List NodeDef) → length (first_book nodes) ≡ length nod
 first_long [] = refl
 first_long (x ∷ nodes) = omega (arith, first_long nodes)
 
-pub IsYoung-first_book : (job : Written) (bound : ℕ) → IsYoung job (first_book job.nodes) bound
+pub IsYoung-first_book : (job : JobView) (bound : ℕ) → IsYoung job (first_book job.nodes) bound
 IsYoung-first_book job bound = record { long = first_long job.nodes; below = λ n current is. omega (arith, first_below job.nodes n current is) }

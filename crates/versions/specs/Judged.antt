@@ -1,6 +1,6 @@
 -- A list of requests, judged in order.
 use Rattle.std.specs.Prelude.{◌≡◌, ℕ, ◌+◌, ◌<◌, All, length, List, [], ◌∷◌, Option, Some, None}
-use Rattle.jobs.specs.Written.{Written}
+use Rattle.jobs.specs.JobView.{JobView}
 use Rattle.versions.specs.declared.book.Current.{Current}
 use Rattle.versions.specs.declared.in_order.Judged.{Judged}
 use Rattle.versions.specs.declared.request.Change.{Change}
@@ -22,20 +22,20 @@ by_fault (Some fault) refused accepted = refused fault
 
 -- The requests from this place on, with this book and the row of the latest accepted request. One with a fault is refused, and leaves both as
 -- they were; any other is accepted, gives its nodes their new functions and the next versions, and is the latest.
-unfoldable pub judged_from : Written → List Current → ℕ → ℕ → List Request → Judged
+unfoldable pub judged_from : JobView → List Current → ℕ → ℕ → List Request → Judged
 judged_from job book last_after place [] = record { accepted = []; refused = [] }
 judged_from job book last_after place (request ∷ rest) =
     by_fault (fault_of book job request last_after) (λ fault. refusing place fault (judged_from job book last_after (place + 1) rest)) (
     accepting request (judged_from job (accepted book request.changes) request.after (place + 1) rest))
 
 -- the judging of a list of requests
-abbrev pub judged : Written → List Request → Judged
+abbrev pub judged : JobView → List Request → Judged
 judged job requests = judged_from job (first_book job.nodes) 0 1 requests
 
 -- judging these requests alone refuses none of them
-abbrev pub AreAccepted : Written → List Request → Type 0
+abbrev pub AreAccepted : JobView → List Request → Type 0
 AreAccepted job requests = (judged job requests).refused ≡ []
 
 -- every change of the requests names a node of the job
-abbrev pub NameNodes : Written → List Request → Type 0
+abbrev pub NameNodes : JobView → List Request → Type 0
 NameNodes job requests = All (λ (request : Request). All (λ (change : Change). change.node < length job.nodes) request.changes) requests

@@ -8,7 +8,7 @@ use Rattle.flow_dag.specs.declared.edge.Edge.{Edge}
 use Rattle.jobs.specs.Kinds.{key_of, kind_of}
 use Rattle.jobs.specs.Nodes.{fan_out, is_count, is_fixed, is_free}
 use Rattle.jobs.specs.Ports.{out_count}
-use Rattle.jobs.specs.Written.{Written}
+use Rattle.jobs.specs.JobView.{JobView}
 use Rattle.jobs.specs.declared.func.Func.{Func}
 use Rattle.jobs.specs.declared.func.NodeDef.{NodeDef}
 use Rattle.jobs.specs.declared.kind.Kind.{Kind}
@@ -87,7 +87,7 @@ is_bad_carry counts (carry.Scale by over) = not counts || int_lt over (pos 1)
 is_bad_carry counts (carry.DropBelow least) = not counts
 
 -- the change has this fault, with these changes before it in the request
-abbrev pub has_fault : Code → List Current → Written → List Change → Change → Bool
+abbrev pub has_fault : Code → List Current → JobView → List Change → Change → Bool
 has_fault code.NoNode book job before c = nat_le (length job.nodes) c.node
 has_fault code.Fixed book job before c = is_fixed_at (slice_get job.nodes c.node)
 has_fault code.NodeTwice book job before c = is_named before c.node
@@ -99,7 +99,7 @@ has_fault code.BadCarry book job before c = is_bad_carry (is_count_at (slice_get
 -- ---- a request
 
 -- the place of the first change with the fault, behind those before it
-unfoldable pub first_with : Code → List Current → Written → List Change → List Change → Option ℕ
+unfoldable pub first_with : Code → List Current → JobView → List Change → List Change → Option ℕ
 first_with code book job before [] = None
 first_with code book job before (change ∷ rest) =
     if has_fault code book job before change then Some (length before) else first_with code book job (before ++ change ∷ []) rest
@@ -130,7 +130,7 @@ whole_fault request last_after =
     else if nat_lt request.after last_after then Some (fault.Backwards last_after) else None
 
 -- the first fault that a request has, in the order of the codes
-abbrev pub fault_of : List Current → Written → Request → ℕ → Option QFault
+abbrev pub fault_of : List Current → JobView → Request → ℕ → Option QFault
 fault_of book job request last_after =
     option_or (named fault.NoNode (first_with code.NoNode book job [] request.changes)) (
     option_or (named fault.Fixed (first_with code.Fixed book job [] request.changes)) (

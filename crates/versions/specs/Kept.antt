@@ -2,7 +2,7 @@
 use Rattle.std.specs.Prelude.{◌≡◌, ◌≤◌, ⊤, ℕ, All, IsTrue, List, [], ◌∷◌, Some, None, slice_get}
 use Rattle.keyed_state.specs.Counts.{CanCarry}
 use Rattle.jobs.specs.Limits.{oversize}
-use Rattle.jobs.specs.Written.{Written}
+use Rattle.jobs.specs.JobView.{JobView}
 use Rattle.jobs.specs.declared.func.NodeDef.{NodeDef}
 use Rattle.versions.specs.Judging.{leaves_once, may_replace}
 use Rattle.versions.specs.declared.request.Change.{Change}
@@ -10,13 +10,13 @@ use Rattle.versions.specs.declared.request.Request.{Request}
 
 -- the new function may replace the one that the job gives the node: it is of its kind and counts by the same key, or both are of free kinds and one
 -- edge leaves the node; and its fan-out is at most the node's roof
-abbrev pub KeepsKind : Written → Change → Type 0
+abbrev pub KeepsKind : JobView → Change → Type 0
 KeepsKind job change =
     (node : NodeDef) → slice_get job.nodes change.node ≡ Some node →
     IsTrue (may_replace node.func change.func node.roof (leaves_once job.edges change.node))
 
 -- so it is with each change of the requests
-abbrev pub KeepKinds : Written → List Request → Type 0
+abbrev pub KeepKinds : JobView → List Request → Type 0
 KeepKinds job requests = All (λ (request : Request). All (KeepsKind job) request.changes) requests
 
 -- each request waits for this row or a later one, and for no earlier row than the request before it

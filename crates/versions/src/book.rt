@@ -1,4 +1,5 @@
-ghost use Rattle.std.specs.Prelude.{◌≡◌, ◌<◌, ◌^◌, ◌-◌, IfOk, IfSome, length, slice_get, option_map, Some};
+ghost use Rattle.std.specs.Prelude.{◌≡◌, ◌<◌, ◌^◌, ◌-◌, IfOk, IfSome, length, slice_get};
+ghost use Rattle.std.specs.Prelude.{option_map, Some};
 ghost use Rattle.versions.specs.Book.{accepted, first_book, with_change, CanAccept, HasRoom};
 
 use crate::Request;
@@ -15,7 +16,8 @@ pub struct Current {
     pub func: Func,
 }
 
-/// The current function and version of each node. Contracts see the list of them, by the numbers of the nodes.
+/// The current function and version of each node. Contracts see the list of them, by the numbers of
+/// the nodes.
 #[derive(Debug, Drop)]
 pub struct Book {
     entries: Vec<Current>,
@@ -98,7 +100,8 @@ impl Book {
     }
 }
 
-/// The book once a request is accepted: each node that it changes has the new function and the next version.
+/// The book once a request is accepted: each node that it changes has the new function and the next
+/// version.
 pub fn accept(book: &Book, request: &Request) -> Result<Book, NoMemory>
     requires { CanAccept book.now request.now.changes }
     ensures { IfOk result (λ next. next ≡ accepted book.now request.now.changes) }

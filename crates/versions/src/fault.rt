@@ -11,7 +11,8 @@ pub enum QFault {
     Stale(u32, u64),
     /// The function of the change doesn't fit the job.
     IllTyped(u32),
-    /// The function is of another kind than the current one, counts by another key, or splits into more pieces than the job allows the node.
+    /// The function is of another kind than the current one, counts by another key, or splits into
+    /// more pieces than the job allows the node.
     KindOrKey(u32),
     /// Counts are to be carried where the node keeps none, or to be divided by less than 1.
     BadCarry(u32),

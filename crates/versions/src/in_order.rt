@@ -1,5 +1,5 @@
 ghost use Rattle.std.specs.Prelude.{◌≡◌, ◌≤◌, ◌+◌, ◌*◌, ◌∷◌, List, IfOk, OnOk, All, length};
-ghost use Rattle.jobs.specs.Job.{written};
+ghost use Rattle.jobs.specs.Job.{job_view};
 ghost use Rattle.versions.specs.Judged.{judged};
 ghost use Rattle.versions.specs.Young.{judged_on, IsYoung};
 ghost use Rattle.versions.specs.declared.request.Request.{Request as RequestIs};
@@ -28,11 +28,12 @@ pub struct Judged {
     pub refused: Refusals,
 }
 
-/// Judges the requests of a job in order, each by the book that those before it leave. A refused request changes nothing.
+/// Judges the requests of a job in order, each by the book that those before it leave. A refused
+/// request changes nothing.
 pub fn judge_all(alloc: Global, job: &Job, requests: &Requests) -> Result<Judged, NoMemory>
     requires count { length requests.now ≤ 64 }
     requires changes { All (λ request. length request.changes ≤ 64) requests.now }
-    ensures { IfOk result (λ done. done ≡ judged (written job.now) requests.now) }
+    ensures { IfOk result (λ done. done ≡ judged (job_view job.now) requests.now) }
 {
     let mut bench = Bench {
         book: Book::of(alloc, job)?,
@@ -69,9 +70,11 @@ fn next(
 ) -> Result<(), NoMemory>
     requires few { length request.now.changes ≤ 64 }
     requires place { place ≤ 64 }
-    requires young { IsYoung (written job.now) bench.old.book (place * 64) }
-    ensures young { OnOk result (IsYoung (written job.now) bench.new.book (place * 64 + 64)) }
-    ensures judged { OnOk result ((rest : List RequestIs) → judged_on (written job.now) bench.old place (request.now ∷ rest) ≡ judged_on (written job.now) bench.new (place + 1) rest) }
+    requires young { IsYoung (job_view job.now) bench.old.book (place * 64) }
+    ensures young { OnOk result (IsYoung (job_view job.now) bench.new.book (place * 64 + 64)) }
+    ensures judged { OnOk result ((rest : List RequestIs)
+        → judged_on (job_view job.now) bench.old place (request.now ∷ rest)
+        ≡ judged_on (job_view job.now) bench.new (place + 1) rest) }
 {
     match judge(&bench.book, job, request, bench.last_after) {
         Ok(()) => {

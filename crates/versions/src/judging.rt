@@ -1,7 +1,19 @@
-ghost use Rattle.std.specs.Prelude.{◌≡◌, ◌≤◌, ◌<◌, [], None, Some, IfErr, IfSome, OnOk, length, slice_get};
-ghost use Rattle.jobs.specs.Job.{written};
+ghost use Rattle.std.specs.Prelude.{◌≡◌, ◌≤◌, ◌<◌, [], None, Some, IfErr, IfSome, OnOk, length};
+ghost use Rattle.std.specs.Prelude.{slice_get};
+ghost use Rattle.jobs.specs.Job.{job_view};
 ghost use Rattle.versions.specs.Book.{is_named as is_named_in};
-ghost use Rattle.versions.specs.Judging.{fault_of, first_with as first_with_in, has_fault as has_fault_in, is_bad_carry as is_bad_carry_of, is_count_at as is_count_node, is_fixed_at as is_fixed_node, is_stale_at as is_stale_node, may_replace as may_replace_func, may_replace_at as may_replace_current, is_key as is_key_of, is_kind as is_kind_of, is_like as is_like_func, roof_at as roof_of_node, version_of as version_of_change, whole_fault as whole_fault_of};
+ghost use Rattle.versions.specs.Judging.{fault_of, first_with as first_with_in};
+ghost use Rattle.versions.specs.Judging.{has_fault as has_fault_in};
+ghost use Rattle.versions.specs.Judging.{is_bad_carry as is_bad_carry_of};
+ghost use Rattle.versions.specs.Judging.{is_count_at as is_count_node};
+ghost use Rattle.versions.specs.Judging.{is_fixed_at as is_fixed_node};
+ghost use Rattle.versions.specs.Judging.{is_stale_at as is_stale_node};
+ghost use Rattle.versions.specs.Judging.{may_replace as may_replace_func};
+ghost use Rattle.versions.specs.Judging.{may_replace_at as may_replace_current};
+ghost use Rattle.versions.specs.Judging.{is_key as is_key_of, is_kind as is_kind_of};
+ghost use Rattle.versions.specs.Judging.{is_like as is_like_func, roof_at as roof_of_node};
+ghost use Rattle.versions.specs.Judging.{version_of as version_of_change};
+ghost use Rattle.versions.specs.Judging.{whole_fault as whole_fault_of};
 
 use crate::{Book, Change, Current, QFault, Request};
 use jobs::{
@@ -15,8 +27,9 @@ use keyed_state::Carry;
 /// `last_after` is the row of the latest accepted request, 0 before the first. Takes no memory.
 pub fn judge(book: &Book, job: &Job, request: &Request, last_after: u64) -> Result<(), QFault>
     requires { length request.now.changes ≤ 64 }
-    ensures ok { OnOk result (fault_of book.now (written job.now) request.now last_after ≡ None) }
-    ensures err { IfErr result (λ fault. fault_of book.now (written job.now) request.now last_after ≡ Some fault) }
+    ensures ok { OnOk result (fault_of book.now (job_view job.now) request.now last_after ≡ None) }
+    ensures err { IfErr result (λ fault. fault_of book.now (job_view job.now) request.now last_after
+        ≡ Some fault) }
 {
     let book = book.as_slice();
     let changes = request.changes.as_slice();
@@ -71,7 +84,7 @@ enum Code {
 /// The place of the first change with this fault, counted from 0.
 fn first_with(code: Code, book: &[Current], job: &Job, changes: &[Change]) -> Option<u32>
     requires { length changes.now ≤ 64 }
-    ensures first { result ≡ first_with_in code book.now (written job.now) [] changes.now }
+    ensures first { result ≡ first_with_in code book.now (job_view job.now) [] changes.now }
     ensures inside { IfSome result (λ place. place < 64) }
 {
     for place in 0..changes.len() {
@@ -83,7 +96,7 @@ fn first_with(code: Code, book: &[Current], job: &Job, changes: &[Change]) -> Op
 }
 
 fn has_fault(code: Code, book: &[Current], job: &Job, before: &[Change], change: &Change) -> bool
-    ensures { result ≡ has_fault_in code book.now (written job.now) before.now change.now }
+    ensures { result ≡ has_fault_in code book.now (job_view job.now) before.now change.now }
 {
     let nodes = job.nodes.as_slice();
     match code {

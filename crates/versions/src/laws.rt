@@ -1,32 +1,39 @@
 ghost use Rattle.std.specs.Prelude.{List};
-ghost use Rattle.jobs.specs.Written.{Written};
+ghost use Rattle.jobs.specs.JobView.{JobView};
 ghost use Rattle.versions.specs.Judged.{AreAccepted, NameNodes, judged};
 ghost use Rattle.versions.specs.Kept.{AreInOrder, CarryWell, KeepKinds};
 ghost use Rattle.versions.specs.declared.request.Request.{Request as RequestIs};
 
-/// Where judging a list of requests refuses none of them, each of their changes names a node of the job.
+/// Where judging a list of requests refuses none of them, each of their changes names a node of the
+/// job.
 pub fn accepted_requests_name_nodes()
-    ensures { (job : Written) (requests : List RequestIs) → AreAccepted job requests → NameNodes job requests }
+    ensures { (job : JobView) (requests : List RequestIs) → AreAccepted job requests
+        → NameNodes job requests }
 {}
 
 /// The accepted requests of a judged list, judged by themselves, are all accepted.
 pub fn accepted_requests_stay_accepted()
-    ensures { (job : Written) (requests : List RequestIs) → AreAccepted job (judged job requests).accepted }
+    ensures { (job : JobView) (requests : List RequestIs)
+        → AreAccepted job (judged job requests).accepted }
 {}
 
-/// If judging a list of requests refuses none of them, each of their functions may replace the one that the job gives the node.
-/// It is of its kind and counts by the same key, or both are free kinds and one edge leaves the node. Its fan-out is at most the
-/// node's roof. So no source, sink or replicate is changed.
+/// If judging a list of requests refuses none of them, each of their functions may replace the one
+/// that the job gives the node. It is of its kind and counts by the same key, or both are free
+/// kinds and one edge leaves the node. Its fan-out is at most the node's roof. So no source, sink
+/// or replicate is changed.
 pub fn accepted_requests_keep_kinds()
-    ensures { (job : Written) (requests : List RequestIs) → AreAccepted job requests → KeepKinds job requests }
+    ensures { (job : JobView) (requests : List RequestIs) → AreAccepted job requests
+        → KeepKinds job requests }
 {}
 
 /// And none of them waits for an earlier row than the one before it.
 pub fn accepted_requests_are_in_order()
-    ensures { (job : Written) (requests : List RequestIs) → AreAccepted job requests → AreInOrder 0 requests }
+    ensures { (job : JobView) (requests : List RequestIs) → AreAccepted job requests
+        → AreInOrder 0 requests }
 {}
 
 /// And none of their changes divides counts by less than 1.
 pub fn accepted_requests_carry_well()
-    ensures { (job : Written) (requests : List RequestIs) → AreAccepted job requests → CarryWell requests }
+    ensures { (job : JobView) (requests : List RequestIs) → AreAccepted job requests
+        → CarryWell requests }
 {}

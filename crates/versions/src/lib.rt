@@ -1,8 +1,8 @@
 //! Requests to change the functions of a job, and which of them are accepted.
 //!
-//! A request names nodes, and gives each a new function and a carry for its counts. It says of each node which version it was written for,
-//! so that a request which others have overtaken is refused. [`judge_all`] goes through a list of requests in order. Plans and tuples are
-//! unknown here.
+//! A request names nodes, and gives each a new function and a carry for its counts. It says of each
+//! node which version it was written for, so that a request which others have overtaken is refused.
+//! [`judge_all`] goes through a list of requests in order. Plans and tuples are unknown here.
 #![tactic(auto)]
 
 mod book;

@@ -10,7 +10,8 @@ use tuple_trace::{Items, NoMemory};
 pub struct Change {
     /// The number of the node.
     pub node: u32,
-    /// The version of the node that the change was written for: the number of changes accepted on it before.
+    /// The version of the node that the change was written for: the number of changes accepted on
+    /// it before.
     pub from: u64,
     pub func: Func,
     /// What becomes of the node's counts.

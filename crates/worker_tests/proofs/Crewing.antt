@@ -1,7 +1,7 @@
 -- Workers keep their law while one takes a turn, and while they are made.
 use Rattle.std.proofs.Common.{◌≡◌, ◌⊎◌, ◌∙◌, ℕ, zero, suc, List, [], ◌∷◌, ◌++◌, inl, inr, sym, ap, subst, set, Some, slice_get}
 use Rattle.flow_model.specs.Begin.{at_first}
-use Rattle.flow_model.specs.Outline.{Outline}
+use Rattle.flow_model.specs.SetupView.{SetupView}
 use Rattle.flow_worker.specs.Worker.{IsWorker, WorkerIs}
 use Rattle.worker_tests.specs.Crews.{AreWorkers}
 
@@ -19,14 +19,14 @@ get-more [] (suc i) y z g = absurd (cc)
 get-more (x ∷ xs) zero y z g = inl g
 get-more (x ∷ xs) (suc i) y z g = get-more xs i y z g
 
-pub workers_set : (setup : Outline) (ws : List WorkerIs) (k : ℕ) (v : WorkerIs) → AreWorkers setup ws → IsWorker setup (at_first setup) v → AreWorkers setup (set ws k v)
+pub workers_set : (setup : SetupView) (ws : List WorkerIs) (k : ℕ) (v : WorkerIs) → AreWorkers setup ws → IsWorker setup (at_first setup) v → AreWorkers setup (set ws k v)
 workers_set setup ws k v are is w worker g = go (get-set ws k w v worker g)
   where
     go : (slice_get ws w ≡ Some worker) ⊎ (worker ≡ v) → IsWorker setup (at_first setup) worker
     go (inl h) = are w worker h
     go (inr e) = subst (IsWorker setup (at_first setup)) (sym e) is
 
-pub workers_more : (setup : Outline) (ws vs : List WorkerIs) (v : WorkerIs) → vs ≡ ws ++ v ∷ [] → AreWorkers setup ws → IsWorker setup (at_first setup) v → AreWorkers setup vs
+pub workers_more : (setup : SetupView) (ws vs : List WorkerIs) (v : WorkerIs) → vs ≡ ws ++ v ∷ [] → AreWorkers setup ws → IsWorker setup (at_first setup) v → AreWorkers setup vs
 workers_more setup ws vs v same are is w worker g = go (get-more ws w v worker (ap (λ l. slice_get l w) (sym same) ∙ g))
   where
     go : (slice_get ws w ≡ Some worker) ⊎ (worker ≡ v) → IsWorker setup (at_first setup) worker
@@ -34,8 +34,8 @@ workers_more setup ws vs v same are is w worker g = go (get-more ws w v worker (
     go (inr e) = subst (IsWorker setup (at_first setup)) (sym e) is
 
 -- the first of a list of workers has its law, and so has each of the rest
-pub workers_first : (setup : Outline) (ws vs : List WorkerIs) (v : WorkerIs) → ws ≡ v ∷ vs → AreWorkers setup ws → IsWorker setup (at_first setup) v
+pub workers_first : (setup : SetupView) (ws vs : List WorkerIs) (v : WorkerIs) → ws ≡ v ∷ vs → AreWorkers setup ws → IsWorker setup (at_first setup) v
 workers_first setup ws vs v same are = are zero v (ap (λ l. slice_get l zero) same)
 
-pub workers_rest : (setup : Outline) (ws vs : List WorkerIs) (v : WorkerIs) → ws ≡ v ∷ vs → AreWorkers setup ws → AreWorkers setup vs
+pub workers_rest : (setup : SetupView) (ws vs : List WorkerIs) (v : WorkerIs) → ws ≡ v ∷ vs → AreWorkers setup ws → AreWorkers setup vs
 workers_rest setup ws vs v same are w worker g = are (suc w) worker (ap (λ l. slice_get l (suc w)) same ∙ g)

@@ -6,7 +6,7 @@ use Rattle.flow_dag.specs.declared.edge.Edge.{Edge}
 use Rattle.flow_dag.specs.declared.graph.Graph.{Graph}
 use Rattle.jobs.specs.Law.{IsLawful}
 use Rattle.jobs.specs.Nodes.{is_source_node}
-use Rattle.jobs.specs.Written.{Written}
+use Rattle.jobs.specs.JobView.{JobView}
 use Rattle.lane_core.specs.Steady.{Agrees, ComesTo, HasComeTo, MayFollow}
 use Rattle.lane_core.specs.declared.form.Origin.{Origin}
 use Rattle.tuple_trace.specs.declared.tuple.Item.{Item}
@@ -29,14 +29,14 @@ no_sender : (sender : Option ℕ) → is_same_sender None sender ≡ true → se
 no_sender None e = refl
 no_sender (Some s) e = absurd (cc)
 
-unled : (job : Written) (node : ℕ) → IsLawful job → is_source_node (slice_get job.nodes node) ≡ true → (a : ℕ) → ¬ HasEdge job.edges a node
+unled : (job : JobView) (node : ℕ) → IsLawful job → is_source_node (slice_get job.nodes node) ≡ true → (a : ℕ) → ¬ HasEdge job.edges a node
 unled job node law source a (i, edge, lt, at, (from, to)) =
     let g : slice_get job.edges i ≡ Some edge = slice_get-get_or job.edges i edge lt ∙ ap Some at in
     let k : is_source_node (slice_get job.nodes node) ≡ false = subst (λ v. is_source_node (slice_get job.nodes v) ≡ false) to (unentered job law i edge g) in
     cc
 
 -- the endpoint of a lane from a source begins where no edge leads
-fed_end : (job : Written) (graph : Graph) (out : OutIs) → IsLawful job → IsGraphOf job graph → IsNewOut job graph out → IsIn out.number (lanes_that feeder_sends job) → IsUnled out.origin
+fed_end : (job : JobView) (graph : Graph) (out : OutIs) → IsLawful job → IsGraphOf job graph → IsNewOut job graph out → IsIn out.number (lanes_that feeder_sends job) → IsUnled out.origin
 fed_end job graph out law is new i =
     let (lane, at, fed) = in_lanes_that feeder_sends job out.number i in
     let same : new.lane ≡ lane = same_Some new.lane lane (sym new.numbered ∙ at) in
@@ -47,7 +47,7 @@ fed_end job graph out law is new i =
     let here : is_source_node (slice_get job.nodes new.edge.from) ≡ true = subst (λ (e : Edge). is_source_node (slice_get job.nodes e.from) ≡ true) edge source in
     subst IsUnled (sym new.origin_is) (λ a h. unled job new.edge.from law here a ((is a new.edge.from).0 h))
 
-pub all_unled : (job : Written) (outs : List OutIs) (k : ℕ) (out : OutIs) → IsLawful job → AreNewOuts job outs → slice_get outs k ≡ Some out → IsUnled out.origin
+pub all_unled : (job : JobView) (outs : List OutIs) (k : ℕ) (out : OutIs) → IsLawful job → AreNewOuts job outs → slice_get outs k ≡ Some out → IsUnled out.origin
 all_unled job outs k out law are g =
     fed_end job are.graph out law are.graph_is (are.new k out g) (subst (IsIn out.number) are.numbers_are (in_of_place out.number (map (λ (o : OutIs). o.number) outs) k (get_mapped (λ (o : OutIs). o.number) outs k out g)))
 

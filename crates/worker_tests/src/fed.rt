@@ -1,6 +1,6 @@
 ghost use Rattle.std.specs.Prelude.{◌≡◌, ℕ, []};
 ghost use Rattle.flow_dag.specs.Graph.{IsEdge};
-ghost use Rattle.jobs.specs.Job.{written};
+ghost use Rattle.jobs.specs.Job.{job_view};
 ghost use Rattle.coordinator.specs.Starts.{AreNewOuts};
 ghost use Rattle.coordinator.specs.Views.{outs_of};
 ghost use Rattle.worker_tests.specs.Fed.{IsUnled};
@@ -19,7 +19,7 @@ pub struct FedLane<L: Lanes> {
 impl<L: Lanes> FedLane<L> {
     /// Takes the last of the feeder's lanes, if it has one.
     pub fn last_of(job: &Job, feeder: Vec<L::Tx>) -> Option<FedLane<L>>
-        requires { AreNewOuts (written job.now) (outs_of L.Tx.lane L.Tx.number L.Tx.origin
+        requires { AreNewOuts (job_view job.now) (outs_of L.Tx.lane L.Tx.number L.Tx.origin
             L.Tx.capacity L.Tx.sent L.Tx.full feeder.items) }
     {
         let mut feeder = feeder;

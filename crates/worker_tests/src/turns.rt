@@ -1,5 +1,5 @@
 ghost use Rattle.std.specs.Prelude.{◌<◌, length};
-ghost use Rattle.flow_model.specs.Setup.{outline};
+ghost use Rattle.flow_model.specs.Setup.{setup_view};
 ghost use Rattle.worker_tests.specs.Crews.{AreWorkers};
 
 use flow_model::Setup;
@@ -15,9 +15,9 @@ pub fn turn_at<L: Lanes, G: Gate>(
     gate: &G,
     number: usize,
 ) -> Turn
-    requires law { AreWorkers (outline setup.now) workers.old }
+    requires law { AreWorkers (setup_view setup.now) workers.old }
     requires within { number < length workers.old }
-    ensures { AreWorkers (outline setup.now) workers.new }
+    ensures { AreWorkers (setup_view setup.now) workers.new }
 {
     workers[number].turn(need, setup, gate)
 }

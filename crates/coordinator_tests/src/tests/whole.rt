@@ -3,7 +3,7 @@ ghost use Rattle.std.specs.Prelude.{◌≡◌, IfOk, IfSome, IsTrue, false, map}
 ghost use Rattle.jobs.specs.Nodes.{AreFromSources};
 ghost use Rattle.flow_model.specs.Begin.{at_first};
 ghost use Rattle.flow_model.specs.Run.{IsRun};
-ghost use Rattle.flow_model.specs.Setup.{outline};
+ghost use Rattle.flow_model.specs.Setup.{setup_view};
 ghost use Rattle.flow_worker.specs.Pairs.{Each};
 ghost use Rattle.flow_worker.specs.Turning.{IsDone};
 ghost use Rattle.flow_worker.specs.Worker.{IsWorker, WorkerIs};
@@ -32,11 +32,11 @@ fn until_stopped<L: Lanes>(
     rows: &Rows,
     turns: u32,
 ) -> Option<Feeder<L>>
-    requires law { IsFeeder false (outline setup.now) (at_first (outline setup.now)) rows.now
+    requires law { IsFeeder false (setup_view setup.now) (at_first (setup_view setup.now)) rows.now
         feeder }
-    requires rows { AreFromSources (outline setup.now).job rows.now }
-    ensures law { IfSome result (IsFeeder false (outline setup.now)
-        (at_first (outline setup.now)) rows.now) }
+    requires rows { AreFromSources (setup_view setup.now).job rows.now }
+    ensures law { IfSome result (IsFeeder false (setup_view setup.now)
+        (at_first (setup_view setup.now)) rows.now) }
     ensures stopped { IfSome result (λ (f : FeederIs). IsTrue f.stopped) }
     ensures ends { IfSome result (λ (f : FeederIs). map end_of f.outs ≡ map end_of feeder.outs) }
 {
@@ -57,8 +57,9 @@ fn until_done<L: Lanes>(
     setup: &Setup,
     turns: u32,
 ) -> Option<Worker<L>>
-    requires { IsWorker (outline setup.now) (at_first (outline setup.now)) worker }
-    ensures law { IfSome result (IsWorker (outline setup.now) (at_first (outline setup.now))) }
+    requires { IsWorker (setup_view setup.now) (at_first (setup_view setup.now)) worker }
+    ensures law { IfSome result (IsWorker (setup_view setup.now)
+        (at_first (setup_view setup.now))) }
     ensures done { IfSome result IsDone }
     ensures number { IfSome result (λ (w : WorkerIs). w.number ≡ worker.number) }
     ensures lanes { IfSome result (λ (w : WorkerIs). lane_ids w ≡ lane_ids worker) }
@@ -81,9 +82,10 @@ fn all_done<L: Lanes>(
     setup: &Setup,
     turns: u32,
 ) -> Option<Vec<Worker<L>>>
-    requires { Each (IsWorker (outline setup.now) (at_first (outline setup.now))) workers.items }
+    requires { Each (IsWorker (setup_view setup.now) (at_first (setup_view setup.now)))
+        workers.items }
     ensures law { IfSome result (λ done.
-        Each (IsWorker (outline setup.now) (at_first (outline setup.now))) done.items) }
+        Each (IsWorker (setup_view setup.now) (at_first (setup_view setup.now))) done.items) }
     ensures done { IfSome result (λ done. Each IsDone done.items) }
     ensures number { IfSome result (λ done. map (λ (w : WorkerIs). w.number) done.items
         ≡ map (λ (w : WorkerIs). w.number) workers.items) }
@@ -110,9 +112,9 @@ fn whole<L: Lanes>(
     rows: &Rows,
     turns: u32,
 ) -> Result<Whole<L>, NoMemory>
-    requires { AreFromSources (outline setup.now).job rows.now }
-    ensures { IfOk result (λ whole. IfSome whole (λ ended. IsRun (outline setup.now) rows.now
-        (record_of (outline setup.now) ended.feeds ended.workers.items))) }
+    requires { AreFromSources (setup_view setup.now).job rows.now }
+    ensures { IfOk result (λ whole. IfSome whole (λ ended. IsRun (setup_view setup.now) rows.now
+        (record_of (setup_view setup.now) ended.feeds ended.workers.items))) }
 {
     let Crew {
         workers,

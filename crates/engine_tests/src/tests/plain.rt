@@ -1,6 +1,6 @@
 //! Runs of the engine beside those of the plain executor.
 ghost use Rattle.std.specs.Prelude.{◌≡◌, IfOk};
-ghost use Rattle.jobs.specs.Job.{written};
+ghost use Rattle.jobs.specs.Job.{job_view};
 ghost use Rattle.versions.specs.Judged.{AreAccepted};
 
 use crate::tests::seen::{Alerts, DONE, Wanted};
@@ -55,7 +55,7 @@ fn setup_of(alloc: Global, job: Job, requests: &str) -> Result<Setup, NoMemory>
 }
 
 fn made(alloc: Global, job: Job, judged: Judged) -> Result<Setup, NoMemory>
-    requires { AreAccepted (written job) judged.accepted }
+    requires { AreAccepted (job_view job) judged.accepted }
     ensures { IfOk result (λ setup. setup.job ≡ job) }
 {
     Setup::make(alloc, job, judged)

@@ -10,8 +10,8 @@ const THREADS: [&str; 4] = ["1", "2", "4", "16"];
 
 const CAPACITIES: [&str; 4] = ["1", "2", "16", "64"];
 
-/// What every schedule leaves: the refused request, the feed, and the workers with one lane in that no
-/// request covers. Rows 4 and 1, 8, 9 and 10 come to the two workers of `tally` by the account.
+/// What every schedule leaves: the refused request, the feed, and the workers with one lane in that
+/// no request covers. Rows 4 and 1, 8, 9 and 10 come to the two workers of `tally` by the account.
 const PAYMENTS_AUDIT: Audit<'static> = Audit::Without {
     nodes: &["rate", "big", "hot", "often"],
     lines: 71,

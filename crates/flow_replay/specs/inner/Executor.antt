@@ -1,11 +1,11 @@
 -- What an executor does.
 use Rattle.std.specs.Prelude.{◌≡◌, ◌++◌, List, [], ◌∷◌, length, replicate}
 use Rattle.sink_journal.specs.declared.journal.Feed.TheVariants as feed
-use Rattle.jobs.specs.Job.{written}
+use Rattle.jobs.specs.Job.{job_view}
 use Rattle.flow_model.specs.declared.setup.Setup.{Setup}
 use Rattle.flow_model.specs.Run.{Ran}
-use Rattle.flow_model.specs.Setup.{outline}
-use Rattle.flow_model.specs.Workers.{posts}
+use Rattle.flow_model.specs.Setup.{setup_view}
+use Rattle.flow_model.specs.Workers.{workers_in}
 use Rattle.flow_replay.specs.declared.executor.Executor.{Executor}
 use Rattle.flow_replay.specs.declared.worker_run.WorkerRun.{WorkerRun}
 use Rattle.flow_replay.specs.inner.Runs.{AllGain, empty_run, end_block}
@@ -14,7 +14,7 @@ use Rattle.flow_replay.specs.inner.SoFar.{left_by}
 -- it has done nothing
 pub record IsNew (setup : Setup) (executor : Executor) : Type 0 where
   pub setup_is : executor.setup ≡ setup
-  pub runs_are : executor.runs.items ≡ replicate (length (posts (written setup.job))) empty_run
+  pub runs_are : executor.runs.items ≡ replicate (length (workers_in (job_view setup.job))) empty_run
   pub feeds_are : executor.feeds ≡ []
   pub issued_is : executor.issued ≡ 0
 
@@ -27,5 +27,5 @@ pub record SameBesideRuns (old new : Executor) : Type 0 where
 -- all workers and the feeder ended, and this is what they left
 pub record HasLeft (old : Executor) (ran : Ran) : Type 0 where
   pub runs : List WorkerRun
-  pub ended : AllGain (outline old.setup) (end_block (outline old.setup).job) old.runs.items runs
-  pub ran_is : ran ≡ left_by (outline old.setup) (old.feeds ++ feed.Stopped ∷ []) runs
+  pub ended : AllGain (setup_view old.setup) (end_block (setup_view old.setup).job) old.runs.items runs
+  pub ran_is : ran ≡ left_by (setup_view old.setup) (old.feeds ++ feed.Stopped ∷ []) runs

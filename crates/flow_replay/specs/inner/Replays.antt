@@ -1,15 +1,15 @@
 -- Replays, entry by entry.
 use Rattle.std.specs.Prelude.{◌≡◌, ◌==◌, ◌++◌, ⊤, ℕ, Bool, true, List, [], ◌∷◌, length, replicate, Option, Some, None, slice_get, if◌then◌else◌}
 use Rattle.cover_planner.specs.declared.cover.Plan.{Plan}
-use Rattle.jobs.specs.Written.{Written}
+use Rattle.jobs.specs.JobView.{JobView}
 use Rattle.sink_journal.specs.declared.journal.Entry.{Entry}
 use Rattle.tuple_trace.specs.declared.tuple.Item.{Item}
 use Rattle.tuple_trace.specs.declared.tuple.Item.TheVariants as item
 use Rattle.flow_model.specs.Covers.{covers_edge, plan_of}
 use Rattle.flow_model.specs.Lanes.{lane_at, lanes, lanes_out, out_numbers}
 use Rattle.flow_model.specs.declared.topology.Lane.{Lane}
-use Rattle.flow_model.specs.Outline.{Outline, Post}
-use Rattle.flow_model.specs.Replay.{Local, Put, after, after_all, items_on, puts}
+use Rattle.flow_model.specs.SetupView.{SetupView, Worker}
+use Rattle.flow_model.specs.Replay.{StateView, Put, after, after_all, items_on, puts}
 use Rattle.flow_model.specs.WorkerState.{first_state, state_view}
 use Rattle.flow_replay.specs.declared.replaying.Onto.{Onto}
 use Rattle.flow_replay.specs.declared.replaying.Onto.TheVariants as onto
@@ -17,7 +17,7 @@ use Rattle.flow_replay.specs.declared.replaying.Replaying.{Replaying}
 use Rattle.flow_replay.specs.Sent.{all_sent, first_view}
 
 -- these are the numbers of these lanes
-abbrev pub AreNumbersOf : Written → List Lane → List ℕ → Type 0
+abbrev pub AreNumbersOf : JobView → List Lane → List ℕ → Type 0
 AreNumbersOf job [] [] = ⊤
 AreNumbersOf job [] (number ∷ numbers) = ⊥
 AreNumbersOf job (lane ∷ lanes') [] = ⊥
@@ -25,7 +25,7 @@ AreNumbersOf job (lane ∷ lanes') (number ∷ numbers) =
     (slice_get (lanes job) number ≡ Some lane) × AreNumbersOf job lanes' numbers
 
 -- the lane with this number is among those that an item is put on
-abbrev pub reaches : Outline → Onto → ℕ → Bool
+abbrev pub reaches : SetupView → Onto → ℕ → Bool
 reaches setup (onto.Lane lane) number = number == lane
 reaches setup (onto.Covered request) number =
     covers_edge setup request (lane_at setup.job number).edge
@@ -43,12 +43,12 @@ with_item test item (number ∷ numbers) (list ∷ lists) =
     item_if (test number) item list ∷ with_item test item numbers lists
 
 -- the lists of these lanes, with the marker of a request on those that it covers
-abbrev pub with_marker_of : Outline → ℕ → Option Plan → List ℕ → List (List Item) → List (List Item)
+abbrev pub with_marker_of : SetupView → ℕ → Option Plan → List ℕ → List (List Item) → List (List Item)
 with_marker_of setup request None numbers lists = lists
 with_marker_of setup request (Some plan) numbers lists =
     with_item (reaches setup (onto.Covered request)) (item.Mark request plan.nodes) numbers lists
 
-abbrev pub with_markers : Outline → ℕ → List ℕ → List (List Item) → List (List Item)
+abbrev pub with_markers : SetupView → ℕ → List ℕ → List (List Item) → List (List Item)
 with_markers setup request numbers lists =
     with_marker_of setup request (plan_of setup request) numbers lists
 
@@ -60,25 +60,25 @@ with_puts (lane ∷ lanes') puts (list ∷ lists) =
     (list ++ items_on lane puts) ∷ with_puts lanes' puts lists
 
 -- a replay that has gone through no entry
-pub record IsBegun (setup : Outline) (worker : ℕ) (replay : Replaying) : Type 0 where
+pub record IsBegun (setup : SetupView) (worker : ℕ) (replay : Replaying) : Type 0 where
   pub state_is : replay.state ≡ first_state
   pub lists_are : replay.lists.items ≡ replicate (length (out_numbers setup.job worker)) []
 
 -- what is in force in the middle of a replay
-abbrev pub replay_view : Outline → Post → Replaying → Local
-replay_view setup post replay = state_view setup post replay.state
+abbrev pub replay_view : SetupView → Worker → Replaying → StateView
+replay_view setup who replay = state_view setup who replay.state
 
 -- a replay has gone on by one entry
-pub record IsEntered (setup : Outline) (post : Post) (entry : Entry) (old new : Replaying) : Type 0
+pub record IsEntered (setup : SetupView) (who : Worker) (entry : Entry) (old new : Replaying) : Type 0
   where
-    pub local : replay_view setup post new ≡ after setup post (replay_view setup post old) entry
+    pub view : replay_view setup who new ≡ after setup who (replay_view setup who old) entry
     pub lists :
         new.lists.items
-        ≡ with_puts (lanes_out setup.job post.number)
-        (puts setup post (replay_view setup post old) entry) old.lists.items
+        ≡ with_puts (lanes_out setup.job who.number)
+        (puts setup who (replay_view setup who old) entry) old.lists.items
 
 -- a replay has gone through this journal, from the beginning of all on
-pub record IsReplayed (setup : Outline) (post : Post) (journal : List Entry) (replay : Replaying)
+pub record IsReplayed (setup : SetupView) (who : Worker) (journal : List Entry) (replay : Replaying)
     : Type 0 where
-  pub local : replay_view setup post replay ≡ after_all setup post (first_view setup post) journal
-  pub lists : replay.lists.items ≡ all_sent setup post journal
+  pub view : replay_view setup who replay ≡ after_all setup who (first_view setup who) journal
+  pub lists : replay.lists.items ≡ all_sent setup who journal

@@ -10,36 +10,36 @@ use Rattle.flow_model.specs.Covers.{covers}
 use Rattle.flow_model.specs.Feeding.{fed_puts, issued_where}
 use Rattle.flow_model.specs.Fresh.{IsUpTo}
 use Rattle.flow_model.specs.Law.{IsExecution, Progress, initial, progress_after}
-use Rattle.flow_model.specs.Outline.{Outline, Post}
+use Rattle.flow_model.specs.SetupView.{SetupView, Worker}
 use Rattle.flow_model.specs.Replay.{Put}
 use Rattle.flow_model.specs.Requests.{afters, request_at}
 use Rattle.flow_model.specs.Run.{Ran, ran_as}
-use Rattle.flow_model.specs.Station.{dues_after, station}
+use Rattle.flow_model.specs.Duties.{dues_after, duties}
 use Rattle.flow_model.specs.Whole.{is_turn, met_tuples}
-use Rattle.flow_model.specs.Workers.{post_at, posts}
+use Rattle.flow_model.specs.Workers.{nth_worker, workers_in}
 use Rattle.flow_replay.specs.declared.worker_run.WorkerRun.{WorkerRun}
 use Rattle.flow_replay.specs.inner.Runs.{AreInForce, IsConserved, empty_run, journal_at, nothing, run_at}
 use Rattle.flow_replay.specs.Order.{TurnsInOrder}
 
 -- how far the journal of a worker has come that has turned the first requests and nothing else
-abbrev pub waiting : Outline → Post → ℕ → Progress
-waiting setup post turned =
-    record { dues = dues_after setup turned post.node; marked = []; ended = [] }
+abbrev pub waiting : SetupView → Worker → ℕ → Progress
+waiting setup who turned =
+    record { dues = dues_after setup turned who.node; marked = []; ended = [] }
 
 -- Everything that was fed is delivered, and the first `turned` requests are turned.
-pub record IsQuiescent (setup : Outline) (fed : List Put) (turned : ℕ) (runs : List WorkerRun)
+pub record IsQuiescent (setup : SetupView) (fed : List Put) (turned : ℕ) (runs : List WorkerRun)
     : Type 0 where
-  pub long : length runs ≡ length (posts setup.job)
+  pub long : length runs ≡ length (workers_in setup.job)
   pub in_force : AreInForce setup runs
   pub conserved : IsConserved setup fed runs nothing
   pub lawful :
       (w : ℕ) → w < length runs →
-      IsExecution (station setup 0 (post_at setup.job w))
-      (initial (station setup 0 (post_at setup.job w))) (journal_at runs w)
+      IsExecution (duties setup 0 (nth_worker setup.job w))
+      (initial (duties setup 0 (nth_worker setup.job w))) (journal_at runs w)
   pub waits :
       (w : ℕ) → w < length runs →
-      progress_after (initial (station setup 0 (post_at setup.job w))) (journal_at runs w)
-      ≡ waiting setup (post_at setup.job w) turned
+      progress_after (initial (duties setup 0 (nth_worker setup.job w))) (journal_at runs w)
+      ≡ waiting setup (nth_worker setup.job w) turned
 
 abbrev pub count_issued : List Feed → ℕ
 count_issued [] = 0
@@ -48,7 +48,7 @@ count_issued (feed.Issued request ∷ more) = suc (count_issued more)
 count_issued (feed.Stopped ∷ more) = count_issued more
 
 -- After these steps of the feeder the run is quiescent, with every issued request turned.
-pub record IsSoFar (setup : Outline) (rows : List Row) (feeds : List Feed) (issued : ℕ)
+pub record IsSoFar (setup : SetupView) (rows : List Row) (feeds : List Feed) (issued : ℕ)
     (runs : List WorkerRun) : Type 0 where
   pub counted : count_issued feeds ≡ issued
   pub quiescent : IsQuiescent setup (fed_puts setup.job rows 0 feeds) issued runs
@@ -71,7 +71,7 @@ has_turn request journal = list_any (is_turn request) journal
 
 -- So far, with rows up to this one: the first `turned` requests are turned in order, each after
 -- its row, and no other is turned.
-pub record IsSorted (setup : Outline) (rows row turned : ℕ) (node : ℕ) (journal : List Entry)
+pub record IsSorted (setup : SetupView) (rows row turned : ℕ) (node : ℕ) (journal : List Entry)
     : Type 0 where
   pub met : All (λ (tuple : Tuple). tuple.row ≤ row) (met_tuples journal)
   pub past :
@@ -85,34 +85,34 @@ pub record IsSorted (setup : Outline) (rows row turned : ℕ) (node : ℕ) (jour
       (later : ℕ) → IsUpTo rows (request_at setup request) later → later ≤ row
   pub left : (request : ℕ) → turned < request → has_turn request journal ≡ false
 
-abbrev pub AreSorted : Outline → ℕ → ℕ → ℕ → List WorkerRun → Type 0
+abbrev pub AreSorted : SetupView → ℕ → ℕ → ℕ → List WorkerRun → Type 0
 AreSorted setup rows row turned runs =
     (w : ℕ) → w < length runs →
-    IsSorted setup rows row turned (post_at setup.job w).node (journal_at runs w)
+    IsSorted setup rows row turned (nth_worker setup.job w).node (journal_at runs w)
 
 -- ---- the whole
 
 -- what a run with these feeds and workers leaves
-abbrev pub left_by : Outline → List Feed → List WorkerRun → Ran
+abbrev pub left_by : SetupView → List Feed → List WorkerRun → Ran
 left_by setup feeds runs =
     ran_as setup feeds (map (λ (run : WorkerRun). run.journal) runs)
     (map (λ (run : WorkerRun). run.state.counts) runs)
 
 -- nothing was done yet
-pub record AreEmpty (setup : Outline) (runs : List WorkerRun) : Type 0 where
-  pub long : length runs ≡ length (posts setup.job)
+pub record AreEmpty (setup : SetupView) (runs : List WorkerRun) : Type 0 where
+  pub long : length runs ≡ length (workers_in setup.job)
   pub each : (w : ℕ) → w < length runs → run_at runs w ≡ empty_run
 
 -- ---- the requests that wait for a row
 
 -- the steps of the feeder that issue them
-abbrev pub issues : Outline → ℕ → ℕ → ℕ → List Feed
+abbrev pub issues : SetupView → ℕ → ℕ → ℕ → List Feed
 issues setup rows row issued =
     issued_where (λ after. nat_le after row) rows (issued + 1)
     (drop issued (afters setup.requests))
 
 -- They were issued, and turned: `before` is how many were before, `now` how many are now.
-pub record AreIssued (setup : Outline) (rows row before now : ℕ) (feeds_old feeds_new : List Feed)
+pub record AreIssued (setup : SetupView) (rows row before now : ℕ) (feeds_old feeds_new : List Feed)
     (old new : List WorkerRun) : Type 0 where
   pub long : length new ≡ length old
   pub waits : AreIssuedBefore (afters setup.requests) rows (row + 1) now

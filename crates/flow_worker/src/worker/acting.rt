@@ -3,8 +3,8 @@ ghost use Rattle.std.specs.Prelude.{◌≡◌, ℕ, ◌+◌, ◌<◌, ◌≤◌,
 ghost use Rattle.marker_align.specs.Decision.{decided};
 ghost use Rattle.jobs.specs.declared.func.Func.{Func as FuncIs};
 ghost use Rattle.marker_align.specs.declared.decision.Due.{Due as DueIs};
-ghost use Rattle.flow_model.specs.Outline.{Post as PostIs};
-ghost use Rattle.flow_model.specs.Setup.{outline};
+ghost use Rattle.flow_model.specs.SetupView.{Worker as WorkerOfJob};
+ghost use Rattle.flow_model.specs.Setup.{setup_view};
 ghost use Rattle.flow_model.specs.InForce.{func_in as func_at};
 ghost use Rattle.flow_worker.specs.Steps.{HasClosed, HasProcessed, HasTuple, HasTurned, MemoryOnly};
 ghost use Rattle.flow_worker.specs.Turning.{HasActed};
@@ -33,14 +33,14 @@ pub(crate) enum Acted {
 impl<L: Lanes> Worker<L> {
     // Does the act, unless it has to wait.
     pub(crate) fn act<G: Gate>(&mut self, setup: &Setup, gate: &G, act: Act) -> Acted
-        requires placed { (post : PostIs) × IsPlaced (outline setup.now) post self.old }
+        requires placed { (who : WorkerOfJob) × IsPlaced (setup_view setup.now) who self.old }
         requires func { (func : FuncIs)
-            × (func_at (outline setup.now) self.old.node self.old.in_force ≡ Some func) }
+            × (func_at (setup_view setup.now) self.old.node self.old.in_force ≡ Some func) }
         requires few { IfSome self.old.due (λ (d : DueIs). self.old.owner.turned < d.request) }
         requires act { (posted : Bool)
             × (act ≡ decided (hands self.old) self.old.due posted self.old.next) }
-        ensures { (post : PostIs) → IsPlaced (outline setup.now) post self.old
-            → HasActed (outline setup.now) post self.old.due act result self.old self.new }
+        ensures { (who : WorkerOfJob) → IsPlaced (setup_view setup.now) who self.old
+            → HasActed (setup_view setup.now) who self.old.due act result self.old self.new }
     {
         match act {
             Act::Turn(_) => match self.due() {
@@ -76,9 +76,9 @@ impl<L: Lanes> Worker<L> {
     // marker to the covered lanes out, and acknowledges.
     #[inline(never)]
     fn turn_for(&mut self, setup: &Setup, due: &Due) -> Result<(), NoMemory>
-        requires placed { (post : PostIs) × IsPlaced (outline setup.now) post self.old }
+        requires placed { (who : WorkerOfJob) × IsPlaced (setup_view setup.now) who self.old }
         requires few { self.old.owner.turned < due.now.request }
-        ensures ok { OnOk result (HasTurned (outline setup.now) due.now self.old self.new) }
+        ensures ok { OnOk result (HasTurned (setup_view setup.now) due.now self.old self.new) }
         ensures err { OnErr result (MemoryOnly self.old self.new) }
     {
         if self.journal.reserve(self.ins.len() + 1).is_err() {
@@ -100,13 +100,13 @@ impl<L: Lanes> Worker<L> {
 
     // Processes the tuple in the hand at a place.
     fn process<G: Gate>(&mut self, setup: &Setup, gate: &G, place: u32) -> Result<(), NoMemory>
-        requires placed { (post : PostIs) × IsPlaced (outline setup.now) post self.old }
+        requires placed { (who : WorkerOfJob) × IsPlaced (setup_view setup.now) who self.old }
         requires func { (func : FuncIs)
-            × (func_at (outline setup.now) self.old.node self.old.in_force ≡ Some func) }
+            × (func_at (setup_view setup.now) self.old.node self.old.in_force ≡ Some func) }
         requires held { HasTuple self.old.ins place }
         requires within { place < length self.old.ins }
-        ensures ok { OnOk result ((post : PostIs) → IsPlaced (outline setup.now) post self.old
-            → HasProcessed (outline setup.now) post place self.old self.new) }
+        ensures ok { OnOk result ((who : WorkerOfJob) → IsPlaced (setup_view setup.now) who self.old
+            → HasProcessed (setup_view setup.now) who place self.old self.new) }
         ensures err { OnErr result (MemoryOnly self.old self.new) }
     {
         let Some(func) = setup.func_in(self.node, self.in_force) else {

@@ -11,8 +11,8 @@ use std::sync::Wait;
 use std::thread::Threads;
 use tuple_trace::{Bytes, NoMemory, Row, Rows, Value};
 
-/// Two sources, a split into as many pieces as there may be, `counted` with eight workers, and a replicate whose eight ways meet in a sink. The
-/// map on the first way has these steps.
+/// Two sources, a split into as many pieces as there may be, `counted` with eight workers, and a
+/// replicate whose eight ways meet in a sink. The map on the first way has these steps.
 fn wide(alloc: Global, counted: &str, steps: &str) -> Result<String, NoMemory> {
     Ok(format!(in alloc;
         r#"
@@ -207,8 +207,8 @@ fn count_in(alerts: &str, lines: &str) -> Option<usize> {
     }
 }
 
-/// Rows that are sent through a job by themselves: the first ones through the old job or the new one,
-/// and the others through the new one.
+/// Rows that are sent through a job by themselves: the first ones through the old job or the new
+/// one, and the others through the new one.
 #[derive(Clone, Copy)]
 pub struct ByThemselves<'a> {
     old: &'a str,
@@ -290,8 +290,8 @@ fn prints<'a>(alerts: Wanted<'a>, out: &'a str) -> Left<'a> {
     }
 }
 
-/// Whether `run` of the wide job prints this, and its alerts are those of its rows by themselves. The
-/// new job has this step in the map on the first way.
+/// Whether `run` of the wide job prints this, and its alerts are those of its rows by themselves.
+/// The new job has this step in the map on the first way.
 fn wide_agrees<R>(
     rt: &R,
     alloc: Global,

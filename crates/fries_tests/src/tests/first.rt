@@ -139,8 +139,8 @@ fn payment_faults(rt: HostRuntime) {
     }
 }
 
-/// A call of the shelf that is refused, and what is left then. Call 0 reads the payments, call 1 makes
-/// the alerts, and each later one appends 16 bytes.
+/// A call of the shelf that is refused, and what is left then. Call 0 reads the payments, call 1
+/// makes the alerts, and each later one appends 16 bytes.
 const REFUSED_CALLS: [(u64, u8, Wanted<'static>, &str, Ran<'static>); 3] = [
     (0, 5, Wanted::Nothing, "fault 5 payments\n", Ran::Nothing),
     (1, 6, Wanted::Nothing, "fault 6 alerts\n", Ran::Something),

@@ -75,7 +75,8 @@ fn largest_make(rt: HostRuntime) {
     }
 }
 
-/// Runs of rows that are made, by one thread or by more, and what they print. The numbers of alerts were counted by another program.
+/// Runs of rows that are made, by one thread or by more, and what they print. The numbers of alerts
+/// were counted by another program.
 const MADE: [(&str, &str); 7] = [
     ("make chain 7 0", "rows 0 alerts 0 requests 0 refused 0\n"),
     (

@@ -47,7 +47,8 @@ change = [
     assert!(rt; plan_leaves(&rt, rt.alloc(), THREE_MAPS, requests, Left::lines(0, line)));
 }
 
-/// A split, a filter behind it whose two ways lead over a map each, and a map where they meet again.
+/// A split, a filter behind it whose two ways lead over a map each, and a map where they meet
+/// again.
 const SPLIT_ABOVE: &str = r#"
 columns = ["tags:text"]
 node = [
@@ -261,8 +262,8 @@ fn missing_requests(rt: HostRuntime) {
     assert!(rt; leaves(&rt, rt.alloc(), &Around::of(&files), PLAN, &left));
 }
 
-/// Requests that give `big` another kind, of which the last but one is accepted, one that changes a sink, one that changes nothing, and one that
-/// waits for an earlier row than the accepted one.
+/// Requests that give `big` another kind, of which the last but one is accepted, one that changes a
+/// sink, one that changes nothing, and one that waits for an earlier row than the accepted one.
 const CHANGES: &str = r#"
 [[request]]
 after = 0

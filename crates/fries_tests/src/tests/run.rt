@@ -260,8 +260,8 @@ fn sixth_call_fails(rt: HostRuntime) {
 }
 
 /// A call of the shelf that fails, the status and the line of the fault, and how many bytes of the
-/// alerts and of the audit are stored then, if they were made. Without a payment these have 38 and 84
-/// bytes, and an append takes 16. The last call isn't made.
+/// alerts and of the audit are stored then, if they were made. Without a payment these have 38 and
+/// 84 bytes, and an append takes 16. The last call isn't made.
 const FAILING: [(u64, u8, &str, Option<usize>, Option<usize>); 15] = [
     (0, 5, "fault 5 job\n", None, None),
     (1, 5, "fault 5 requests\n", None, None),

@@ -56,7 +56,8 @@ alerts,2,b,m,100.00,
 alerts,4,d,m,120.00,
 ";
 
-/// Payments from two sources: rated by a table, parted by their amount, and counted for each account.
+/// Payments from two sources: rated by a table, parted by their amount, and counted for each
+/// account.
 pub const PAYMENTS: &str = r#"columns = ["account:text", "merchant:text", "amount:cents",
            "risk:number:own", "seen:number:own"]
 

@@ -98,7 +98,8 @@ fn empty_words(rt: HostRuntime) {
     }
 }
 
-/// Numbers outside their limits, options without a number, and options that stand twice or before the command.
+/// Numbers outside their limits, options without a number, and options that stand twice or before
+/// the command.
 const FAULTY_OPTIONS: [&str; 20] = [
     "run j r p alerts.csv audit.csv --threads 0",
     "run j r p alerts.csv audit.csv --threads=0",

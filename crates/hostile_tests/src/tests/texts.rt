@@ -56,7 +56,8 @@ met,alerts,0,1,4,
 ended,alerts,0,1,,
 ";
 
-/// Payments from two sources: rated by a table, parted by their amount, and counted for each account.
+/// Payments from two sources: rated by a table, parted by their amount, and counted for each
+/// account.
 pub const PAYMENTS: &str = r#"columns = ["account:text", "merchant:text", "amount:cents",
            "risk:number:own", "seen:number:own"]
 

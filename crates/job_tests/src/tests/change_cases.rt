@@ -3,7 +3,8 @@ use versions::QFault;
 /// The changes of a request, and the fault for which it is refused.
 type Case = (&'static str, Option<QFault>);
 
-/// Four requests of a change each. The third is a second change of version 0, and the fourth is for an earlier row than the second.
+/// Four requests of a change each. The third is a second change of version 0, and the fourth is for
+/// an earlier row than the second.
 pub const FOUR: &str = r#"[[request]]
 after = 5
 [[request.change]]

@@ -20,7 +20,8 @@ pub const CASES: &[(&str, Answer)] = &[
         "[[edge]]\nfrom = \"x\"\nto = \"in\"\n",
         Err(JobFault::Ports(0)),
     ),
-    // A filter with no edge out, with one on port 1, with two on one port, and with both to one node.
+    // A filter with no edge out, with one on port 1, with two on one port, and with both to one
+    // node.
     ("", Err(JobFault::Ports(1))),
     (
         "[[edge]]\nfrom = \"x\"\nto = \"out\"\nport = 1\n",

@@ -7,8 +7,8 @@ use sink_journal::{Entry, Feed, Feeds, Journal, Journals, Noted, States, audit_t
 use std::alloc::Global;
 use tuple_trace::{Bytes, NoMemory, Tuple, Txt};
 
-/// A source, a count of two workers and a sink. The lanes 0 and 1 lead to the count, and 2 and 3 from
-/// it to the sink.
+/// A source, a count of two workers and a sink. The lanes 0 and 1 lead to the count, and 2 and 3
+/// from it to the sink.
 const COUNT: &str = r#"
 columns = ["account:text", "seen:number:own"]
 node = [

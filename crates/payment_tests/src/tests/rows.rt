@@ -144,7 +144,8 @@ fn payments_of_every_form(rt: HostRuntime) {
     assert!(rt; all_answered(rt.alloc(), WHO_AND_SUM, FORMS.as_slice()));
 }
 
-/// A cell, and what it is read as in a column of numbers and of cents: the field, or `x` for a fault.
+/// A cell, and what it is read as in a column of numbers and of cents: the field, or `x` for a
+/// fault.
 const SPELLINGS: &str = "12 12 1200
 12.5 x 1250
 12.50 x 1250

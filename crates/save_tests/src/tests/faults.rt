@@ -2,7 +2,8 @@
 
 use crate::tests::{Around, Input, Left, leaves};
 
-/// A count, and all rows at one sink. One lane leads to each worker, so no schedule changes an audit.
+/// A count, and all rows at one sink. One lane leads to each worker, so no schedule changes an
+/// audit.
 const CHAIN: Input<'static> = Input {
     job: r#"columns = ["account:text", "seen:number:own"]
 node = [

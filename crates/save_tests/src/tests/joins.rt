@@ -26,8 +26,8 @@ const BOTH: [[&str; 2]; 2] = [
 /// How many records the audit of ten payments has, with its header and without the refused request.
 const RECORDS: usize = 70;
 
-/// What no schedule changes of that audit: the feed, and the workers with one lane in that no request
-/// covers.
+/// What no schedule changes of that audit: the feed, and the workers with one lane in that no
+/// request covers.
 const STEADY: &str = "entry,node,worker,lane,number,extra
 fed,,,,1,
 fed,,,,2,

@@ -1,7 +1,8 @@
 //! The stages that random jobs are made of.
 
-/// A stage of a job. In its texts `#` is the number of the stage, `<` that of the stage before it, `%`
-/// a number of workers, and `*` a digit. Tuples enter it by an edge from `e<`, and leave it at `e#`.
+/// A stage of a job. In its texts `#` is the number of the stage, `<` that of the stage before it,
+/// `%` a number of workers, and `*` a digit. Tuples enter it by an edge from `e<`, and leave it at
+/// `e#`.
 pub struct Stage {
     /// Its nodes and edges.
     pub text: &'static str,
@@ -11,7 +12,8 @@ pub struct Stage {
     pub other: &'static str,
 }
 
-/// A source, and a count with one lane into each worker: what it counts doesn't depend on the schedule.
+/// A source, and a count with one lane into each worker: what it counts doesn't depend on the
+/// schedule.
 pub const HEAD: &str = r#"columns = ["n:number", "tags:text", "seen:number:own", "late:number:own"]
 [[node]]
 name = "a"

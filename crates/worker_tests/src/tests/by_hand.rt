@@ -1,6 +1,6 @@
 // Workers that are driven turn by turn.
 ghost use Rattle.std.specs.Prelude.{◌≡◌, [], IfOk, OnOk};
-ghost use Rattle.flow_model.specs.Setup.{outline};
+ghost use Rattle.flow_model.specs.Setup.{setup_view};
 ghost use Rattle.flow_model.specs.Begin.{at_first};
 ghost use Rattle.flow_worker.specs.Worker.{IsWorker};
 ghost use Rattle.worker_tests.specs.Crews.{AreWorkers};
@@ -44,7 +44,8 @@ from = "big"
 to = "out"
 "#;
 
-/// One request changes both filters: `some` is its head, and the edge from `some` to `big` is covered.
+/// One request changes both filters: `some` is its head, and the edge from `some` to `big` is
+/// covered.
 const REQUESTS: &str = r#"
 [[request]]
 after = 3
@@ -158,8 +159,8 @@ fn take_step<L: Lanes, G: Gate>(
     gate: &G,
     step: Step,
 ) -> Result<bool, NoMemory>
-    requires { AreWorkers (outline setup.now) driven.old.workers.items }
-    ensures { OnOk result (AreWorkers (outline setup.now) driven.new.workers.items) }
+    requires { AreWorkers (setup_view setup.now) driven.old.workers.items }
+    ensures { OnOk result (AreWorkers (setup_view setup.now) driven.new.workers.items) }
 {
     match step {
         Step::Feed(row, cents, has_room) => {
@@ -167,7 +168,7 @@ fn take_step<L: Lanes, G: Gate>(
             Ok(driven.fed.feed(&mut driven.need, tuple) == has_room)
         }
         Step::End(has_room) => Ok(driven.fed.end(&mut driven.need) == has_room),
-        Step::Post(worker, is_ready) => Ok(post_at(&mut driven.controls, worker) == is_ready),
+        Step::Post(worker, is_ready) => Ok(nth_worker(&mut driven.controls, worker) == is_ready),
         Step::Turn(worker, outcome) => {
             if worker >= driven.workers.len() {
                 return Ok(false);
@@ -177,7 +178,7 @@ fn take_step<L: Lanes, G: Gate>(
     }
 }
 
-fn post_at(controls: &mut [Control], worker: usize) -> bool {
+fn nth_worker(controls: &mut [Control], worker: usize) -> bool {
     match controls.get_mut(worker) {
         Some(control) => control.post(),
         None => false,
@@ -192,8 +193,8 @@ fn first_wrong<L: Lanes, G: Gate>(
     gate: &G,
     script: &[Step],
 ) -> Result<Option<usize>, NoMemory>
-    requires { AreWorkers (outline setup.now) driven.old.workers.items }
-    ensures { OnOk result (AreWorkers (outline setup.now) driven.new.workers.items) }
+    requires { AreWorkers (setup_view setup.now) driven.old.workers.items }
+    ensures { OnOk result (AreWorkers (setup_view setup.now) driven.new.workers.items) }
 {
     for (place, step) in script.iter().enumerate() {
         if !take_step(alloc, driven, setup, gate, *step)? {
@@ -209,7 +210,7 @@ fn finish_one<L: Lanes, G: Gate>(
     setup: &Setup,
     gate: &G,
 ) -> Option<Opened>
-    requires { IsWorker (outline setup.now) (at_first (outline setup.now)) worker }
+    requires { IsWorker (setup_view setup.now) (at_first (setup_view setup.now)) worker }
 {
     match worker.turn(need, setup, gate) {
         Turn::Done => {
@@ -246,7 +247,7 @@ fn leaves_journal<L: Lanes, G: Gate>(
     gate: &G,
     wanted: &[(char, u64)],
 ) -> bool
-    requires { IsWorker (outline setup.now) (at_first (outline setup.now)) worker }
+    requires { IsWorker (setup_view setup.now) (at_first (setup_view setup.now)) worker }
 {
     match finish_one(worker, need, setup, gate) {
         Some(opened) => is_journal(&opened.journal, wanted),
@@ -261,7 +262,7 @@ fn leave_journals<L: Lanes, G: Gate>(
     setup: &Setup,
     gate: &G,
 ) -> bool
-    requires { AreWorkers (outline setup.now) workers.items }
+    requires { AreWorkers (setup_view setup.now) workers.items }
 {
     let mut seen = 0usize;
     let mut same = true;

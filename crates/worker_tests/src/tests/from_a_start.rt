@@ -1,11 +1,11 @@
 // A worker that is made where a run goes on.
 ghost use Rattle.std.specs.Prelude.{◌≡◌, ◌≤◌, [], IfOk, length};
-ghost use Rattle.jobs.specs.Job.{written};
+ghost use Rattle.jobs.specs.Job.{job_view};
 ghost use Rattle.coordinator.specs.Starts.{AreNewOuts};
 ghost use Rattle.coordinator.specs.Views.{outs_of};
 ghost use Rattle.flow_model.specs.Begin.{Begin};
-ghost use Rattle.flow_model.specs.Setup.{outline};
-ghost use Rattle.flow_model.specs.Workers.{posts};
+ghost use Rattle.flow_model.specs.Setup.{setup_view};
+ghost use Rattle.flow_model.specs.Workers.{workers_in};
 ghost use Rattle.flow_worker.specs.Worker.{IsWorker};
 
 use super::by_hand::is_journal;
@@ -97,7 +97,7 @@ fn is_fed<L: Lanes>(
     outs: Vec<L::Tx>,
     need: &mut L::Need,
 ) -> Result<bool, NoMemory>
-    requires { AreNewOuts (written setup.now.job) (outs_of L.Tx.lane L.Tx.number L.Tx.origin
+    requires { AreNewOuts (job_view setup.now.job) (outs_of L.Tx.lane L.Tx.number L.Tx.origin
         L.Tx.capacity L.Tx.sent L.Tx.full outs.items) }
 {
     let tuple = row_3(alloc)?;
@@ -109,7 +109,7 @@ fn is_fed<L: Lanes>(
 
 // Lets a worker take turns until it is done, twelve at most.
 fn finished<L: Lanes>(worker: Worker<L>, need: &mut L::Need, setup: &Setup) -> Option<Opened>
-    requires { (begin : Begin) × IsWorker (outline setup.now) begin worker }
+    requires { (begin : Begin) × IsWorker (setup_view setup.now) begin worker }
 {
     let mut worker = worker;
     for _turn in 0..12 {
@@ -132,8 +132,8 @@ fn goes_on<L: Lanes>(
     setup: &Setup,
     start: &Start,
 ) -> Result<bool, NoMemory>
-    requires turned { start.now.turned ≤ length (outline setup.now).requests }
-    requires states { length start.now.states ≡ length (posts (outline setup.now).job) }
+    requires turned { start.now.turned ≤ length (setup_view setup.now).requests }
+    requires states { length start.now.states ≡ length (workers_in (setup_view setup.now).job) }
 {
     let Crew {
         mut workers,

@@ -1,5 +1,5 @@
 use Rattle.std.proofs.Common.{◌≡◌, ◌≤◌, List, length}
-use Rattle.jobs.specs.Job.{written}
+use Rattle.jobs.specs.Job.{job_view}
 use Rattle.audit_laws.specs.declared.audit.Line.{Line}
 use Rattle.audit_laws.specs.Fits.{records_of}
 use Rattle.audit_laws.specs.Lines.{refusals_in}
@@ -9,8 +9,8 @@ use Rattle.audit_check.proofs.feed.check_feed.Given as goal
 
 abbrev pub invariant-loop : goal.invariant-loop
 invariant-loop l =
-    ((lines : List Line) → AreInShape (written l.setup.job) (records_of l.bytes) lines → AfterLines (written l.setup.job) lines l.records l.counter) × (l.counter ≤ length l.refused)
+    ((lines : List Line) → AreInShape (job_view l.setup.job) (records_of l.bytes) lines → AfterLines (job_view l.setup.job) lines l.records l.counter) × (l.counter ≤ length l.refused)
 
 abbrev pub invariant-loop-place : goal.invariant-loop-place
 invariant-loop-place l =
-    (lines : List Line) → AreInShape (written l.setup.job) (records_of l.bytes) lines → refusals_in lines ≡ l.refused → AfterSteps (written l.setup.job) lines l.records l.wanted l.place
+    (lines : List Line) → AreInShape (job_view l.setup.job) (records_of l.bytes) lines → refusals_in lines ≡ l.refused → AfterSteps (job_view l.setup.job) lines l.records l.wanted l.place

@@ -1,5 +1,5 @@
 use Rattle.std.proofs.Common.{arith}
-use Rattle.jobs.specs.Job.{written}
+use Rattle.jobs.specs.Job.{job_view}
 use Rattle.flow_model.proofs.WorkerLemmas.{item_at}
 use Rattle.audit_laws.specs.Fits.{records_of}
 use Rattle.audit_check.proofs.RefusedLemmas.{none_past, other_refused, refused_as_wanted, refused_done, refused_missing}
@@ -16,7 +16,7 @@ returns-in_default-clause-fault c rows =
       k,
       s.1,
       omega arith,
-      refused_missing (written job) job.lawful (records_of c.args.bytes.now) s.0 s.1 c.args.refused.now k c.loop-place.records at (rw c.in_default.is at c.in_ok-found.ensures.none) w.0 w.1,
+      refused_missing (job_view job) job.lawful (records_of c.args.bytes.now) s.0 s.1 c.args.refused.now k c.loop-place.records at (rw c.in_default.is at c.in_ok-found.ensures.none) w.0 w.1,
     )
 
 pub returns-then-not-is_at-clause-fault : goal.returns-then-not-is_at-clause-fault
@@ -30,7 +30,7 @@ returns-then-not-is_at-clause-fault c rows =
       k,
       s.1,
       omega arith,
-      other_refused (written job) job.lawful (records_of c.args.bytes.now) s.0 s.1 c.args.refused.now k c.loop-place.records at c.next_refused.new.records c.in-Some.found some.0 some.1
+      other_refused (job_view job) job.lawful (records_of c.args.bytes.now) s.0 s.1 c.args.refused.now k c.loop-place.records at c.next_refused.new.records c.in-Some.found some.0 some.1
           (λ w. let yes = c.is_at.ensures.1 w in let no = c.if-not-is_at.true in absurd (cc)),
     )
 
@@ -47,7 +47,7 @@ returns-in-Some-2-clause-fault c rows =
       k,
       s.1,
       omega arith,
-      other_refused (written job) job.lawful (records_of c.args.bytes.now) s.0 s.1 c.args.refused.now k c.loop-place.records at c.next_refused-2.new.records c.in-Some-2.field-0 some.0 some.1
+      other_refused (job_view job) job.lawful (records_of c.args.bytes.now) s.0 s.1 c.args.refused.now k c.loop-place.records at c.next_refused-2.new.records c.in-Some-2.field-0 some.0 some.1
           (none_past c.args.refused.now k c.in-Some-2.field-0 le),
     )
 
@@ -55,7 +55,7 @@ pub returns-clause-ok : goal.returns-clause-ok
 returns-clause-ok c lines s =
     let job = c.args.setup.now.job in
     let at = c.loop-place.invariant lines s in
-    refused_done (written job) job.lawful (records_of c.args.bytes.now) lines s c.args.refused.now c.loop-place.place c.loop-place.records at (rw c.in-None.is at c.in_ok-next_refused.ensures.none) c.loop-place-test.false
+    refused_done (job_view job) job.lawful (records_of c.args.bytes.now) lines s c.args.refused.now c.loop-place.place c.loop-place.records at (rw c.in-None.is at c.in_ok-next_refused.ensures.none) c.loop-place-test.false
 
 pub loop-place-preserved : goal.loop-place-preserved
 loop-place-preserved c lines s =
@@ -63,5 +63,5 @@ loop-place-preserved c lines s =
     let at = c.loop-place.invariant lines s in
     let some = rw c.in-Some.is at c.in_ok-found.ensures.some in
     let yes = c.if-not-is_at.false in
-    refused_as_wanted (written job) job.lawful (records_of c.args.bytes.now) lines s c.args.refused.now c.loop-place.place c.loop-place.records at c.next_refused.new.records c.in-Some.found some.0 some.1
+    refused_as_wanted (job_view job) job.lawful (records_of c.args.bytes.now) lines s c.args.refused.now c.loop-place.place c.loop-place.records at c.next_refused.new.records c.in-Some.found some.0 some.1
     (c.is_at.ensures.0 yes) c.loop-place-test.true

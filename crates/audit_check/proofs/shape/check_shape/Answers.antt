@@ -1,6 +1,6 @@
 use Rattle.std.proofs.Common.{◌<◌, ◌≤◌, ◌+◌, inr, subst, sym}
 use Rattle.csv.specs.Records.{fields_of}
-use Rattle.jobs.specs.Job.{written}
+use Rattle.jobs.specs.Job.{job_view}
 use Rattle.audit_laws.specs.Fits.{records_of}
 use Rattle.audit_check.specs.Reading.{AreRead}
 use Rattle.audit_check.proofs.ReadingLemmas.{no_such_line, one_more, out_of_order}
@@ -8,7 +8,7 @@ use Rattle.audit_check.proofs.shape.check_shape.Goals as goal
 
 pub returns-in_default-clause-fault : goal.returns-in_default-clause-fault
 returns-in_default-clause-fault c refused rows =
-    let job = written c.args.setup.now.job in
+    let job = job_view c.args.setup.now.job in
     let records = records_of c.args.bytes.now in
     let n = c.loop-number.number in
     let first = rw c.if-not-branch-2.false at c.in_ok-next-2.ensures in
@@ -17,7 +17,7 @@ returns-in_default-clause-fault c refused rows =
 
 pub returns-then-next-group-clause-fault : goal.returns-then-next-group-clause-fault
 returns-then-next-group-clause-fault c refused rows =
-    let job = written c.args.setup.now.job in
+    let job = job_view c.args.setup.now.job in
     let records = records_of c.args.bytes.now in
     let n = c.loop-number.number in
     let first = rw c.if-not-branch-2.false at c.in_ok-next-2.ensures in
@@ -28,7 +28,7 @@ returns-then-next-group-clause-fault c refused rows =
 
 pub loop-number-preserved : goal.loop-number-preserved
 loop-number-preserved c =
-    let job = written c.args.setup.now.job in
+    let job = job_view c.args.setup.now.job in
     let records = records_of c.args.bytes.now in
     let n = c.loop-number.number in
     let first = rw c.if-not-branch-2.false at c.in_ok-next-2.ensures in

@@ -3,13 +3,13 @@ use Rattle.sink_journal.specs.declared.journal.Feed.{Feed}
 use Rattle.tuple_trace.specs.declared.row.Row.{Row}
 use Rattle.flow_model.specs.Feeding.{feed_after, issued_after}
 use Rattle.flow_model.specs.Requests.{afters}
-use Rattle.flow_model.specs.Setup.{outline}
+use Rattle.flow_model.specs.Setup.{setup_view}
 use Rattle.audit_check.proofs.StepLemmas.{feed_goes_on}
 use Rattle.audit_check.proofs.steps.feed_of_rows.Goals as goal
 
 pub loop-row-preserved : goal.loop-row-preserved
 loop-row-preserved c =
-    let waits = afters (outline c.args.setup.now).requests in
+    let waits = afters (setup_view c.args.setup.now).requests in
     let n = length c.args.rows.now in
     let row = c.loop-row.row in
     let count : length c.as_slice.result.now ≡ n = ap (λ (l : List Row). length l) c.as_slice.ensures.value in

@@ -1,9 +1,9 @@
 use Rattle.std.proofs.Common.{◌∙◌, sym}
-use Rattle.flow_model.specs.Setup.{outline}
+use Rattle.flow_model.specs.Setup.{setup_view}
 use Rattle.audit_laws.proofs.VerdictLemmas.{fits_lines}
 use Rattle.audit_laws.proofs.laws.runs_fit_their_lines.Goals as goal
 
 pub returns : goal.returns
 returns c rows refused text ran is =
-    let e = fits_lines (outline c.args.setup.now) rows refused ran is in
+    let e = fits_lines (setup_view c.args.setup.now) rows refused ran is in
     ((λ h. h ∙ sym e), (λ h. h ∙ e))

@@ -1,10 +1,10 @@
 use Rattle.std.proofs.Common.{◌∙◌, List, ap, map, refl, subst}
 use Rattle.std.specs.FinMap.{entries}
-use Rattle.jobs.specs.Job.{written}
+use Rattle.jobs.specs.Job.{job_view}
 use Rattle.sink_journal.specs.declared.journal.Feed.{Feed}
 use Rattle.tuple_trace.specs.Rows.{AreRows}
-use Rattle.flow_model.specs.Outline.{Outline}
-use Rattle.flow_model.specs.Setup.{outline}
+use Rattle.flow_model.specs.SetupView.{SetupView}
+use Rattle.flow_model.specs.Setup.{setup_view}
 use Rattle.flow_model.proofs.JobLemmas.{wired}
 use Rattle.audit_laws.specs.Brought.{feed_of}
 use Rattle.audit_laws.specs.Fits.{records_of}
@@ -21,8 +21,8 @@ returns c refused text ran fault noted is fits some stands =
     let are : AreRows rows = subst AreRows c.as_slice-numbered.ensures.value c.as_slice-numbered.ensures.rows in
     let job = c.args.setup.now.job in
     let form = c.lines_of_runs_have_form.ensures refused ran noted is in
-    let p = by_parts (outline c.args.setup.now) rows ran is in
-    let shaped : AreInShape (outline c.args.setup.now).job (records_of text) (lines_of refused (feed_of (outline c.args.setup.now) rows) (map trimmed ran.journals) (map entries ran.states)) =
-    subst (λ (feeds : List Feed). AreInShape (outline c.args.setup.now).job (records_of text) (lines_of refused feeds (map trimmed ran.journals) (map entries ran.states)))
-    (is.run.feed ∙ ap (λ (s : Outline). feed_of s rows) is.setup_is) (in_shape (outline c.args.setup.now) rows refused text ran is fits form) in
-    no_text_fault (outline c.args.setup.now) job.dag (wired (written job) job.dag job.lawful refl job.drawn) job.lawful refl job.drawn rows are refused (records_of text) ran.journals ran.states p.1 shaped fault some stands
+    let p = by_parts (setup_view c.args.setup.now) rows ran is in
+    let shaped : AreInShape (setup_view c.args.setup.now).job (records_of text) (lines_of refused (feed_of (setup_view c.args.setup.now) rows) (map trimmed ran.journals) (map entries ran.states)) =
+    subst (λ (feeds : List Feed). AreInShape (setup_view c.args.setup.now).job (records_of text) (lines_of refused feeds (map trimmed ran.journals) (map entries ran.states)))
+    (is.run.feed ∙ ap (λ (s : SetupView). feed_of s rows) is.setup_is) (in_shape (setup_view c.args.setup.now) rows refused text ran is fits form) in
+    no_text_fault (setup_view c.args.setup.now) job.dag (wired (job_view job) job.dag job.lawful refl job.drawn) job.lawful refl job.drawn rows are refused (records_of text) ran.journals ran.states p.1 shaped fault some stands

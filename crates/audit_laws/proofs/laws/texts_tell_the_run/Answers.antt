@@ -1,8 +1,8 @@
 use Rattle.std.proofs.Common.{◌∙◌, ap, length, refl}
-use Rattle.jobs.specs.Job.{written}
-use Rattle.flow_model.specs.Outline.{Outline}
-use Rattle.flow_model.specs.Setup.{outline}
-use Rattle.flow_model.specs.Workers.{posts}
+use Rattle.jobs.specs.Job.{job_view}
+use Rattle.flow_model.specs.SetupView.{SetupView}
+use Rattle.flow_model.specs.Setup.{setup_view}
+use Rattle.flow_model.specs.Workers.{workers_in}
 use Rattle.flow_model.proofs.JobLemmas.{wired}
 use Rattle.audit_laws.specs.Fits.{records_of}
 use Rattle.audit_laws.proofs.OneRunLemmas.{one_run}
@@ -15,8 +15,8 @@ returns c refused text a b noted x y p q =
     let v = c.lines_of_runs_have_form.ensures refused a noted x in
     let w = c.lines_of_runs_have_form.ensures refused b noted y in
     let job = c.args.setup.now.job in
-    let here : Outline = outline c.args.setup.now in
-    one_run here (wired (written job) job.dag job.lawful refl job.drawn) rows a b x y (
+    let here : SetupView = setup_view c.args.setup.now in
+    one_run here (wired (job_view job) job.dag job.lawful refl job.drawn) rows a b x y (
     same_trims here job.lawful refused (records_of text) a.feeds b.feeds a.journals b.journals a.states b.states
-    (x.run.one_journal_each ∙ ap (λ (s : Outline). length (posts s.job)) x.setup_is) (x.run.one_state_each ∙ ap (λ (s : Outline). length (posts s.job)) x.setup_is)
-    (y.run.one_journal_each ∙ ap (λ (s : Outline). length (posts s.job)) y.setup_is) (y.run.one_state_each ∙ ap (λ (s : Outline). length (posts s.job)) y.setup_is) (in_shape here rows refused text a x p v) (in_shape here rows refused text b y q w))
+    (x.run.one_journal_each ∙ ap (λ (s : SetupView). length (workers_in s.job)) x.setup_is) (x.run.one_state_each ∙ ap (λ (s : SetupView). length (workers_in s.job)) x.setup_is)
+    (y.run.one_journal_each ∙ ap (λ (s : SetupView). length (workers_in s.job)) y.setup_is) (y.run.one_state_each ∙ ap (λ (s : SetupView). length (workers_in s.job)) y.setup_is) (in_shape here rows refused text a x p v) (in_shape here rows refused text b y q w))

@@ -1,6 +1,6 @@
 use Rattle.std.proofs.Common.{ap, rules}
 use Rattle.std.proofs.lemmas.Result.{IfOk-weaker}
-use Rattle.jobs.specs.Job.{written}
+use Rattle.jobs.specs.Job.{job_view}
 use Rattle.flow_model.specs.declared.record.RunRecord.{RunRecord}
 use Rattle.savepoint.proofs.PartsLemmas.{counted_le}
 use Rattle.call_steps.proofs.RunLemmas.{run_so}
@@ -12,15 +12,15 @@ first_of-part-requires g c = rw c.issued_up_to-turned.ensures (counted_le _ _ _)
 
 pub run_flow-requires-clause-rows : goal.run_flow-requires-clause-rows
 run_flow-requires-clause-rows g c =
-    let sources = first_sources c.min-row.result (written c.args.job) c.args.requests.now c.args.rows.now c.in_ok-first.first c.in_ok-setup.setup c.first_of-part.result
+    let sources = first_sources c.min-row.result (job_view c.args.job) c.args.requests.now c.args.rows.now c.in_ok-first.first c.in_ok-setup.setup c.first_of-part.result
     c.in_ok-setup.ensures c.first_of-part.ensures.job c.in_ok-first.ensures c.requires.sources in search rules
 
 pub returns-clause-run : goal.returns-clause-run
 returns-clause-run g c =
-    IfOk-weaker c.done_of.result _ _ (λ done of. first_part_of c.args.most c.min-row.result c.len-count.result c.issued_up_to-turned.result (written c.args.job) c.args.requests.now
+    IfOk-weaker c.done_of.result _ _ (λ done of. first_part_of c.args.most c.min-row.result c.len-count.result c.issued_up_to-turned.result (job_view c.args.job) c.args.requests.now
     c.args.rows.now c.in_ok-first.first c.in_ok-setup.setup c.first_of-part.result c.in_ok-flown.flown.setup c.in_ok-ran.ran done c.in_ok-setup.ensures c.len-count.ensures c.min-row.ensures
     c.issued_up_to-turned.ensures c.first_of-part.ensures.cut c.first_of-part.ensures.refused c.in_ok-first.ensures c.runs_are_consistent.ensures
-    (first_sources c.min-row.result (written c.args.job) c.args.requests.now c.args.rows.now c.in_ok-first.first c.in_ok-setup.setup c.first_of-part.result
+    (first_sources c.min-row.result (job_view c.args.job) c.args.requests.now c.args.rows.now c.in_ok-first.first c.in_ok-setup.setup c.first_of-part.result
     c.in_ok-setup.ensures c.first_of-part.ensures.job c.in_ok-first.ensures c.requires.sources)
     (ap (λ (r : RunRecord). r.setup) c.in_ok-ran.ensures) c.in_ok-flown.ensures.setup
     (run_so c.first_of-part.result c.in_ok-flown.flown.setup c.in_ok-first.first c.in_ok-flown.flown.feeds c.in_ok-flown.flown.crew.items c.in_ok-ran.ran

@@ -1,8 +1,8 @@
 use Rattle.std.proofs.Common.{◌≡◌, ◌∙◌, ◌++◌, ◌∷◌, [], ℕ, List, ap, arith, length, length-append, subst, sym}
 use Rattle.std.specs.Vec.Iter.{into_iter_items}
 use Rattle.control_box.specs.Ends.{PosterIs}
-use Rattle.flow_model.specs.Setup.{outline}
-use Rattle.flow_model.proofs.SizeLemmas.{posts-few}
+use Rattle.flow_model.specs.Setup.{setup_view}
+use Rattle.flow_model.proofs.SizeLemmas.{workers-few}
 use Rattle.flow_worker.specs.Parts.{AreNewEndpoints, EndpointIs, endpoints}
 use Rattle.flow_worker.specs.Worker.{IsWorker, WorkerIs}
 use Rattle.flow_ends.specs.Sides.{SideIs, worker_side}
@@ -11,13 +11,13 @@ use Rattle.flow_ends.proofs.crew.make_workers.Goals as goal
 
 pub overflow_cast-number : goal.overflow_cast-number
 overflow_cast-number g c =
-    let few = posts-few (outline c.args.setup.now).job c.args.setup.now.job.lawful in
+    let few = workers-few (setup_view c.args.setup.now).job c.args.setup.now.job.lawful in
     let long = next_side c.loop-side.workers.items c.args.sides.items (into_iter_items c.loop-side.side-iterator) (into_iter_items c.next.new.self) c.in-Some.side c.loop-side.invariant.sides c.in-Some.ensures.steps.0 in
     omega (arith, few, c.requires.many, long.0, c.len-number.ensures, c.loop-side.workers.ok.0)
 
 pub make_from-requires-clause-ends : goal.make_from-requires-clause-ends
 make_from-requires-clause-ends g c κs within =
-    let job = (outline c.args.setup.now).job in
+    let job = (setup_view c.args.setup.now).job in
     let workers = c.loop-side.workers.items in
     let number : c.len-number.result ≡ length workers = c.len-number.ensures ∙ c.loop-side.workers.ok.0 in
     let at = next_side workers c.args.sides.items _ (into_iter_items c.next.new.self) c.in-Some.side c.loop-side.invariant.sides c.in-Some.ensures.steps.0 in
@@ -30,7 +30,7 @@ make_from-requires-clause-ends g c κs within =
 
 pub loop-side-preserved : goal.loop-side-preserved
 loop-side-preserved g c =
-    let setup = outline c.args.setup.now in
+    let setup = setup_view c.args.setup.now in
     let workers = c.loop-side.workers.items in
     let posters = c.loop-side.posters.items in
     let its = into_iter_items c.loop-side.side-iterator in

@@ -1,7 +1,7 @@
 use Rattle.std.proofs.Common.{◌≡◌, ◌++◌, ℕ, [], map, length, Some, slice_get}
 use Rattle.std.specs.Vec.Iter.{into_iter_items, into_iter_len}
 use Rattle.control_box.specs.Ends.{PosterIs}
-use Rattle.flow_model.specs.Setup.{outline}
+use Rattle.flow_model.specs.Setup.{setup_view}
 use Rattle.flow_worker.specs.Worker.{IsWorker, WorkerIs}
 use Rattle.flow_ends.specs.Sides.{worker_side}
 use Rattle.flow_ends.proofs.crew.make_workers.Given as goal
@@ -16,7 +16,7 @@ invariant-loop-side g l = record {
   sides : map worker_side l.workers.items ++ into_iter_items l.side-iterator ≡ l.fn.sides.items;
   made :
       (w : ℕ) (worker : WorkerIs) → slice_get l.workers.items w ≡ Some worker →
-      (worker.number ≡ w) × IsWorker (outline l.setup) l.start worker;
+      (worker.number ≡ w) × IsWorker (setup_view l.setup) l.start worker;
   boxes : length l.posters.items ≡ length l.workers.items;
   unused :
       (w : ℕ) (p : PosterIs) → slice_get l.posters.items w ≡ Some p → (p.posted ≡ 0) × (p.loads ≡ []);

@@ -1,4 +1,4 @@
-use Rattle.flow_model.specs.Setup.{outline}
+use Rattle.flow_model.specs.Setup.{setup_view}
 use Rattle.flow_ends.proofs.Ending.{run_so}
 use Rattle.flow_ends.proofs.Having.{have_so, matched_so, room_in, room_out}
 use Rattle.flow_ends.proofs.Making.{fed_ends}
@@ -13,7 +13,7 @@ finish_all-requires-clause-room_out g c κs within = let o = c.requires.over in 
 pub settle_all-requires-clause-lanes : goal.settle_all-requires-clause-lanes
 settle_all-requires-clause-lanes g c κs within =
     let o = c.requires.over in
-    have_so o.0 o.1 o.2 c.args.workers.items _ _ o.4 (outline c.args.setup.now).job c.in_ok-workers.sides.items _ o.3 c.in_ok-workers.ensures.sides
+    have_so o.0 o.1 o.2 c.args.workers.items _ _ o.4 (setup_view c.args.setup.now).job c.in_ok-workers.sides.items _ o.3 c.in_ok-workers.ensures.sides
     (fed_ends g.L.Tx.Tx.lane g.L.Tx.Tx.number g.L.Tx.Tx.origin g.L.Tx.Tx.capacity g.L.Tx.Tx.sent g.L.Tx.Tx.full c.args.feeder.outs.items)
 
 pub settle_all-requires-clause-matched : goal.settle_all-requires-clause-matched
@@ -24,6 +24,6 @@ settle_all-requires-clause-matched g c κs within =
 
 pub returns-clause-run : goal.returns-clause-run
 returns-clause-run g c ran begin rows job over =
-    run_so ran begin rows c.args.workers.items _ _ over (outline c.args.setup.now).job c.in_ok-workers.sides.items _ c.in_ok-workers.workers.items job c.in_ok-workers.ensures.sides
+    run_so ran begin rows c.args.workers.items _ _ over (setup_view c.args.setup.now).job c.in_ok-workers.sides.items _ c.in_ok-workers.workers.items job c.in_ok-workers.ensures.sides
     (fed_ends g.L.Tx.Tx.lane g.L.Tx.Tx.number g.L.Tx.Tx.origin g.L.Tx.Tx.capacity g.L.Tx.Tx.sent g.L.Tx.Tx.full c.args.feeder.outs.items)
     c.in_ok-workers.ensures.workers c.in_ok-settle_all.ensures

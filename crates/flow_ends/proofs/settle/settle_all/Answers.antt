@@ -2,8 +2,8 @@ use Rattle.std.proofs.Common.{◌≡◌, ◌∙◌, ◌<◌, ◌+◌, ◌-◌, �
 use Rattle.std.proofs.lemmas.List.{with_items_is}
 use Rattle.std.specs.Prelude.{IfSome}
 use Rattle.std.specs.Vec.{with_items}
-use Rattle.flow_model.specs.Setup.{outline}
-use Rattle.flow_model.specs.Workers.{posts}
+use Rattle.flow_model.specs.Setup.{setup_view}
+use Rattle.flow_model.specs.Workers.{workers_in}
 use Rattle.flow_model.specs.declared.topology.Topology.{Topology}
 use Rattle.flow_model.proofs.SizeLemmas.{lanes-few}
 use Rattle.flow_worker.specs.Parts.{EndpointIs, endpoints}
@@ -14,14 +14,14 @@ use Rattle.flow_ends.proofs.settle.settle_all.Goals as goal
 
 pub overflow_cast-number : goal.overflow_cast-number
 overflow_cast-number g c =
-    let few = lanes-few (outline c.args.setup.now).job c.args.setup.now.job.lawful in
+    let few = lanes-few (setup_view c.args.setup.now).job c.args.setup.now.job.lawful in
     let all = ap (λ (t : Topology). length t.lanes) c.args.setup.now.topology_is in
     omega (arith, few, c.len-number.ensures, all)
 
 pub loop-number-init : goal.loop-number-init
 loop-number-init g c =
     let all = ap (λ (t : Topology). length t.lanes) c.args.setup.now.topology_is in
-    settling_first (outline c.args.setup.now).job c.args.sides.items
+    settling_first (setup_view c.args.setup.now).job c.args.sides.items
     (endpoints g.L.Tx.Tx.lane g.L.Tx.Tx.number g.L.Tx.Tx.origin g.L.Tx.Tx.sent c.args.feeder.items)
     c.len-number.result (omega (arith, all, c.len-number.ensures)) c.requires.lanes
 
@@ -30,13 +30,13 @@ lane-lane-requires g c = omega (arith, c.loop-number.invariant.within, c.loop-nu
 
 pub take_out-requires-after_bounds : goal.take_out-requires-after_bounds
 take_out-requires-after_bounds g c κs up =
-    let job = (outline c.args.setup.now).job in
-    let long : length c.deref_mut.result.now ≡ length (posts job) = ap (λ (xs : List SideIs). length xs) c.deref_mut.ensures.value ∙ c.loop-number.invariant.sorted.many in
+    let job = (setup_view c.args.setup.now).job in
+    let long : length c.deref_mut.result.now ≡ length (workers_in job) = ap (λ (xs : List SideIs). length xs) c.deref_mut.ensures.value ∙ c.loop-number.invariant.sorted.many in
     subst (λ (n : ℕ). IfSome c.lane-lane.result.sender (λ w. w < n)) (sym long) (lane_sender job (c.loop-number.number - 1) c.lane-lane.result c.lane-lane.ensures.lane)
 
 pub unreachable-requires : goal.unreachable-requires
 unreachable-requires g c =
-    let job = (outline c.args.setup.now).job in
+    let job = (setup_view c.args.setup.now).job in
     let ends : List g.row.L-Tx.Denot → List EndpointIs = λ ts. endpoints g.L.Tx.Tx.lane g.L.Tx.Tx.number g.L.Tx.Tx.origin g.L.Tx.Tx.sent ts in
     let all = c.args.sides.items in
     let fed = ends c.args.feeder.items in
@@ -51,7 +51,7 @@ unreachable-requires g c =
 
 pub unreachable-requires-in_default-take_in : goal.unreachable-requires-in_default-take_in
 unreachable-requires-in_default-take_in g c =
-    let job = (outline c.args.setup.now).job in
+    let job = (setup_view c.args.setup.now).job in
     let ends : List g.row.L-Tx.Denot → List EndpointIs = λ ts. endpoints g.L.Tx.Tx.lane g.L.Tx.Tx.number g.L.Tx.Tx.origin g.L.Tx.Tx.sent ts in
     let all = c.args.sides.items in
     let fed = ends c.args.feeder.items in
@@ -74,7 +74,7 @@ unreachable-requires-in_default-take_in g c =
 
 pub settle-requires : goal.settle-requires
 settle-requires g c =
-    let job = (outline c.args.setup.now).job in
+    let job = (setup_view c.args.setup.now).job in
     let ends : List g.row.L-Tx.Denot → List EndpointIs = λ ts. endpoints g.L.Tx.Tx.lane g.L.Tx.Tx.number g.L.Tx.Tx.origin g.L.Tx.Tx.sent ts in
     let all = c.args.sides.items in
     let fed = ends c.args.feeder.items in
@@ -100,7 +100,7 @@ settle-requires g c =
 
 pub loop-number-preserved : goal.loop-number-preserved
 loop-number-preserved g c =
-    let job = (outline c.args.setup.now).job in
+    let job = (setup_view c.args.setup.now).job in
     let ends : List g.row.L-Tx.Denot → List EndpointIs = λ ts. endpoints g.L.Tx.Tx.lane g.L.Tx.Tx.number g.L.Tx.Tx.origin g.L.Tx.Tx.sent ts in
     let all = c.args.sides.items in
     let fed = ends c.args.feeder.items in

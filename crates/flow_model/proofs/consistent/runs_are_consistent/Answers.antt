@@ -1,6 +1,6 @@
 use Rattle.std.proofs.Common.{subst}
 use Rattle.flow_model.specs.OneTable.{HasNoCounts}
-use Rattle.flow_model.specs.Outline.{Outline}
+use Rattle.flow_model.specs.SetupView.{SetupView}
 use Rattle.flow_model.proofs.consistent.runs_are_consistent.Goals as goal
 
 pub returns : goal.returns
@@ -9,5 +9,5 @@ returns c ran run sources = record {
   once = c.runs_are_whole.ensures.once ran run;
   fresh = c.runs_are_fresh.ensures.due ran run;
   fresh_before = c.runs_are_fresh.ensures.before ran run;
-  one_table = λ none. c.runs_are_one_table.ensures ran run (subst (λ (s : Outline). HasNoCounts s.job) run.setup_is none) sources;
+  one_table = λ none. c.runs_are_one_table.ensures ran run (subst (λ (s : SetupView). HasNoCounts s.job) run.setup_is none) sources;
 }

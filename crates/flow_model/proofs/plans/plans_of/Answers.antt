@@ -4,7 +4,7 @@ use Rattle.std.specs.List.{list_any}
 use Rattle.std.proofs.lemmas.List.{take_more}
 use Rattle.std.proofs.lemmas.Nat.{or_lt}
 use Rattle.flow_dag.specs.Masks.{Has}
-use Rattle.jobs.specs.Job.{written}
+use Rattle.jobs.specs.Job.{job_view}
 use Rattle.versions.specs.Book.{is_named}
 use Rattle.versions.specs.declared.request.Request.{Request}
 use Rattle.flow_model.specs.Planned.{copies_at, names_node}
@@ -40,8 +40,8 @@ loop-request-preserved c =
     subst (λ (b : Bool). Has (bit_or so_far changed) node ↔ IsTrue b) (sym (any_more (names_node node) (take i list) r))
     (either_has so_far changed node (list_any (names_node node) (take i list)) (names_node node r) (c.loop-request.invariant.has node) (own node)) in
     rw (more, c.in_ok-push.ensures.ok) record {
-      plans = ArePlansOf-push (written c.args.job.now) c.args.splits c.args.ordered (take i list) c.loop-request.plans r c.plan.result c.loop-request.invariant.plans
-          (IsPlanOf-plan (written c.args.job.now) c.args.splits c.copies-copies.result c.planned-asked.result (bit_or so_far changed) changed c.args.ordered (take i list) r c.plan.result
+      plans = ArePlansOf-push (job_view c.args.job.now) c.args.splits c.args.ordered (take i list) c.loop-request.plans r c.plan.result c.loop-request.invariant.plans
+          (IsPlanOf-plan (job_view c.args.job.now) c.args.splits c.copies-copies.result c.planned-asked.result (bit_or so_far changed) changed c.args.ordered (take i list) r c.plan.result
           copies c.plan.ensures.plan c.planned-asked.ensures all own);
       has = all;
       below = or_lt n so_far changed c.loop-request.invariant.below low;

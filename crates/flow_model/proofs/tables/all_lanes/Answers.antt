@@ -2,7 +2,7 @@ use Rattle.std.proofs.Common.{◌∙◌, ap}
 use Rattle.std.specs.List.{flat_map}
 use Rattle.std.specs.Prelude.{ℕ, List}
 use Rattle.flow_dag.specs.declared.edge.Edge.{Edge}
-use Rattle.jobs.specs.Job.{written}
+use Rattle.jobs.specs.Job.{job_view}
 use Rattle.flow_model.specs.Topology.{lanes_along}
 use Rattle.flow_model.proofs.TopologyLemmas.{edge_read, get-edge_read, lanes-next, take-all_edges}
 use Rattle.flow_model.proofs.tables.all_lanes.Goals as goal
@@ -16,10 +16,10 @@ loop-number-preserved c =
     let edges = c.all_edges-edge-items.result.now in
     let i = c.loop-number.number in
     let item = get-edge_read edges c.args.job.now.dag.edges i c.all_edges-edge-items.ensures.edges c.loop-number-test.true in
-    lanes-next (written c.args.job.now) i (edge_read edges i) c.loop-number.all c.push_edge.new.all item c.in_ok-push_edge.ensures c.loop-number.invariant
+    lanes-next (job_view c.args.job.now) i (edge_read edges i) c.loop-number.all c.push_edge.new.all item c.in_ok-push_edge.ensures c.loop-number.invariant
 
 pub returns : goal.returns
 returns c =
     c.loop-number.invariant
-    ∙ ap (λ (l : List (ℕ × Edge)). flat_map (lanes_along (written c.args.job.now)) l)
+    ∙ ap (λ (l : List (ℕ × Edge)). flat_map (lanes_along (job_view c.args.job.now)) l)
     (take-all_edges c.args.job.now.dag.edges c.loop-number.number (rw (← c.all_edges-edge-items.ensures.edges) c.loop-number-test.false))

@@ -1,13 +1,13 @@
 use Rattle.std.proofs.Common.{◌≡◌, ◌∙◌, Some, List, ap, arith, length, subst, sym}
 use Rattle.std.proofs.lemmas.Option.{slice_get-get_or}
 use Rattle.std.proofs.lemmas.Result.{IfOk-weaker}
-use Rattle.jobs.specs.Job.{written}
+use Rattle.jobs.specs.Job.{job_view}
 use Rattle.jobs.specs.Nodes.{AreFromSources, IsSourceOf}
 use Rattle.tuple_trace.specs.declared.row.Row.{Row}
 use Rattle.flow_model.specs.Consistent.{IsConsistent}
-use Rattle.flow_model.specs.Record.{told}
+use Rattle.flow_model.specs.Record.{record_view}
 use Rattle.flow_model.specs.Run.{IsRun}
-use Rattle.flow_model.specs.Setup.{outline}
+use Rattle.flow_model.specs.Setup.{setup_view}
 use Rattle.flow_model.specs.declared.record.RunRecord.{RunRecord}
 use Rattle.flow_model.specs.declared.setup.Setup.{Setup}
 use Rattle.flow_replay.specs.Order.{IsInOrder}
@@ -32,11 +32,11 @@ feed-requires c =
     let i = c.loop-place.place in
     let row = c.index-list-place.result in
     let sources =
-    subst (λ (rs : List Row). AreFromSources (written c.args.setup.job) rs)
+    subst (λ (rs : List Row). AreFromSources (job_view c.args.setup.job) rs)
     (sym c.as_slice-list.ensures.value) c.requires in
-    subst (λ (s : Setup). IsSourceOf (written s.job) row.source)
+    subst (λ (s : Setup). IsSourceOf (job_view s.job) row.source)
     (sym c.loop-place.invariant.same)
-    (subst (λ (r : Row). IsSourceOf (written c.args.setup.job) r.source)
+    (subst (λ (r : Row). IsSourceOf (job_view c.args.setup.job) r.source)
     (sym c.index-list-place.is) (sources i row c.loop-place-test.true))
 
 pub issue_up_to-requires-in-loop-place : goal.issue_up_to-requires-in-loop-place
@@ -70,12 +70,12 @@ returns-clause-run c =
     let rows = c.as_slice-list.result.now in
     let end : c.loop-place.place ≡ length rows =
     omega (arith, c.loop-place-test.false, c.loop-place.auto.place-end) in
-    IfOk-weaker c.finish.result (λ (ran : RunRecord). HasLeft c.loop-place.executor (told ran))
-    (λ (ran : RunRecord). IsRun (outline c.args.setup) c.args.rows.now (told ran))
+    IfOk-weaker c.finish.result (λ (ran : RunRecord). HasLeft c.loop-place.executor (record_view ran))
+    (λ (ran : RunRecord). IsRun (setup_view c.args.setup) c.args.rows.now (record_view ran))
     (λ (ran : RunRecord) left.
-    subst (λ (rs : List Row). IsRun (outline c.args.setup) rs (told ran))
+    subst (λ (rs : List Row). IsRun (setup_view c.args.setup) rs (record_view ran))
     c.as_slice-list.ensures.value
-    (is_run c.args.setup rows c.loop-place.place c.loop-place.executor (told ran) end
+    (is_run c.args.setup rows c.loop-place.place c.loop-place.executor (record_view ran) end
     c.loop-place.invariant left)) c.finish.ensures.left
 
 pub returns-clause-order : goal.returns-clause-order
@@ -83,11 +83,11 @@ returns-clause-order c =
     let rows = c.as_slice-list.result.now in
     let end : c.loop-place.place ≡ length rows =
     omega (arith, c.loop-place-test.false, c.loop-place.auto.place-end) in
-    IfOk-weaker c.finish.result (λ (ran : RunRecord). HasLeft c.loop-place.executor (told ran))
-    (λ (ran : RunRecord). IsInOrder (length c.args.rows.now) (told ran))
+    IfOk-weaker c.finish.result (λ (ran : RunRecord). HasLeft c.loop-place.executor (record_view ran))
+    (λ (ran : RunRecord). IsInOrder (length c.args.rows.now) (record_view ran))
     (λ (ran : RunRecord) left.
-    subst (λ (rs : List Row). IsInOrder (length rs) (told ran)) c.as_slice-list.ensures.value
-    (is_in_order c.args.setup rows c.loop-place.place c.loop-place.executor (told ran) end
+    subst (λ (rs : List Row). IsInOrder (length rs) (record_view ran)) c.as_slice-list.ensures.value
+    (is_in_order c.args.setup rows c.loop-place.place c.loop-place.executor (record_view ran) end
     c.loop-place.invariant left)) c.finish.ensures.left
 
 pub returns-clause-consistent : goal.returns-clause-consistent
@@ -95,11 +95,11 @@ returns-clause-consistent c =
     let rows = c.as_slice-list.result.now in
     let end : c.loop-place.place ≡ length rows =
     omega (arith, c.loop-place-test.false, c.loop-place.auto.place-end) in
-    IfOk-weaker c.finish.result (λ (ran : RunRecord). HasLeft c.loop-place.executor (told ran))
-    (λ (ran : RunRecord). IsConsistent c.args.rows.now (told ran))
+    IfOk-weaker c.finish.result (λ (ran : RunRecord). HasLeft c.loop-place.executor (record_view ran))
+    (λ (ran : RunRecord). IsConsistent c.args.rows.now (record_view ran))
     (λ (ran : RunRecord) left.
-    c.runs_are_consistent.ensures (told ran)
-    (subst (λ (rs : List Row). IsRun (outline c.args.setup) rs (told ran))
+    c.runs_are_consistent.ensures (record_view ran)
+    (subst (λ (rs : List Row). IsRun (setup_view c.args.setup) rs (record_view ran))
     c.as_slice-list.ensures.value
-    (is_run c.args.setup rows c.loop-place.place c.loop-place.executor (told ran) end
+    (is_run c.args.setup rows c.loop-place.place c.loop-place.executor (record_view ran) end
     c.loop-place.invariant left)) c.requires) c.finish.ensures.left

@@ -1,13 +1,13 @@
 use Rattle.std.proofs.Common.{◌<◌, ◌∙◌, get_or, length, ap, arith}
 use Rattle.std.proofs.lemmas.List.{length-set}
-use Rattle.flow_model.specs.Setup.{outline}
+use Rattle.flow_model.specs.Setup.{setup_view}
 use Rattle.flow_replay.specs.inner.Replays.{item_if, reaches}
 use Rattle.flow_replay.proofs.ListLemmas.{number_there, with_item-more}
 use Rattle.flow_replay.proofs.replaying.put_on.Goals as goal
 
 pub is_reached-requires : goal.is_reached-requires
 is_reached-requires c =
-    number_there (outline c.args.setup.now).job c.args.worker c.loop-place.place
+    number_there (setup_view c.args.setup.now).job c.args.worker c.loop-place.place
     c.lanes_out-number-items.result.now c.lanes_out-number-items.ensures c.loop-place-test.true
 
 pub loop-place-preserved : goal.loop-place-preserved
@@ -17,7 +17,7 @@ loop-place-preserved c = record {
       ∙ c.loop-place.invariant.long;
   gained =
       let i = c.loop-place.place in
-      let test = reaches (outline c.args.setup.now) c.args.sending.now.onto in
+      let test = reaches (setup_view c.args.setup.now) c.args.sending.now.onto in
       let inside : i < length c.loop-place.lists =
       omega (arith, c.loop-place-test.true, c.loop-place.invariant.long) in
       with_item-more test c.args.sending.now.item c.lanes_out-number-items.result.now

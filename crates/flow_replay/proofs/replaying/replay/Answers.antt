@@ -6,9 +6,9 @@ use Rattle.flow_model.specs.Lanes.{lanes_out}
 use Rattle.flow_model.specs.declared.topology.Lane.{Lane}
 use Rattle.flow_model.specs.declared.worker_state.WorkerState.{WorkerState}
 use Rattle.flow_model.specs.Replay.{sent}
-use Rattle.flow_model.specs.Setup.{outline}
-use Rattle.flow_model.specs.Workers.{post_at}
-use Rattle.flow_model.proofs.PostPlaces.{worker_at}
+use Rattle.flow_model.specs.Setup.{setup_view}
+use Rattle.flow_model.specs.Workers.{nth_worker}
+use Rattle.flow_model.proofs.WorkerPlaces.{worker_at}
 use Rattle.flow_replay.specs.Sent.{first_view}
 use Rattle.flow_replay.proofs.EntryLemmas.{ended_grows, replayed_more, replayed_none}
 use Rattle.flow_replay.proofs.ListLemmas.{length-out}
@@ -16,35 +16,35 @@ use Rattle.flow_replay.proofs.replaying.replay.Goals as goal
 
 pub loop-entry-init : goal.loop-entry-init
 loop-entry-init c =
-    let setup = outline c.args.setup.now in
+    let setup = setup_view c.args.setup.now in
     let w = c.args.worker in
-    let post = post_at setup.job w in
+    let who = nth_worker setup.job w in
     let number = (worker_at setup.job w c.requires).0 in
     let begun = c.in_ok-replay.ensures in
     let lists =
     begun.lists_are ∙ ap (λ (n : ℕ). replicate {A = List Item} n [])
     (length-out setup.job w ∙ ap (λ (n : ℕ). length (lanes_out setup.job n)) (sym number)) in
     record {
-      replayed = replayed_none setup post c.in_ok-replay.replay begun.state_is lists;
+      replayed = replayed_none setup who c.in_ok-replay.replay begun.state_is lists;
       ended = omega (arith, ap (λ (s : WorkerState). s.ended) begun.state_is);
     }
 
 pub enter-requires-clause-long : goal.enter-requires-clause-long
 enter-requires-clause-long c =
-    let setup = outline c.args.setup.now in
+    let setup = setup_view c.args.setup.now in
     let w = c.args.worker in
-    let post = post_at setup.job w in
+    let who = nth_worker setup.job w in
     let number = (worker_at setup.job w c.requires).0 in
     ap length c.loop-entry.invariant.replayed.lists
-    ∙ (length-map (lanes_out setup.job post.number) (λ (lane : Lane).
-    sent setup post (first_view setup post) lane
+    ∙ (length-map (lanes_out setup.job who.number) (λ (lane : Lane).
+    sent setup who (first_view setup who) lane
     (take c.loop-entry.entry-index c.as_slice-entry-items.result.now))
     ∙ (ap (λ (n : ℕ). length (lanes_out setup.job n)) number ∙ sym (length-out setup.job w)))
 
 pub loop-entry-preserved : goal.loop-entry-preserved
 loop-entry-preserved c =
-    let setup = outline c.args.setup.now in
-    let post = post_at setup.job c.args.worker in
+    let setup = setup_view c.args.setup.now in
+    let who = nth_worker setup.job c.args.worker in
     let items = c.as_slice-entry-items.result.now in
     let i = c.loop-entry.entry-index in
     let this : Entry = c.entry-item.result in
@@ -52,9 +52,9 @@ loop-entry-preserved c =
     take_more items i this c.loop-entry-test.true
     ∙ ap (λ (x : Entry). take i items ++ x ∷ []) (sym c.entry-item.is) in
     let grown =
-    ended_grows setup post this c.loop-entry.replay c.enter.new.self c.in_ok-enter.ensures in
+    ended_grows setup who this c.loop-entry.replay c.enter.new.self c.in_ok-enter.ensures in
     record {
-      replayed = rw more (replayed_more setup post (take i items) this c.loop-entry.replay
+      replayed = rw more (replayed_more setup who (take i items) this c.loop-entry.replay
           c.enter.new.self c.loop-entry.invariant.replayed c.in_ok-enter.ensures);
       ended = omega (arith, grown, c.loop-entry.invariant.ended);
     }

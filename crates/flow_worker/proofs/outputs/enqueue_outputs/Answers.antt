@@ -1,7 +1,7 @@
 use Rattle.std.proofs.Common.{◌≡◌, ◌∙◌, ℕ, ◌+◌, List, [], ◌∷◌, ◌++◌, Option, None, length, reverse, sym, ap, subst, arith}
 use Rattle.std.specs.Prelude.{MatchOption}
 use Rattle.std.proofs.lemmas.List.{nil_from_length, reverse-append, reverse-reverse}
-use Rattle.jobs.specs.Job.{written}
+use Rattle.jobs.specs.Job.{job_view}
 use Rattle.operators.specs.declared.output.Output.{Output}
 use Rattle.flow_worker.specs.Endpoints.{LaneOutIs}
 use Rattle.flow_worker.specs.Pairs.{EachPair}
@@ -21,46 +21,46 @@ pub loop-output-init : goal.loop-output-init
 loop-output-init g c =
     let same : reverse c.reverse.new.self.items ≡ c.args.made.now = ap reverse c.reverse.ensures.items ∙ (reverse-reverse c.into_vec-left.result.items ∙ (c.into_vec-left.ensures ∙ c.replace.ensures.value)) in
     record {
-      comes = λ post is. subst (λ (xs : List Output). EachPair (Comes (written c.args.job.now) post c.args.made.now xs) c.args.outs.now c.args.outs.now) (sym same) (comes_first (written c.args.job.now) post c.args.made.now c.args.outs.now c.requires.room);
+      comes = λ who is. subst (λ (xs : List Output). EachPair (Comes (job_view c.args.job.now) who c.args.made.now xs) c.args.outs.now c.args.outs.now) (sym same) (comes_first (job_view c.args.job.now) who c.args.made.now c.args.outs.now c.requires.room);
     }
 
 pub push_at-requires-clause-within : goal.push_at-requires-clause-within
 push_at-requires-clause-within g c κs up =
     let output = c.in-Some.output in
-    let l = place_within (written c.args.job.now) c.args.node c.args.job.now.lawful c.requires.post.0 c.args.outs.now c.requires.post.1 output.port output.tuple c.in-Some-place_of.place c.args.edges.now c.requires.edges (sym c.in-Some-place_of.ensures) in
-    omega (arith, l, same_long _ c.loop-output.outs c.args.outs.now (c.loop-output.invariant.comes c.requires.post.0 c.requires.post.1))
+    let l = place_within (job_view c.args.job.now) c.args.node c.args.job.now.lawful c.requires.who.0 c.args.outs.now c.requires.who.1 output.port output.tuple c.in-Some-place_of.place c.args.edges.now c.requires.edges (sym c.in-Some-place_of.ensures) in
+    omega (arith, l, same_long _ c.loop-output.outs c.args.outs.now (c.loop-output.invariant.comes c.requires.who.0 c.requires.who.1))
 
 pub push_at-requires-clause-room : goal.push_at-requires-clause-room
 push_at-requires-clause-room g c κs up d =
-    let job = written c.args.job.now in
+    let job = job_view c.args.job.now in
     let output = c.in-Some.output in
-    let post = c.requires.post.0 in
-    let l = place_within job c.args.node c.args.job.now.lawful post c.args.outs.now c.requires.post.1 output.port output.tuple c.in-Some-place_of.place c.args.edges.now c.requires.edges (sym c.in-Some-place_of.ensures) in
-    let r = comes_room job post c.args.made.now (reverse c.pop.new.self.items) output c.in-Some-place_of.place d c.args.outs.now c.loop-output.outs (omega (arith, l, same_long _ c.loop-output.outs c.args.outs.now (c.loop-output.invariant.comes c.requires.post.0 c.requires.post.1)))
-    (subst (λ (xs : List Output). EachPair (Comes job post c.args.made.now xs) c.args.outs.now c.loop-output.outs) (next_first c.loop-output.left.items c.pop.new.self.items c.in-Some.output c.in-Some.ensures.items) (c.loop-output.invariant.comes post c.requires.post.1)) in
+    let who = c.requires.who.0 in
+    let l = place_within job c.args.node c.args.job.now.lawful who c.args.outs.now c.requires.who.1 output.port output.tuple c.in-Some-place_of.place c.args.edges.now c.requires.edges (sym c.in-Some-place_of.ensures) in
+    let r = comes_room job who c.args.made.now (reverse c.pop.new.self.items) output c.in-Some-place_of.place d c.args.outs.now c.loop-output.outs (omega (arith, l, same_long _ c.loop-output.outs c.args.outs.now (c.loop-output.invariant.comes c.requires.who.0 c.requires.who.1)))
+    (subst (λ (xs : List Output). EachPair (Comes job who c.args.made.now xs) c.args.outs.now c.loop-output.outs) (next_first c.loop-output.left.items c.pop.new.self.items c.in-Some.output c.in-Some.ensures.items) (c.loop-output.invariant.comes who c.requires.who.1)) in
     omega (arith, r)
 
 pub loop-output-preserved-in-Some-place_of : goal.loop-output-preserved-in-Some-place_of
 loop-output-preserved-in-Some-place_of g c =
-    let job = written c.args.job.now in
+    let job = job_view c.args.job.now in
     let output = c.in-Some.output in
     record {
-      comes = λ post is.
-          let l = place_within job c.args.node c.args.job.now.lawful post c.args.outs.now is output.port output.tuple c.in-Some-place_of.place c.args.edges.now c.requires.edges (sym c.in-Some-place_of.ensures) in
-          subst (λ (xs : List LaneOutIs). EachPair (Comes job post c.args.made.now (reverse c.pop.new.self.items)) c.args.outs.now xs) (sym c.push_at.ensures.set_is)
-          (delivers job c.args.node c.args.job.now.lawful post c.args.outs.now is c.args.made.now (reverse c.pop.new.self.items) output c.in-Some-place_of.place c.args.edges.now c.push_at.ensures.at c.push_at.ensures.at c.loop-output.outs c.requires.edges (sym c.in-Some-place_of.ensures)
-          (omega (arith, l, same_long _ c.loop-output.outs c.args.outs.now (c.loop-output.invariant.comes c.requires.post.0 c.requires.post.1))) (c.push_at.ensures.at_is c.push_at.ensures.at)
-          (subst (λ (xs : List Output). EachPair (Comes job post c.args.made.now xs) c.args.outs.now c.loop-output.outs) (next_first c.loop-output.left.items c.pop.new.self.items c.in-Some.output c.in-Some.ensures.items) (c.loop-output.invariant.comes post is)));
+      comes = λ who is.
+          let l = place_within job c.args.node c.args.job.now.lawful who c.args.outs.now is output.port output.tuple c.in-Some-place_of.place c.args.edges.now c.requires.edges (sym c.in-Some-place_of.ensures) in
+          subst (λ (xs : List LaneOutIs). EachPair (Comes job who c.args.made.now (reverse c.pop.new.self.items)) c.args.outs.now xs) (sym c.push_at.ensures.set_is)
+          (delivers job c.args.node c.args.job.now.lawful who c.args.outs.now is c.args.made.now (reverse c.pop.new.self.items) output c.in-Some-place_of.place c.args.edges.now c.push_at.ensures.at c.push_at.ensures.at c.loop-output.outs c.requires.edges (sym c.in-Some-place_of.ensures)
+          (omega (arith, l, same_long _ c.loop-output.outs c.args.outs.now (c.loop-output.invariant.comes c.requires.who.0 c.requires.who.1))) (c.push_at.ensures.at_is c.push_at.ensures.at)
+          (subst (λ (xs : List Output). EachPair (Comes job who c.args.made.now xs) c.args.outs.now c.loop-output.outs) (next_first c.loop-output.left.items c.pop.new.self.items c.in-Some.output c.in-Some.ensures.items) (c.loop-output.invariant.comes who is)));
     }
 
 pub loop-output-preserved : goal.loop-output-preserved
 loop-output-preserved g c =
-    let job = written c.args.job.now in
+    let job = job_view c.args.job.now in
     let output = c.in-Some.output in
     record {
-      comes = λ post is.
-          drops job c.args.node c.args.job.now.lawful post c.args.outs.now is c.args.made.now (reverse c.pop.new.self.items) output c.args.edges.now c.loop-output.outs c.requires.edges (sym c.place_of.ensures ∙ c.in_default-place_of.is)
-          (subst (λ (xs : List Output). EachPair (Comes job post c.args.made.now xs) c.args.outs.now c.loop-output.outs) (next_first c.loop-output.left.items c.pop.new.self.items c.in-Some.output c.in-Some.ensures.items) (c.loop-output.invariant.comes post is));
+      comes = λ who is.
+          drops job c.args.node c.args.job.now.lawful who c.args.outs.now is c.args.made.now (reverse c.pop.new.self.items) output c.args.edges.now c.loop-output.outs c.requires.edges (sym c.place_of.ensures ∙ c.in_default-place_of.is)
+          (subst (λ (xs : List Output). EachPair (Comes job who c.args.made.now xs) c.args.outs.now c.loop-output.outs) (next_first c.loop-output.left.items c.pop.new.self.items c.in-Some.output c.in-Some.ensures.items) (c.loop-output.invariant.comes who is));
     }
 
 -- nothing is left, before the pop and after it
@@ -73,9 +73,9 @@ returns-clause-emptied g c =
     c.from_vec.ensures ∙ nil_from_length c.pop.new.self.items (omega (arith, n.1, c.pop.new.self.ok.0))
 
 pub returns-clause-outs : goal.returns-clause-outs
-returns-clause-outs g c post is =
-    let job = written c.args.job.now in
+returns-clause-outs g c who is =
+    let job = job_view c.args.job.now in
     let n = none_left c.pop.result _ _ c.in_default.is c.pop.ensures.cases in
     let none : c.loop-output.left.items ≡ [] = nil_from_length c.loop-output.left.items (omega (arith, n.0, c.loop-output.left.ok.0)) in
-    comes_last job post c.args.made.now c.args.outs.now c.loop-output.outs
-    (subst (λ (xs : List Output). EachPair (Comes job post c.args.made.now xs) c.args.outs.now c.loop-output.outs) (ap reverse none) (c.loop-output.invariant.comes post is))
+    comes_last job who c.args.made.now c.args.outs.now c.loop-output.outs
+    (subst (λ (xs : List Output). EachPair (Comes job who c.args.made.now xs) c.args.outs.now c.loop-output.outs) (ap reverse none) (c.loop-output.invariant.comes who is))

@@ -2,7 +2,7 @@ use Rattle.std.proofs.Common.{◌≡◌, ◌≤◌, ◌+◌, ◌++◌, drop, len
 use Rattle.std.specs.Vec.{vec_capacity}
 use Rattle.std.specs.Vec.Iter.{into_iter_items, into_iter_len}
 use Rattle.marker_align.specs.declared.held.Hand.TheVariants.{Empty}
-use Rattle.flow_model.specs.Setup.{outline}
+use Rattle.flow_model.specs.Setup.{setup_view}
 use Rattle.flow_worker.specs.Endpoints.{LaneInIs}
 use Rattle.flow_worker.specs.Pairs.{Each}
 use Rattle.flow_worker.specs.Parts.{EndpointIs, endpoint_in}
@@ -19,6 +19,6 @@ invariant-loop-end g l = record {
   ends : map endpoint_in l.ins.items ++ map {B = EndpointIs} (λ x. record { lane = g.L.Rx.Rx.lane x; number = g.L.Rx.Rx.number x; origin = g.L.Rx.Rx.origin x; items = g.L.Rx.Rx.taken x }) (into_iter_items l.end-iterator)
       ≡ map {B = EndpointIs} (λ x. record { lane = g.L.Rx.Rx.lane x; number = g.L.Rx.Rx.number x; origin = g.L.Rx.Rx.origin x; items = g.L.Rx.Rx.taken x }) l.fn.ends.items;
   numbers : map (λ x. g.L.Rx.Rx.number x) (into_iter_items l.end-iterator) ≡ drop (length l.ins.items) l.numbers;
-  on_lanes : Each (λ (a : LaneInIs). IsOnLane (outline l.setup).job a.number a.edge) l.ins.items;
+  on_lanes : Each (λ (a : LaneInIs). IsOnLane (setup_view l.setup).job a.number a.edge) l.ins.items;
   hands : Each (λ (a : LaneInIs). a.hand ≡ Empty) l.ins.items;
 }

@@ -1,6 +1,6 @@
 use Rattle.std.proofs.Common.{◌≡◌, ◌∙◌, ◌+◌, ◌++◌, ℕ, List, [], ◌∷◌, add-one, ap, arith, drop, length, length-append, map, refl, subst, sym, Some, slice_get}
 use Rattle.std.specs.Vec.Iter.{into_iter_items}
-use Rattle.flow_model.specs.Setup.{outline}
+use Rattle.flow_model.specs.Setup.{setup_view}
 use Rattle.flow_worker.specs.Endpoints.{LaneOutIs}
 use Rattle.flow_worker.specs.Parts.{EndpointIs, endpoint_out}
 use Rattle.flow_worker.specs.Worker.{IsOnLane}
@@ -9,7 +9,7 @@ use Rattle.flow_worker.proofs.parts.new_outs.Goals as goal
 
 pub loop-end-preserved : goal.loop-end-preserved
 loop-end-preserved g c =
-    let job = (outline c.args.setup.now).job in
+    let job = (setup_view c.args.setup.now).job in
     let inv = c.loop-end.invariant in
     let old = c.loop-end.outs.items in
     let new = c.push_reserved.new.self.items in

@@ -1,7 +1,7 @@
 use Rattle.std.proofs.Common.{◌≡◌, ◌≤◌, ◌+◌, ◌++◌, [], drop, length, map}
 use Rattle.std.specs.Vec.{vec_capacity}
 use Rattle.std.specs.Vec.Iter.{into_iter_items, into_iter_len}
-use Rattle.flow_model.specs.Setup.{outline}
+use Rattle.flow_model.specs.Setup.{setup_view}
 use Rattle.flow_worker.specs.Endpoints.{LaneOutIs}
 use Rattle.flow_worker.specs.Pairs.{Each}
 use Rattle.flow_worker.specs.Parts.{EndpointIs, endpoint_out}
@@ -18,6 +18,6 @@ invariant-loop-end g l = record {
   ends : map endpoint_out l.outs.items ++ map {B = EndpointIs} (λ x. record { lane = g.L.Tx.Tx.lane x; number = g.L.Tx.Tx.number x; origin = g.L.Tx.Tx.origin x; items = g.L.Tx.Tx.sent x }) (into_iter_items l.end-iterator)
       ≡ map {B = EndpointIs} (λ x. record { lane = g.L.Tx.Tx.lane x; number = g.L.Tx.Tx.number x; origin = g.L.Tx.Tx.origin x; items = g.L.Tx.Tx.sent x }) l.fn.ends.items;
   numbers : map (λ x. g.L.Tx.Tx.number x) (into_iter_items l.end-iterator) ≡ drop (length l.outs.items) l.numbers;
-  on_lanes : Each (λ (out : LaneOutIs). IsOnLane (outline l.setup).job out.number out.edge) l.outs.items;
+  on_lanes : Each (λ (out : LaneOutIs). IsOnLane (setup_view l.setup).job out.number out.edge) l.outs.items;
   waiting : Each (λ (out : LaneOutIs). out.waiting ≡ []) l.outs.items;
 }

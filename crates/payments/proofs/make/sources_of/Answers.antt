@@ -1,5 +1,5 @@
 use Rattle.std.proofs.Common.{◌≡◌, ◌∙◌, ◌≤◌, ◌<◌, get_or, length, sym, rules, true, false}
-use Rattle.jobs.specs.Job.{written}
+use Rattle.jobs.specs.Job.{job_view}
 use Rattle.jobs.specs.Nodes.{is_source}
 use Rattle.payments.proofs.MadeLemmas.{some_source, sources_from-end, sources_from-other, sources_from-source}
 use Rattle.payments.proofs.make.sources_of.Goals as goal
@@ -29,4 +29,4 @@ pub returns-clause-some : goal.returns-clause-some
 returns-clause-some c =
     let past : length c.args.job.now.nodes ≤ c.loop-node.node = search rules in
     let sources = sym (sources_from-end c.args.job.now.nodes c.loop-node.node c.loop-node.sources.items past) ∙ c.loop-node.invariant in
-    rw sources (some_source (written c.args.job.now) c.args.job.now.dag.nodes c.args.job.now.dag.order c.args.job.now.drawn c.args.job.now.dag.lawful c.args.job.now.lawful.ports)
+    rw sources (some_source (job_view c.args.job.now) c.args.job.now.dag.nodes c.args.job.now.dag.order c.args.job.now.drawn c.args.job.now.dag.lawful c.args.job.now.lawful.ports)

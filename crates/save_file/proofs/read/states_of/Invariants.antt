@@ -1,10 +1,10 @@
 use Rattle.std.proofs.Common.{◌≡◌, map, take}
-use Rattle.flow_model.specs.Setup.{outline}
-use Rattle.flow_model.specs.Workers.{posts}
+use Rattle.flow_model.specs.Setup.{setup_view}
+use Rattle.flow_model.specs.Workers.{workers_in}
 use Rattle.savepoint.specs.SaveReading.{counts_at}
 use Rattle.save_file.specs.Steps.{there}
 use Rattle.save_file.proofs.read.states_of.Given as goal
 
 abbrev pub invariant-loop-count : goal.invariant-loop-count
 invariant-loop-count l =
-    l.states.items ≡ map (counts_at (there (take l.count-index l.counts))) (posts (outline l.setup).job)
+    l.states.items ≡ map (counts_at (there (take l.count-index l.counts))) (workers_in (setup_view l.setup).job)

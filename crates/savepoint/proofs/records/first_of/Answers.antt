@@ -1,24 +1,24 @@
 use Rattle.std.proofs.Common.{List, subst, sym, take}
 use Rattle.std.proofs.Math.Logic.{∥∥₁_map}
 use Rattle.cover_planner.specs.declared.cover.Plan.{Plan}
-use Rattle.jobs.specs.Job.{written}
+use Rattle.jobs.specs.Job.{job_view}
 use Rattle.versions.specs.Judged.{AreAccepted}
 use Rattle.versions.specs.declared.request.Request.{Request}
-use Rattle.flow_model.specs.Outline.{outline_of}
+use Rattle.flow_model.specs.SetupView.{setup_view_of}
 use Rattle.flow_model.specs.Planned.{IsPlanned}
-use Rattle.flow_model.specs.Setup.{outline}
+use Rattle.flow_model.specs.Setup.{setup_view}
 use Rattle.savepoint.proofs.CutLemmas.{AreAccepted-take, IsPlanned-first_of}
 use Rattle.savepoint.proofs.records.first_of.Goals as goal
 
 pub invariant_of-result : goal.invariant_of-result
 invariant_of-result c =
     let setup = c.args.setup in
-    let job = written setup.job in
+    let job = job_view setup.job in
     record {
       topology_is = setup.topology_is;
       accepted = subst (λ (l : List Request). AreAccepted job l) (sym c.truncate.ensures) (AreAccepted-take job c.args.turned setup.judged.accepted setup.accepted);
       planned = ∥∥₁_map setup.planned (λ is.
-          subst (λ (plans : List Plan). IsPlanned (outline_of job c.truncate.new.self plans setup.splits setup.ordered)) (sym c.truncate-2.ensures)
-          (subst (λ (l : List Request). IsPlanned (outline_of job l (take c.args.turned setup.plans) setup.splits setup.ordered)) (sym c.truncate.ensures)
-          (IsPlanned-first_of (outline setup) c.args.turned is)));
+          subst (λ (plans : List Plan). IsPlanned (setup_view_of job c.truncate.new.self plans setup.splits setup.ordered)) (sym c.truncate-2.ensures)
+          (subst (λ (l : List Request). IsPlanned (setup_view_of job l (take c.args.turned setup.plans) setup.splits setup.ordered)) (sym c.truncate.ensures)
+          (IsPlanned-first_of (setup_view setup) c.args.turned is)));
     }

@@ -1,13 +1,13 @@
 use Rattle.std.proofs.Common.{◌≡◌, drop}
 use Rattle.std.specs.List.{list_any}
-use Rattle.flow_model.specs.Record.{told}
+use Rattle.flow_model.specs.Record.{record_view}
 use Rattle.flow_model.specs.Whole.{is_new}
-use Rattle.flow_model.specs.Workers.{posts}
+use Rattle.flow_model.specs.Workers.{workers_in}
 use Rattle.serial_order.specs.Places.{numbered}
 use Rattle.serial_order.proofs.NewLemmas.{is_new_at}
 use Rattle.serial_order.proofs.serial_rows.number_new.Given as goal
 
 abbrev pub invariant-loop-worker : goal.invariant-loop-worker
 invariant-loop-worker l =
-    numbered (λ row. list_any (is_new_at (told l.ran) l.request row) (drop l.worker (posts (told l.ran).setup.job))) l.request 1 l.numbers
-    ≡ numbered (is_new (told l.ran) l.request) l.request 1 l.fn.numbers
+    numbered (λ row. list_any (is_new_at (record_view l.ran) l.request row) (drop l.worker (workers_in (record_view l.ran).setup.job))) l.request 1 l.numbers
+    ≡ numbered (is_new (record_view l.ran) l.request) l.request 1 l.fn.numbers

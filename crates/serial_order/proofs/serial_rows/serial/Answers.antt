@@ -1,7 +1,7 @@
 use Rattle.std.proofs.Common.{◌≡◌, ◌∙◌, ◌+◌, List, ap, arith, length, map, replicate, suc, subst}
 use Rattle.tuple_trace.specs.Rows.{AreRows}
 use Rattle.tuple_trace.specs.declared.row.Row.{Row}
-use Rattle.flow_model.specs.Record.{told}
+use Rattle.flow_model.specs.Record.{record_view}
 use Rattle.flow_model.specs.Run.{Ran}
 use Rattle.flow_model.specs.Serial.{newest}
 use Rattle.flow_model.specs.Whole.{is_new}
@@ -15,7 +15,7 @@ loop-place-init c =
 
 pub loop-place-preserved : goal.loop-place-preserved
 loop-place-preserved c =
-    let ran : Ran = told c.args.ran.now in
+    let ran : Ran = record_view c.args.ran.now in
     let place = c.loop-place.place in
     let are : AreRows c.args.rows.now = subst AreRows c.as_slice-listed.ensures.value c.as_slice-listed.ensures.rows in
     let next : numbered (is_new ran (suc place)) (suc place) 1 (map (λ (row : Row). newest ran row.tuple.row place) c.args.rows.now) ≡ map (λ (row : Row). newest ran row.tuple.row (suc place)) c.args.rows.now =

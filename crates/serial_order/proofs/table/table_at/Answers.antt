@@ -2,15 +2,15 @@ use Rattle.std.proofs.Common.{◌≡◌, ◌∙◌, ◌≤◌, ◌+◌, ◌++◌
 use Rattle.std.proofs.lemmas.List.{append-nil, drop_all, drop_more}
 use Rattle.jobs.specs.declared.func.Func.{Func}
 use Rattle.jobs.specs.declared.func.NodeDef.{NodeDef}
-use Rattle.flow_model.specs.Outline.{Outline}
+use Rattle.flow_model.specs.SetupView.{SetupView}
 use Rattle.flow_model.specs.Serial.{func_of_node}
-use Rattle.flow_model.specs.Setup.{outline}
+use Rattle.flow_model.specs.Setup.{setup_view}
 use Rattle.serial_order.proofs.TableLemmas.{funcs-more, funcs_from, get-funcs}
 use Rattle.serial_order.proofs.table.table_at.Goals as goal
 
 pub loop-node-preserved : goal.loop-node-preserved
 loop-node-preserved c =
-    let setup : Outline = outline c.args.setup.now in
+    let setup : SetupView = setup_view c.args.setup.now in
     let nodes : List NodeDef = c.args.setup.now.job.nodes in
     let items : List NodeDef = c.as_slice-def-items.result.now in
     let node = c.loop-node.node in
@@ -23,7 +23,7 @@ loop-node-preserved c =
 
 pub returns : goal.returns
 returns c n =
-    let setup : Outline = outline c.args.setup.now in
+    let setup : SetupView = setup_view c.args.setup.now in
     let nodes : List NodeDef = c.args.setup.now.job.nodes in
     let node = c.loop-node.node in
     let table : List Func = c.loop-node.table in

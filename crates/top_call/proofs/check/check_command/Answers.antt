@@ -1,10 +1,10 @@
 use Rattle.std.proofs.Common.{inr, refl}
-use Rattle.jobs.specs.Job.{written}
+use Rattle.jobs.specs.Job.{job_view}
 use Rattle.top_call.proofs.check.check_command.Goals as goal
 
 pub returns-in-Ok : goal.returns-in-Ok
 returns-in-Ok g c = inr (record {
-  job = written c.in-Ok.job;
+  job = job_view c.in-Ok.job;
   of_file = c.in-Ok.ensures.job;
   lines = record {
     shelf = c.in-Ok.ensures.kept;

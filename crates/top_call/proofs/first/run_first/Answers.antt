@@ -1,6 +1,6 @@
 use Rattle.std.proofs.Common.{◌≡◌, ◌∷◌, [], false, rules, subst}
-use Rattle.jobs.specs.Job.{written}
-use Rattle.jobs.specs.Written.{Written}
+use Rattle.jobs.specs.Job.{job_view}
+use Rattle.jobs.specs.JobView.{JobView}
 use Rattle.jobs.specs.Nodes.{AreFromSources}
 use Rattle.tuple_trace.specs.Rows.{AreRows}
 use Rattle.command_line.specs.Asked.{first_asked}
@@ -18,11 +18,11 @@ returns-clause-run g c =
     let files = (g.S.Shelf.state c.args.shelf.now).files in
     let rows = c.in_ok-rows.rows in
     let done = c.in_ok-run_in_order.field-0 in
-    let job : written c.in_ok-job.job ≡ asked_job asked = search rules in
+    let job : job_view c.in_ok-job.job ≡ asked_job asked = search rules in
     let requests : c.in_ok-requests.requests ≡ first_request asked.after asked.least_after ∷ [] = search rules in
     let run : IsRunOf AreSame false (asked_job asked) (first_request asked.after asked.least_after ∷ []) rows done = rw (← job, ← requests) c.in_ok-run_in_order.ensures.run in
     first_runs asked files rows done
-    (subst (λ (w : Written). AreRowsOf files asked.payments w rows) job c.in_ok-rows.ensures.rows)
+    (subst (λ (w : JobView). AreRowsOf files asked.payments w rows) job c.in_ok-rows.ensures.rows)
     (subst AreRows c.rows.view_is c.rows.invariant)
-    (subst (λ (w : Written). AreFromSources w rows) job c.in_ok-rows.ensures.sources)
+    (subst (λ (w : JobView). AreFromSources w rows) job c.in_ok-rows.ensures.sources)
     run c.in_ok-run_in_order.ensures.order

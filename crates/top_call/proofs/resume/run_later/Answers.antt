@@ -1,7 +1,7 @@
 use Rattle.std.proofs.Common.{inl, inr}
 use Rattle.std.proofs.lemmas.Result.{err_from_is_err_and}
-use Rattle.jobs.specs.Job.{written}
-use Rattle.flow_model.specs.Setup.{outline}
+use Rattle.jobs.specs.Job.{job_view}
+use Rattle.flow_model.specs.Setup.{setup_view}
 use Rattle.call_steps.proofs.StartLemmas.{save_suits}
 use Rattle.top_call.proofs.resume.run_later.Goals as goal
 
@@ -9,21 +9,21 @@ pub returns-in_err-requests-clause-cause : goal.returns-in_err-requests-clause-c
 returns-in_err-requests-clause-cause g c =
     let unread = rw c.in_ok-job.ensures.kept at c.in_err-requests.ensures.cause in
     let fault = err_from_is_err_and c.from_residual-in_err-requests.result c.from_residual-in_err-requests.ensures.1 in
-    rw (fault.1, fault.2) (inl (inl (inr (written c.in_ok-job.job, c.in_ok-job.ensures.job, unread))))
+    rw (fault.1, fault.2) (inl (inl (inr (job_view c.in_ok-job.job, c.in_ok-job.ensures.job, unread))))
 
 pub returns-in_err-rows-clause-cause : goal.returns-in_err-rows-clause-cause
 returns-in_err-rows-clause-cause g c =
     let of_requests = rw c.in_ok-job.ensures.kept at c.in_ok-requests.ensures.requests in
     let unread = rw (c.in_ok-requests.ensures.kept, c.in_ok-job.ensures.kept) at c.in_err-rows.ensures.cause in
     let fault = err_from_is_err_and c.from_residual-in_err-rows.result c.from_residual-in_err-rows.ensures.1 in
-    rw (fault.1, fault.2) (inl (inr (written c.in_ok-job.job, c.in_ok-requests.requests, c.in_ok-job.ensures.job, of_requests, unread)))
+    rw (fault.1, fault.2) (inl (inr (job_view c.in_ok-job.job, c.in_ok-requests.requests, c.in_ok-job.ensures.job, of_requests, unread)))
 
 pub returns-in_err-start-clause-cause : goal.returns-in_err-start-clause-cause
 returns-in_err-start-clause-cause g c =
     let unread = rw (c.len.ensures, c.in_ok-rows.ensures.kept, c.in_ok-requests.ensures.kept, c.in_ok-job.ensures.kept) at c.in_err-start.ensures.cause in
     let fault = err_from_is_err_and c.from_residual-in_err-start.result c.from_residual-in_err-start.ensures.1 in
     rw (fault.1, fault.2) (inr (record {
-      job = written c.in_ok-job.job;
+      job = job_view c.in_ok-job.job;
       requests = c.in_ok-requests.requests;
       rows = c.in_ok-rows.rows;
       setup = c.in_ok-setup.setup;
@@ -37,9 +37,9 @@ returns-in_err-start-clause-cause g c =
 pub run_later_part-requires-clause-turned : goal.run_later_part-requires-clause-turned
 run_later_part-requires-clause-turned g c κs within =
     let of = c.in_ok-start.ensures.start in
-    (save_suits (outline c.in_ok-setup.setup) _ of.bytes c.in_ok-start.start of.are_so).turned
+    (save_suits (setup_view c.in_ok-setup.setup) _ of.bytes c.in_ok-start.start of.are_so).turned
 
 pub run_later_part-requires-clause-states : goal.run_later_part-requires-clause-states
 run_later_part-requires-clause-states g c κs within =
     let of = c.in_ok-start.ensures.start in
-    (save_suits (outline c.in_ok-setup.setup) _ of.bytes c.in_ok-start.start of.are_so).states
+    (save_suits (setup_view c.in_ok-setup.setup) _ of.bytes c.in_ok-start.start of.are_so).states

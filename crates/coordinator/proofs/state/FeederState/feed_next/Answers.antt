@@ -4,14 +4,14 @@ use Rattle.sink_journal.specs.declared.journal.Feed.{Feed}
 use Rattle.sink_journal.specs.declared.journal.Feed.TheVariants.{Fed}
 use Rattle.tuple_trace.specs.declared.row.Row.{Row}
 use Rattle.tuple_trace.specs.declared.tuple.Tuple.{Tuple}
-use Rattle.flow_model.specs.Setup.{outline}
+use Rattle.flow_model.specs.Setup.{setup_view}
 use Rattle.coordinator.specs.Feeding.{IsFeeding}
 use Rattle.coordinator.proofs.Laying.{feed_idle, feed_moved, may_feed}
 use Rattle.coordinator.proofs.state.FeederState.feed_next.Goals as goal
 
 pub take_tuple-requires : goal.take_tuple-requires
 take_tuple-requires g c = λ t h.
-    let setup = outline c.args.setup.now in
+    let setup = setup_view c.args.setup.now in
     let row = c.index-as_slice-self.result in
     let same : c.self.inside.row ≡ c.args.self.now.row = ap (λ f. f.row) c.self.view_is in
     let lt : c.self.inside.row < length c.as_slice.result.now = omega (arith, same, c.requires.left, ap (λ (l : List Row). length l) c.as_slice.ensures.value) in
@@ -22,7 +22,7 @@ take_tuple-requires g c = λ t h.
 
 pub feed-requires-clause-steady : goal.feed-requires-clause-steady
 feed-requires-clause-steady g c = λ o h.
-    let setup = outline c.args.setup.now in
+    let setup = setup_view c.args.setup.now in
     let row = c.index-as_slice-self.result in
     let same : c.self.inside.row ≡ c.args.self.now.row = ap (λ f. f.row) c.self.view_is in
     let lt : c.self.inside.row < length c.as_slice.result.now = omega (arith, same, c.requires.left, ap (λ (l : List Row). length l) c.as_slice.ensures.value) in
@@ -35,7 +35,7 @@ feed-requires-clause-steady g c = λ o h.
 
 pub returns-in-Err : goal.returns-in-Err
 returns-in-Err g c =
-    let setup = outline c.args.setup.now in
+    let setup = setup_view c.args.setup.now in
     let row = c.index-as_slice-self.result in
     let same : c.self.inside.row ≡ c.args.self.now.row = ap (λ f. f.row) c.self.view_is in
     let lt : c.self.inside.row < length c.as_slice.result.now = omega (arith, same, c.requires.left, ap (λ (l : List Row). length l) c.as_slice.ensures.value) in
@@ -46,7 +46,7 @@ returns-in-Err g c =
 
 pub returns-in-Ok-feed : goal.returns-in-Ok-feed
 returns-in-Ok-feed g c =
-    let setup = outline c.args.setup.now in
+    let setup = setup_view c.args.setup.now in
     let row = c.index-as_slice-self.result in
     let same : c.self.inside.row ≡ c.args.self.now.row = ap (λ f. f.row) c.self.view_is in
     let lt : c.self.inside.row < length c.as_slice.result.now = omega (arith, same, c.requires.left, ap (λ (l : List Row). length l) c.as_slice.ensures.value) in

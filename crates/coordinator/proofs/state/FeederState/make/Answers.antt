@@ -3,7 +3,7 @@ use Rattle.std.specs.Prelude.{replicate}
 use Rattle.std.proofs.lemmas.List.{length-map}
 use Rattle.versions.specs.declared.request.Request.{Request}
 use Rattle.flow_model.specs.Requests.{afters}
-use Rattle.flow_model.specs.Setup.{outline}
+use Rattle.flow_model.specs.Setup.{setup_view}
 use Rattle.flow_model.specs.declared.topology.Lane.{Lane}
 use Rattle.flow_model.specs.declared.topology.Topology.{Topology}
 use Rattle.coordinator.specs.Feeding.{places_after}
@@ -17,7 +17,7 @@ use Rattle.coordinator.proofs.state.FeederState.make.Goals as goal
 
 pub returns-clause-law : goal.returns-clause-law
 returns-clause-law g c = λ begin rows a b.
-    let setup = outline c.args.setup.now in
+    let setup = setup_view c.args.setup.now in
     let few : c.args.turned ≤ length (afters setup.requests) = subst (λ n. c.args.turned ≤ n) (sym (length-map setup.requests (λ (request : Request). request.after))) c.requires.turned in
     is_feeder setup begin rows _
     (begins setup begin (afters setup.requests) rows c.new.result.items c.of-2.result _ c.in_ok-boxes.boxes c.args.posters.items c.in_ok-places.places.items c.args.row c.args.turned
@@ -26,8 +26,8 @@ returns-clause-law g c = λ begin rows a b.
 
 pub returns-clause-live : goal.returns-clause-live
 returns-clause-live g c = λ no_row none_turned.
-    let setup = outline c.args.setup.now in
-    let few : length (outline c.args.setup.now).requests ≡ length (afters setup.requests) = sym (length-map setup.requests (λ (request : Request). request.after)) in (
+    let setup = setup_view c.args.setup.now in
+    let few : length (setup_view c.args.setup.now).requests ≡ length (afters setup.requests) = sym (length-map setup.requests (λ (request : Request). request.after)) in (
       new_first c.new.result.items c.of-2.result c.in_ok-boxes.boxes c.in_ok-places.places.items c.args.row c.args.turned c.new.ensures.items no_row none_turned,
       λ loads rows. live_first setup rows loads c.new.result.items c.of-2.result c.in_ok-boxes.boxes c.in_ok-places.places.items c.args.row c.args.turned c.new.ensures.items no_row none_turned
           (begins setup (at_first setup) (replicate (length setup.requests) (length rows)) rows c.new.result.items c.of-2.result _ c.in_ok-boxes.boxes c.args.posters.items c.in_ok-places.places.items c.args.row c.args.turned

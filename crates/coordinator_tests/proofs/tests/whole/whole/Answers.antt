@@ -1,6 +1,6 @@
 use Rattle.std.proofs.Common.{refl}
 use Rattle.flow_model.specs.Begin.{at_first}
-use Rattle.flow_model.specs.Setup.{outline}
+use Rattle.flow_model.specs.Setup.{setup_view}
 use Rattle.coordinator_tests.proofs.Whole.{each_law, over}
 use Rattle.coordinator_tests.proofs.tests.whole.whole.Goals as goal
 
@@ -8,11 +8,11 @@ pub until_stopped-requires-clause-law : goal.until_stopped-requires-clause-law
 until_stopped-requires-clause-law g c κs within = c.in_ok-feeder.ensures.law c.args.rows.now
 
 pub all_done-requires-after_bounds : goal.all_done-requires-after_bounds
-all_done-requires-after_bounds g c κs within = each_law (outline c.args.setup.now) (at_first (outline c.args.setup.now)) c.in_ok-workers.field-0.workers.items c.in_ok-workers.ensures.workers
+all_done-requires-after_bounds g c κs within = each_law (setup_view c.args.setup.now) (at_first (setup_view c.args.setup.now)) c.in_ok-workers.field-0.workers.items c.in_ok-workers.ensures.workers
 
 pub end_run-requires-clause-over : goal.end_run-requires-clause-over
 end_run-requires-clause-over g c κs within =
-    let setup = outline c.args.setup.now in
+    let setup = setup_view c.args.setup.now in
     let made = c.in_ok-workers in
     let done = c.in-Some-all_done.ensures in (
       setup,
@@ -25,7 +25,7 @@ end_run-requires-clause-over g c κs within =
 
 pub returns : goal.returns
 returns g c =
-    let setup = outline c.args.setup.now in
+    let setup = setup_view c.args.setup.now in
     let made = c.in_ok-workers in
     let done = c.in-Some-all_done.ensures in
     c.in_ok-ended.ensures.run setup (at_first setup) c.args.rows.now refl

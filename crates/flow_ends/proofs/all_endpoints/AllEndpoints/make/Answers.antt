@@ -3,8 +3,8 @@ use Rattle.std.proofs.lemmas.List.{with_items_is}
 use Rattle.std.specs.Prelude.{IfSome}
 use Rattle.std.specs.Vec.{with_items}
 use Rattle.flow_model.specs.Lanes.{lanes}
-use Rattle.flow_model.specs.Setup.{outline}
-use Rattle.flow_model.specs.Workers.{posts}
+use Rattle.flow_model.specs.Setup.{setup_view}
+use Rattle.flow_model.specs.Workers.{workers_in}
 use Rattle.flow_model.specs.declared.topology.Topology.{Topology}
 use Rattle.flow_model.proofs.SizeLemmas.{lanes-few}
 use Rattle.flow_worker.specs.Parts.{EndpointIs, endpoints}
@@ -16,7 +16,7 @@ use Rattle.flow_ends.proofs.all_endpoints.AllEndpoints.make.Goals as goal
 
 pub overflow_cast-count : goal.overflow_cast-count
 overflow_cast-count g c =
-    let few = lanes-few (outline c.args.setup.now).job c.args.setup.now.job.lawful in
+    let few = lanes-few (setup_view c.args.setup.now).job c.args.setup.now.job.lawful in
     let all = ap (λ (t : Topology). length t.lanes) c.args.setup.now.topology_is in
     omega (arith, few, c.len-count.ensures, all)
 
@@ -27,18 +27,18 @@ lane-lane-requires g c =
 
 pub loop-number-init : goal.loop-number-init
 loop-number-init g c =
-    marked_first (outline c.args.setup.now).job c.graph-graph.result c.workers.result c.in_ok-workers.workers.items _ c.workers.ensures.value c.in_ok-workers.ensures
+    marked_first (setup_view c.args.setup.now).job c.graph-graph.result c.workers.result c.in_ok-workers.workers.items _ c.workers.ensures.value c.in_ok-workers.ensures
     (ap (λ ts. endpoints g.L.Tx.Tx.lane g.L.Tx.Tx.number g.L.Tx.Tx.origin g.L.Tx.Tx.sent ts) c.new-feeder.ensures.items)
 
 pub add_out-requires-after_bounds : goal.add_out-requires-after_bounds
 add_out-requires-after_bounds g c κs up =
-    let job = (outline c.args.setup.now).job in
-    let long : length c.deref_mut.result.now ≡ length (posts job) = ap (λ (xs : List SideIs). length xs) c.deref_mut.ensures.value ∙ c.loop-number.invariant.1.1.many in
+    let job = (setup_view c.args.setup.now).job in
+    let long : length c.deref_mut.result.now ≡ length (workers_in job) = ap (λ (xs : List SideIs). length xs) c.deref_mut.ensures.value ∙ c.loop-number.invariant.1.1.many in
     subst (λ (n : ℕ). IfSome c.lane-lane.result.sender (λ w. w < n)) (sym long) (lane_sender job c.loop-number.number c.lane-lane.result c.lane-lane.ensures.lane)
 
 pub loop-number-preserved : goal.loop-number-preserved
 loop-number-preserved g c =
-    let job = (outline c.args.setup.now).job in
+    let job = (setup_view c.args.setup.now).job in
     let graph = c.graph-graph.result in
     let i = c.loop-number.number in
     let lane = c.lane-lane.result in
@@ -66,7 +66,7 @@ loop-number-preserved g c =
 
 pub returns-clause-workers : goal.returns-clause-workers
 returns-clause-workers g c w side there =
-    let job = (outline c.args.setup.now).job in
+    let job = (setup_view c.args.setup.now).job in
     let all = ap (λ (t : Topology). length t.lanes) c.args.setup.now.topology_is in
     let le : length (lanes job) ≤ c.loop-number.number = omega (arith, c.len-count.ensures, all, c.loop-number-test.false) in
     let inv = c.loop-number.invariant in
@@ -74,7 +74,7 @@ returns-clause-workers g c w side there =
 
 pub returns-clause-feeder : goal.returns-clause-feeder
 returns-clause-feeder g c =
-    let job = (outline c.args.setup.now).job in
+    let job = (setup_view c.args.setup.now).job in
     let all = ap (λ (t : Topology). length t.lanes) c.args.setup.now.topology_is in
     let le : length (lanes job) ≤ c.loop-number.number = omega (arith, c.len-count.ensures, all, c.loop-number-test.false) in
     let inv = c.loop-number.invariant in
@@ -83,7 +83,7 @@ returns-clause-feeder g c =
 pub returns-clause-matched : goal.returns-clause-matched
 returns-clause-matched g c =
     let inv = c.loop-number.invariant in
-    marked_match (outline c.args.setup.now).job c.graph-graph.result c.loop-number.number inv.0 c.loop-number.workers.items _ inv.1
+    marked_match (setup_view c.args.setup.now).job c.graph-graph.result c.loop-number.number inv.0 c.loop-number.workers.items _ inv.1
 
 pub returns-clause-many : goal.returns-clause-many
 returns-clause-many g c = c.loop-number.invariant.1.1.many

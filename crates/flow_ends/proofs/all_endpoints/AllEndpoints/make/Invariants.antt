@@ -1,5 +1,5 @@
 use Rattle.std.proofs.Common.{List}
-use Rattle.flow_model.specs.Setup.{outline}
+use Rattle.flow_model.specs.Setup.{setup_view}
 use Rattle.lane_core.specs.Lane.{LaneId}
 use Rattle.flow_worker.specs.Parts.{endpoints}
 use Rattle.flow_ends.specs.Sorted.{AreMarked}
@@ -8,5 +8,5 @@ use Rattle.flow_ends.proofs.all_endpoints.AllEndpoints.make.Given as goal
 -- the endpoints of the lanes so far are sorted, and their lanes are those of a list
 abbrev pub invariant-loop-number : goal.invariant-loop-number
 invariant-loop-number g l =
-    (marks : List LaneId) × AreMarked (outline l.setup).job l.graph l.number marks l.workers.items
+    (marks : List LaneId) × AreMarked (setup_view l.setup).job l.graph l.number marks l.workers.items
     (endpoints g.L.Tx.Tx.lane g.L.Tx.Tx.number g.L.Tx.Tx.origin g.L.Tx.Tx.sent l.feeder.items)

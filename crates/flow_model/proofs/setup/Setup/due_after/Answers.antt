@@ -2,15 +2,15 @@ use Rattle.std.proofs.Common.{◌≡◌, ◌<◌, ◌∙◌, Some, List, get_or,
 use Rattle.std.proofs.lemmas.Option.{slice_get-get_or}
 use Rattle.cover_planner.specs.declared.cover.Plan.{Plan}
 use Rattle.flow_model.specs.Dues.{edges_in}
-use Rattle.flow_model.specs.Setup.{outline}
-use Rattle.flow_model.specs.Workers.{post_at}
+use Rattle.flow_model.specs.Setup.{setup_view}
+use Rattle.flow_model.specs.Workers.{nth_worker}
 use Rattle.flow_model.proofs.DueLemmas.{bit_told, due_here, dues_skip}
 use Rattle.flow_model.proofs.setup.Setup.due_after.Goals as goal
 
 pub returns-then-has_bit : goal.returns-then-has_bit
 returns-then-has_bit c =
-    let setup = outline c.args.self.now in
-    let node = (post_at setup.job c.args.worker).node in
+    let setup = setup_view c.args.self.now in
+    let node = (nth_worker setup.job c.args.worker).node in
     let plans : List Plan = c.as_slice-plans.result.now in
     let i = c.loop-place.place in
     let plan : Plan = get_or plans i _ in
@@ -23,8 +23,8 @@ returns-then-has_bit c =
 
 pub loop-place-preserved : goal.loop-place-preserved
 loop-place-preserved c =
-    let setup = outline c.args.self.now in
-    let node = (post_at setup.job c.args.worker).node in
+    let setup = setup_view c.args.self.now in
+    let node = (nth_worker setup.job c.args.worker).node in
     let plans : List Plan = c.as_slice-plans.result.now in
     let i = c.loop-place.place in
     let plan : Plan = get_or plans i _ in

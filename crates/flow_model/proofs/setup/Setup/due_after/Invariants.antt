@@ -1,9 +1,9 @@
 use Rattle.std.proofs.Common.{◌≡◌}
-use Rattle.flow_model.specs.Setup.{outline}
-use Rattle.flow_model.specs.Station.{dues_after}
-use Rattle.flow_model.specs.Workers.{post_at}
+use Rattle.flow_model.specs.Setup.{setup_view}
+use Rattle.flow_model.specs.Duties.{dues_after}
+use Rattle.flow_model.specs.Workers.{nth_worker}
 use Rattle.flow_model.proofs.setup.Setup.due_after.Given as goal
 
 abbrev pub invariant-loop-place : goal.invariant-loop-place
 invariant-loop-place l =
-    dues_after (outline l.self) l.last (post_at (outline l.self).job l.worker).node ≡ dues_after (outline l.self) l.place (post_at (outline l.self).job l.worker).node
+    dues_after (setup_view l.self) l.last (nth_worker (setup_view l.self).job l.worker).node ≡ dues_after (setup_view l.self) l.place (nth_worker (setup_view l.self).job l.worker).node

@@ -1,26 +1,26 @@
 use Rattle.std.proofs.Common.{◌∙◌, ◌+◌, ◌<◌, ℕ, ap, arith, sym, subst, take}
 use Rattle.std.specs.Prelude.{◌↔◌, IsTrue, length, slice_get}
-use Rattle.jobs.specs.Job.{written}
+use Rattle.jobs.specs.Job.{job_view}
 use Rattle.flow_dag.specs.Masks.{Has}
 use Rattle.flow_model.specs.Dues.{edges_in, is_on}
 use Rattle.flow_model.specs.declared.setup.Setup.{Setup}
 use Rattle.flow_model.specs.Lanes.{lanes_in}
-use Rattle.flow_model.specs.Workers.{post_at, posts}
+use Rattle.flow_model.specs.Workers.{nth_worker, workers_in}
 use Rattle.flow_model.proofs.DueLemmas.{bit_told, edge_at_place, number_within, places_more, places_same}
 use Rattle.flow_model.proofs.FewLanes.{few_lanes}
-use Rattle.flow_model.proofs.PostPlaces.{get-post_at}
+use Rattle.flow_model.proofs.WorkerPlaces.{get-nth_worker}
 use Rattle.flow_model.proofs.setup.Setup.places_on.Goals as goal
 use Rattle.flow_model.proofs.setup.Setup.places_on.Goals.{then-has_wide_bit, else-has_wide_bit}
 
-few : (setup : Setup) (worker : ℕ) → worker < length (posts (written setup.job)) → length (lanes_in (written setup.job) worker) < 128
+few : (setup : Setup) (worker : ℕ) → worker < length (workers_in (job_view setup.job)) → length (lanes_in (job_view setup.job) worker) < 128
 few setup worker lt =
-    let job = written setup.job in
-    let most = few_lanes job worker (post_at job worker) setup.job.lawful (get-post_at job worker lt) in
+    let job = job_view setup.job in
+    let most = few_lanes job worker (nth_worker job worker) setup.job.lawful (get-nth_worker job worker lt) in
     omega (arith, most)
 
 pub lane-requires : goal.lane-requires
 lane-requires c =
-    number_within (written c.args.self.now.job) c.args.worker c.loop-place.place c.lanes_in-number-items.result.now c.lanes_in-number-items.ensures c.loop-place-test.true
+    number_within (job_view c.args.self.now.job) c.args.worker c.loop-place.place c.lanes_in-number-items.result.now c.lanes_in-number-items.ensures c.loop-place-test.true
 
 pub overflow_cast-place : goal.overflow_cast-place
 overflow_cast-place c =
@@ -34,7 +34,7 @@ with_wide_bit-places-requires c =
 
 pub loop-place-preserved : goal.loop-place-preserved
 loop-place-preserved c =
-    let job = written c.args.self.now.job in
+    let job = job_view c.args.self.now.job in
     let i = c.loop-place.place in
     let all = edges_in job c.args.worker in
     let edge = edge_at_place job c.args.worker i c.lanes_in-number-items.result.now c.lane.result c.lanes_in-number-items.ensures c.loop-place-test.true c.lane.ensures.lane in

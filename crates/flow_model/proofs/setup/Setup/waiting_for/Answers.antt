@@ -1,11 +1,11 @@
 use Rattle.std.proofs.Common.{List, ap, arith, subst, sym}
 use Rattle.std.proofs.Math.Logic.{∥∥₁_map}
-use Rattle.jobs.specs.Job.{written}
+use Rattle.jobs.specs.Job.{job_view}
 use Rattle.versions.specs.Judged.{AreAccepted}
 use Rattle.versions.specs.declared.request.Request.{Request}
-use Rattle.flow_model.specs.Outline.{outline_of}
+use Rattle.flow_model.specs.SetupView.{setup_view_of}
 use Rattle.flow_model.specs.Planned.{IsPlanned}
-use Rattle.flow_model.specs.Setup.{outline}
+use Rattle.flow_model.specs.Setup.{setup_view}
 use Rattle.flow_model.proofs.WaitingLemmas.{accepted_waiting, planned_waiting}
 use Rattle.flow_model.proofs.setup.Setup.waiting_for.Goals as goal
 
@@ -15,11 +15,11 @@ with_afters-accepted-requires c = omega (arith, c.requires.one_each)
 pub invariant_of-result : goal.invariant_of-result
 invariant_of-result c = record {
   topology_is = c.args.self.topology_is;
-  accepted = subst (AreAccepted (written c.args.self.job)) (sym c.with_afters-accepted.ensures) (accepted_waiting (written c.args.self.job) c.args.afters.now c.args.self.judged.accepted c.args.self.accepted c.requires.in_order);
+  accepted = subst (AreAccepted (job_view c.args.self.job)) (sym c.with_afters-accepted.ensures) (accepted_waiting (job_view c.args.self.job) c.args.afters.now c.args.self.judged.accepted c.args.self.accepted c.requires.in_order);
   planned = ∥∥₁_map c.args.self.planned (λ is.
-      subst (λ (rs : List Request). IsPlanned (outline_of (written c.args.self.job) rs c.args.self.plans c.args.self.splits c.args.self.ordered)) (sym c.with_afters-accepted.ensures)
-      (planned_waiting (outline c.args.self) c.args.afters.now is));
+      subst (λ (rs : List Request). IsPlanned (setup_view_of (job_view c.args.self.job) rs c.args.self.plans c.args.self.splits c.args.self.ordered)) (sym c.with_afters-accepted.ensures)
+      (planned_waiting (setup_view c.args.self) c.args.afters.now is));
 }
 
 pub returns : goal.returns
-returns c = ap (λ (rs : List Request). outline_of (written c.args.self.job) rs c.args.self.plans c.args.self.splits c.args.self.ordered) c.with_afters-accepted.ensures
+returns c = ap (λ (rs : List Request). setup_view_of (job_view c.args.self.job) rs c.args.self.plans c.args.self.splits c.args.self.ordered) c.with_afters-accepted.ensures

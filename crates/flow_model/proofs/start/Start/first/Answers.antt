@@ -1,5 +1,5 @@
 use Rattle.std.proofs.Common.{arith, ◌∙◌, ◌<◌, ◌≤◌, ◌++◌, [], ◌∷◌, List, ap, sym, subst, length, take}
-use Rattle.jobs.specs.Job.{written}
+use Rattle.jobs.specs.Job.{job_view}
 use Rattle.keyed_state.specs.Counts.{Counts}
 use Rattle.flow_model.specs.declared.topology.Topology.{Topology}
 use Rattle.flow_model.specs.declared.topology.WorkerAt.{WorkerAt}
@@ -24,4 +24,4 @@ returns c =
     let past : length workers ≤ i = omega (arith, c.loop-worker-test.false, ap length c.as_slice-worker-items.ensures) in
     let is = ap (λ (t : Topology). t.workers) c.args.setup.now.topology_is in
     ap (λ (states : List Counts). record { row = 0; turned = 0; states = states })
-    (c.loop-worker.invariant ∙ uncounted-all (written c.args.setup.now.job) workers i is past)
+    (c.loop-worker.invariant ∙ uncounted-all (job_view c.args.setup.now.job) workers i is past)

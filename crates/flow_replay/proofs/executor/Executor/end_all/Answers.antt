@@ -1,6 +1,6 @@
 use Rattle.std.proofs.Common.{arith}
-use Rattle.jobs.specs.Job.{written}
-use Rattle.flow_model.proofs.SizeLemmas.{posts-few}
+use Rattle.jobs.specs.Job.{job_view}
+use Rattle.flow_model.proofs.SizeLemmas.{workers-few}
 use Rattle.flow_replay.proofs.executor.Executor.end_all.Goals as goal
 
 pub overflow_cast-worker : goal.overflow_cast-worker
@@ -10,5 +10,5 @@ overflow_cast-worker c =
       arith,
       c.loop-worker-test.true,
       c.args.self.now.one_each,
-      posts-few (written job) job.lawful,
+      workers-few (job_view job) job.lawful,
     )

@@ -1,7 +1,7 @@
 use Rattle.std.proofs.Common.{◌≡◌, ◌<◌, ◌≤◌, ℕ, length}
-use Rattle.jobs.specs.Job.{written}
-use Rattle.flow_model.specs.Setup.{outline}
-use Rattle.flow_model.specs.Workers.{post_at}
+use Rattle.jobs.specs.Job.{job_view}
+use Rattle.flow_model.specs.Setup.{setup_view}
+use Rattle.flow_model.specs.Workers.{nth_worker}
 use Rattle.flow_replay.specs.inner.Executor.{SameBesideRuns}
 use Rattle.flow_replay.specs.inner.Runs.{IsGain, end_block, run_at}
 use Rattle.flow_replay.proofs.executor.Executor.end_all.Given as goal
@@ -12,8 +12,8 @@ invariant-loop-worker l = record {
   long : length l.self.runs.items ≡ length l.fn.self.runs.items;
   done :
       (w : ℕ) → w < l.worker →
-      IsGain (outline l.fn.self.setup) (post_at (written l.fn.self.setup.job) w)
-      (end_block (written l.fn.self.setup.job) w) (run_at l.fn.self.runs.items w) (run_at
+      IsGain (setup_view l.fn.self.setup) (nth_worker (job_view l.fn.self.setup.job) w)
+      (end_block (job_view l.fn.self.setup.job) w) (run_at l.fn.self.runs.items w) (run_at
       l.self.runs.items w);
   left : (w : ℕ) → l.worker ≤ w → run_at l.self.runs.items w ≡ run_at l.fn.self.runs.items w;
 }

@@ -5,7 +5,7 @@ use Rattle.sink_journal.specs.declared.journal.Feed.{Feed}
 use Rattle.sink_journal.specs.declared.journal.Feed.TheVariants.{Issued}
 use Rattle.versions.specs.declared.request.Request.{Request}
 use Rattle.flow_model.specs.Requests.{afters}
-use Rattle.flow_model.specs.Setup.{outline}
+use Rattle.flow_model.specs.Setup.{setup_view}
 use Rattle.flow_model.specs.declared.setup.Setup.{Setup}
 use Rattle.flow_model.proofs.PlaceLemmas.{map_place}
 use Rattle.flow_replay.specs.inner.Runs.{AllGain, turn_block}
@@ -19,13 +19,13 @@ use Rattle.flow_replay.proofs.executor.Executor.issue_up_to.Goals as goal
 pub returns-then-min-row-clause-issued : goal.returns-then-min-row-clause-issued
 returns-then-min-row-clause-issued c =
     let kept = c.args.self.now.setup in
-    let setup = outline kept in
+    let setup = setup_view kept in
     let place = c.loop-place.place in
     let h = c.loop-place.invariant in
     let later : c.args.row < min c.after.result c.args.rows =
     omega (arith, c.if-min-row.true, c.min.ensures) in
     let after =
-    subst (λ (s : Setup). slice_get (afters (outline s).requests) place ≡ Some c.after.result)
+    subst (λ (s : Setup). slice_get (afters (setup_view s).requests) place ≡ Some c.after.result)
     h.same c.after.ensures in
     subst (λ (n : ℕ). AreIssued setup c.args.rows c.args.row c.args.self.now.issued n
     c.args.self.now.feeds c.loop-place.self.feeds c.args.self.now.runs.items
@@ -44,17 +44,17 @@ returns-then-min-row-clause-issued c =
 pub loop-place-preserved : goal.loop-place-preserved
 loop-place-preserved c =
     let kept = c.args.self.now.setup in
-    let setup = outline kept in
+    let setup = setup_view kept in
     let place = c.loop-place.place in
     let h = c.loop-place.invariant in
     let now = c.turn_all.new.self in
     let due : min c.after.result c.args.rows ≤ c.args.row =
     omega (arith, c.if-min-row.false, c.min.ensures) in
     let after =
-    subst (λ (s : Setup). slice_get (afters (outline s).requests) place ≡ Some c.after.result)
+    subst (λ (s : Setup). slice_get (afters (setup_view s).requests) place ≡ Some c.after.result)
     h.same c.after.ensures in
     let gain =
-    subst (λ (s : Setup). AllGain (outline s) (turn_block (outline s) (place + 1))
+    subst (λ (s : Setup). AllGain (setup_view s) (turn_block (setup_view s) (place + 1))
     c.loop-place.self.runs.items now.runs.items) h.same c.in_ok-turn_all.ensures.turned in
     let pushed : now.feeds ≡ c.loop-place.self.feeds ++ Issued (place + 1) ∷ [] =
     c.in_ok-turn_all.ensures.same.feeds_are ∙ c.in_ok-push.ensures.ok in
@@ -89,7 +89,7 @@ loop-place-preserved c =
 pub returns-clause-issued : goal.returns-clause-issued
 returns-clause-issued c =
     let kept = c.args.self.now.setup in
-    let setup = outline kept in
+    let setup = setup_view kept in
     let place = c.loop-place.place in
     let h = c.loop-place.invariant in
     let long = length-map setup.requests (λ (request : Request). request.after) in

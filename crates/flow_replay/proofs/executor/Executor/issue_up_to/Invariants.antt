@@ -1,7 +1,7 @@
 use Rattle.std.proofs.Common.{◌≡◌, ◌++◌, List, length}
 use Rattle.tuple_trace.specs.declared.row.Row.{Row}
 use Rattle.flow_model.specs.Requests.{afters}
-use Rattle.flow_model.specs.Setup.{outline}
+use Rattle.flow_model.specs.Setup.{setup_view}
 use Rattle.flow_replay.specs.inner.SoFar.{AreSorted, IsSoFar, issues}
 use Rattle.flow_replay.proofs.IssueLemmas.{AreDueUpTo}
 use Rattle.flow_replay.proofs.executor.Executor.issue_up_to.Given as goal
@@ -11,16 +11,16 @@ invariant-loop-place l = record {
   same : l.self.setup ≡ l.fn.self.setup;
   at : l.self.issued ≡ l.place;
   long : length l.self.runs.items ≡ length l.fn.self.runs.items;
-  due : AreDueUpTo (afters (outline l.fn.self.setup).requests) l.rows l.row l.place;
+  due : AreDueUpTo (afters (setup_view l.fn.self.setup).requests) l.rows l.row l.place;
   feeds :
-      l.self.feeds ++ issues (outline l.fn.self.setup) l.rows l.row l.place
-      ≡ l.fn.self.feeds ++ issues (outline l.fn.self.setup) l.rows l.row l.fn.self.issued;
+      l.self.feeds ++ issues (setup_view l.fn.self.setup) l.rows l.row l.place
+      ≡ l.fn.self.feeds ++ issues (setup_view l.fn.self.setup) l.rows l.row l.fn.self.issued;
   far :
       (fed : List Row) →
-      IsSoFar (outline l.fn.self.setup) fed l.fn.self.feeds l.fn.self.issued
+      IsSoFar (setup_view l.fn.self.setup) fed l.fn.self.feeds l.fn.self.issued
       l.fn.self.runs.items →
-      IsSoFar (outline l.fn.self.setup) fed l.self.feeds l.place l.self.runs.items;
+      IsSoFar (setup_view l.fn.self.setup) fed l.self.feeds l.place l.self.runs.items;
   sorted :
-      AreSorted (outline l.fn.self.setup) l.rows l.row l.fn.self.issued l.fn.self.runs.items →
-      AreSorted (outline l.fn.self.setup) l.rows l.row l.place l.self.runs.items;
+      AreSorted (setup_view l.fn.self.setup) l.rows l.row l.fn.self.issued l.fn.self.runs.items →
+      AreSorted (setup_view l.fn.self.setup) l.rows l.row l.place l.self.runs.items;
 }

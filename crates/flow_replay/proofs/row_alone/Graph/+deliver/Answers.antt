@@ -4,7 +4,7 @@ use Rattle.std.specs.List.{flat_map}
 use Rattle.std.proofs.lemmas.Grind.{common_steps}
 use Rattle.std.proofs.lemmas.List.{append-nil, drop_all}
 use Rattle.std.proofs.lemmas.Option.{gets}
-use Rattle.jobs.specs.Job.{written}
+use Rattle.jobs.specs.Job.{job_view}
 use Rattle.operators.specs.declared.output.Output.{Output}
 use Rattle.flow_model.specs.declared.landing.Landing.{Landing}
 use Rattle.flow_model.specs.Alone.{landing, lands}
@@ -16,7 +16,7 @@ pub returns-in_default : goal.returns-in_default
 returns-in_default t c =
     let there : slice_get c.args.self.table.now c.args.node
     ≡ None = grind (arith, common_steps, gets, c.in_default.ensures.lookup) in
-    rw (lands-none (written c.args.self.job.now) (slice_get c.args.self.table.now) c.args.self.nodes
+    rw (lands-none (job_view c.args.self.job.now) (slice_get c.args.self.table.now) c.args.self.nodes
     c.args.node c.args.tuple.now there) (sym (append-nil c.args.landings.now))
 
 pub returns-then-is_sink : goal.returns-then-is_sink
@@ -25,18 +25,18 @@ returns-then-is_sink t c =
     ≡ Some c.in-Some.func.now = grind (arith, common_steps, gets, c.in-Some.ensures.lookup) in
     let n : ℕ = c.args.self.nodes - 1 in
     let more : c.args.self.nodes ≡ suc n = omega (arith, c.if-self-eq0.false) in
-    let lands_here : lands (written c.args.self.job.now) (slice_get c.args.self.table.now)
+    let lands_here : lands (job_view c.args.self.job.now) (slice_get c.args.self.table.now)
     c.args.self.nodes c.args.node c.args.tuple.now ≡ landing c.args.node c.args.tuple.now ∷ [] =
-    ap (λ (k : ℕ). lands (written c.args.self.job.now) (slice_get c.args.self.table.now) k
+    ap (λ (k : ℕ). lands (job_view c.args.self.job.now) (slice_get c.args.self.table.now) k
     c.args.node c.args.tuple.now) more
-    ∙ lands-sink (written c.args.self.job.now) (slice_get c.args.self.table.now) n c.args.node
+    ∙ lands-sink (job_view c.args.self.job.now) (slice_get c.args.self.table.now) n c.args.node
     c.args.tuple.now c.in-Some.func.now there (sym c.is_sink.ensures ∙ c.if-is_sink.true) in
     subst (λ (x : List Landing). OnOk c.push.result (c.push.new.self ≡ c.args.landings.now ++ x)) (
     ap (λ (x : Landing). x ∷ []) c.in_ok-landing.ensures ∙ sym lands_here) c.push.ensures.ok
 
 pub returns : goal.returns
 returns t c =
-    let job = written c.args.self.job.now in
+    let job = job_view c.args.self.job.now in
     let table = slice_get c.args.self.table.now in
     let there : slice_get c.args.self.table.now c.args.node
     ≡ Some c.in-Some.func.now = grind (arith, common_steps, gets, c.in-Some.ensures.lookup) in

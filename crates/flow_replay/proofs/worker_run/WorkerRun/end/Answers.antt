@@ -1,6 +1,6 @@
-use Rattle.jobs.specs.Job.{written}
-use Rattle.flow_model.specs.Setup.{outline}
-use Rattle.flow_model.specs.Workers.{post_at}
+use Rattle.jobs.specs.Job.{job_view}
+use Rattle.flow_model.specs.Setup.{setup_view}
+use Rattle.flow_model.specs.Workers.{nth_worker}
 use Rattle.flow_replay.specs.declared.worker_run.WorkerRun.{WorkerRun}
 use Rattle.flow_replay.proofs.WorkerRunLemmas.{ends-end, ends-next}
 use Rattle.flow_replay.proofs.worker_run.WorkerRun.end.Goals as goal
@@ -14,7 +14,7 @@ loop-number-preserved c =
 
 pub returns : goal.returns
 returns c =
-    ends-end (outline c.args.setup.now) (post_at (written c.args.setup.now.job) c.args.worker)
+    ends-end (setup_view c.args.setup.now) (nth_worker (job_view c.args.setup.now.job) c.args.worker)
     c.args.worker c.loop-number.number-index c.lanes_in-number-items.result.now c.args.self.now
     c.loop-number.self c.lanes_in-number-items.ensures c.loop-number-test.false
     c.loop-number.invariant

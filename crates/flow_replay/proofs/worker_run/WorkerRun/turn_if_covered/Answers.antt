@@ -1,10 +1,10 @@
 use Rattle.std.proofs.Common.{◌∙◌}
-use Rattle.flow_model.specs.Setup.{outline}
+use Rattle.flow_model.specs.Setup.{setup_view}
 use Rattle.flow_replay.proofs.WorkerRunLemmas.{cover_answer, uncovered_gain}
 use Rattle.flow_replay.proofs.worker_run.WorkerRun.turn_if_covered.Goals as goal
 
 pub returns-else-covers : goal.returns-else-covers
 returns-else-covers c =
-    uncovered_gain (outline c.args.setup.now) c.args.worker c.args.request c.args.self.now
-    (cover_answer (outline c.args.setup.now) c.args.worker c.args.request c.covers.result c.requires
+    uncovered_gain (setup_view c.args.setup.now) c.args.worker c.args.request c.args.self.now
+    (cover_answer (setup_view c.args.setup.now) c.args.worker c.args.request c.covers.result c.requires
     c.covers.ensures ∙ c.if-covers.false)

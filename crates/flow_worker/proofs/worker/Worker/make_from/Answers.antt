@@ -3,13 +3,13 @@ use Rattle.std.proofs.lemmas.Option.{slice_get-get_or}
 use Rattle.std.proofs.lemmas.Result.{IfOk-weaker}
 use Rattle.keyed_state.specs.Counts.{Counts}
 use Rattle.flow_model.specs.Begin.{Begin}
-use Rattle.flow_model.specs.Setup.{outline}
+use Rattle.flow_model.specs.Setup.{setup_view}
 use Rattle.flow_worker.proofs.Beginning.{state_at}
 use Rattle.flow_worker.proofs.worker.Worker.make_from.Goals as goal
 
 pub returns-clause-law : goal.returns-clause-law
 returns-clause-law g c =
-    let setup = outline c.args.setup.now in
+    let setup = setup_view c.args.setup.now in
     let start = c.args.start.now in
     let states : List Counts = c.as_slice.result.now in
     let counts : Counts = c.index-as_slice-number.result in

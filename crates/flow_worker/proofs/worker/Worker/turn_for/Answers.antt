@@ -5,8 +5,8 @@ use Rattle.tuple_trace.specs.Reserved.{ReservedIs}
 use Rattle.tuple_trace.specs.declared.tuple.Item.{Item}
 use Rattle.tuple_trace.specs.declared.tuple.Item.TheVariants.{Mark}
 use Rattle.flow_model.specs.Dues.{IsDueAfter, edges_in}
-use Rattle.flow_model.specs.Setup.{outline}
-use Rattle.flow_model.specs.Workers.{post_at, posts}
+use Rattle.flow_model.specs.Setup.{setup_view}
+use Rattle.flow_model.specs.Workers.{nth_worker, workers_in}
 use Rattle.flow_worker.specs.Endpoints.{Appended, LaneOutIs, Reserved}
 use Rattle.flow_worker.specs.Steps.{marker_on}
 use Rattle.flow_worker.specs.Pairs.{Each, EachPair}
@@ -31,7 +31,7 @@ push_markers-requires-clause-room g c κs up =
 
 pub due_after-self-inside-requires : goal.due_after-self-inside-requires
 due_after-self-inside-requires g c =
-    subst (λ (w : WorkerIs). w.number < length (posts (outline c.args.setup.now).job)) (sym c.self.view_is) (placed_within (outline c.args.setup.now) c.requires.placed.0 c.args.self.now c.requires.placed.1)
+    subst (λ (w : WorkerIs). w.number < length (workers_in (setup_view c.args.setup.now).job)) (sym c.self.view_is) (placed_within (setup_view c.args.setup.now) c.requires.placed.0 c.args.self.now c.requires.placed.1)
 
 pub push_markers-requires-clause-edges : goal.push_markers-requires-clause-edges
 push_markers-requires-clause-edges g c κs up =
@@ -39,7 +39,7 @@ push_markers-requires-clause-edges g c κs up =
     let now = c.reserve-2.new.self in
     let small : Each (λ (o : LaneOutIs). o.edge < 128) was =
     subst (λ (w : WorkerIs). Each (λ (o : LaneOutIs). o.edge < 128) w.outs) (sym c.self.view_is)
-    (outs_small (outline c.args.setup.now) c.requires.placed.1.graph c.args.self.now.node c.args.self.now.outs c.args.setup.now.job.lawful c.requires.placed.1.ends_out) in
+    (outs_small (setup_view c.args.setup.now) c.requires.placed.1.graph c.args.self.now.node c.args.self.now.outs c.args.setup.now.job.lawful c.requires.placed.1.ends_out) in
     let p : EachPair (Reserved 1) was now = ok_fact c.reserve-2.result (sym c.is_err-2.ensures.value ∙ c.if-is_err-2.false) c.reserve-2.ensures.ok in
     (pairs_each (Reserved 1) (λ (o : LaneOutIs). o.edge < 128) (λ (o : LaneOutIs). o.edge < 128) was now (λ a b r l. subst (λ n. n < 128) (sym (ap (λ (o : LaneOutIs). o.edge) r.0)) l) p small)
 
@@ -49,7 +49,7 @@ returns-clause-ok g c =
     let now = c.reserve-2.new.self in
     let last = c.push_markers.new.self in
     let due = c.args.due.now in
-    let setup = outline c.args.setup.now in
+    let setup = setup_view c.args.setup.now in
     let mask = c.covered_edges.result in
     let f : LaneOutIs → List Item = λ out. cond (has mask out.edge) (Mark due.request due.cover ∷ []) [] in
     let h : LaneOutIs → List Item = marker_on setup due.request due.cover in
@@ -57,8 +57,8 @@ returns-clause-ok g c =
     let a : EachPair (Appended f) now last = c.push_markers.ensures in
     let b : EachPair (Appended h) now last = appended_by f h now last (λ out. ap (λ (t : Bool). cond t (Mark due.request due.cover ∷ []) []) (c.covered_edges.ensures out.edge)) a in
     let all : EachPair _ was last = gains h 1 was now last (λ a m. refl) p b in
-    let node : (post_at setup.job c.self.inside.number).node ≡ c.self.inside.node =
-    subst (λ (w : WorkerIs). (post_at setup.job w.number).node ≡ w.node) (sym c.self.view_is) (placed_node setup c.requires.placed.0 c.args.self.now c.requires.placed.1) in
+    let node : (nth_worker setup.job c.self.inside.number).node ≡ c.self.inside.node =
+    subst (λ (w : WorkerIs). (nth_worker setup.job w.number).node ≡ w.node) (sym c.self.view_is) (placed_node setup c.requires.placed.0 c.args.self.now c.requires.placed.1) in
     rw (← c.self.view_is) (record {
       journal = rw (ap (λ (j : ReservedIs Entry). j.items) c.push_reserved.ensures, c.note_markers.ensures.journal, c.reserve.ensures.items) refl;
       ins = c.note_markers.ensures.ins;

@@ -3,12 +3,12 @@ use Rattle.std.proofs.lemmas.Simd.{map-map}
 use Rattle.flow_model.specs.Dues.{IsDueAfter, edges_in}
 use Rattle.flow_model.specs.InForce.{func_in}
 use Rattle.flow_model.specs.Lanes.{is_sender, lanes}
-use Rattle.flow_model.specs.Setup.{outline}
-use Rattle.flow_model.specs.Workers.{post_at}
+use Rattle.flow_model.specs.Setup.{setup_view}
+use Rattle.flow_model.specs.Workers.{nth_worker}
 use Rattle.flow_model.specs.declared.topology.Lane.{Lane}
 use Rattle.flow_model.specs.declared.topology.WorkerAt.{WorkerAt}
 use Rattle.flow_model.proofs.FewLanes.{few_lanes}
-use Rattle.flow_model.proofs.PostPlaces.{get-post_at}
+use Rattle.flow_model.proofs.WorkerPlaces.{get-nth_worker}
 use Rattle.flow_worker.specs.Pairs.{Each}
 use Rattle.flow_worker.specs.Parts.{EndpointIs, IsNewEndpoint, endpoint_in, endpoint_out}
 use Rattle.flow_worker.proofs.Beginning.{begins_from, lanes_there, new_hands, new_waiting, stands}
@@ -22,7 +22,7 @@ new_ins-ins-requires-clause-numbers g c κs up =
 
 pub new_ins-ins-requires-clause-there : goal.new_ins-ins-requires-clause-there
 new_ins-ins-requires-clause-there g c κs up =
-    let job = (outline c.args.setup.now).job in
+    let job = (setup_view c.args.setup.now).job in
     subst (Each (λ (n : ℕ). n < length (lanes job))) (sym c.lanes_in.ensures) (lanes_there (λ (lane : Lane). lane.receiver == c.args.number) job)
 
 pub new_outs-outs-requires-clause-numbers : goal.new_outs-outs-requires-clause-numbers
@@ -32,19 +32,19 @@ new_outs-outs-requires-clause-numbers g c κs up =
 
 pub new_outs-outs-requires-clause-there : goal.new_outs-outs-requires-clause-there
 new_outs-outs-requires-clause-there g c κs up =
-    let job = (outline c.args.setup.now).job in
+    let job = (setup_view c.args.setup.now).job in
     subst (Each (λ (n : ℕ). n < length (lanes job))) (sym c.lanes_out.ensures) (lanes_there (λ (lane : Lane). is_sender c.args.number lane.sender) job)
 
 pub new-requires-2-clause-few : goal.new-requires-2-clause-few
 new-requires-2-clause-few g c κs up =
-    let job = (outline c.args.setup.now).job in
+    let job = (setup_view c.args.setup.now).job in
     let F : g.row.L-Rx.Denot → EndpointIs = λ x. record { lane = g.L.Rx.Rx.lane x; number = g.L.Rx.Rx.number x; origin = g.L.Rx.Rx.origin x; items = g.L.Rx.Rx.taken x } in
     let ins = c.new_ins-ins.result.items in
     let long : length ins ≡ length c.args.ins.items = sym (length_mapped endpoint_in ins) ∙ (ap (λ (xs : List EndpointIs). length xs) c.new_ins-ins.ensures.ends ∙ length_mapped F c.args.ins.items) in
     let all = ap (λ (xs : List ℕ). length xs) c.requires.ends.ins_are in
     let each = length_mapped (λ (end : EndpointIs). end.number) (map F c.args.ins.items) in
     let ends = length_mapped F c.args.ins.items in
-    let few = few_lanes job c.args.number (post_at job c.args.number) c.args.setup.now.job.lawful (get-post_at job c.args.number c.requires.there) in
+    let few = few_lanes job c.args.number (nth_worker job c.args.number) c.args.setup.now.job.lawful (get-nth_worker job c.args.number c.requires.there) in
     omega (arith, long, all, each, ends, few)
 
 pub new-requires-2-clause-hands : goal.new-requires-2-clause-hands
@@ -52,9 +52,9 @@ new-requires-2-clause-hands g c κs up = c.new_ins-ins.ensures.hands
 
 pub returns-clause-law : goal.returns-clause-law
 returns-clause-law g c begin s =
-    let setup = outline c.args.setup.now in
+    let setup = setup_view c.args.setup.now in
     let job = setup.job in
-    let post = post_at job c.args.number in
+    let who = nth_worker job c.args.number in
     let at = c.worker_at-at.ensures.at in
     let F : g.row.L-Rx.Denot → EndpointIs = λ x. record { lane = g.L.Rx.Rx.lane x; number = g.L.Rx.Rx.number x; origin = g.L.Rx.Rx.origin x; items = g.L.Rx.Rx.taken x } in
     let G : g.row.L-Tx.Denot → EndpointIs = λ x. record { lane = g.L.Tx.Tx.lane x; number = g.L.Tx.Tx.number x; origin = g.L.Tx.Tx.origin x; items = g.L.Tx.Tx.sent x } in
@@ -63,10 +63,10 @@ returns-clause-law g c begin s =
     let long_in : length ins ≡ length c.args.ins.items = sym (length_mapped endpoint_in ins) ∙ (ap (λ (xs : List EndpointIs). length xs) c.new_ins-ins.ensures.ends ∙ length_mapped F c.args.ins.items) in
     let long_out : length outs ≡ length c.args.outs.items = sym (length_mapped endpoint_out outs) ∙ (ap (λ (xs : List EndpointIs). length xs) c.new_outs-outs.ensures.ends ∙ length_mapped G c.args.outs.items) in
     let node = ap (λ (at : WorkerAt). at.node) at in
-    rw (c.new-2.ensures, c.new-3.ensures) (begins_from setup begin post _
-    (stands setup post _ (map F c.args.ins.items) (map G c.args.outs.items) c.args.setup.now.job.lawful
+    rw (c.new-2.ensures, c.new-3.ensures) (begins_from setup begin who _
+    (stands setup who _ (map F c.args.ins.items) (map G c.args.outs.items) c.args.setup.now.job.lawful
     (record {
-      post_is = get-post_at job c.args.number c.requires.there;
+      who_is = get-nth_worker job c.args.number c.requires.there;
       node_is = node;
       place_is = ap (λ (at : WorkerAt). at.index) at;
       on_lanes = c.new_ins-ins.ensures.edges;
@@ -84,7 +84,7 @@ returns-clause-law g c begin s =
       counts = refl;
       last = s.last_is;
       due = subst (λ (n : ℕ). IsDueAfter setup n (edges_in job c.args.number) begin.turned c.due_after-due.result) (sym node)
-          (subst (λ (r : ℕ). IsDueAfter setup post.node (edges_in job c.args.number) r c.due_after-due.result) s.turned_is c.due_after-due.ensures);
+          (subst (λ (r : ℕ). IsDueAfter setup who.node (edges_in job c.args.number) r c.due_after-due.result) s.turned_is c.due_after-due.ensures);
       turned = c.requires.owner;
       closed = refl;
       taken = new_hands job c.requires.ends.graph ins (subst (Each (IsNewEndpoint job c.requires.ends.graph)) (sym c.new_ins-ins.ensures.ends) c.requires.ends.new_in) c.new_ins-ins.ensures.hands;

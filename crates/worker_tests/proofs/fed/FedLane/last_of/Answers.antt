@@ -1,5 +1,5 @@
 use Rattle.std.proofs.Common.{length}
-use Rattle.jobs.specs.Job.{written}
+use Rattle.jobs.specs.Job.{job_view}
 use Rattle.coordinator.specs.Views.{OutIs}
 use Rattle.worker_tests.proofs.Feeding.{all_unled, last_place}
 use Rattle.worker_tests.proofs.fed.FedLane.last_of.Goals as goal
@@ -16,5 +16,5 @@ invariant_of-result g c =
     } in
     let rest = c.pop.new.self.items in
     record {
-      unled = all_unled (written c.args.job.now) _ (length rest) (F c.in_ok-end.end) c.args.job.now.lawful c.requires (last_place F rest c.args.feeder.items c.in_ok-end.end c.in_ok-end.ensures.items);
+      unled = all_unled (job_view c.args.job.now) _ (length rest) (F c.in_ok-end.end) c.args.job.now.lawful c.requires (last_place F rest c.args.feeder.items c.in_ok-end.end c.in_ok-end.ensures.items);
     }

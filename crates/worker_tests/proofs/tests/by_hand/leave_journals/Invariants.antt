@@ -1,6 +1,6 @@
 use Rattle.std.proofs.Common.{◌≡◌, length}
 use Rattle.std.specs.Vec.Iter.{into_iter_items, into_iter_len}
-use Rattle.flow_model.specs.Setup.{outline}
+use Rattle.flow_model.specs.Setup.{setup_view}
 use Rattle.worker_tests.specs.Crews.{AreWorkers}
 use Rattle.worker_tests.proofs.tests.by_hand.leave_journals.Given as goal
 
@@ -9,5 +9,5 @@ invariant-loop-worker g l = record {
   may : (goal.iterator-loop-worker g).can_next l.worker-iterator;
   finite : (goal.iterator-loop-worker g).is_finite l.worker-iterator;
   counted : into_iter_len l.worker-iterator ≡ length (into_iter_items l.worker-iterator);
-  left : AreWorkers (outline l.setup) (into_iter_items l.worker-iterator);
+  left : AreWorkers (setup_view l.setup) (into_iter_items l.worker-iterator);
 }

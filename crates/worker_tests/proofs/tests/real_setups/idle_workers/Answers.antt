@@ -1,21 +1,21 @@
 use Rattle.std.proofs.Common.{ap, arith, length, List}
 use Rattle.std.specs.Vec.Iter.{into_iter_items}
 use Rattle.flow_model.specs.Begin.{at_first}
-use Rattle.flow_model.specs.Setup.{outline}
+use Rattle.flow_model.specs.Setup.{setup_view}
 use Rattle.flow_worker.specs.Worker.{WorkerIs}
 use Rattle.worker_tests.proofs.Crewing.{workers_first, workers_rest}
 use Rattle.worker_tests.proofs.tests.real_setups.idle_workers.Goals as goal
 
 pub turn-requires-clause-law : goal.turn-requires-clause-law
 turn-requires-clause-law g c κs within =
-    let setup = outline c.args.setup.now in
+    let setup = setup_view c.args.setup.now in
     let its = into_iter_items c.loop-worker.worker-iterator in
     let rest = into_iter_items c.next.new.self in
     (at_first setup, workers_first setup its rest c.in-Some.worker c.in-Some.ensures.steps.0 c.loop-worker.invariant.left)
 
 pub loop-worker-preserved : goal.loop-worker-preserved
 loop-worker-preserved g c =
-    let setup = outline c.args.setup.now in
+    let setup = setup_view c.args.setup.now in
     let its = into_iter_items c.loop-worker.worker-iterator in
     let rest = into_iter_items c.next.new.self in
     let next = c.in-Some.ensures.steps in
