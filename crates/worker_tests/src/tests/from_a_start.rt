@@ -112,7 +112,7 @@ fn finished<L: Lanes>(worker: Worker<L>, need: &mut L::Need, setup: &Setup) -> O
     requires { (begin : Begin) × IsWorker (setup_view setup.now) begin worker }
 {
     let mut worker = worker;
-    for _turn in 0..12 {
+    for _ in 0..12 {
         if worker.turn(need, setup, &OpenGate) == Turn::Done {
             let Parts { worked, .. } = worker.finish();
             return Some(worked.open());
