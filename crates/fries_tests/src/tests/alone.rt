@@ -1,7 +1,7 @@
 use crate::tests::run::run_leaves;
 use crate::tests::texts::{CHAIN, FOUR_PAYMENTS};
 use crate::tests::{Around, Left, Ran, Wanted, leaves};
-use flow_replay::{FuncTable, Landing, Landings, alone};
+use flow_replay::{FuncTable, Landing, alone};
 use job_file::read_job;
 use jobs::{ColumnKind, Job};
 use payments::read_rows;
@@ -75,21 +75,6 @@ q,x;;y
 p,a;b
 ";
 
-fn push_number(alloc: Global, number: i64, lines: &mut Bytes) -> Result<(), NoMemory> {
-    let text = format!(in alloc; ",{number}")?;
-    lines.extend_from_slice(text.as_bytes())
-}
-
-fn push_cents(alloc: Global, cents: i64, lines: &mut Bytes) -> Result<(), NoMemory> {
-    let text = format!(in alloc; ",{}.{:02}", cents / 100, cents % 100)?;
-    lines.extend_from_slice(text.as_bytes())
-}
-
-fn push_text(text: &[u8], lines: &mut Bytes) -> Result<(), NoMemory> {
-    lines.push(b',')?;
-    lines.extend_from_slice(text)
-}
-
 /// Adds a field as an alert shows it, after a comma. It needs no quotes, and no sign.
 fn push_field(
     alloc: Global,
@@ -98,15 +83,19 @@ fn push_field(
     lines: &mut Bytes,
 ) -> Result<(), NoMemory> {
     match (field, kind) {
-        (Value::Text(text), _) => push_text(text.as_slice(), lines),
-        (Value::Num(cents), ColumnKind::Cents) => push_cents(alloc, *cents, lines),
-        (Value::Num(number), _) => push_number(alloc, *number, lines),
+        (Value::Text(text), _) => {
+            lines.push(b',')?;
+            lines.extend_from_slice(text.as_slice())
+        }
+        (Value::Num(cents), ColumnKind::Cents) => {
+            let amount = format!(in alloc; ",{}.{:02}", cents / 100, cents % 100)?;
+            lines.extend_from_slice(amount.as_bytes())
+        }
+        (Value::Num(number), _) => {
+            let number = format!(in alloc; ",{number}")?;
+            lines.extend_from_slice(number.as_bytes())
+        }
     }
-}
-
-fn push_head(alloc: Global, sink: &str, row: u64, lines: &mut Bytes) -> Result<(), NoMemory> {
-    let head = format!(in alloc; "{sink},{row}")?;
-    lines.extend_from_slice(head.as_bytes())
 }
 
 /// Adds the alert of what came to a sink with this name.
@@ -117,7 +106,7 @@ fn push_alert(
     landing: &Landing,
     lines: &mut Bytes,
 ) -> Result<(), NoMemory> {
-    push_head(alloc, sink, landing.row, lines)?;
+    lines.extend_from_slice(format!(in alloc; "{sink},{}", landing.row)?.as_bytes())?;
     let columns = job.columns.as_slice().iter();
     for (column, field) in columns.zip(landing.fields.as_slice()) {
         push_field(alloc, column.kind, field, lines)?;
@@ -134,11 +123,6 @@ fn funcs(alloc: Global, job: &Job) -> Result<FuncTable, NoMemory> {
     Ok(table)
 }
 
-fn landings_of(alloc: Global, job: &Job, row: &Row) -> Result<Landings, NoMemory> {
-    let table = funcs(alloc, job)?;
-    alone(alloc, job, &table, row)
-}
-
 /// Adds the alerts of a row that is sent through a job by itself.
 fn push_alone(
     alloc: Global,
@@ -147,26 +131,30 @@ fn push_alone(
     row: &Row,
     lines: &mut Bytes,
 ) -> Result<(), NoMemory> {
-    let landings = landings_of(alloc, job, row)?;
-    for landing in landings.as_slice() {
+    let table = funcs(alloc, job)?;
+    for landing in alone(alloc, job, &table, row)?.as_slice() {
         push_alert(alloc, job, sink, landing, lines)?;
     }
     Ok(())
 }
 
-/// The alerts of the row at this place, which is sent through a job by itself.
-fn lines_of(
+/// Adds the alerts of the rows whose flag is `old`. Each is sent through this job by itself.
+fn push_rows(
     alloc: Global,
-    job: &Job,
-    sink: &str,
-    rows: &[Row],
-    place: usize,
-) -> Result<Bytes, NoMemory> {
-    let mut lines = Bytes::new(alloc);
-    if let Some(row) = rows.get(place) {
-        push_alone(alloc, job, sink, row, &mut lines)?;
+    job: &str,
+    rows: ByThemselves<'_>,
+    olds: &[bool],
+    old: bool,
+    lines: &mut Bytes,
+) -> Result<(), NoMemory> {
+    let job = job_of(alloc, job)?;
+    let all = rows_of(alloc, &job, rows.payments)?;
+    for (row, is_old) in all.as_slice().iter().zip(olds) {
+        if *is_old == old {
+            push_alone(alloc, &job, rows.sink, row, lines)?;
+        }
     }
-    Ok(lines)
+    Ok(())
 }
 
 fn job_of(alloc: Global, text: &str) -> Result<Job, NoMemory> {
@@ -194,90 +182,54 @@ fn times(text: &str, line: &str) -> usize {
     found
 }
 
-/// How many lines a text has, if each of them stands in the alerts as often.
-fn count_in(alerts: &str, lines: &str) -> Option<usize> {
-    let mut same = true;
-    for line in lines.lines() {
-        same &= times(alerts, line) == times(lines, line);
+/// Whether two texts have the same lines, each as often. A line feed ends each line.
+fn same_lines(some: &str, others: &str) -> bool {
+    let mut same = some.len() == others.len();
+    for line in some.lines() {
+        same &= times(some, line) == times(others, line);
     }
-    if same {
-        Some(lines.lines().count())
-    } else {
-        None
-    }
+    same
 }
 
-/// Rows that are sent through a job by themselves: the first ones through the old job or the new
-/// one, and the others through the new one.
+/// Rows that are sent through a job by themselves: each through the old one if its flag is set,
+/// else through the new one.
 #[derive(Clone, Copy)]
 pub struct ByThemselves<'a> {
     old: &'a str,
     new: &'a str,
     sink: &'a str,
     payments: &'a str,
-    /// How many rows may be old.
-    olds: usize,
+    /// The flags of all rows, in each way that may be.
+    ways: &'a [[bool; 4]],
 }
 
-/// How many alerts the row at this place has by this job, if they are among these.
-fn found_by(
-    alloc: Global,
-    alerts: &str,
-    rows: ByThemselves<'_>,
-    job: &Job,
-    place: usize,
-) -> Result<Option<usize>, NoMemory> {
-    let all = rows_of(alloc, job, rows.payments)?;
-    let lines = lines_of(alloc, job, rows.sink, all.as_slice(), place)?;
-    match str::from_utf8(lines.as_slice()) {
-        Ok(lines) => Ok(count_in(alerts, lines)),
-        Err(_) => Ok(None),
-    }
+/// The alerts of these rows with these flags.
+fn wanted(alloc: Global, rows: ByThemselves<'_>, olds: &[bool]) -> Result<Bytes, NoMemory> {
+    let mut lines = Bytes::new(alloc);
+    push_rows(alloc, rows.old, rows, olds, true, &mut lines)?;
+    push_rows(alloc, rows.new, rows, olds, false, &mut lines)?;
+    Ok(lines)
 }
 
-fn found(
-    alloc: Global,
-    alerts: &str,
-    rows: ByThemselves<'_>,
-    job: &str,
-    place: usize,
-) -> Result<Option<usize>, NoMemory> {
-    let job = job_of(alloc, job)?;
-    found_by(alloc, alerts, rows, &job, place)
-}
-
-/// The same by the new job, or by the old one if the row may be old.
-fn found_by_either(
-    alloc: Global,
-    alerts: &str,
-    rows: ByThemselves<'_>,
-    place: usize,
-) -> Result<Option<usize>, NoMemory> {
-    match found(alloc, alerts, rows, rows.new, place)? {
-        None if place < rows.olds => found(alloc, alerts, rows, rows.old, place),
-        by_new => Ok(by_new),
-    }
-}
-
-/// Whether the alerts are a header and those of four rows by themselves, in any order.
+/// Whether the alerts are a header and those of these rows in one of the ways, in any order.
 pub fn are_alerts(alloc: Global, alerts: &[u8], rows: ByThemselves<'_>) -> Result<bool, NoMemory> {
-    match str::from_utf8(alerts) {
-        Ok(alerts) => are_all(alloc, alerts, rows),
-        Err(_) => Ok(false),
+    let mut found = false;
+    for olds in rows.ways {
+        let wanted = wanted(alloc, rows, olds)?;
+        found |= are_lines(alerts, wanted.as_slice());
     }
+    Ok(found)
 }
 
-// Lines of two rows differ, since each has the number of its row.
-fn are_all(alloc: Global, alerts: &str, rows: ByThemselves<'_>) -> Result<bool, NoMemory> {
-    let mut count = 1usize;
-    let mut well = true;
-    for place in 0..4 {
-        match found_by_either(alloc, alerts, rows, place)? {
-            Some(lines) => count = count.saturating_add(lines),
-            None => well = false,
-        }
+/// Whether a header and then these lines stand here, in any order.
+fn are_lines(alerts: &[u8], lines: &[u8]) -> bool {
+    match (str::from_utf8(alerts), str::from_utf8(lines)) {
+        (Ok(alerts), Ok(lines)) => match alerts.split_once('\n') {
+            Some((_, rest)) => same_lines(rest, lines),
+            None => false,
+        },
+        _ => false,
     }
-    Ok(well && alerts.lines().count() == count)
 }
 
 /// These alerts, some record, and these lines.
@@ -289,6 +241,14 @@ fn prints<'a>(alerts: Wanted<'a>, out: &'a str) -> Left<'a> {
         ..Left::lines(0, out)
     }
 }
+
+/// Rows 1 and 2 may be old, rows 3 and 4 are new.
+const WAYS_OF_ROWS: [[bool; 4]; 4] = [
+    [false, false, false, false],
+    [false, true, false, false],
+    [true, false, false, false],
+    [true, true, false, false],
+];
 
 /// Whether `run` of the wide job prints this, and its alerts are those of its rows by themselves.
 /// The new job has this step in the map on the first way.
@@ -308,14 +268,13 @@ where
     Ok(run_leaves(rt, alloc, old.as_str(), requests, PIECES, left))
 }
 
-/// Rows 1 and 2 may be old, rows 3 and 4 are new.
 fn wide_alone<'a>(old: &'a str, new: &'a str) -> Wanted<'a> {
     Wanted::Alone(ByThemselves {
         old,
         new,
         sink: "out",
         payments: PIECES,
-        olds: 2,
+        ways: &WAYS_OF_ROWS,
     })
 }
 
@@ -362,7 +321,7 @@ const FOUR_ALONE: ByThemselves<'static> = ByThemselves {
     new: CHAIN,
     sink: "alerts",
     payments: FOUR_PAYMENTS,
-    olds: 4,
+    ways: &[[true; 4]],
 };
 
 #[test]

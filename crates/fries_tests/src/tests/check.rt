@@ -77,37 +77,35 @@ fn cycle_is_refused(rt: HostRuntime) {
     assert!(rt; check_leaves(&rt, rt.alloc(), CYCLE, left));
 }
 
-/// A file by its name and its text, and the status and the line of the fault of `check job.toml`.
-const MISSING_AND_CUT: [(&str, &str, u8, &str); 2] = [
-    ("other.toml", CHAIN, 5, "fault 5 job\n"),
-    ("job.toml", "columns = [\"account:t", 2, "fault 2 J1\n"),
-];
-
 #[test]
 fn missing_and_cut_files(rt: HostRuntime) {
-    for (name, text, status, line) in MISSING_AND_CUT {
-        let files = [(name, text)];
-        let left = Left::lines(status, line);
-        assert!(rt;
-            leaves(&rt, rt.alloc(), &Around::of(&files), CHECK, &left),
-            "{name}"
-        );
-    }
-}
-
-#[test]
-fn missing_file_is_counted(rt: HostRuntime) {
-    let left = Left {
+    let other = [("other.toml", CHAIN)];
+    let missing = Left::lines(5, "fault 5 job\n");
+    assert!(rt;
+        leaves(&rt, rt.alloc(), &Around::of(&other), CHECK, &missing),
+        "missing"
+    );
+    let counted = Left {
         failed: Some("none.toml"),
-        ..Left::lines(5, "fault 5 job\n")
+        ..missing
     };
-    assert!(rt; leaves(&rt, rt.alloc(), &Around::of(&[]), "check none.toml", &left));
-}
-
-#[test]
-fn file_that_is_too_long(rt: HostRuntime) {
-    let left = Left::lines(9, "fault 9 job\n");
-    assert!(rt; feeds_leave(&rt, rt.alloc(), 1_048_577, left));
+    assert!(rt;
+        leaves(
+            &rt,
+            rt.alloc(),
+            &Around::of(&[]),
+            "check none.toml",
+            &counted
+        ),
+        "counted"
+    );
+    let cut = Left::lines(2, "fault 2 J1\n");
+    assert!(rt;
+        check_leaves(&rt, rt.alloc(), "columns = [\"account:t", cut),
+        "cut"
+    );
+    let long = Left::lines(9, "fault 9 job\n");
+    assert!(rt; feeds_leave(&rt, rt.alloc(), 1_048_577, long), "too long");
 }
 
 /// Whether a job file of so many line feeds leaves this.

@@ -167,16 +167,15 @@ fn refusals_of_the_outside(rt: HostRuntime) {
         };
         assert!(rt; leaves(&rt, rt.alloc(), &around, FIRST, &left), "{call}");
     }
-}
-
-#[test]
-fn unprinted_summary(rt: HostRuntime) {
-    let around = Around {
+    let unprinted = Around {
         refusing: &[0],
         ..Around::of(&FILES)
     };
     let left = Left::alerts(6, THREE_ALERTS, "");
-    assert!(rt; leaves(&rt, rt.alloc(), &around, FIRST, &left));
+    assert!(rt;
+        leaves(&rt, rt.alloc(), &unprinted, FIRST, &left),
+        "unprinted"
+    );
 }
 
 #[test]

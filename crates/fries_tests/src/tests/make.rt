@@ -44,34 +44,24 @@ const FILES: [(&str, &str); 3] = [
     ("payments", PAYMENTS),
 ];
 
-/// A run that printed these lines and wrote no file, or a fault without a run.
-fn made(status: u8, lines: &str) -> Left<'_> {
+/// A run that printed these lines, and wrote no file.
+fn made(lines: &str) -> Left<'_> {
     Left {
-        ran: if status == 0 {
-            Ran::Something
-        } else {
-            Ran::Nothing
-        },
-        ..Left::lines(status, lines)
+        ran: Ran::Something,
+        ..Left::lines(0, lines)
     }
 }
 
-/// The most rows that a job of weight 4 may have, and more.
-const LARGEST: [(&str, u8, &str); 3] = [
-    (
-        "make maps 7 262144",
-        0,
-        "rows 262144 alerts 262144 requests 0 refused 0\n",
-    ),
-    ("make maps 7 262145", 4, "fault 4 P7 row 262145\n"),
-    ("make maps 7 4294967295", 4, "fault 4 P7 row 262145\n"),
-];
+const TOO_MANY: [&str; 2] = ["make maps 7 262145", "make maps 7 4294967295"];
 
 #[test]
 fn largest_make(rt: HostRuntime) {
-    for (line, status, lines) in LARGEST {
-        let left = made(status, lines);
-        assert!(rt; leaves(&rt, rt.alloc(), &Around::of(&FILES), line, &left));
+    let around = Around::of(&FILES);
+    let largest = made("rows 262144 alerts 262144 requests 0 refused 0\n");
+    assert!(rt; leaves(&rt, rt.alloc(), &around, "make maps 7 262144", &largest));
+    let left = Left::lines(4, "fault 4 P7 row 262145\n");
+    for line in TOO_MANY {
+        assert!(rt; leaves(&rt, rt.alloc(), &around, line, &left));
     }
 }
 
@@ -108,7 +98,7 @@ const MADE: [(&str, &str); 7] = [
 #[test]
 fn makes_print_the_same(rt: HostRuntime) {
     for (line, lines) in MADE {
-        assert!(rt; leaves(&rt, rt.alloc(), &Around::of(&FILES), line, &made(0, lines)));
+        assert!(rt; leaves(&rt, rt.alloc(), &Around::of(&FILES), line, &made(lines)));
     }
 }
 

@@ -62,7 +62,7 @@ when = [["amount", ">=", 60]]
 "#;
 
 /// What the driver does, and what it has to see.
-#[derive(Clone, Copy)]
+#[derive(Clone, Copy, Debug, PartialEq, Eq)]
 enum Step {
     /// Feeds a row with this amount: whether the lane has room.
     Feed(u64, i64, bool),
@@ -230,7 +230,7 @@ fn is_entry(entry: &Entry, wanted: (char, u64)) -> bool {
     }
 }
 
-pub fn is_journal(journal: &Journal, wanted: &[(char, u64)]) -> bool {
+fn is_journal(journal: &Journal, wanted: &[(char, u64)]) -> bool {
     let entries = journal.as_slice();
     let mut same = entries.len() == wanted.len();
     for (entry, wanted) in entries.iter().zip(wanted) {
@@ -239,23 +239,7 @@ pub fn is_journal(journal: &Journal, wanted: &[(char, u64)]) -> bool {
     same
 }
 
-// Whether a worker is done and leaves this journal.
-fn leaves_journal<L: Lanes, G: Gate>(
-    worker: Worker<L>,
-    need: &mut L::Need,
-    setup: &Setup,
-    gate: &G,
-    wanted: &[(char, u64)],
-) -> bool
-    requires { IsWorker (setup_view setup.now) (at_first (setup_view setup.now)) worker }
-{
-    match finish_one(worker, need, setup, gate) {
-        Some(opened) => is_journal(&opened.journal, wanted),
-        None => false,
-    }
-}
-
-// Whether the workers are done and leave their journals.
+// Whether the workers are done and leave these journals.
 fn leave_journals<L: Lanes, G: Gate>(
     workers: Vec<Worker<L>>,
     need: &mut L::Need,
@@ -264,26 +248,43 @@ fn leave_journals<L: Lanes, G: Gate>(
 ) -> bool
     requires { AreWorkers (setup_view setup.now) workers.items }
 {
-    let mut seen = 0usize;
-    let mut same = true;
+    let mut seen = 0;
     for worker in workers {
-        let wanted = JOURNALS.get(seen).copied().unwrap_or(&[]);
-        same &= leaves_journal(worker, need, setup, gate, wanted);
-        seen = seen.saturating_add(1);
+        match (finish_one(worker, need, setup, gate), JOURNALS.get(seen)) {
+            (Some(opened), Some(wanted)) => {
+                if !is_journal(&opened.journal, wanted) {
+                    return false;
+                }
+            }
+            _ => return false,
+        }
+        seen += 1;
     }
-    same && seen == JOURNALS.len()
+    seen == JOURNALS.len()
 }
 
-// Whether each step goes as it has to, and leaves the right journals and calls of the gate.
-fn goes_well<L: Lanes>(alloc: Global, form: &L, setup: &Setup) -> Result<bool, NoMemory> {
+/// How a run by hand went.
+#[derive(Clone, Copy, Debug, PartialEq, Eq)]
+enum Went {
+    NoSetup,
+    WrongStep(usize),
+    WrongJournals,
+    WrongGate,
+    Well,
+}
+
+fn drive<L: Lanes>(alloc: Global, form: &L) -> Result<Went, NoMemory> {
+    let Some(setup) = setup_of(alloc, JOB, REQUESTS) else {
+        return Ok(Went::NoSetup);
+    };
     let Crew {
         workers,
         posters,
         outs,
-    } = Crew::make(alloc, form, setup, 1)?;
+    } = Crew::make(alloc, form, &setup, 1)?;
     let controls = controls_of(alloc, posters)?;
     let Some(fed) = FedLane::last_of(&setup.job, outs) else {
-        return Ok(false);
+        return Ok(Went::NoSetup);
     };
     let mut driven = Driven {
         workers,
@@ -292,24 +293,25 @@ fn goes_well<L: Lanes>(alloc: Global, form: &L, setup: &Setup) -> Result<bool, N
         need: form.need(),
     };
     let gate = Watch::new();
-    let wrong = first_wrong(alloc, &mut driven, setup, &gate, &SCRIPT)?;
+    if let Some(place) = first_wrong(alloc, &mut driven, &setup, &gate, &SCRIPT)? {
+        return Ok(Went::WrongStep(place));
+    }
     let Driven {
         workers,
         mut need,
         ..
     } = driven;
-    let left = leave_journals(workers, &mut need, setup, &gate);
-    Ok(wrong.is_none() && left && gate.saw(PASSED))
-}
-
-fn is_driven<L: Lanes>(alloc: Global, form: &L) -> bool {
-    match setup_of(alloc, JOB, REQUESTS) {
-        Some(setup) => matches!(goes_well(alloc, form, &setup), Ok(true)),
-        None => false,
+    if !leave_journals(workers, &mut need, &setup, &gate) {
+        return Ok(Went::WrongJournals);
     }
+    if !gate.saw(PASSED) {
+        return Ok(Went::WrongGate);
+    }
+    Ok(Went::Well)
 }
 
 #[test]
 fn full_lanes_a_post_a_marker_and_the_end(rt: HostRuntime) {
-    assert!(rt; is_driven(rt.alloc(), &QueueLanes::new(rt)));
+    let went = drive(rt.alloc(), &QueueLanes::new(rt)).ok();
+    assert_eq!(rt; went, Some(Went::Well));
 }

@@ -175,30 +175,27 @@ fn judged_setup(alloc: Global, job: Job, requests: &Requests) -> Result<Setup, N
     Setup::make(alloc, job, judged)
 }
 
-// How many workers a job has, if each of them has nothing to do in its first turn. Else 0.
-fn idle_workers<L: Lanes>(alloc: Global, form: &L, setup: &Setup) -> Result<usize, NoMemory> {
+// How many workers a job has, if each of them has nothing to do in its first turn.
+fn idle_workers<L: Lanes>(
+    alloc: Global,
+    form: &L,
+    setup: &Setup,
+) -> Result<Option<usize>, NoMemory> {
     let Crew { workers, .. } = Crew::make(alloc, form, setup, 16)?;
     let mut need = form.need();
     let count = workers.len();
-    let mut idle = true;
     for worker in workers {
         let mut worker = worker;
-        idle &= worker.turn(&mut need, setup, &OpenGate) == Turn::Idle;
+        if worker.turn(&mut need, setup, &OpenGate) != Turn::Idle {
+            return Ok(None);
+        }
     }
-    Ok(if idle { count } else { 0 })
+    Ok(Some(count))
 }
 
-fn has_workers<L: Lanes>(
-    alloc: Global,
-    form: &L,
-    job: &str,
-    requests: &str,
-    workers: usize,
-) -> bool {
-    match setup_of(alloc, job, requests) {
-        Some(setup) => matches!(idle_workers(alloc, form, &setup), Ok(count) if count == workers),
-        None => false,
-    }
+fn workers_of<L: Lanes>(alloc: Global, form: &L, job: &str, requests: &str) -> Option<usize> {
+    let setup = setup_of(alloc, job, requests)?;
+    idle_workers(alloc, form, &setup).ok()?
 }
 
 /// A job, its requests, and the number of its workers.
@@ -211,6 +208,6 @@ const SETUPS: [(&str, &str, usize); 2] = [
 fn workers_of_real_setups(rt: HostRuntime) {
     let form = QueueLanes::new(rt);
     for (job, requests, workers) in SETUPS {
-        assert!(rt; has_workers(rt.alloc(), &form, job, requests, workers));
+        assert_eq!(rt; workers_of(rt.alloc(), &form, job, requests), Some(workers));
     }
 }

@@ -5,8 +5,8 @@ use Rattle.flow_worker.specs.Worker.{WorkerIs}
 use Rattle.worker_tests.proofs.Crewing.{workers_first, workers_rest}
 use Rattle.worker_tests.proofs.tests.by_hand.leave_journals.Goals as goal
 
-pub leaves_journal-requires : goal.leaves_journal-requires
-leaves_journal-requires g c κs within =
+pub finish_one-requires-after_bounds : goal.finish_one-requires-after_bounds
+finish_one-requires-after_bounds g c κs within =
     let setup = setup_view c.args.setup.now in
     let its = into_iter_items c.loop-worker.worker-iterator in
     let rest = into_iter_items c.next.new.self in
@@ -18,9 +18,11 @@ loop-worker-preserved g c =
     let its = into_iter_items c.loop-worker.worker-iterator in
     let rest = into_iter_items c.next.new.self in
     let next = c.in-Some.ensures.steps in
+    let fewer = ap (λ (ws : List WorkerIs). length ws) next.0 in
     record {
       may = tt;
       finite = tt;
-      counted = let fewer = ap (λ (ws : List WorkerIs). length ws) next.0 in omega (arith, next.1, fewer, c.loop-worker.invariant.counted);
+      counted = omega (arith, next.1, fewer, c.loop-worker.invariant.counted);
+      many = omega (arith, fewer, c.loop-worker.invariant.many);
       left = workers_rest setup its rest c.in-Some.worker next.0 c.loop-worker.invariant.left;
     }
