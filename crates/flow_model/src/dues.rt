@@ -8,7 +8,7 @@ ghost use Rattle.flow_model.specs.Workers.{nth_worker, workers_in};
 
 use crate::Setup;
 use cover_planner::Plan;
-use flow_dag::{has_bit, has_wide_bit, with_wide_bit};
+use flow_dag::{has_wide_bit, with_wide_bit};
 use marker_align::{Due, LaneSet};
 
 impl Setup {
@@ -24,7 +24,7 @@ impl Setup {
         let plans = self.plans.as_slice();
         for place in last..plans.len() as u64 {
             let plan = &plans[place as usize];
-            if has_bit(plan.nodes, node) {
+            if plan.covers_node(node) {
                 return Some(self.due_of(plan, place + 1, worker));
             }
         }
@@ -60,7 +60,7 @@ impl Setup {
     {
         Due {
             request,
-            head: has_bit(plan.heads, self.node_of(worker)),
+            head: plan.is_head(self.node_of(worker)),
             lanes: self.places_on(plan.edges, worker),
             cover: plan.nodes,
         }

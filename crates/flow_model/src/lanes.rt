@@ -9,7 +9,6 @@ ghost use Rattle.flow_model.specs.Topology.{IsNumberOf, out_edges};
 ghost use Rattle.flow_model.specs.Workers.{workers_in};
 
 use crate::{Lane, OutEdge, Setup, WorkerAt};
-use flow_dag::has_wide_bit;
 use tuple_trace::Tuple;
 
 impl Setup {
@@ -86,7 +85,7 @@ impl Setup {
         ensures { result ≡ covers_edge (setup_view self.now) request edge }
     {
         match self.plan_of(request) {
-            Some(plan) => has_wide_bit(plan.edges, edge),
+            Some(plan) => plan.covers_edge(edge),
             None => false,
         }
     }

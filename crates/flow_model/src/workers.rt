@@ -8,7 +8,6 @@ ghost use Rattle.flow_model.specs.Covers.{covers, is_head, plan_of};
 
 use crate::{Setup, WorkerAt};
 use cover_planner::Plan;
-use flow_dag::has_bit;
 use jobs::worker_count;
 
 impl Setup {
@@ -47,7 +46,7 @@ impl Setup {
             (slice_get (workers_in (setup_view self.now).job) worker) ≡ Some result }
     {
         match self.plan_of(request) {
-            Some(plan) => has_bit(plan.nodes, self.node_of(worker)),
+            Some(plan) => plan.covers_node(self.node_of(worker)),
             None => false,
         }
     }
@@ -59,7 +58,7 @@ impl Setup {
             (slice_get (workers_in (setup_view self.now).job) worker) ≡ Some result }
     {
         match self.plan_of(request) {
-            Some(plan) => has_bit(plan.heads, self.node_of(worker)),
+            Some(plan) => plan.is_head(self.node_of(worker)),
             None => false,
         }
     }

@@ -7,8 +7,8 @@ use Rattle.flow_model.specs.Workers.{nth_worker}
 use Rattle.flow_model.proofs.DueLemmas.{bit_told, due_here, dues_skip}
 use Rattle.flow_model.proofs.setup.Setup.due_after.Goals as goal
 
-pub returns-then-has_bit : goal.returns-then-has_bit
-returns-then-has_bit c =
+pub returns-then-covers_node : goal.returns-then-covers_node
+returns-then-covers_node c =
     let setup = setup_view c.args.self.now in
     let node = (nth_worker setup.job c.args.worker).node in
     let plans : List Plan = c.as_slice-plans.result.now in
@@ -18,7 +18,7 @@ returns-then-has_bit c =
     due_here setup node c.args.last i (edges_in setup.job c.args.worker) plan c.due_of.result
     (subst (λ (ps : List Plan). slice_get ps i ≡ Some plan) same (slice_get-get_or plans i _ c.loop-place-test.true))
     (subst (λ (ps : List Plan). i < length ps) same c.loop-place-test.true) c.loop-place.auto.place c.loop-place.invariant
-    (sym (bit_told c.has_bit.result plan.nodes c.node_of-node.result node c.has_bit.ensures c.node_of-node.ensures.at) ∙ c.if-has_bit.true)
+    (sym (bit_told c.covers_node.result plan.nodes c.node_of-node.result node c.covers_node.ensures c.node_of-node.ensures.at) ∙ c.if-covers_node.true)
     c.due_of.ensures.request c.due_of.ensures.head c.due_of.ensures.cover c.due_of.ensures.lanes
 
 pub loop-place-preserved : goal.loop-place-preserved
@@ -31,5 +31,5 @@ loop-place-preserved c =
     let same = c.as_slice-plans.ensures in
     dues_skip setup node c.args.last i plan
     (subst (λ (ps : List Plan). slice_get ps i ≡ Some plan) same (slice_get-get_or plans i _ c.loop-place-test.true))
-    (sym (bit_told c.has_bit.result plan.nodes c.node_of-node.result node c.has_bit.ensures c.node_of-node.ensures.at) ∙ c.if-has_bit.false)
+    (sym (bit_told c.covers_node.result plan.nodes c.node_of-node.result node c.covers_node.ensures c.node_of-node.ensures.at) ∙ c.if-covers_node.false)
     (subst (λ (ps : List Plan). i < length ps) same c.loop-place-test.true) c.loop-place.invariant

@@ -6,7 +6,7 @@ use Rattle.flow_model.proofs.DueLemmas.{bit_told, places_lanes}
 use Rattle.flow_model.proofs.setup.Setup.due_of.Goals as goal
 
 pub returns-clause-head : goal.returns-clause-head
-returns-clause-head c = bit_told c.has_bit.result c.args.plan.now.heads c.node_of.result (nth_worker (job_view c.args.self.now.job) c.args.worker).node c.has_bit.ensures c.node_of.ensures.at
+returns-clause-head c = bit_told c.is_head.result c.args.plan.now.heads c.node_of.result (nth_worker (job_view c.args.self.now.job) c.args.worker).node c.is_head.ensures c.node_of.ensures.at
 
 pub returns-clause-lanes : goal.returns-clause-lanes
 returns-clause-lanes c = places_lanes c.places_on.result c.args.plan.now.edges (edges_in (setup_view c.args.self.now).job c.args.worker) c.places_on.ensures
