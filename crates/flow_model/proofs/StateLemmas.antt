@@ -2,7 +2,6 @@
 use Rattle.std.proofs.Common.{◌≡◌, ◌∙◌, ◌++◌, ℕ, List, sym, ap}
 use Rattle.std.specs.Prelude.{Some, slice_get}
 use Rattle.jobs.specs.declared.func.Func.{Func}
-use Rattle.jobs.specs.declared.func.NodeDef.{NodeDef}
 use Rattle.keyed_state.specs.Counts.{Counts}
 use Rattle.operators.specs.Meaning.{step}
 use Rattle.operators.specs.declared.output.Output.{Output}
@@ -11,7 +10,7 @@ use Rattle.tuple_trace.specs.declared.tuple.Tuple.{Tuple}
 use Rattle.tuple_trace.specs.declared.tuple.Visit.{Visit}
 use Rattle.flow_model.specs.SetupView.{SetupView, Worker}
 use Rattle.flow_model.specs.Replay.{visit_at}
-use Rattle.flow_model.specs.WorkerState.{IsAfter, IsWorkerAt, func_at, made, state_view}
+use Rattle.flow_model.specs.WorkerState.{IsAfter, IsInForce, IsWorkerAt, func_at, made, state_view}
 use Rattle.flow_model.specs.declared.topology.WorkerAt.{WorkerAt}
 use Rattle.flow_model.specs.declared.worker_state.WorkerState.{WorkerState}
 use Rattle.flow_model.proofs.WorkerLemmas.{worker_with}
@@ -19,14 +18,8 @@ use Rattle.flow_model.proofs.WorkerLemmas.{worker_with}
 abbrev pub visit_by : WorkerAt → ℕ → Visit
 visit_by at last = record { node = at.node; worker = at.index; last = last }
 
--- what is known of the function that the code looks up
-abbrev pub IsFuncOf : SetupView → WorkerAt → WorkerState → Func → Type 0
-IsFuncOf setup at state f =
-    (who : Worker) (def : NodeDef) → slice_get setup.job.nodes at.node ≡ Some def →
-    who.node ≡ at.node → who.func ≡ def.func → f ≡ func_at setup who state.func
-
 its_func : (setup : SetupView) (at : WorkerAt) (who : Worker) (state : WorkerState) (f : Func) →
-    IsWorkerAt setup.job at who → IsFuncOf setup at state f → f ≡ func_at setup who state.func
+    IsWorkerAt setup.job at who → IsInForce setup at.node state.func f → f ≡ func_at setup who state.func
 its_func setup at who state f is known =
     let (number, worker) = worker_with setup.job who.number who is.there in
     let node : at.node ≡ who.node = ap (λ (a : WorkerAt). a.node) is.at_is in
@@ -35,7 +28,7 @@ its_func setup at who state f is known =
 
 -- what the step makes with the visit and the function that the code hands in
 same_step : (setup : SetupView) (at : WorkerAt) (who : Worker) (state : WorkerState) (f : Func)
-    (tuple : Tuple) → IsWorkerAt setup.job at who → IsFuncOf setup at state f →
+    (tuple : Tuple) → IsWorkerAt setup.job at who → IsInForce setup at.node state.func f →
     step setup.job (visit_by at state.last) f state.counts tuple
     ≡ step setup.job (visit_at who (state_view setup who state)) (func_at setup who state.func)
     state.counts tuple
@@ -46,7 +39,7 @@ same_step setup at who state f tuple is known =
     (its_func setup at who state f is known)
 
 pub processed : (setup : SetupView) (at : WorkerAt) (state : WorkerState) (f : Func) (tuple : Tuple)
-    (counts : Counts) → IsFuncOf setup at state f →
+    (counts : Counts) → IsInForce setup at.node state.func f →
     counts ≡ (step setup.job (visit_by at state.last) f state.counts tuple).0 →
     (who : Worker) → IsWorkerAt setup.job at who → (lane : ℕ) →
     IsAfter setup who (Met lane tuple) state (record state { counts = counts })
@@ -56,7 +49,7 @@ processed setup at state f tuple counts known are who is lane =
     (same_step setup at who state f tuple is known))
 
 pub came_out : (setup : SetupView) (at : WorkerAt) (state : WorkerState) (f : Func) (tuple : Tuple)
-    (old new : List Output) → IsFuncOf setup at state f →
+    (old new : List Output) → IsInForce setup at.node state.func f →
     new ≡ old ++ (step setup.job (visit_by at state.last) f state.counts tuple).1 →
     (who : Worker) → IsWorkerAt setup.job at who →
     new ≡ old ++ made setup who (state_view setup who state) tuple

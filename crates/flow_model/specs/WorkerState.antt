@@ -3,6 +3,7 @@ use Rattle.std.specs.Prelude.{◌≡◌, ◌++◌, ℕ, List, Option, Some, None
 use Rattle.std.specs.FinMap.{empty}
 use Rattle.jobs.specs.JobView.{JobView}
 use Rattle.jobs.specs.declared.func.Func.{Func}
+use Rattle.jobs.specs.declared.func.NodeDef.{NodeDef}
 use Rattle.operators.specs.Meaning.{step}
 use Rattle.operators.specs.declared.output.Output.{Output}
 use Rattle.sink_journal.specs.declared.journal.Entry.{Entry}
@@ -31,6 +32,12 @@ abbrev pub func_at : SetupView → Worker → InForce → Func
 func_at setup who Own = who.func
 func_at setup who (Changed request place) =
     found_or who.func (func_in setup who.node (Changed request place))
+
+-- the function is the one that stands at a place, at each worker of a node
+abbrev pub IsInForce : SetupView → ℕ → InForce → Func → Type 0
+IsInForce setup node at func =
+    (who : Worker) (def : NodeDef) → slice_get setup.job.nodes node ≡ Some def →
+    who.node ≡ node → who.func ≡ def.func → func ≡ func_at setup who at
 
 -- what a state puts in force at a worker
 abbrev pub state_view : SetupView → Worker → WorkerState → StateView

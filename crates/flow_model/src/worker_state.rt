@@ -1,10 +1,11 @@
 // What is in force at a worker.
-ghost use Rattle.std.specs.Prelude.{◌≡◌, ◌<◌, ◌+◌, ◌-◌, ◌^◌, OnErr, OnOk, Some, length, slice_get};
-ghost use Rattle.jobs.specs.declared.func.NodeDef.{NodeDef as NodeDefIs};
-ghost use Rattle.flow_model.specs.SetupView.{Worker as WorkerIs};
+ghost use Rattle.std.specs.Prelude.{◌≡◌, ◌<◌, ◌+◌, ◌-◌, ◌^◌, OnErr, OnOk, Some, length};
+ghost use Rattle.jobs.specs.declared.func.Func.{Func as FuncIs};
+ghost use Rattle.flow_model.specs.InForce.{counts_with, func_in as func_there};
+ghost use Rattle.flow_model.specs.Requests.{change_of, func_with};
 ghost use Rattle.flow_model.specs.Setup.{setup_view};
-ghost use Rattle.flow_model.specs.WorkerState.{AreMade, HasEndedLane, IsProcessed, IsTurned};
-ghost use Rattle.flow_model.specs.WorkerState.{first_state, func_at};
+ghost use Rattle.flow_model.specs.WorkerState.{AreMade, HasEndedLane, IsInForce, IsProcessed};
+ghost use Rattle.flow_model.specs.WorkerState.{IsTurned, first_state};
 
 use crate::{InForce, Setup, WorkerAt};
 use keyed_state::Keyed;
@@ -56,6 +57,32 @@ impl WorkerState {
         ensures err { OnErr result (self.new ≡ self.old) }
         ensures err_outs { OnErr result (outs.new ≡ outs.old) }
     {
+        let func = func_of(setup, at.node, self.func);
+        self.process_by(alloc, setup, func, at, tuple, outs)
+    }
+
+    /// Does what [`WorkerState::process`] does, where the caller has looked up the function in
+    /// force.
+    #[inline]
+    pub fn process_by(
+        &mut self,
+        alloc: Global,
+        setup: &Setup,
+        func: &Func,
+        at: WorkerAt,
+        tuple: &Tuple,
+        outs: &mut Outs,
+    ) -> Result<(), NoMemory>
+        requires node { at.node < length (setup_view setup.now).job.nodes }
+        requires func { IsInForce (setup_view setup.now) at.node self.old.func func.now }
+        ensures state { OnOk result (IsProcessed (setup_view setup.now) at tuple.now self.old
+            self.new) }
+        ensures outs { OnOk result (AreMade (setup_view setup.now) at tuple.now self.old outs.old
+            outs.new) }
+        ensures kept { OnOk result (self.new ≡ record self.old { counts = self.new.counts }) }
+        ensures err { OnErr result (self.new ≡ self.old) }
+        ensures err_outs { OnErr result (outs.new ≡ outs.old) }
+    {
         let visit = Visit {
             node: at.node,
             worker: at.index,
@@ -66,7 +93,7 @@ impl WorkerState {
             &setup.job,
             setup.ports(at.node),
             visit,
-            func_of(setup, at.node, self.func),
+            func,
             &mut self.counts,
             tuple,
             outs,
@@ -77,7 +104,16 @@ impl WorkerState {
     /// Takes no memory.
     #[inline]
     pub fn turn(&mut self, setup: &Setup, node: u32, request: u64)
-        ensures { IsTurned (setup_view setup.now) node request self.old self.new }
+        ensures view { IsTurned (setup_view setup.now) node request self.old self.new }
+        ensures func { (func : FuncIs)
+            → func_there (setup_view setup.now) node self.old.func ≡ Some func
+            → func_there (setup_view setup.now) node self.new.func
+            ≡ Some (func_with (change_of (setup_view setup.now) request node) func) }
+        ensures rest { self.new ≡ record self.old {
+          func = self.new.func;
+          counts = counts_with (change_of (setup_view setup.now) request node) self.old.counts;
+          last = request;
+        } }
     {
         setup.put_in_force(node, request, &mut self.func, &mut self.counts);
         self.last = request;
@@ -97,10 +133,7 @@ impl WorkerState {
 #[inline]
 fn func_of(setup: &Setup, node: u32, at: InForce) -> &Func
     requires { node < length (setup_view setup.now).job.nodes }
-    ensures { (who : WorkerIs) (def : NodeDefIs)
-        → slice_get (setup_view setup.now).job.nodes node ≡ Some def
-        → who.node ≡ node → who.func ≡ def.func
-        → result.now ≡ func_at (setup_view setup.now) who at }
+    ensures { IsInForce (setup_view setup.now) node at result.now }
 {
     match setup.func_in(node, at) {
         Some(func) => func,

@@ -102,7 +102,10 @@ own_func setup w there =
 -- the state of a worker where a beginning is
 pub state_at : (setup : SetupView) (begin : Begin) (w node turned last : ℕ) (at : InForce) (counts : Counts) → w < length (workers_in setup.job) → slice_get begin.states w ≡ Some counts → turned ≡ begin.turned → node ≡ (nth_worker setup.job w).node
     → ((func : Func) → func_in setup node Own ≡ Some func → func_in setup node at ≡ Some (func_after setup node func turned)) → last ≡ last_after setup (nth_worker setup.job w).node turned
-    → IsStateAt setup begin w (record { turned = turned; in_force = at; counts = counts; last = last })
+    → IsStateAt setup begin w (record {
+      turned = turned;
+      state = record { func = at; counts = counts; last = last; ended = 0 };
+    })
 state_at setup begin w node turned last at counts there c t n f l =
     let who = nth_worker setup.job w in
     let own = own_func setup w there in
@@ -116,7 +119,10 @@ state_at setup begin w node turned last at counts there c t n f l =
     }
 
 -- the state at the beginning of all
-pub first_state : (setup : SetupView) (w : ℕ) (counts : Counts) → w < length (workers_in setup.job) → counts ≡ empty → IsStateAt setup (at_first setup) w (record { turned = 0; in_force = Own; counts = counts; last = 0 })
+pub first_state : (setup : SetupView) (w : ℕ) (counts : Counts) → w < length (workers_in setup.job) → counts ≡ empty → IsStateAt setup (at_first setup) w (record {
+      turned = 0;
+      state = record { func = Own; counts = counts; last = 0; ended = 0 };
+    })
 first_state setup w counts there none =
     let begun = get_mapped (λ (p : WorkerOf). empty) (workers_in setup.job) w (nth_worker setup.job w) (get-nth_worker setup.job w there) ∙ ap Some (sym none) in
     state_at setup (at_first setup) w (nth_worker setup.job w).node 0 0 Own counts there begun refl refl (λ func own. own) refl

@@ -67,11 +67,13 @@ pub record AreNewEndpoints (job : JobView) (worker : ℕ) (ins outs : List Endpo
   pub new_out : Each (IsNewEndpoint job graph) outs
 
 -- the state of the worker with a number where a beginning is
-pub record IsStateAt (setup : SetupView) (begin : Begin) (number : ℕ) (state : Beginning) : Type 0 where
-  pub begun_is : slice_get begin.states number ≡ Some state.counts
-  pub turned_is : state.turned ≡ begin.turned
+pub record IsStateAt (setup : SetupView) (begin : Begin) (number : ℕ) (at : Beginning)
+    : Type 0 where
+  pub begun_is : slice_get begin.states number ≡ Some at.state.counts
+  pub turned_is : at.turned ≡ begin.turned
   pub func_is :
-      func_in setup (nth_worker setup.job number).node state.in_force
-      ≡ Some (view_at setup begin.turned (nth_worker setup.job number) state.counts).func
+      func_in setup (nth_worker setup.job number).node at.state.func
+      ≡ Some (view_at setup begin.turned (nth_worker setup.job number) at.state.counts).func
   pub last_is :
-      state.last ≡ (view_at setup begin.turned (nth_worker setup.job number) state.counts).last
+      at.state.last
+      ≡ (view_at setup begin.turned (nth_worker setup.job number) at.state.counts).last

@@ -19,8 +19,7 @@ use crate::lanes_out::LanesOut;
 use crate::parts::{Parts, Worked, new_ins, new_outs, part_ins, part_outs};
 use crate::worker::acting::Acted;
 use control_box::Owner;
-use flow_model::{InForce, Setup, Start, workers_keep_steady};
-use keyed_state::Keyed;
+use flow_model::{Setup, Start, WorkerState, workers_keep_steady};
 use lane_core::Lanes;
 use marker_align::{Act, Due};
 use operators::Outs;
@@ -53,10 +52,8 @@ pub struct Worker<L: Lanes> {
     node: u32,
     place: u32,
     journal: Reserved<Entry>,
-    in_force: InForce,
-    counts: Keyed,
-    // The latest request turned, 0 for none.
-    last: u64,
+    // What is in force. It counts no ended lane: a worker closes when all lanes have ended.
+    state: WorkerState,
     due: Option<Due>,
     ins: LanesIn<L>,
     outs: LanesOut<L>,
@@ -91,9 +88,9 @@ impl<L: Lanes> Model for Worker<L> {
       place = w.place;
       journal = w.journal.items;
       memory = w.journal.memory;
-      in_force = w.in_force;
-      counts = w.counts;
-      last = w.last;
+      in_force = w.state.func;
+      counts = w.state.counts;
+      last = w.state.last;
       due = w.due;
       ins = w.ins;
       outs = w.outs;
@@ -105,17 +102,15 @@ impl<L: Lanes> Model for Worker<L> {
     } };
 
     ghost invariant = { λ w.
-        (w.spare_ins.items ≡ []) × (w.spare_outs.items ≡ []) × (w.made ≡ []) };
+        (w.spare_ins.items ≡ []) × (w.spare_outs.items ≡ []) × (w.made ≡ [])
+        × (w.state.ended ≡ 0) };
 }
 
 // What a worker begins with: how many requests were turned before it, and what they left in force.
 #[derive(Drop)]
 pub(crate) struct Beginning {
     turned: u64,
-    in_force: InForce,
-    counts: Keyed,
-    // The latest of these requests that covers the worker, 0 for none.
-    last: u64,
+    state: WorkerState,
 }
 
 impl<L: Lanes> Worker<L> {
@@ -145,13 +140,9 @@ impl<L: Lanes> Worker<L> {
             ≡ endpoints L.Tx.lane L.Tx.number L.Tx.origin L.Tx.sent outs.items) }
         ensures owner { IfOk result (λ w. w.owner ≡ owner) }
     {
-        let state = Beginning {
-            turned: 0,
-            in_force: InForce::Own,
-            counts: Keyed::new(alloc),
-            last: 0,
-        };
-        Worker::with_state(alloc, setup, number, ins, outs, owner, state)
+        let state = WorkerState::new(alloc);
+        let beginning = Beginning { turned: 0, state };
+        Worker::begin(alloc, setup, number, ins, outs, owner, beginning)
     }
 
     /// Makes the worker with this number where `start` begins: with a copy of its counts there, and
@@ -183,32 +174,34 @@ impl<L: Lanes> Worker<L> {
         ensures owner { IfOk result (λ w. w.owner ≡ owner) }
     {
         let turned = start.turned;
-        let state = Beginning {
-            turned,
-            in_force: setup.in_force_after(setup.node_of(number), turned),
+        let state = WorkerState {
+            func: setup.in_force_after(setup.node_of(number), turned),
             counts: start.states.as_slice()[number as usize].copy()?,
             last: setup.last_covering(number, turned),
+            ended: 0,
         };
-        Worker::with_state(alloc, setup, number, ins, outs, owner, state)
+        let beginning = Beginning { turned, state };
+        Worker::begin(alloc, setup, number, ins, outs, owner, beginning)
     }
 
-    // Makes the worker with the state of a beginning.
-    fn with_state(
+    // Makes the worker of a beginning.
+    fn begin(
         alloc: Global,
         setup: &Setup,
         number: u32,
         ins: Vec<L::Rx>,
         outs: Vec<L::Tx>,
         owner: Owner,
-        state: Beginning,
+        beginning: Beginning,
     ) -> Result<Worker<L>, NoMemory>
         requires there { number < length (workers_in (setup_view setup.now).job) }
         requires ends { AreNewEndpoints (setup_view setup.now).job number
             (endpoints L.Rx.lane L.Rx.number L.Rx.origin L.Rx.taken ins.items)
             (endpoints L.Tx.lane L.Tx.number L.Tx.origin L.Tx.sent outs.items) }
         requires owner { owner.turned ≡ 0 }
+        requires unended { beginning.state.ended ≡ 0 }
         ensures law { IfOk result (λ w. (begin : Begin)
-            → IsStateAt (setup_view setup.now) begin number state
+            → IsStateAt (setup_view setup.now) begin number beginning
             → IsWorker (setup_view setup.now) begin w) }
         ensures ins { IfOk result (λ w. map endpoint_in w.ins
             ≡ endpoints L.Rx.lane L.Rx.number L.Rx.origin L.Rx.taken ins.items) }
@@ -223,12 +216,7 @@ impl<L: Lanes> Worker<L> {
         let spare_outs = Vec::with_capacity(alloc, outs.len())?;
         let ins = new_ins(setup, ins, setup.lanes_in(number), room_in);
         let outs = new_outs(alloc, setup, outs, setup.lanes_out(number), room_out);
-        let Beginning {
-            turned,
-            in_force,
-            counts,
-            last,
-        } = state;
+        let Beginning { turned, state } = beginning;
         let due = setup.due_after(number, turned);
         Ok(Worker {
             alloc,
@@ -236,9 +224,7 @@ impl<L: Lanes> Worker<L> {
             node: at.node,
             place: at.index,
             journal: Reserved::new(alloc),
-            in_force,
-            counts,
-            last,
+            state,
             due,
             ins: LanesIn::new(ins),
             outs: LanesOut::new(outs),
@@ -268,13 +254,14 @@ impl<L: Lanes> Worker<L> {
         let Worker {
             number,
             journal,
-            counts,
+            state,
             ins,
             outs,
             spare_ins,
             spare_outs,
             ..
         } = self;
+        let WorkerState { counts, .. } = state;
         Parts {
             worked: Worked::of(number, journal.into_items(), counts),
             ins: part_ins(ins.into_vec(), spare_ins),

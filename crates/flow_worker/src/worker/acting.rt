@@ -12,12 +12,12 @@ ghost use Rattle.flow_worker.specs.Worker.{IsPlaced, hands};
 
 use crate::Worker;
 use crate::outputs::enqueue_outputs;
-use flow_model::Setup;
+use flow_model::{Setup, WorkerAt};
 use lane_core::Lanes;
 use marker_align::{Act, Due};
-use operators::{apply, most_outputs, outputs_are_few};
+use operators::{most_outputs, outputs_are_few};
 use sink_journal::Entry;
-use tuple_trace::{Gate, NoMemory, Visit};
+use tuple_trace::{Gate, NoMemory};
 
 // The outcome of an act.
 #[derive(Clone, Copy, Debug, PartialEq, Eq)]
@@ -90,8 +90,7 @@ impl<L: Lanes> Worker<L> {
         let request = due.request;
         self.ins.note_markers(due, &mut self.journal);
         self.journal.push_reserved(Entry::Turned { request });
-        setup.put_in_force(self.node, request, &mut self.in_force, &mut self.counts);
-        self.last = request;
+        self.state.turn(setup, self.node, request);
         self.due = setup.due_after(self.number, request);
         self.outs.push_markers(setup.covered_edges(request), due);
         self.owner.turned(self.owner.last_turned() + 1);
@@ -109,30 +108,27 @@ impl<L: Lanes> Worker<L> {
             → HasProcessed (setup_view setup.now) who place self.old self.new) }
         ensures err { OnErr result (MemoryOnly self.old self.new) }
     {
-        let Some(func) = setup.func_in(self.node, self.in_force) else {
+        let Some(func) = setup.func_in(self.node, self.state.func) else {
             unreachable!()
         };
         outputs_are_few();
-        let ports = setup.ports(self.node);
         if self.journal.reserve(1).is_err() {
             return Err(NoMemory);
         }
-        let most = most_outputs(func, ports);
+        let most = most_outputs(func, setup.ports(self.node));
         if self.outs.reserve(most).is_err() {
             return Err(NoMemory);
         }
         gate.pass(self.node, self.place, self.met);
-        let visit = Visit {
+        let at = WorkerAt {
             node: self.node,
-            worker: self.place,
-            last: self.last,
+            index: self.place,
         };
         let tuple = self.ins.tuple_at(place);
-        let (counts, made) = (&mut self.counts, &mut self.made);
-        if apply(
-            self.alloc, &setup.job, ports, visit, func, counts, tuple, made,
-        )
-        .is_err()
+        let (state, made) = (&mut self.state, &mut self.made);
+        if state
+            .process_by(self.alloc, setup, func, at, tuple, made)
+            .is_err()
         {
             return Err(NoMemory);
         }

@@ -109,7 +109,7 @@ returns-in_ok-mark-in-Turned c =
     let this = puts setup who (replay_view setup who old) (entry.Turned request) in
     subst (λ (e : Entry). IsEntered setup who e old new) (sym c.in-Turned.is)
     (entered setup who w (entry.Turned request) old new number
-    (c.turn.ensures who (sym c.node_of.ensures.at))
+    (c.turn.ensures.view who (sym c.node_of.ensures.at))
     (kept setup.job w this old.lists slice.result.now c.mark.new.lists slice.ensures.value
     slice.ensures.len c.requires.long
     (c.in_ok-mark-in-Turned.ensures

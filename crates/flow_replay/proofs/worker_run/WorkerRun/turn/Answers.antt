@@ -11,4 +11,4 @@ returns c =
     turned (setup_view c.args.setup.now) c.args.worker c.args.request c.worker_at-at.result.node
     c.args.self.now new c.mark.new.journal
     (ap (λ (a : WorkerAt). a.node) c.worker_at-at.ensures.at) c.in_ok-mark.ensures
-    c.in_ok-push.ensures.ok c.turn.ensures
+    c.in_ok-push.ensures.ok c.turn.ensures.view

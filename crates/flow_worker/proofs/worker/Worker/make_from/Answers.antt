@@ -20,4 +20,4 @@ returns-clause-law g c =
     subst (λ (l : List Counts). slice_get l c.args.number ≡ Some c.in_ok-copy.field-0) same (here ∙ ap Some (sym (c.in_ok-copy.ensures ∙ c.index-as_slice-number.is))) in
     let turned = ap (λ (b : Begin). b.turned) c.start.view_is in
     let state = state_at setup start c.args.number c.node_of.result c.start.inside.turned c.last_covering.result c.in_force_after.result c.in_ok-copy.field-0 c.requires.there at turned c.node_of.ensures.at c.in_force_after.ensures c.last_covering.ensures in
-    IfOk-weaker c.with_state.result _ _ (λ w law. law start state) c.with_state.ensures.law
+    IfOk-weaker c.begin.result _ _ (λ w law. law start state) c.begin.ensures.law

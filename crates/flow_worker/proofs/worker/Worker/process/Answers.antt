@@ -1,19 +1,26 @@
 use Rattle.flow_model.specs.Lanes.{out_numbers}
 use Rattle.std.proofs.Common.{◌≡◌, ℕ, refl, sym, ap, ◌∙◌, subst, List, [], ◌∷◌, ◌++◌, ◌+◌, ◌≤◌, ◌<◌, length, map, Some, slice_get, arith}
 use Rattle.std.specs.Option.{option_copied}
+use Rattle.std.specs.Prelude.{option_map}
+use Rattle.std.proofs.lemmas.Option.{same_Some}
+use Rattle.jobs.specs.declared.func.NodeDef.{NodeDef}
 use Rattle.jobs.specs.declared.func.Func.{Func}
 use Rattle.operators.specs.Meaning.{step}
 use Rattle.operators.specs.Ports.{most_outputs, out_ports}
 use Rattle.operators.specs.declared.output.Output.{Output}
 use Rattle.sink_journal.specs.declared.journal.Entry.TheVariants.{Met}
-use Rattle.keyed_state.specs.Counts.{Counts}
 use Rattle.tuple_trace.specs.declared.tuple.Item.{Item}
 use Rattle.tuple_trace.specs.declared.tuple.Tuple.{Tuple}
-use Rattle.tuple_trace.specs.declared.tuple.Visit.{Visit}
 use Rattle.flow_model.specs.SetupView.{SetupView, Worker as WorkerOf}
-use Rattle.flow_model.specs.Replay.{StateView, put_out, puts, visit_at}
+use Rattle.flow_model.specs.InForce.{func_in}
+use Rattle.flow_model.specs.Replay.{StateView, after, put_out, puts, visit_at}
 use Rattle.flow_model.specs.Setup.{setup_view}
 use Rattle.flow_model.specs.Workers.{workers_in}
+use Rattle.flow_model.specs.WorkerState.{IsInForce, IsWorkerAt, found_or, made as made_of, state_view}
+use Rattle.flow_model.specs.declared.in_force.InForce.{InForce}
+use Rattle.flow_model.specs.declared.in_force.InForce.TheVariants.{Own, Changed}
+use Rattle.flow_model.specs.declared.topology.WorkerAt.{WorkerAt}
+use Rattle.flow_model.specs.declared.worker_state.WorkerState.{WorkerState}
 use Rattle.flow_model.proofs.WorkerLemmas.{worker_with}
 use Rattle.flow_worker.specs.Endpoints.{Appended, Gains, HasRoom, LaneInIs, LaneOutIs, Reserved, SameButMemory}
 use Rattle.flow_worker.specs.Pairs.{Each, EachPair}
@@ -57,8 +64,39 @@ only_memory n (x ∷ xs) (y ∷ ys) p = (p.0.0, only_memory n xs ys p.1)
 made_is : (made fresh outs : List Output) → made ≡ fresh ++ outs → fresh ≡ [] → made ≡ outs
 made_is made fresh outs e h = e ∙ ap (λ xs. xs ++ outs) h
 
-visits : (node place : ℕ) (who : WorkerOf) (view : StateView) → node ≡ who.node → place ≡ who.place → ◌≡◌ {A = Visit} (record { node = node; worker = place; last = view.last }) (visit_at who view)
-visits node place who view a b = ap {B = Visit} (λ m. record { node = m; worker = place; last = view.last }) a ∙ ap {B = Visit} (λ m. record { node = who.node; worker = m; last = view.last }) b
+-- the function that is looked up is the one in force
+in_force : (setup : SetupView) (node : ℕ) (at : InForce) (func : Func) → func_in setup node at ≡ Some func → IsInForce setup node at func
+in_force setup node Own func is who def there here own =
+    let own_is = ap (option_map (λ (d : NodeDef). d.func)) there in
+    sym (same_Some def.func func (sym own_is ∙ is)) ∙ sym own
+in_force setup node (Changed request place) func is who def there here own =
+    sym (ap (found_or who.func) (ap (λ (n : ℕ). func_in setup n (Changed request place)) here ∙ is))
+
+-- what is in force at a worker whose lanes haven't ended
+in_view : (setup : SetupView) (who : WorkerOf) (at : WorkerAt) (state : WorkerState) (func : Func) →
+    IsInForce setup at.node state.func func → IsWorkerAt setup.job at who → state.ended ≡ 0 →
+    state_view setup who state
+    ≡ record { func = func; counts = state.counts; last = state.last; ended = 0 }
+in_view setup who at state func known is unended =
+    let (number, worker) = worker_with setup.job who.number who is.there in
+    let node : at.node ≡ who.node = ap (λ (a : WorkerAt). a.node) is.at_is in
+    let same = known who worker.def (ap (slice_get setup.job.nodes) node ∙ worker.node_is) (sym node)
+        worker.func_is in
+    ap {B = StateView} (λ (f : Func).
+    record { func = f; counts = state.counts; last = state.last; ended = state.ended }) (sym same)
+    ∙ ap {B = StateView} (λ (n : ℕ).
+    record { func = func; counts = state.counts; last = state.last; ended = n }) unended
+
+-- where the worker stands
+stands_at : (setup : SetupView) (who : WorkerOf) (w : WorkerIs) → IsPlaced setup who w →
+    IsWorkerAt setup.job (record { node = w.node; index = w.place }) who
+stands_at setup who w p =
+    let n = (worker_with setup.job w.number who p.who_is).0 in
+    record {
+      there = subst (λ m. slice_get (workers_in setup.job) m ≡ Some who) (sym n) p.who_is;
+      at_is = ap {B = WorkerAt} (λ (m : ℕ). record { node = m; index = w.place }) p.node_is
+          ∙ ap {B = WorkerAt} (λ (m : ℕ). record { node = who.node; index = m }) p.place_is;
+    }
 
 pub returns-then-is_err-clause-err : goal.returns-then-is_err-clause-err
 returns-then-is_err-clause-err g c =
@@ -68,11 +106,16 @@ pub out_edges-edges-requires : goal.out_edges-edges-requires
 out_edges-edges-requires g c =
     subst (λ (w : WorkerIs). w.node < length (setup_view c.args.setup.now).job.nodes) (sym c.self.view_is) (placed_below (setup_view c.args.setup.now) c.requires.placed.0 c.args.self.now c.requires.placed.1)
 
-pub apply-requires : goal.apply-requires
-apply-requires g c = c.ports-ports.ensures
+pub process_by-requires-clause-func : goal.process_by-requires-clause-func
+process_by-requires-clause-func g c =
+    in_force (setup_view c.args.setup.now) c.self.inside.node c.self.inside.state.func c.in-Some.func.now (sym c.func_in.ensures ∙ ap option_copied c.in-Some.is)
 
-pub ports-ports-requires : goal.ports-ports-requires
-ports-ports-requires g c =
+pub process_by-requires-clause-node : goal.process_by-requires-clause-node
+process_by-requires-clause-node g c =
+    subst (λ (w : WorkerIs). w.node < length (setup_view c.args.setup.now).job.nodes) (sym c.self.view_is) (placed_below (setup_view c.args.setup.now) c.requires.placed.0 c.args.self.now c.requires.placed.1)
+
+pub ports-requires : goal.ports-requires
+ports-requires g c =
     subst (λ (w : WorkerIs). w.node < length (setup_view c.args.setup.now).job.nodes) (sym c.self.view_is) (placed_below (setup_view c.args.setup.now) c.requires.placed.0 c.args.self.now c.requires.placed.1)
 
 pub enqueue_outputs-requires-clause-edges : goal.enqueue_outputs-requires-clause-edges
@@ -85,7 +128,7 @@ returns-then-is_err-3-clause-err g c =
     let now = c.reserve-2.new.self in
     let n = c.most_outputs-most.result in
     let p : EachPair (Reserved n) was now = ok_fact c.reserve-2.result (sym c.is_err-2.ensures.value ∙ c.if-is_err-2.false) c.reserve-2.ensures.ok in
-    rw (← c.self.view_is) (record { rest = rw (c.reserve.ensures.items, err_fact c.apply.result (sym c.is_err-3.ensures.value ∙ c.if-is_err-3.true) c.apply.ensures.err_counts) refl; outs = only_memory n was now p })
+    rw (← c.self.view_is) (record { rest = rw (c.reserve.ensures.items, err_fact c.process_by.result (sym c.is_err-3.ensures.value ∙ c.if-is_err-3.true) c.process_by.ensures.err) refl; outs = only_memory n was now p })
 
 pub enqueue_outputs-requires-clause-who : goal.enqueue_outputs-requires-clause-who
 enqueue_outputs-requires-clause-who g c κs up =
@@ -105,14 +148,24 @@ enqueue_outputs-requires-clause-room g c κs up =
     let now = c.reserve-2.new.self in
     let n = c.most_outputs-most.result in
     let p : EachPair (Reserved n) was now = ok_fact c.reserve-2.result (sym c.is_err-2.ensures.value ∙ c.if-is_err-2.false) c.reserve-2.ensures.ok in
-    let o = ok_fact c.apply.result (sym c.is_err-3.ensures.value ∙ c.if-is_err-3.false) c.apply.ensures.outputs in
-    let job = (setup_view c.args.setup.now).job in
-    let visit : Visit = record { node = c.self.inside.node; worker = c.self.inside.place; last = c.self.inside.last } in
-    let most : most_outputs c.in-Some.func.now (out_ports job.edges c.self.inside.node) ≡ n = sym (c.most_outputs-most.ensures ∙ ap (most_outputs c.in-Some.func.now) c.ports-ports.ensures) in
-    let few : length (step job visit c.in-Some.func.now c.self.inside.counts c.tuple_at-tuple.result.now).1 ≤ n =
-    subst (λ m. length (step job visit c.in-Some.func.now c.self.inside.counts c.tuple_at-tuple.result.now).1 ≤ m) most (c.outputs_are_few.ensures job visit c.in-Some.func.now c.self.inside.counts c.tuple_at-tuple.result.now) in
-    let long : length c.apply.new.out ≤ n = subst (λ m. m ≤ n) (sym (ap length (made_is _ _ _ o c.self.invariant.2))) few in
-    (fewer n (length c.apply.new.out) now long (room n was now p))
+    let o = ok_fact c.process_by.result (sym c.is_err-3.ensures.value ∙ c.if-is_err-3.false) c.process_by.ensures.outs in
+    let setup = setup_view c.args.setup.now in
+    let who = c.requires.placed.0 in
+    let at : WorkerAt = record { node = c.self.inside.node; index = c.self.inside.place } in
+    let is : IsWorkerAt setup.job at who = subst (λ (w : WorkerIs). IsWorkerAt setup.job (record { node = w.node; index = w.place }) who) (sym c.self.view_is) (stands_at setup who c.args.self.now c.requires.placed.1) in
+    let func : Func = c.in-Some.func.now in
+    let state = c.self.inside.state in
+    let tuple = c.tuple_at-tuple.result.now in
+    let found = in_force setup at.node state.func func (sym c.func_in.ensures ∙ ap option_copied c.in-Some.is) in
+    let view = in_view setup who at state func found is c.self.invariant.3 in
+    let node : at.node ≡ who.node = ap (λ (a : WorkerAt). a.node) is.at_is in
+    let most : most_outputs func (out_ports setup.job.edges who.node) ≡ n = ap (λ (m : ℕ). most_outputs func (out_ports setup.job.edges m)) (sym node) ∙ sym (c.most_outputs-most.ensures ∙ ap (most_outputs func) c.ports.ensures) in
+    let visit = visit_at who (record { func = func; counts = state.counts; last = state.last; ended = 0 }) in
+    let few : length (step setup.job visit func state.counts tuple).1 ≤ n =
+    subst (λ m. length (step setup.job visit func state.counts tuple).1 ≤ m) most (c.outputs_are_few.ensures setup.job visit func state.counts tuple) in
+    let made = made_is _ _ _ (o who is) c.self.invariant.2 ∙ ap (λ (v : StateView). made_of setup who v tuple) view in
+    let long : length c.process_by.new.outs ≤ n = subst (λ m. m ≤ n) (sym (ap length made)) few in
+    (fewer n (length c.process_by.new.outs) now long (room n was now p))
 
 pub next_place-self-inside-requires-clause-within : goal.next_place-self-inside-requires-clause-within
 next_place-self-inside-requires-clause-within g c =
@@ -138,15 +191,21 @@ returns-clause-ok g c who placed =
     let at = c.tuple_at-tuple.ensures a held.2 in
     let same : c.tuple_at-tuple.result.now ≡ t = same_tuple a c.tuple_at-tuple.result.now t at held.3 in
     let func : Func = c.in-Some.func.now in
-    let counts : Counts = c.self.inside.counts in
-    let view : StateView = record { func = func; counts = counts; last = c.self.inside.last; ended = 0 } in
-    let vis = visits c.self.inside.node c.self.inside.place who view (subst (λ (w : WorkerIs). w.node ≡ who.node) (sym c.self.view_is) placed.node_is) (subst (λ (w : WorkerIs). w.place ≡ who.place) (sym c.self.view_is) placed.place_is) in
-    let e = ap (λ (v : Visit). step job v func counts c.tuple_at-tuple.result.now) vis ∙ ap (λ (u : Tuple). step job (visit_at who view) func counts u) same in
-    let o = ok_fact c.apply.result (sym c.is_err-3.ensures.value ∙ c.if-is_err-3.false) c.apply.ensures.outputs in
-    let made : c.apply.new.out ≡ (step job (visit_at who view) func counts t).1 = made_is _ _ _ o c.self.invariant.2 ∙ ap (λ (s : Counts × List Output). s.1) e in
+    let state : WorkerState = c.self.inside.state in
+    let view : StateView = record { func = func; counts = state.counts; last = state.last; ended = 0 } in
+    let spot : WorkerAt = record { node = c.self.inside.node; index = c.self.inside.place } in
+    let stands : IsWorkerAt job spot who = subst (λ (w : WorkerIs). IsWorkerAt job (record { node = w.node; index = w.place }) who) (sym c.self.view_is) (stands_at setup who c.args.self.now placed) in
+    let func_is = sym c.func_in.ensures ∙ ap option_copied c.in-Some.is in
+    let view_is = in_view setup who spot state func (in_force setup spot.node state.func func func_is) stands c.self.invariant.3 in
+    let ok = sym c.is_err-3.ensures.value ∙ c.if-is_err-3.false in
+    let o = ok_fact c.process_by.result ok c.process_by.ensures.outs who stands in
+    let made : c.process_by.new.outs ≡ made_of setup who view t =
+    made_is _ _ _ o c.self.invariant.2 ∙ ap (λ (v : StateView). made_of setup who v c.tuple_at-tuple.result.now) view_is ∙ ap (made_of setup who view) same in
+    let came = ok_fact c.process_by.result ok c.process_by.ensures.state who stands a.number in
+    let counts = ap (λ (v : StateView). v.counts) came ∙ ap (λ (v : StateView). (after setup who v (Met a.number c.tuple_at-tuple.result.now)).counts) view_is ∙ ap (λ (u : Tuple). (after setup who view (Met a.number u)).counts) same in
     let is : IsSenderAt job c.self.inside.node who (numbers_out was) = subst (λ (w : WorkerIs). IsSenderAt job w.node who (numbers_out w.outs)) (sym c.self.view_is) (sender setup who c.args.self.now placed) in
     let is' : IsSenderAt job c.self.inside.node who (numbers_out now) = subst (λ ns. IsSenderAt job c.self.inside.node who ns) (sym (numbers_kept n was now p)) is in
-    let f : LaneOutIs → List Item = λ out. items_at job (map (put_out job who) c.apply.new.out) out.number in
+    let f : LaneOutIs → List Item = λ out. items_at job (map (put_out job who) c.process_by.new.outs) out.number in
     let h : LaneOutIs → List Item = λ out. items_at job (puts setup who view (Met a.number t)) out.number in
     let d : EachPair (Appended f) now last = c.enqueue_outputs.ensures.outs who is' in
     let b : EachPair (Appended h) now last = appended_by f h now last (λ out. ap (λ (os : List Output). items_at job (map (put_out job who) os) out.number) made) d in
@@ -157,11 +216,11 @@ returns-clause-ok g c who placed =
       func = func;
       here = held.2;
       held = held.3;
-      func_is = sym c.func_in.ensures ∙ ap option_copied c.in-Some.is;
+      func_is = func_is;
       journal = rw (c.note_tuple.ensures.journal a t held.2 held.3, c.reserve.ensures.items) refl;
       ins = c.note_tuple.ensures.ins;
       outs = all;
-      counts = ok_fact c.apply.result (sym c.is_err-3.ensures.value ∙ c.if-is_err-3.false) c.apply.ensures.counts ∙ ap (λ (s : Counts × List Output). s.0) e;
+      counts = counts;
       next = subst (λ (n : ℕ). c.next_place-self-inside.result < n) (c.len.ensures.is ∙ (ap length c.note_tuple.ensures.ins ∙ length_laid c.args.place c.self.inside.ins)) c.next_place-self-inside.ensures;
-      rest = refl;
+      rest = rw (ok_fact c.process_by.result ok c.process_by.ensures.kept) refl;
     })

@@ -7,6 +7,7 @@ use Rattle.tuple_trace.specs.declared.tuple.Item.TheVariants.{Mark}
 use Rattle.flow_model.specs.Dues.{IsDueAfter, edges_in}
 use Rattle.flow_model.specs.Setup.{setup_view}
 use Rattle.flow_model.specs.Workers.{nth_worker, workers_in}
+use Rattle.flow_model.specs.declared.worker_state.WorkerState.{WorkerState}
 use Rattle.flow_worker.specs.Endpoints.{Appended, LaneOutIs, Reserved}
 use Rattle.flow_worker.specs.Steps.{marker_on}
 use Rattle.flow_worker.specs.Pairs.{Each, EachPair}
@@ -63,9 +64,9 @@ returns-clause-ok g c =
       journal = rw (ap (λ (j : ReservedIs Entry). j.items) c.push_reserved.ensures, c.note_markers.ensures.journal, c.reserve.ensures.items) refl;
       ins = c.note_markers.ensures.ins;
       outs = all;
-      func = c.put_in_force.ensures.func;
-      counts = c.put_in_force.ensures.counts;
-      last = refl;
+      func = c.turn.ensures.func;
+      counts = ap (λ (s : WorkerState). s.counts) c.turn.ensures.rest;
+      last = ap (λ (s : WorkerState). s.last) c.turn.ensures.rest;
       later = subst (λ (n : ℕ). IsDueAfter setup n (edges_in setup.job c.self.inside.number) due.request c.due_after-self-inside.result) node c.due_after-self-inside.ensures;
       turned = c.turned.ensures.turned ∙ ap (λ n. n + 1) c.last_turned.ensures;
       polls = c.turned.ensures.same.1;

@@ -13,7 +13,7 @@ use Rattle.flow_worker.specs.Pairs.{Each}
 use Rattle.flow_worker.specs.Parts.{EndpointIs, IsNewEndpoint, endpoint_in, endpoint_out}
 use Rattle.flow_worker.proofs.Beginning.{begins_from, lanes_there, new_hands, new_waiting, stands}
 use Rattle.flow_worker.proofs.Pairs.{length_mapped}
-use Rattle.flow_worker.proofs.worker.Worker.with_state.Goals as goal
+use Rattle.flow_worker.proofs.worker.Worker.begin.Goals as goal
 
 pub new_ins-ins-requires-clause-numbers : goal.new_ins-ins-requires-clause-numbers
 new_ins-ins-requires-clause-numbers g c κs up =
@@ -77,10 +77,10 @@ returns-clause-law g c begin s =
     })
     c.requires.ends c.new_ins-ins.ensures.ends c.new_outs-outs.ensures.ends)
     (record {
-      begun = c.args.state.counts;
+      begun = c.args.beginning.state.counts;
       begun_is = s.begun_is;
       journal = c.new.ensures;
-      func = ap (λ (n : ℕ). func_in setup n c.args.state.in_force) node ∙ s.func_is;
+      func = ap (λ (n : ℕ). func_in setup n c.args.beginning.state.func) node ∙ s.func_is;
       counts = refl;
       last = s.last_is;
       due = subst (λ (n : ℕ). IsDueAfter setup n (edges_in job c.args.number) begin.turned c.due_after-due.result) (sym node)
