@@ -4,6 +4,7 @@ pub mod Columns
 pub mod Conds
 pub mod Document
 pub mod Edges
+pub mod FaultWords
 pub mod Faults
 pub mod Funcs
 pub mod Job

@@ -2,6 +2,11 @@
 //!
 //! Both files are TOML documents. [`read_job`] answers the job that a file writes down, and
 //! [`read_requests`] the requests, or the first fault.
+//!
+//! ```
+//! let job = read_job(alloc, b"columns = [\"amount:cents\"]\n..")?;
+//! let requests = read_requests(alloc, &job, b"[[request]]\nafter = 2\n..")?;
+//! ```
 #![tactic(auto)]
 
 mod carries;
@@ -11,6 +16,7 @@ mod conds;
 mod document;
 mod edges;
 mod fault;
+mod fault_words;
 mod funcs;
 mod kinds;
 mod layout;

@@ -11,3 +11,4 @@ pub mod Limits
 pub mod Weights
 pub mod Law
 pub mod Job
+pub mod FaultWords

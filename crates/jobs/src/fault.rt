@@ -1,3 +1,8 @@
+ghost use Rattle.std.specs.Prelude.{Some};
+ghost use Rattle.jobs.specs.FaultWords.{which_words};
+
+use std::fmt;
+
 /// What has a name of its own.
 #[derive(Clone, Copy, Debug, PartialEq, Eq)]
 pub enum Named {
@@ -22,6 +27,29 @@ pub enum Which {
     Requests,
     Changes,
     After,
+}
+
+impl fmt::Display for Which {
+    ghost output = { λ which. Some (which_words which) };
+
+    fn fmt<W: fmt::Write>(&self, f: &mut fmt::Formatter<W>) -> fmt::Result {
+        match self {
+            Which::Nodes => write!(f, "nodes"),
+            Which::Edges => write!(f, "edges"),
+            Which::Workers => write!(f, "workers"),
+            Which::AllWorkers => write!(f, "allworkers"),
+            Which::Columns => write!(f, "columns"),
+            Which::Text => write!(f, "text"),
+            Which::Entries => write!(f, "entries"),
+            Which::Conditions => write!(f, "conditions"),
+            Which::Steps => write!(f, "steps"),
+            Which::Most => write!(f, "most"),
+            Which::Roof => write!(f, "roof"),
+            Which::Requests => write!(f, "requests"),
+            Which::Changes => write!(f, "changes"),
+            Which::After => write!(f, "after"),
+        }
+    }
 }
 
 /// Why the parts of a job make no lawful job, in the order in which the faults are looked for.

@@ -1,4 +1,5 @@
 pub mod Causes
+pub mod FaultWords
 pub mod Files
 pub mod Host
 pub mod Made

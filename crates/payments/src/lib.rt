@@ -3,9 +3,16 @@
 //! A payments file is CSV. [`read_rows`] answers its rows, or its first fault with the place where
 //! it stands. What lies outside the program is met by the traits [`Shelf`] and [`Sink`] alone, so
 //! that a run is the same over the host and over a fake in memory.
+//!
+//! ```
+//! let rows = read_rows(alloc, &job, b"source,account,amount\ncard,ann,12.50\n")?;
+//! assert!(rt; rows.len() == 1);
+//! store(&mut shelf, &name, text.as_slice())?;
+//! ```
 #![tactic(auto)]
 
 mod cells;
+mod fault_words;
 mod host;
 mod make;
 mod memory;

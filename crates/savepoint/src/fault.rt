@@ -1,6 +1,9 @@
 ghost use Rattle.savepoint.specs.declared.fault.SaveFault.TheVariants.{NoMemory as OutOfMemory};
-ghost use Rattle.std.specs.Prelude.{◌≡◌};
+ghost use Rattle.savepoint.specs.FaultWords.{save_words};
+ghost use Rattle.std.specs.Prelude.{◌≡◌, Some};
 
+use std::error::Error;
+use std::fmt;
 use tuple_trace::NoMemory;
 
 /// Why a savepoint isn't read. Records are counted from 0.
@@ -25,3 +28,19 @@ impl From<NoMemory> for SaveFault {
         SaveFault::NoMemory
     }
 }
+
+impl fmt::Display for SaveFault {
+    ghost output = { λ fault. Some (save_words fault) };
+
+    fn fmt<W: fmt::Write>(&self, f: &mut fmt::Formatter<W>) -> fmt::Result {
+        match self {
+            SaveFault::Shape(number) => write!(f, "S1 record {number}"),
+            SaveFault::Past(row) => write!(f, "S2 rows {row}"),
+            SaveFault::Count(requests) => write!(f, "S3 requests {requests}"),
+            SaveFault::State(number) => write!(f, "S4 record {number}"),
+            SaveFault::NoMemory => write!(f, "memory"),
+        }
+    }
+}
+
+impl Error for SaveFault {}
