@@ -3,6 +3,13 @@
 //!
 //! An audit has only the row and the births of a tuple. It determines the run all the same: no two
 //! runs of one setup and the same rows have the same audit.
+//!
+//! ```
+//! let lines = records_of(text);
+//! // A text that a run fits has none of the six faults, and no text has two.
+//! texts_of_runs_have_no_fault(&setup, &rows);
+//! texts_have_one_fault(&setup);
+//! ```
 #![tactic(auto)]
 
 mod audit;

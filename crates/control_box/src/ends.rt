@@ -10,7 +10,8 @@ use std::alloc::{AllocError, Global};
 use std::marker::Model;
 use std::sync::Arc;
 
-/// The feeder's end of a box. Contracts see its last post, and the list of the values of turned that [`Poster::ready`] loaded.
+/// The feeder's end of a box. Contracts see its last post, and the list of the values of turned
+/// that [`Poster::ready`] loaded.
 #[derive(Drop)]
 pub struct Poster {
     words: Arc<Words, Global>,
@@ -24,12 +25,15 @@ impl Model for Poster {
 
     ghost Value = { PosterIs };
 
-    ghost view = { λ p. record { within = p.seat.table_id; posted = p.seat.me.0.posted; loads = p.seat.me.0.loads } };
+    ghost view = { λ p. record { within = p.seat.table_id; posted = p.seat.me.0.posted;
+        loads = p.seat.me.0.loads } };
 
-    ghost invariant = { λ p. ((arc_value p.words).shared.table_id ≡ p.seat.table_id) × (p.seat.table_id.words ≡ 2) × (p.seat.me.1 ≡ []) × (p.seat.me.0.may_post ≡ true) };
+    ghost invariant = { λ p. ((arc_value p.words).shared.table_id ≡ p.seat.table_id)
+        × (p.seat.table_id.words ≡ 2) × (p.seat.me.1 ≡ []) × (p.seat.me.0.may_post ≡ true) };
 }
 
-/// The worker's end of a box. Contracts see its last acknowledgement, and the list of the numbers that [`Owner::poll`] answered.
+/// The worker's end of a box. Contracts see its last acknowledgement, and the list of the numbers
+/// that [`Owner::poll`] answered.
 #[derive(Drop)]
 pub struct Owner {
     words: Arc<Words, Global>,
@@ -44,9 +48,11 @@ impl Model for Owner {
 
     ghost Value = { OwnerIs };
 
-    ghost view = { λ p. record { within = p.seat.table_id; turned = p.seat.me.0.turned; polls = p.seat.me.0.polls } };
+    ghost view = { λ p. record { within = p.seat.table_id; turned = p.seat.me.0.turned;
+        polls = p.seat.me.0.polls } };
 
-    ghost invariant = { λ p. ((arc_value p.words).shared.table_id ≡ p.seat.table_id) × (p.seat.table_id.words ≡ 2) × (p.seat.me.1 ≡ []) × (p.seat.me.0.may_turn ≡ true)
+    ghost invariant = { λ p. ((arc_value p.words).shared.table_id ≡ p.seat.table_id)
+        × (p.seat.table_id.words ≡ 2) × (p.seat.me.1 ≡ []) × (p.seat.me.0.may_turn ≡ true)
         × (p.turned ≡ p.seat.me.0.turned) };
 }
 
@@ -71,12 +77,15 @@ pub fn make_box(alloc: Global) -> Result<(Poster, Owner), AllocError>
 }
 
 impl Poster {
-    /// Whether the owner has turned every due before `k`, which is 1 or more: whether turned is at least `k - 1` at this load.
+    /// Whether the owner has turned every due before `k`, which is 1 or more: whether turned is at
+    /// least `k - 1` at this load.
     pub fn ready(&mut self, k: u64) -> bool
         requires { 1 ≤ k }
         ensures same { (self.new.within ≡ self.old.within) × (self.new.posted ≡ self.old.posted) }
-        // What it loaded is turned at this moment, which never falls, and is at most one behind posted.
-        ensures load { (turned : ℕ) × (self.new.loads ≡ self.old.loads ++ turned ∷ []) × All (λ load. load ≤ turned) self.old.loads
+        // What it loaded is turned at this moment, which never falls, and is at most one behind
+        // posted.
+        ensures load { (turned : ℕ) × (self.new.loads ≡ self.old.loads ++ turned ∷ [])
+            × All (λ load. load ≤ turned) self.old.loads
             × (self.old.posted ≤ turned + 1) × (IsTrue result ↔ (k ≤ turned + 1)) }
         ensures ready { OnTrue result (HasShownReady k self.new.loads) }
     {

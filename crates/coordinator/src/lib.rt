@@ -3,6 +3,12 @@
 //! [`Feeding`] is what a run asks of its feeder, and [`Feeder`] is the one that issues each request
 //! at the row that the request names. A turn waits for nobody: it does one thing, or says why not.
 //! The idea of control messages that overtake data is that of the Fries paper (PVLDB 2022).
+//!
+//! ```
+//! let mut feeder = Feeder::make(alloc, &setup, outs, posters, ())?;
+//! while feeder.turn(&mut need, &setup, &rows, &gate) != FeedTurn::Done {}
+//! let parts = feeder.finish();
+//! ```
 #![tactic(auto)]
 
 mod boxes;

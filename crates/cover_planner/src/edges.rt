@@ -11,7 +11,8 @@ use flow_dag::Dag;
 /// member or a node above one.
 pub fn covered_children(dag: &Dag, members: u64) -> [u64; 64]
     requires { (m : ℕ) → Has members m → m < dag.now.nodes }
-    ensures { (a b : ℕ) → RowHas result a b ↔ IsCoveredEdge (HasEdge dag.now.edges) (Has members) a b }
+    ensures { (a b : ℕ) → RowHas result a b
+        ↔ IsCoveredEdge (HasEdge dag.now.edges) (Has members) a b }
 {
     let from = downstream(dag, members);
     let to = upstream(dag, members);

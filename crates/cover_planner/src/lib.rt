@@ -1,10 +1,11 @@
 //! The least cover of a change: which nodes and edges of a graph have to take part in it.
 //!
 //! A change asks some nodes to change. Its *members* are these and, above them, every node that may
-//! make pieces of a tuple, and every one whose copies come to asked nodes along two edges or more. Its *cover* is the minimal covering sub-DAG of the members, as the
-//! Fries paper (PVLDB 2022) has it: the members and all paths between them, and nothing that could be
-//! left out. A *head* of the cover has no covered edge into it, and a *part* is a class of covered
-//! nodes that covered edges join. [`plan`] answers all of this as masks, without memory.
+//! make pieces of a tuple, and every one whose copies come to asked nodes along two edges or more.
+//! Its *cover* is the minimal covering sub-DAG of the members, as the Fries paper (PVLDB 2022) has
+//! it: the members and all paths between them, and nothing that could be left out. A *head* of the
+//! cover has no covered edge into it, and a *part* is a class of covered nodes that covered edges
+//! join. [`plan`] answers all of this as masks, without memory.
 //!
 //! ```
 //! let edge = |from: u32, to: u32| Edge { from, port: 0, to };

@@ -7,10 +7,12 @@ ghost use Rattle.cover_planner.specs.Members.{IsMember};
 use crate::reach;
 use flow_dag::Dag;
 
-/// The asked nodes, those of `splits` from which a path leads to one of them, and those of `copies` with two edges that lead to one.
+/// The asked nodes, those of `splits` from which a path leads to one of them, and those of `copies`
+/// with two edges that lead to one.
 pub fn members(dag: &Dag, splits: u64, copies: u64, asked: u64) -> u64
     requires { (m : ℕ) → Has asked m → m < dag.now.nodes }
-    ensures { (a : ℕ) → Has result a ↔ IsMember (HasEdge dag.now.edges) (Has asked) (Has splits) (Has copies) a }
+    ensures { (a : ℕ) → Has result a
+        ↔ IsMember (HasEdge dag.now.edges) (Has asked) (Has splits) (Has copies) a }
 {
     let above = reach::above_all(dag, asked);
     asked | splits & above | copies & forked(&dag.graph().child, asked | above)
@@ -18,7 +20,9 @@ pub fn members(dag: &Dag, splits: u64, copies: u64, asked: u64) -> u64
 
 /// The nodes with two children in the set.
 fn forked(children: &[u64; 64], set: u64) -> u64
-    ensures { (a : ℕ) → Has result a ↔ ((b : ℕ) × (c : ℕ) × (b ≢ c) × (RowHas children.now a b × Has set b) × (RowHas children.now a c × Has set c)) }
+    ensures { (a : ℕ) → Has result a
+        ↔ ((b : ℕ) × (c : ℕ) × (b ≢ c) × (RowHas children.now a b × Has set b)
+        × (RowHas children.now a c × Has set c)) }
 {
     let mut found = 0u64;
     for (a, row) in children.iter().enumerate() {

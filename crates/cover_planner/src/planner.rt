@@ -6,12 +6,12 @@ use crate::cover::Plan;
 use crate::{edges, members, nodes, parts};
 use flow_dag::Dag;
 
-/// The plan of a change of the nodes `asked`, where those of `splits` may make pieces of a tuple, and
-/// those of `copies` send a copy of it along each of their edges.
+/// The plan of a change of the nodes `asked`, where those of `splits` may make pieces of a tuple,
+/// and those of `copies` send a copy of it along each of their edges.
 ///
-/// Every node of `splits` above an asked one is covered along with the asked ones, and every node of
-/// `copies` whose copies come to asked nodes along two edges or more. So all that such a node makes
-/// of one tuple meets the same side of the change. With no asked node the plan is empty.
+/// Every node of `splits` above an asked one is covered along with the asked ones, and every node
+/// of `copies` whose copies come to asked nodes along two edges or more. So all that such a node
+/// makes of one tuple meets the same side of the change. With no asked node the plan is empty.
 pub fn plan(dag: &Dag, splits: u64, copies: u64, asked: u64) -> Plan
     requires asked { asked < 2 ^ dag.now.nodes }
     requires splits { splits < 2 ^ dag.now.nodes }

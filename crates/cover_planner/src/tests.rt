@@ -67,8 +67,8 @@ fn chain_plan(rt: HostRuntime) {
     assert_eq!(rt; (part(found, 0), part(found, 1)), (Some(NO_PART), Some(0)));
 }
 
-// A source, a split, a filter with two ports, two maps, a filter m that joins them, and a sink; m is
-// asked.
+// A source, a split, a filter with two ports, two maps, a filter m that joins them, and a sink; m
+// is asked.
 #[test]
 fn split_above_plan(rt: HostRuntime) {
     let edges = [

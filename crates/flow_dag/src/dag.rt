@@ -1,4 +1,5 @@
-ghost use Rattle.std.specs.Prelude.{◌≡◌, ℕ, ◌<◌, ◌≤◌, ◌↔◌, IfOk, IfErr, IsTrue, length, slice_get, Some};
+ghost use Rattle.std.specs.Prelude.{◌≡◌, ℕ, ◌<◌, ◌≤◌, ◌↔◌, IfOk, IfErr, IsTrue, length, slice_get};
+ghost use Rattle.std.specs.Prelude.{Some};
 ghost use Rattle.flow_dag.specs.Masks.{Has};
 ghost use Rattle.flow_dag.specs.Paths.{Reaches};
 ghost use Rattle.flow_dag.specs.Edges.{HasEdge};
@@ -18,8 +19,9 @@ use std::marker::Model;
 /// ends.
 ///
 /// It keeps the edges as they were given, an order of the nodes in which every edge leads forward,
-/// and for each node two masks, of the nodes from which a path leads to it and of those to which one
-/// leads from it. That the graph is lawful is part of its value, so whoever holds a `Dag` knows it.
+/// and for each node two masks, of the nodes from which a path leads to it and of those to which
+/// one leads from it. That the graph is lawful is part of its value, so whoever holds a `Dag` knows
+/// it.
 #[derive(Drop)]
 pub struct Dag {
     nodes: u32,
@@ -35,7 +37,8 @@ impl Model for Dag {
 
     ghost Value = { DagView };
 
-    ghost view = { λ d. record { nodes = d.nodes; edges = d.edges.items; order = d.order.items; lawful = d.lawful } };
+    ghost view = { λ d. record { nodes = d.nodes; edges = d.edges.items; order = d.order.items;
+        lawful = d.lawful } };
 
     ghost invariant = { λ d. IsReachOf d.edges.items d.reach };
 }

@@ -3,7 +3,8 @@ ghost use Rattle.flow_dag.specs.declared.fault.DagFault.TheVariants.{NoMemory};
 
 use std::alloc::AllocError;
 
-/// Why a list of edges makes no [`Dag`](crate::Dag), in the order in which the faults are looked for.
+/// Why a list of edges makes no [`Dag`](crate::Dag), in the order in which the faults are looked
+/// for.
 #[derive(Clone, Copy, Debug, PartialEq, Eq)]
 pub enum DagFault {
     /// The first edge, by its place in the list, that names a node which isn't there.

@@ -1,14 +1,14 @@
 //! Directed acyclic graphs of up to 64 nodes, small enough that a set of nodes is one word.
 //!
-//! A [`Dag`] is made from a list of edges by [`Dag::check`], which says precisely what is wrong with a
-//! list that makes none. Afterwards every question about paths is answered from masks that the `Dag`
-//! keeps, at once and without memory. In a mask, bit `i` stands for node `i`.
+//! A [`Dag`] is made from a list of edges by [`Dag::check`], which says precisely what is wrong
+//! with a list that makes none. Afterwards every question about paths is answered from masks that
+//! the `Dag` keeps, at once and without memory. In a mask, bit `i` stands for node `i`.
 //!
-//! A path is a nonempty list of nodes with an edge from each to the next. It *leads* from `a` to `b`
-//! where it begins with `a`, ends with `b` and has two or more nodes, so in an acyclic graph no path
-//! leads from a node to itself. The contracts say this over the relation of the edges, in
-//! `specs/Paths.antt`, and a bit of a mask is the word `Has` of `specs/Masks.antt`; both are meant for
-//! the crates above too.
+//! A path is a nonempty list of nodes with an edge from each to the next. It *leads* from `a` to
+//! `b` where it begins with `a`, ends with `b` and has two or more nodes, so in an acyclic graph no
+//! path leads from a node to itself. The contracts say this over the relation of the edges, in
+//! `specs/Paths.antt`, and a bit of a mask is the word `Has` of `specs/Masks.antt`; both are meant
+//! for the crates above too.
 //!
 //! ```
 //! let edge = |from: u32, to: u32| Edge { from, port: 0, to };

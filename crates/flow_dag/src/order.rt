@@ -10,7 +10,8 @@ use std::alloc::{AllocError, Global};
 pub fn topological_order(alloc: Global, n: u32, below: &[u64; 64]) -> Result<Vec<u32>, AllocError>
     requires nodes { n ≤ 64 }
     requires acyclic { (a : ℕ) → ¬ RowHas below.now a a }
-    requires transitive { (a b c : ℕ) → RowHas below.now a b → RowHas below.now b c → RowHas below.now a c }
+    requires transitive { (a b c : ℕ) → RowHas below.now a b → RowHas below.now b c
+        → RowHas below.now a c }
     ensures { IfOk result (λ order. IsTopologicalOrder (RowHas below.now) n order.items) }
 {
     let mut order = Vec::new(alloc);

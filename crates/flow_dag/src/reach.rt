@@ -44,7 +44,8 @@ impl Reach {
         requires { n ≤ 64 }
         ensures { MatchOption result
             ((a : ℕ) → a < n → ¬ RowHas self.now.below a a)
-            (λ a. (a < n) × RowHas self.now.below a a × ((b : ℕ) → b < a → ¬ RowHas self.now.below b b)) }
+            (λ a. (a < n) × RowHas self.now.below a a
+                × ((b : ℕ) → b < a → ¬ RowHas self.now.below b b)) }
     {
         (0..n).find(|&node| mask::has_bit(self.below[node as usize], node))
     }

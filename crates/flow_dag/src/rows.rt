@@ -36,8 +36,8 @@ fn pass_through(n: u32, rows: &mut [u64; 64], k: u32)
     }
 }
 
-/// The rows of the same pairs turned round: row `a` of the result has `b` where row `b` of the given
-/// ones has `a`.
+/// The rows of the same pairs turned round: row `a` of the result has `b` where row `b` of the
+/// given ones has `a`.
 pub fn transposed(rows: &[u64; 64]) -> [u64; 64]
     ensures { (a b : ℕ) → RowHas result a b ↔ RowHas rows.now b a }
 {

@@ -3,6 +3,15 @@
 //!
 //! No run is made here. Contracts of whatever makes one cite these definitions, which know no
 //! queue, no capacity and no thread. [`WorkerState`] is what one worker has in force.
+//!
+//! ```
+//! let setup = Setup::make(alloc, job, judge_all(alloc, &job, &requests)?)?;
+//! for worker in 0..setup.workers() {
+//!     if setup.is_head(worker, 1) {
+//!         post_to(worker);
+//!     }
+//! }
+//! ```
 #![tactic(auto)]
 
 mod changes;

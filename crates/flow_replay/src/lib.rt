@@ -2,6 +2,13 @@
 //! one thread.
 //!
 //! What a run is stands in the crate `flow_model`, whose types are handed on from here.
+//!
+//! ```
+//! let record = plain_run(alloc, setup, &rows)?;
+//! let journal = &record.journals.as_slice()[0];
+//! let done = replay(alloc, &record.setup, 0, journal)?;
+//! assert!(rt; done.sent.len() == record.setup.lanes_out(0).len());
+//! ```
 #![tactic(auto)]
 
 mod executor;

@@ -3,6 +3,14 @@
 //! A job is a graph of nodes, each with a function on tuples, over one list of columns. What the
 //! functions do to a tuple is the business of the crate `operators`; workers, lanes and requests
 //! are unknown here.
+//!
+//! ```
+//! match Job::check(alloc, columns, nodes, &edges, tables) {
+//!     Ok(job) => run(&job),
+//!     Err(LawFault::Cycle(node)) => tell_cycle(node),
+//!     Err(fault) => tell(fault),
+//! }
+//! ```
 #![tactic(auto)]
 
 mod check;

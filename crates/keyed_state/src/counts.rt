@@ -10,7 +10,8 @@ use std::collections::BTreeMap;
 use tuple_trace::NoMemory;
 
 impl TextMap<i64> {
-    /// Adds to the count of a text, and answers the sum. After [`NoMemory`] the counts are as before.
+    /// Adds to the count of a text, and answers the sum. After [`NoMemory`] the counts are as
+    /// before.
     pub(crate) fn add(&mut self, key: &[u8], by: i64) -> Result<i64, NoMemory>
         ensures sum { IfOk result (λ sum. sum ≡ raised self.old key.now by) }
         ensures ok { IfOk result (λ sum. self.new ≡ finite.insert self.old key.now sum) }

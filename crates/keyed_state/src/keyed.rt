@@ -48,7 +48,8 @@ impl Keyed {
         self.counts.iter()
     }
 
-    /// Adds to the count of a text, which is 0 where it has none, and answers the sum, cut to the range of an `i64`.
+    /// Adds to the count of a text, which is 0 where it has none, and answers the sum, cut to the
+    /// range of an `i64`.
     ///
     /// Takes memory only where the text is new. After [`NoMemory`] the counters are as before.
     pub fn bump(&mut self, key: &Txt, by: i64) -> Result<i64, NoMemory>
@@ -78,7 +79,8 @@ impl Keyed {
         }
     }
 
-    /// Changes the counters as a change of function asks. The divisor of a [`Carry::Scale`] is at least 1. Takes no memory.
+    /// Changes the counters as a change of function asks. The divisor of a [`Carry::Scale`] is at
+    /// least 1. Takes no memory.
     pub fn carry(&mut self, carry: Carry)
         requires { CanCarry carry }
         ensures { self.new ≡ carried carry self.old }

@@ -1,4 +1,11 @@
 //! Finite maps from texts, and the counters that a node keeps by key.
+//!
+//! ```
+//! let mut counts = Keyed::new(alloc);
+//! counts.add(b"ann", 5)?;
+//! counts.carry(Carry::Scale(1, 2));
+//! assert!(rt; counts.raised(b"ann", 1) == 3);
+//! ```
 #![tactic(auto)]
 
 mod carry;

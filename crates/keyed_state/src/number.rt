@@ -22,7 +22,8 @@ pub(crate) fn total(count: i64, by: i64) -> i64
     count.saturating_add(by)
 }
 
-/// A count times `by`, divided by `over` and rounded down, and then cut to the range of an `i64`. `over` is at least 1.
+/// A count times `by`, divided by `over` and rounded down, and then cut to the range of an `i64`.
+/// `over` is at least 1.
 pub(crate) fn scale(count: i64, by: i64, over: i64) -> i64
     requires { pos 1 ≤ℤ over }
     ensures { result ≡ scaled by over count }

@@ -67,7 +67,8 @@ impl<V: Drop> TextMap<V> {
         self.entries.clear();
     }
 
-    /// Gives a text this value, in place of the one that it may have. After [`NoMemory`] the map is as before, and the value is given up.
+    /// Gives a text this value, in place of the one that it may have. After [`NoMemory`] the map is
+    /// as before, and the value is given up.
     ///
     /// Takes memory only where the text is new.
     pub fn insert(&mut self, key: &[u8], value: V) -> Result<(), NoMemory>

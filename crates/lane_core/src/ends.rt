@@ -1,4 +1,5 @@
-ghost use Rattle.std.specs.Prelude.{◌≡◌, ℕ, ◌≤◌, List, [], ◌∷◌, ◌++◌, IfErr, IfSome, OnErr, OnOk, IfNone};
+ghost use Rattle.std.specs.Prelude.{◌≡◌, ℕ, ◌≤◌, List, [], ◌∷◌, ◌++◌, IfErr, IfSome, OnErr, OnOk};
+ghost use Rattle.std.specs.Prelude.{IfNone};
 ghost use Rattle.tuple_trace.specs.declared.tuple.Item.{Item};
 ghost use Rattle.lane_core.specs.declared.form.Origin.{Origin};
 ghost use Rattle.tuple_trace.specs.Counts.{Rose};
@@ -26,13 +27,16 @@ pub trait Tx<N> {
     fn number(&self) -> u32
         ensures { result ≡ number self.now };
 
-    /// Puts an item behind those that were sent. A full lane hands it back; the contract says that as many were sent as it holds.
+    /// Puts an item behind those that were sent. A full lane hands it back; the contract says that
+    /// as many were sent as it holds.
     fn put(&mut self, need: &mut N, item: Item) -> Result<(), Item>
         requires { MayFollow (origin self.old) (sent self.old) item }
         ensures end { (capacity self.new ≡ capacity self.old) × (number self.new ≡ number self.old)
             × (origin self.new ≡ origin self.old) × (lane self.new ≡ lane self.old) }
-        ensures put { OnOk result ((sent self.new ≡ sent self.old ++ item ∷ []) × (full self.new ≡ full self.old)) }
-        ensures refused { IfErr result (λ back. (back ≡ item) × (sent self.new ≡ sent self.old) × Rose (full self.old) (full self.new)) }
+        ensures put { OnOk result ((sent self.new ≡ sent self.old ++ item ∷ [])
+            × (full self.new ≡ full self.old)) }
+        ensures refused { IfErr result (λ back. (back ≡ item) × (sent self.new ≡ sent self.old)
+            × Rose (full self.old) (full self.new)) }
         ensures was_full { OnErr result (WasFull (capacity self.old) (sent self.old)) };
 }
 
@@ -55,8 +59,11 @@ pub trait Rx<N> {
 
     /// Takes the next item. An empty lane gives none, which `dry` counts.
     fn take(&mut self, need: &mut N) -> Option<Item>
-        ensures end { (number self.new ≡ number self.old) × (origin self.new ≡ origin self.old) × (lane self.new ≡ lane self.old) }
-        ensures taken { IfSome result (λ item. (taken self.new ≡ taken self.old ++ item ∷ []) × (dry self.new ≡ dry self.old)) }
+        ensures end { (number self.new ≡ number self.old) × (origin self.new ≡ origin self.old)
+            × (lane self.new ≡ lane self.old) }
+        ensures taken { IfSome result (λ item. (taken self.new ≡ taken self.old ++ item ∷ [])
+            × (dry self.new ≡ dry self.old)) }
         ensures steady { IfSome result (λ item. IsSteady (origin self.new) (taken self.new)) }
-        ensures none { IfNone result ((taken self.new ≡ taken self.old) × Rose (dry self.old) (dry self.new)) };
+        ensures none { IfNone result ((taken self.new ≡ taken self.old)
+            × Rose (dry self.old) (dry self.new)) };
 }

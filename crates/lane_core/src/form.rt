@@ -26,7 +26,8 @@ pub trait Lanes: Send {
 
     fn need(&self) -> Self::Need;
 
-    /// The two ends of a new, empty lane with this number and origin, which holds at most `cap` items, 1 to 64.
+    /// The two ends of a new, empty lane with this number and origin, which holds at most `cap`
+    /// items, 1 to 64.
     fn make(
         &self,
         alloc: Global,
@@ -36,8 +37,10 @@ pub trait Lanes: Send {
     ) -> Result<(Self::Tx, Self::Rx), NoMemory>
         requires some { 1 ≤ cap }
         requires few { cap ≤ 64 }
-        ensures tx { IfOk result (λ (tx, rx). (Self.Tx.sent tx ≡ []) × (Self.Tx.capacity tx ≡ cap) × (Self.Tx.number tx ≡ number) × (Self.Tx.origin tx ≡ origin)) }
-        ensures rx { IfOk result (λ (tx, rx). (Self.Rx.taken rx ≡ []) × (Self.Rx.number rx ≡ number) × (Self.Rx.origin rx ≡ origin)) }
+        ensures tx { IfOk result (λ (tx, rx). (Self.Tx.sent tx ≡ []) × (Self.Tx.capacity tx ≡ cap)
+            × (Self.Tx.number tx ≡ number) × (Self.Tx.origin tx ≡ origin)) }
+        ensures rx { IfOk result (λ (tx, rx). (Self.Rx.taken rx ≡ [])
+            × (Self.Rx.number rx ≡ number) × (Self.Rx.origin rx ≡ origin)) }
         ensures lane { IfOk result (λ (tx, rx). Self.Tx.lane tx ≡ Self.Rx.lane rx) };
 
     /// Ends a lane, and answers what was put on it and not taken. A refusal gives both ends up.

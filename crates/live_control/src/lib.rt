@@ -2,6 +2,13 @@
 //!
 //! Each line feed that [`hear`] takes from an input releases the next request. It tells so over a
 //! line, whose two endpoints are a [`Teller`] and an [`Inbox`]. No call over a line waits.
+//!
+//! ```
+//! let (mut teller, inbox) = line(alloc)?;
+//! let heard = hear(&mut asks, &mut teller, 1);
+//! let (told, last_load) = meet(teller, inbox);
+//! assert!(rt; told == u64::from(heard.releases) && last_load <= told);
+//! ```
 #![tactic(auto)]
 
 mod asks;

@@ -2,13 +2,15 @@ ghost use Rattle.std.specs.Prelude.{◌≡◌, ◌<◌, ◌≤◌, length, map, 
 ghost use Rattle.std.specs.List.{enumerate_from, list_all, list_any};
 ghost use Rattle.std.specs.Option.{option_copied};
 ghost use Rattle.flow_dag.specs.Masks.{has};
-ghost use Rattle.marker_align.specs.Decision.{decided, may_turn as may_turn_of, next_tuple as next_tuple_of};
+ghost use Rattle.marker_align.specs.Decision.{decided, may_turn as may_turn_of};
+ghost use Rattle.marker_align.specs.Decision.{next_tuple as next_tuple_of};
 ghost use Rattle.marker_align.specs.Hands.{is_issued, is_last, is_marker, is_tuple};
 
 use crate::{Hands, Holder};
 use flow_dag::has_wide_bit;
 
-/// A set of places of a worker. Its lanes in are its places, by rising lane number, and there are at most 127.
+/// A set of places of a worker. Its lanes in are its places, by rising lane number, and there are
+/// at most 127.
 pub type LaneSet = u128;
 
 /// The next request that covers a worker.
@@ -35,11 +37,12 @@ pub enum Act {
     Nothing,
 }
 
-/// What a worker with these hands does next. `due` is its next request, `posted` whether that was posted in its box, and `start` the place
-/// at which it looks for a tuple first. Takes no memory.
+/// What a worker with these hands does next. `due` is its next request, `posted` whether that was
+/// posted in its box, and `start` the place at which it looks for a tuple first. Takes no memory.
 ///
 /// The first rule that applies decides:
-/// 1. At a head, the due was posted, or some hand holds a tuple fed under it or a later request: turn for the due.
+/// 1. At a head, the due was posted, or some hand holds a tuple fed under it or a later request:
+///    turn for the due.
 /// 2. Elsewhere, the hand of each of the due's lanes holds its marker: turn for the due.
 /// 3. Some hand holds a tuple: process the first from `start` on, going round.
 /// 4. Nothing is due, and all hands hold ends: close.
@@ -89,7 +92,8 @@ fn some_issued<H: Holder>(hands: &[H], request: u64) -> bool
 }
 
 fn is_aligned<H: Holder>(hands: &[H], due: &Due) -> bool
-    ensures { result ≡ list_all (λ (place, holder). not (has due.now.lanes place) || is_marker due.now.request due.now.cover (H.hand holder)) (enumerate_from 0 hands.now) }
+    ensures { result ≡ list_all (λ (place, holder). not (has due.now.lanes place)
+        || is_marker due.now.request due.now.cover (H.hand holder)) (enumerate_from 0 hands.now) }
 {
     hands.iter().enumerate().all(|(place, holder)| {
         !is_in(due.lanes, place) || holder.hand().is_marker(due)

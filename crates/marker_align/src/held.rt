@@ -1,5 +1,6 @@
 ghost use Rattle.std.specs.Prelude.{◌≡◌};
-ghost use Rattle.marker_align.specs.Hands.{is_issued as is_issued_of, is_last as is_last_of, is_marker as is_marker_of, is_tuple as is_tuple_of};
+ghost use Rattle.marker_align.specs.Hands.{is_issued as is_issued_of, is_last as is_last_of};
+ghost use Rattle.marker_align.specs.Hands.{is_marker as is_marker_of, is_tuple as is_tuple_of};
 ghost use Rattle.marker_align.specs.declared.held.Hand.{Hand};
 
 use crate::Due;

@@ -3,6 +3,15 @@
 //! An operator is a plain function on a tuple and the counts of its node. Workers, lanes and
 //! requests are unknown here. The jobs that it belongs to, and their parts, are handed on from the
 //! crate `jobs`.
+//!
+//! ```
+//! let visit = Visit { node: 1, worker: 0, last: 0 };
+//! let mut outs = Outs::new(alloc);
+//! apply(alloc, &job, &[0], visit, &func, &mut counts, &tuple, &mut outs)?;
+//! for output in outs.as_slice() {
+//!     send(output.port, &output.tuple);
+//! }
+//! ```
 #![tactic(auto)]
 
 mod arithmetic;

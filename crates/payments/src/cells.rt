@@ -18,7 +18,8 @@ const SOURCE: &[u8] = b"source";
 
 /// Whether these cells are the header of a payments file with these columns.
 pub(crate) fn is_header(columns: &[Column], cells: &ByteRecord) -> bool
-    ensures { result ≡ pointwise (pointwise nat_eq) (cells_of cells.now) (codes "source" ∷ given_names columns.now) }
+    ensures { result ≡ pointwise (pointwise nat_eq) (cells_of cells.now) (codes "source"
+        ∷ given_names columns.now) }
 {
     if !is_cell(cells, 0, SOURCE) {
         return false;

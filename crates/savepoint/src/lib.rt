@@ -2,6 +2,12 @@
 //!
 //! The first part is a run of the first rows, with the requests that are issued up to there. The
 //! second part goes on with the counts of each worker. Nothing runs here.
+//!
+//! ```
+//! let first = run_first_part(..)?;
+//! let second = run_later_part(..)?;
+//! let whole = join(alloc, setup, first, second)?;
+//! ```
 #![tactic(auto)]
 
 mod examples;

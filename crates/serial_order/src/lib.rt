@@ -2,6 +2,12 @@
 //!
 //! Every row of such a run comes after the first k accepted requests and before all later ones.
 //! This crate tells k for each row, the functions after k requests, and how many rows have each k.
+//!
+//! ```
+//! let serial = serial(alloc, &record, &rows)?;
+//! let table = table_at(alloc, &record.setup, 2)?;
+//! let rows_with_two = rows_after(serial.as_slice(), 2);
+//! ```
 #![tactic(auto)]
 
 mod line;

@@ -2,6 +2,12 @@
 //!
 //! A journal is the list of steps of one worker. The texts are CSV, as the default writer of `csv`
 //! writes it.
+//!
+//! ```
+//! let alerts = alerts_text(alloc, &setup.job, &record.journals)?;
+//! let (feeds, journals, states) = (&record.feeds, &record.journals, &record.states);
+//! let audit = audit_text(alloc, &setup.job, refused, feeds, journals, states)?;
+//! ```
 #![tactic(auto)]
 
 mod alerts;

@@ -3,7 +3,8 @@ ghost use Rattle.tuple_trace.specs.Digits.{at_most, digit_after as digit_after_o
 
 /// The number that a text of decimal digits spells, where it is at most `limit`.
 ///
-/// One or more of `0` to `9`, with leading zeros allowed and no sign. None where the text is anything else, or the number greater.
+/// One or more of `0` to `9`, with leading zeros allowed and no sign. None where the text is
+/// anything else, or the number greater.
 pub fn digits_up_to(text: &[u8], limit: u64) -> Option<u64>
     ensures { result ≡ at_most limit (digits_of text.now) }
 {

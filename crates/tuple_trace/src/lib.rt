@@ -1,6 +1,14 @@
-//! The plain data of a flow: values, tuples with their traces, source rows and lane items, and the small types that they are made of.
+//! The plain data of a flow: values, tuples with their traces, source rows and lane items, and the
+//! small types that they are made of.
 //!
-//! Nothing here knows of jobs, workers or requests. Contracts see each collection as a list and each text as a list of bytes.
+//! Nothing here knows of jobs, workers or requests. Contracts see each collection as a list and
+//! each text as a list of bytes.
+//!
+//! ```
+//! let mut word = Txt::from_slice(alloc, b"ann")?;
+//! assert!(rt; word.as_slice() == b"ann" && spread(word.as_slice(), 1) == 0);
+//! assert!(rt; digits_up_to(b"0042", 99) == Some(42));
+//! ```
 #![tactic(auto)]
 
 mod digits;

@@ -13,7 +13,8 @@ pub struct Row {
     pub tuple: Tuple,
 }
 
-/// The rows of a run in order, numbered from 1. Each is in one piece, fed under no request yet, and has visited no node.
+/// The rows of a run in order, numbered from 1. Each is in one piece, fed under no request yet, and
+/// has visited no node.
 #[derive(Debug, Drop)]
 pub struct Rows {
     rows: Vec<Row>,

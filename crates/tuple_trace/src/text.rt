@@ -10,7 +10,8 @@ pub type Bytes = Items<u8>;
 
 /// A text of a job or a payment: any bytes. Contracts see the list of its bytes.
 ///
-/// A short text lies in the value itself. A longer one doesn't change once it is made, so all copies of it share one piece of memory.
+/// A short text lies in the value itself. A longer one doesn't change once it is made, so all
+/// copies of it share one piece of memory.
 #[derive(Clone, Debug, Drop)]
 pub struct Txt {
     place: Place,
@@ -83,7 +84,8 @@ impl Txt {
     }
 }
 
-/// A word of a command line, or the name of a file: a text in UTF-8. Contracts see the list of its bytes.
+/// A word of a command line, or the name of a file: a text in UTF-8. Contracts see the list of its
+/// bytes.
 #[derive(Clone, Debug, Drop)]
 pub struct Word {
     text: String,

@@ -1,4 +1,5 @@
-ghost use Rattle.std.specs.Prelude.{◌≡◌, ◌++◌, ◌∷◌, [], IfOk, OnOk, OnErr, length, option_copied, slice_get};
+ghost use Rattle.std.specs.Prelude.{◌≡◌, ◌++◌, ◌∷◌, [], IfOk, OnOk, OnErr, length, option_copied};
+ghost use Rattle.std.specs.Prelude.{slice_get};
 
 use crate::{Items, NoMemory, Value};
 use std::alloc::Global;
@@ -107,7 +108,8 @@ impl Tuple {
 
     /// An equal tuple, born as the output with this index.
     pub fn child(&self, index: u32) -> Result<Tuple, NoMemory>
-        ensures { IfOk result (λ child. child ≡ record self.now { birth = self.now.birth ++ index ∷ [] }) }
+        ensures { IfOk result (λ child. child
+            ≡ record self.now { birth = self.now.birth ++ index ∷ [] }) }
     {
         let mut child = self.copy()?;
         child.birth.push(index)?;
@@ -125,7 +127,8 @@ impl Tuple {
 
     /// An equal tuple, with one more visit in its trace.
     pub fn visiting(&self, visit: Visit) -> Result<Tuple, NoMemory>
-        ensures { IfOk result (λ made. made ≡ record self.now { trace = self.now.trace ++ visit ∷ [] }) }
+        ensures { IfOk result (λ made. made
+            ≡ record self.now { trace = self.now.trace ++ visit ∷ [] }) }
     {
         Ok(Tuple {
             row: self.row,

@@ -3,6 +3,12 @@
 //! A request names nodes, and gives each a new function and a carry for its counts. It says of each
 //! node which version it was written for, so that a request which others have overtaken is refused.
 //! [`judge_all`] goes through a list of requests in order. Plans and tuples are unknown here.
+//!
+//! ```
+//! let judged = judge_all(alloc, &job, &requests)?;
+//! let refused = judged.refused.len();
+//! assert!(rt; judged.accepted.len() + refused == requests.len());
+//! ```
 #![tactic(auto)]
 
 mod book;

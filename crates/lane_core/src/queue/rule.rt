@@ -12,7 +12,8 @@ use tuple_trace::Item;
 /// The queue of a lane.
 pub type Line = RuledArrayQueue<Item, View, InOrder>;
 
-/// What a pass may do, what it has put and taken, and what is fixed of its lane. No value of it is made.
+/// What a pass may do, what it has put and taken, and what is fixed of its lane. No value of it is
+/// made.
 pub struct View {
     pub puts: bool,
     pub takes: bool,
