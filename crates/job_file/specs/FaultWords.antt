@@ -10,6 +10,7 @@ use Rattle.job_file.specs.declared.fault.Part.TheVariants as part
 use Rattle.job_file.specs.declared.fault.ReqFileFault.{ReqFileFault}
 use Rattle.job_file.specs.declared.fault.ReqFileFault.TheVariants as requests
 
+-- the key of a part of a file's layout, or `unknown`
 abbrev pub part_words : Part → List ℕ
 part_words part.Columns = codes "columns"
 part_words part.Tables = codes "tables"

@@ -3,6 +3,7 @@ use Rattle.std.specs.Prelude.{ℕ, List, codes}
 use Rattle.jobs.specs.declared.fault.Which.{Which}
 use Rattle.jobs.specs.declared.fault.Which.TheVariants as which
 
+-- the name of what has a limit
 abbrev pub which_words : Which → List ℕ
 which_words which.Nodes = codes "nodes"
 which_words which.Edges = codes "edges"
