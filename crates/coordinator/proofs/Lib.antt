@@ -13,3 +13,4 @@ pub mod LiveLemmas
 pub mod Living
 pub mod Meaning
 pub mod Tying
+pub mod Recording

@@ -440,6 +440,25 @@ module _ (setup : SetupView) (begin : Begin) (rows : List Row) (released : ℕ) 
         let s : Steps setup (plain setup rows old) rows old new turn = inr (inr (inr (h.0, ahead_yet h.1, h.2, h.3))) in
         not_issued turn s (λ r e. not_both (plain setup rows old) (length rows) old.row old.issued (ahead_yet h.1) (issued_told setup (plain setup rows old) rows old new turn s r e).0)
 
+    -- there is a request for each number that is issued
+    exist_kept : (turn : FeedTurn) → Steps setup waiting rows old new turn → old.issued ≤ length setup.requests → new.issued ≤ length setup.requests
+    exist_kept turn (inl h) le = let e = ap (λ f. f.issued) h.1 in omega (arith, le, e)
+    exist_kept Moved (inr (inl h)) le =
+        let lt = left_of setup begin rows (plain setup rows old) old first law released h.0 h.1 in
+        let e = ap (λ f. f.issued) h.2.3 in
+        omega (arith, lt, e)
+    exist_kept Idle (inr (inl h)) le = let e = ap (λ f. f.issued) h.2.4 in omega (arith, le, e)
+    exist_kept Done (inr (inl h)) le = absurd h.2
+    exist_kept NoMemory (inr (inl h)) le = let e = ap (λ f. f.issued) h.2 in omega (arith, le, e)
+    exist_kept Moved (inr (inr (inl h))) le = let e = ap (λ f. f.issued) h.3.6 in omega (arith, le, e)
+    exist_kept Idle (inr (inr (inl h))) le = let e = ap (λ f. f.issued) h.3.8 in omega (arith, le, e)
+    exist_kept Done (inr (inr (inl h))) le = absurd h.3
+    exist_kept NoMemory (inr (inr (inl h))) le = let e = ap (λ f. f.issued) h.3 in omega (arith, le, e)
+    exist_kept Moved (inr (inr (inr h))) le = let e = ap (λ f. f.issued) h.3.2 in omega (arith, le, e)
+    exist_kept Idle (inr (inr (inr h))) le = let e = ap (λ f. f.issued) h.3.4 in omega (arith, le, e)
+    exist_kept Done (inr (inr (inr h))) le = let e = ap (λ f. f.issued) h.3.1 in omega (arith, le, e)
+    exist_kept NoMemory (inr (inr (inr h))) le = let e = ap (λ f. f.issued) h.3 in omega (arith, le, e)
+
     -- none of the rows is before the one that the setup asks for
     abbrev NotBefore : FeederIs → Type 0
     NotBefore f = (place after waited : ℕ) → slice_get (afters setup.requests) place ≡ Some after → slice_get (plain setup rows f) place ≡ Some waited → min after (length rows) ≤ waited
@@ -525,6 +544,7 @@ module _ (setup : SetupView) (rows : List Row) (released : ℕ) (old new : Feede
       let was : waits true setup (length rows) old ≡ plain setup rows old = waits_plain setup begin rows old first in
       record {
         feeding = law_loads setup begin rows (waits true setup (length rows) new) new ln (subst (λ xs. IsFeeding setup begin xs rows new) (sym now) (feeding_kept setup begin rows released old new first law' turn s));
+        issued_exist = exist_kept setup begin rows released old new first law' turn s law.issued_exist;
         not_before = λ place after waited g h.
             not_before_kept setup begin rows released old new first law' turn s
             (λ p a w i j. law.not_before p a w i (ap (λ (l : List ℕ). slice_get l p) was ∙ j)) place after waited g (ap (λ (l : List ℕ). slice_get l place) (sym now) ∙ h);
@@ -658,6 +678,7 @@ live_first setup rows loads fs outs b places row turned none no_row none_turned 
     ∙ ap (λ t. replicate t (length rows)) all_left) in
     record {
       feeding = law_loads setup (at_first setup) rows (waits true setup (length rows) f) f loads (subst (λ xs. IsFeeding setup (at_first setup) xs rows f) (sym same) law);
+      issued_exist = omega (arith, none_turned);
       not_before = λ place after waited g h.
           (let e = at_replicate (length setup.requests) (length rows) place waited (ap (λ (l : List ℕ). slice_get l place) (sym same) ∙ h) in omega (arith, e));
       released = λ t lt r c. absurd (nothing_held fs r none c);

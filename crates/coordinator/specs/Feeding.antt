@@ -106,12 +106,13 @@ pub record IsFeeding (setup : SetupView) (begin : Begin) (afters : List ℕ) (ro
       (t : Tuple) (row : Row) → f.held ≡ Some t → slice_get rows f.row ≡ Some row
       → record t { issued = f.issued } ≡ fed_tuple f.issued row
 
--- The law of a feeder, live or not: it holds for the rows that its requests wait for; none of these
--- is before the row that the setup asks for; and while rows are left, a live feeder has loaded that
--- each request of its feed was released.
+-- The law of a feeder, live or not: it holds for the rows that its requests wait for; it has issued
+-- requests of the setup only; none of the rows is before the row that the setup asks for; and while
+-- rows are left, a live feeder has loaded that each request of its feed was released.
 pub record IsFeeder (live : Bool) (setup : SetupView) (begin : Begin) (rows : List Row)
     (f : FeederIs) : Type 0 where
   pub feeding : IsFeeding setup begin (waits live setup (length rows) f) rows f
+  pub issued_exist : f.issued ≤ length setup.requests
   pub not_before :
       (place after waited : ℕ) → slice_get (afters setup.requests) place ≡ Some after
       → slice_get (waits live setup (length rows) f) place ≡ Some waited
