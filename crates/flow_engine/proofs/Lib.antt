@@ -1,1 +1,2 @@
-mod Over
+pub mod Moving
+pub mod Over

@@ -1,1 +1,3 @@
 pub mod Flown
+pub mod Recorded
+pub mod inner

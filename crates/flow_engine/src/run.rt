@@ -1,17 +1,25 @@
 // A run of a setup on threads.
-ghost use Rattle.std.specs.Prelude.{◌≡◌, ◌≤◌, IfOk, length, map};
+ghost use Rattle.std.specs.Prelude.{◌≡◌, ◌≤◌, IfOk, false, length, map, true};
 ghost use Rattle.std.specs.List.{range_with_len};
 ghost use Rattle.jobs.specs.Nodes.{AreFromSources};
+ghost use Rattle.flow_model.specs.Begin.{at_first};
 ghost use Rattle.flow_model.specs.Run.{IsRun, IsRunSince};
 ghost use Rattle.flow_model.specs.Setup.{setup_view};
 ghost use Rattle.flow_model.specs.Workers.{workers_in};
-ghost use Rattle.flow_ends.specs.Ended.{record_of};
+ghost use Rattle.coordinator.specs.Feeding.{IsFeeder};
+ghost use Rattle.flow_ends.specs.Crews.{IsCrew};
+ghost use Rattle.flow_ends.specs.Ended.{fed_end, record_of};
+ghost use Rattle.flow_ends.specs.Sides.{AreMatched, worker_side};
 ghost use Rattle.flow_engine.specs.Flown.{number_of};
+ghost use Rattle.flow_engine.specs.Recorded.{IsRecorded, NoneIsEarly};
+ghost use Rattle.flow_engine.specs.inner.Turns.{HasRun, IsFirst};
 
 use crate::Flown;
+use crate::recorded::recorded_by;
 use coordinator::{Feeder, Feeding};
-use flow_ends::{Crew, Ended, end_run, endpoints_stay_matched};
+use flow_ends::{Crew, Ended, end_run, endpoints_stay_matched, workers_read_no_rows};
 use flow_model::{Setup, Start};
+use flow_worker::Worker;
 use lane_core::Lanes;
 use runners::{Beginning, Ran, run_all};
 use std::alloc::Global;
@@ -53,8 +61,62 @@ where
     ensures run { IfOk result (λ flown. IsRun (setup_view setup) rows.now
         (record_of (setup_view setup) flown.feeds flown.crew.items)) }
 {
-    let start = Start::first(alloc, &setup)?;
-    run_from(rt, alloc, form, setup, rows, threads, cap, gate, &start)
+    let (flown, ()) = run_with::<R, L, G, Feeder<L>>(
+        rt,
+        alloc,
+        form,
+        setup,
+        (),
+        rows,
+        threads,
+        cap,
+        gate,
+    )?;
+    Ok(flown)
+}
+
+/// As [`run_flow`], but with a feeder of the form `F`, made of this seed. Returns also what the
+/// feeder leaves.
+///
+/// If the feeder is live, the setup of what it returns has, for each request, the number of rows
+/// that were fed before the request was issued. That is no fewer than the request asks for, of those
+/// that there are. The record is a run of this setup and the rows. The one error is out of memory.
+pub fn run_with<R, L: Lanes + Sync, G: Gate + Sync, F: Feeding<L> + Drop>(
+    rt: &R,
+    alloc: Global,
+    form: &L,
+    setup: Setup,
+    seed: F::Seed,
+    rows: &Rows,
+    threads: u32,
+    cap: u32,
+    gate: &G,
+) -> Result<(Flown<L>, F::Rest), NoMemory>
+where
+    R: Threads + Wait + Sync,
+    F::Seed: Drop,
+    F::Rest: Drop,
+    requires some_threads { 1 ≤ threads }
+    requires few_threads { threads ≤ 16 }
+    requires some_items { 1 ≤ cap }
+    requires few_items { cap ≤ 64 }
+    requires rows { AreFromSources (setup_view setup).job rows.now }
+    ensures setup { IfOk result (λ (flown, rest). IsRecorded F.LIVE flown.feeds setup
+        flown.setup) }
+    ensures waits { IfOk result (λ (flown, rest). NoneIsEarly (length rows.now)
+        (setup_view setup).requests (setup_view flown.setup).requests) }
+    ensures kept { IfOk result (λ (flown, rest). F.kept seed flown.feeds rest) }
+    ensures crew { IfOk result (λ (flown, rest). map number_of flown.crew.items
+        ≡ range_with_len 0 (length (workers_in (setup_view setup).job))) }
+    ensures run { IfOk result (λ (flown, rest). IsRun (setup_view flown.setup) rows.now
+        (record_of (setup_view flown.setup) flown.feeds flown.crew.items)) }
+{
+    let (ended, rest) = run_seeded::<R, L, G, F, Brand>(
+        rt, alloc, form, &setup, seed, rows, threads, cap, gate,
+    )?;
+    let (feeds, crew) = (ended.feeds, ended.workers);
+    let setup = recorded_by::<L, F>(alloc, setup, &feeds)?;
+    Ok((Flown { setup, feeds, crew }, rest))
 }
 
 /// As [`run_flow`], but from a beginning on. `rows` are all rows, also those that were fed before;
@@ -89,7 +151,7 @@ where
     ensures run { IfOk result (λ flown. IsRunSince start.now (setup_view setup) rows.now
         (record_of (setup_view setup) flown.feeds flown.crew.items)) }
 {
-    let ended = run_over::<R, L, G, Brand>(
+    let ended = run_begun::<R, L, G, Brand>(
         rt, alloc, form, &setup, rows, threads, cap, gate, start,
     )?;
     let Ended { feeds, workers } = ended;
@@ -100,8 +162,43 @@ where
     })
 }
 
-// Runs rows from a beginning on, which `B` names.
-fn run_over<R, L: Lanes + Sync, G: Gate + Sync, B: Beginning>(
+// Runs rows from the beginning of all, which `B` names, with a feeder of this seed.
+fn run_seeded<R, L: Lanes + Sync, G: Gate + Sync, F: Feeding<L> + Drop, B: Beginning>(
+    rt: &R,
+    alloc: Global,
+    form: &L,
+    setup: &Setup,
+    seed: F::Seed,
+    rows: &Rows,
+    threads: u32,
+    cap: u32,
+    gate: &G,
+) -> Result<(Ended<L>, F::Rest), NoMemory>
+where
+    R: Threads + Wait + Sync,
+    F::Seed: Drop,
+    F::Rest: Drop,
+    requires begin { B.begin ≡ at_first (setup_view setup.now) }
+    requires some_threads { 1 ≤ threads }
+    requires few_threads { threads ≤ 16 }
+    requires some_items { 1 ≤ cap }
+    requires few_items { cap ≤ 64 }
+    requires rows { AreFromSources (setup_view setup.now).job rows.now }
+    ensures kept { IfOk result (λ (ended, rest). F.kept seed ended.feeds rest) }
+    ensures run { IfOk result (λ (ended, rest). HasRun F.LIVE B.begin (setup_view setup.now)
+        rows.now ended.feeds ended.workers.items) }
+{
+    let Crew {
+        workers,
+        posters,
+        outs,
+    } = Crew::make(alloc, form, setup, cap)?;
+    let feeder = F::make(alloc, setup, outs, posters, seed)?;
+    run_over::<R, L, G, F, B>(rt, alloc, form, setup, rows, threads, gate, workers, feeder)
+}
+
+// Runs rows from a beginning on, which `B` names, with a feeder that waits for no releases.
+fn run_begun<R, L: Lanes + Sync, G: Gate + Sync, B: Beginning>(
     rt: &R,
     alloc: Global,
     form: &L,
@@ -122,21 +219,57 @@ where
     requires rows { AreFromSources (setup_view setup.now).job rows.now }
     requires turned { start.now.turned ≤ length (setup_view setup.now).requests }
     requires states { length start.now.states ≡ length (workers_in (setup_view setup.now).job) }
-    ensures crew { IfOk result (λ ended. map number_of ended.workers.items
-        ≡ range_with_len 0 (length (workers_in (setup_view setup.now).job))) }
-    ensures run { IfOk result (λ ended. IsRunSince start.now (setup_view setup.now) rows.now
-        (record_of (setup_view setup.now) ended.feeds ended.workers.items)) }
+    ensures { IfOk result (λ ended. HasRun false start.now (setup_view setup.now) rows.now
+        ended.feeds ended.workers.items) }
 {
     let Crew {
         workers,
         posters,
         outs,
     } = Crew::make_from(alloc, form, setup, cap, start)?;
-    endpoints_stay_matched();
     let feeder = Feeder::make_from(alloc, setup, outs, posters, start)?;
-    let Ran { workers, feeder } = run_all::<R, L, G, Feeder<L>, B>(
+    let (ended, ()) = run_over::<R, L, G, Feeder<L>, B>(
+        rt, alloc, form, setup, rows, threads, gate, workers, feeder,
+    )?;
+    Ok(ended)
+}
+
+// Lets workers and a feeder take their turns, from the beginning on that `B` names, and takes apart
+// what they leave.
+fn run_over<R, L: Lanes + Sync, G: Gate + Sync, F: Feeding<L> + Drop, B: Beginning>(
+    rt: &R,
+    alloc: Global,
+    form: &L,
+    setup: &Setup,
+    rows: &Rows,
+    threads: u32,
+    gate: &G,
+    workers: Vec<Worker<L>>,
+    feeder: F,
+) -> Result<(Ended<L>, F::Rest), NoMemory>
+where
+    R: Threads + Wait + Sync,
+    F::Rest: Drop,
+    requires some_threads { 1 ≤ threads }
+    requires few_threads { threads ≤ 16 }
+    requires rows { AreFromSources (setup_view setup.now).job rows.now }
+    requires states { length B.begin.states ≡ length (workers_in (setup_view setup.now).job) }
+    requires first { F.LIVE ≡ true → IsFirst B.begin }
+    requires crew { IsCrew (setup_view setup.now) B.begin workers.items }
+    requires matched { AreMatched (map worker_side workers.items)
+        (map fed_end (F.feeder feeder).outs) }
+    requires feeder { IsFeeder F.LIVE (setup_view setup.now) B.begin rows.now (F.feeder feeder) }
+    ensures kept { (seed : F.Seed) → F.kept seed (F.feeder feeder).feeds (F.rest feeder)
+        → IfOk result (λ (ended, rest). F.kept seed ended.feeds rest) }
+    ensures run { IfOk result (λ (ended, rest). HasRun F.LIVE B.begin (setup_view setup.now)
+        rows.now ended.feeds ended.workers.items) }
+{
+    endpoints_stay_matched();
+    workers_read_no_rows();
+    let Ran { workers, feeder } = run_all::<R, L, G, F, B>(
         rt, alloc, form, gate, threads, setup, rows, workers, feeder,
     )?;
-    let (parts, ()) = feeder.finish();
-    end_run(alloc, form, &mut form.need(), setup, workers, parts)
+    let (parts, rest) = feeder.finish();
+    let ended = end_run(alloc, form, &mut form.need(), setup, workers, parts)?;
+    Ok((ended, rest))
 }

@@ -1,60 +1,64 @@
-use Rattle.std.proofs.Common.{◌∙◌, ap, map, refl}
-use Rattle.std.proofs.lemmas.Result.{IfOk-weaker}
 use Rattle.flow_model.specs.Setup.{setup_view}
-use Rattle.coordinator.specs.Views.{end_of}
-use Rattle.flow_engine.proofs.Over.{are_over, numbers_after, to_workers}
+use Rattle.coordinator.specs.Views.{outs_of}
+use Rattle.flow_engine.specs.Recorded.{recorded}
+use Rattle.flow_engine.proofs.Over.{HasTurned, are_over, has_run_so, job_recorded, to_workers}
 use Rattle.flow_engine.proofs.run.run_over.Goals as goal
 
 pub run_all-requires-clause-workers : goal.run_all-requires-clause-workers
-run_all-requires-clause-workers g c κs within =
-    rw c.requires.begin (to_workers (setup_view c.args.setup.now) c.args.start.now c.in_ok-workers.field-0.workers.items c.in_ok-workers.ensures.workers)
-
-pub run_all-requires-clause-feeder : goal.run_all-requires-clause-feeder
-run_all-requires-clause-feeder g c κs within = rw c.requires.begin (c.in_ok-feeder.ensures.law c.args.rows.now)
+run_all-requires-clause-workers g c κs within = to_workers (setup_view c.args.setup.now) g.B.Beginning.begin c.args.workers.items c.requires.crew
 
 pub end_run-requires-clause-over : goal.end_run-requires-clause-over
-end_run-requires-clause-over g c κs within = (
-  setup_view c.args.setup.now,
-  c.args.start.now,
-  c.args.rows.now,
-  refl,
-  are_over (setup_view c.args.setup.now) g.B.Beginning.begin c.args.start.now c.args.rows.now c.in_ok-workers.field-0.workers.items c.in_ok-workers-2.field-0.workers.items _ _ c.finish-parts.result.0.feeds c.in_ok-workers-2.field-0.feeder
-      c.endpoints_stay_matched.ensures (record {
-        begins = c.requires.begin;
-        starts = c.requires.states;
-        crew = c.in_ok-workers.ensures.workers;
-        matched = c.in_ok-workers.ensures.matched;
-        are = c.in_ok-workers-2.ensures.workers;
-        done = c.in_ok-workers-2.ensures.done;
-        same = c.in_ok-workers-2.ensures.fixed;
-        law = c.in_ok-workers-2.ensures.feeder.law;
-        ends = c.in_ok-workers-2.ensures.feeder.ends ∙ ap (map end_of) c.in_ok-feeder.ensures.outs;
-        stopped = c.in_ok-workers-2.ensures.stopped;
-        feeds_are = c.finish-parts.ensures.feeds;
-        outs_are = c.finish-parts.ensures.outs;
-      }),
-)
-
-pub returns-clause-crew : goal.returns-clause-crew
-returns-clause-crew g c =
-    IfOk-weaker c.end_run.result _ _ (λ ended left. numbers_after (setup_view c.args.setup.now) g.B.Beginning.begin c.args.start.now c.in_ok-workers-2.field-0.workers.items c.in_ok-workers.field-0.workers.items ended.workers.items
-    c.in_ok-workers-2.ensures.fixed c.in_ok-workers.ensures.workers c.in_ok-workers-2.ensures.workers left) c.end_run.ensures.workers
+end_run-requires-clause-over g c κs within =
+    let setup = setup_view c.args.setup.now in
+    let feeds = c.finish-parts.result.0.feeds in
+    let fed = (g.F.Feeding.feeder c.args.feeder).outs in
+    let left = outs_of g.L.Tx.Tx.lane g.L.Tx.Tx.number g.L.Tx.Tx.origin g.L.Tx.Tx.capacity g.L.Tx.Tx.sent g.L.Tx.Tx.full c.finish-parts.result.0.outs.items in
+    let f = g.F.Feeding.feeder c.in_ok-workers.field-0.feeder in (
+      recorded g.F.Feeding.LIVE feeds setup,
+      g.B.Beginning.begin,
+      c.args.rows.now,
+      job_recorded g.F.Feeding.LIVE feeds setup,
+      are_over setup g.B.Beginning.begin c.args.rows.now c.args.workers.items c.in_ok-workers.field-0.workers.items fed left feeds f g.F.Feeding.LIVE
+          c.endpoints_stay_matched.ensures c.workers_read_no_rows.ensures (record {
+            starts = c.requires.states;
+            first = c.requires.first;
+            crew = c.requires.crew;
+            matched = c.requires.matched;
+            are = c.in_ok-workers.ensures.workers;
+            done = c.in_ok-workers.ensures.done;
+            same = c.in_ok-workers.ensures.fixed;
+            law = c.in_ok-workers.ensures.feeder.law;
+            ends = c.in_ok-workers.ensures.feeder.ends;
+            stopped = c.in_ok-workers.ensures.stopped;
+            feeds_are = c.finish-parts.ensures.feeds;
+            outs_are = c.finish-parts.ensures.outs;
+          }),
+    )
 
 pub returns-clause-run : goal.returns-clause-run
 returns-clause-run g c =
-    IfOk-weaker c.end_run.result _ _ (λ ended run. run (setup_view c.args.setup.now) c.args.start.now c.args.rows.now refl (
-    are_over (setup_view c.args.setup.now) g.B.Beginning.begin c.args.start.now c.args.rows.now c.in_ok-workers.field-0.workers.items c.in_ok-workers-2.field-0.workers.items _ _ c.finish-parts.result.0.feeds c.in_ok-workers-2.field-0.feeder
-    c.endpoints_stay_matched.ensures (record {
-      begins = c.requires.begin;
+    let setup = setup_view c.args.setup.now in
+    let feeds = c.finish-parts.result.0.feeds in
+    let f = g.F.Feeding.feeder c.in_ok-workers.field-0.feeder in
+    let ended = c.in_ok-ended.ended in
+    let fed = (g.F.Feeding.feeder c.args.feeder).outs in
+    let left = outs_of g.L.Tx.Tx.lane g.L.Tx.Tx.number g.L.Tx.Tx.origin g.L.Tx.Tx.capacity g.L.Tx.Tx.sent g.L.Tx.Tx.full c.finish-parts.result.0.outs.items in
+    let turned : HasTurned g.F.Feeding.LIVE setup g.B.Beginning.begin c.args.rows.now c.args.workers.items c.in_ok-workers.field-0.workers.items fed left feeds f = record {
       starts = c.requires.states;
-      crew = c.in_ok-workers.ensures.workers;
-      matched = c.in_ok-workers.ensures.matched;
-      are = c.in_ok-workers-2.ensures.workers;
-      done = c.in_ok-workers-2.ensures.done;
-      same = c.in_ok-workers-2.ensures.fixed;
-      law = c.in_ok-workers-2.ensures.feeder.law;
-      ends = c.in_ok-workers-2.ensures.feeder.ends ∙ ap (map end_of) c.in_ok-feeder.ensures.outs;
-      stopped = c.in_ok-workers-2.ensures.stopped;
+      first = c.requires.first;
+      crew = c.requires.crew;
+      matched = c.requires.matched;
+      are = c.in_ok-workers.ensures.workers;
+      done = c.in_ok-workers.ensures.done;
+      same = c.in_ok-workers.ensures.fixed;
+      law = c.in_ok-workers.ensures.feeder.law;
+      ends = c.in_ok-workers.ensures.feeder.ends;
+      stopped = c.in_ok-workers.ensures.stopped;
       feeds_are = c.finish-parts.ensures.feeds;
       outs_are = c.finish-parts.ensures.outs;
-    }))) c.end_run.ensures.run
+    } in
+    has_run_so setup g.B.Beginning.begin c.args.rows.now c.args.workers.items c.in_ok-workers.field-0.workers.items fed left feeds f g.F.Feeding.LIVE ended.workers.items ended.feeds turned
+    c.in_ok-ended.ensures.feeds c.in_ok-ended.ensures.workers
+    (c.in_ok-ended.ensures.run (recorded g.F.Feeding.LIVE feeds setup) g.B.Beginning.begin c.args.rows.now
+    (job_recorded g.F.Feeding.LIVE feeds setup)
+    (are_over setup g.B.Beginning.begin c.args.rows.now c.args.workers.items c.in_ok-workers.field-0.workers.items fed left feeds f g.F.Feeding.LIVE c.endpoints_stay_matched.ensures c.workers_read_no_rows.ensures turned))

@@ -1,0 +1,16 @@
+use Rattle.std.proofs.Common.{List, map, subst, sym}
+use Rattle.flow_model.specs.Begin.{Begin}
+use Rattle.flow_model.specs.Setup.{setup_view}
+use Rattle.coordinator.specs.Feeding.{IsFeeder}
+use Rattle.coordinator.specs.Views.{OutIs}
+use Rattle.flow_ends.specs.Ended.{fed_end}
+use Rattle.flow_ends.specs.Sides.{AreMatched, worker_side}
+use Rattle.flow_engine.proofs.run.run_seeded.Goals as goal
+
+pub run_over-requires-clause-matched : goal.run_over-requires-clause-matched
+run_over-requires-clause-matched g c κs within =
+    subst (λ (outs : List OutIs). AreMatched (map worker_side c.in_ok-workers.field-0.workers.items) (map fed_end outs)) (sym c.in_ok-feeder.ensures.outs) c.in_ok-workers.ensures.matched
+
+pub run_over-requires-clause-feeder : goal.run_over-requires-clause-feeder
+run_over-requires-clause-feeder g c κs within =
+    subst (λ (b : Begin). IsFeeder g.F.Feeding.LIVE (setup_view c.args.setup.now) b c.args.rows.now (g.F.Feeding.feeder c.in_ok-feeder.feeder)) (sym c.requires.begin) (c.in_ok-feeder.ensures.law c.args.rows.now)
