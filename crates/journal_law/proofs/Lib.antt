@@ -1,0 +1,4 @@
+pub mod FedLemmas
+pub mod LawLemmas
+pub mod LaneLemmas
+pub mod CourseLemmas

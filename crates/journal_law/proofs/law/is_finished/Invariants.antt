@@ -1,0 +1,13 @@
+use Rattle.std.proofs.Common.{take}
+use Rattle.flow_model.specs.Duties.{duties}
+use Rattle.flow_model.specs.Setup.{setup_view}
+use Rattle.flow_model.specs.Workers.{nth_worker}
+use Rattle.audit_laws.specs.Brought.{feed_of}
+use Rattle.journal_law.specs.Course.{progress_of}
+use Rattle.journal_law.proofs.LawLemmas.{HasCome}
+use Rattle.journal_law.proofs.law.is_finished.Given as goal
+
+abbrev pub invariant-loop-entry : goal.invariant-loop-entry
+invariant-loop-entry l =
+    HasCome (duties (setup_view l.setup) 0 (nth_worker (setup_view l.setup).job l.worker)) (feed_of (setup_view l.setup) l.rows)
+    (take l.entry-index l.journal) (progress_of (setup_view l.setup) (nth_worker (setup_view l.setup).job l.worker).node l.course)
