@@ -7,4 +7,4 @@ pub mod ReadingLemmas
 pub mod PartLemmas
 pub mod RefusedLemmas
 pub mod FeedLemmas
-pub mod StepLemmas
+pub mod TellingLemmas

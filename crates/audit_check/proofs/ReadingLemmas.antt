@@ -32,6 +32,11 @@ begun job records cells left is header = record {
   reached = inl refl;
 }
 
+pub begun_above : (job : JobView) (records : List (List (List ℕ))) (cells : List (List ℕ)) (left : List (List (List ℕ))) (is : records ≡ cells ∷ left) (header : cells ≡ audit_header)
+    → (begun job records cells left is header).above ≡ []
+unfolding begun
+begun_above job records cells left is header = refl
+
 -- ---- a line
 
 module _ (job : JobView) (records : List (List (List ℕ))) (cells : List (List ℕ)) (left : List (List (List ℕ))) (number group : ℕ) (read : AreRead job records (cells ∷ left) number group)
@@ -75,6 +80,11 @@ module _ (job : JobView) (records : List (List (List ℕ))) (cells : List (List 
               ]);
           reached = inr (l, contains_of_in l (read.above ++ l ∷ []) (in_right l read.above (l ∷ []) (inl refl)), refl);
         }
+
+    pub one_more_above : (l : Line) (is : IsLine job l) (told : cells ≡ line_fields (named_workers job.nodes) l) (le : group ≤ group_of l)
+        → (one_more l is told le).above ≡ read.above ++ l ∷ []
+    unfolding one_more
+    one_more_above l is told le = refl
 
     -- a record that tells no line is the first that breaks a rule
     pub no_such_line : ((l : Line) → IsLine job l → cells ≢ line_fields (named_workers job.nodes) l) → HasBadShape job records number

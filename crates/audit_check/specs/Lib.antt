@@ -1,4 +1,4 @@
 pub mod Cells
 pub mod Parts
 pub mod Reading
-pub mod Steps
+pub mod Telling

@@ -17,9 +17,11 @@ mod shape;
 mod spelling;
 mod steps;
 mod text;
+mod told;
 
 pub use feed::check_feed;
 pub use refused::check_refused;
-pub use shape::check_shape;
+pub use shape::read_audit;
 pub use steps::feed_of_rows;
 pub use text::check_text;
+pub use told::{Counted, Told};

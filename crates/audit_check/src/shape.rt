@@ -1,24 +1,27 @@
 // The first pass: whether the records of an audit are in shape.
-ghost use Rattle.std.specs.Prelude.{◌≡◌, ◌↔◌, IfErr, IsTrue, List, OnOk};
+ghost use Rattle.std.specs.Prelude.{◌≡◌, ◌↔◌, IfErr, IfOk, IsTrue, List, length};
 ghost use Rattle.csv.specs.Records.{fields_of};
 ghost use Rattle.sink_journal.specs.Audit.{audit_header};
 ghost use Rattle.sink_journal.specs.declared.audit.Noted.{Noted as NotedIs};
 ghost use Rattle.tuple_trace.specs.declared.row.Row.{Row as RowIs};
 ghost use Rattle.flow_model.specs.Setup.{setup_view};
+ghost use Rattle.flow_model.specs.Workers.{workers_in};
 ghost use Rattle.audit_laws.specs.declared.audit.Line.{Line as LineIs};
 ghost use Rattle.audit_laws.specs.Fits.{records_of};
 ghost use Rattle.audit_laws.specs.Lines.{group_of as group_of_line};
 ghost use Rattle.audit_laws.specs.Verdict.{AreInShape, IsFaultOf};
 ghost use Rattle.audit_check.specs.Cells.{cells_of};
+ghost use Rattle.audit_check.specs.Telling.{Tells};
 
 use crate::lines::line_of;
 use crate::records::{Six, TextRecords, six_of};
+use crate::told::Told;
 use audit_laws::{AuditFault, Line};
 use csv::ByteRecord;
 use flow_model::Setup;
 use std::alloc::Global;
 
-/// Whether the records of a text are in shape.
+/// What a text tells of the workers, if its records are in shape.
 ///
 /// The first is the header. Each later one has the form of a line of this job, with its numbers as
 /// they are printed and in range, and its group doesn't come before that of a record above.
@@ -26,9 +29,10 @@ use std::alloc::Global;
 /// # Errors
 ///
 /// The first record that breaks a rule, or out of memory.
-pub fn check_shape(alloc: Global, setup: &Setup, bytes: &[u8]) -> Result<(), AuditFault>
-    ensures ok { OnOk result ((lines : List LineIs) ×
-        AreInShape (setup_view setup.now).job (records_of bytes.now) lines) }
+pub fn read_audit(alloc: Global, setup: &Setup, bytes: &[u8]) -> Result<Told, AuditFault>
+    ensures ok { IfOk result (λ told. (lines : List LineIs) ×
+        AreInShape (setup_view setup.now).job (records_of bytes.now) lines
+        × Tells (length (workers_in (setup_view setup.now).job)) lines told) }
     ensures fault { (refused : List NotedIs) (rows : List RowIs) → IfErr result
         (IsFaultOf (setup_view setup.now) setup.now.job.dag.order refused rows
         (records_of bytes.now)) }
@@ -41,11 +45,12 @@ pub fn check_shape(alloc: Global, setup: &Setup, bytes: &[u8]) -> Result<(), Aud
     if !is_header(&cells) {
         return Err(AuditFault::Shape(0));
     }
+    let mut told = Told::empty(alloc, setup.workers())?;
     let mut group = 0;
     let mut near = 0;
     for number in 1..u64::MAX {
         if !records.next(&mut cells)? {
-            return Ok(());
+            return Ok(told);
         }
         let Some(line) = line_of(alloc, setup, &cells, near)? else {
             return Err(AuditFault::Shape(number));
@@ -56,6 +61,7 @@ pub fn check_shape(alloc: Global, setup: &Setup, bytes: &[u8]) -> Result<(), Aud
         }
         group = next;
         near = worker_of(&line);
+        told.add(line)?;
     }
     Err(AuditFault::NoMemory)
 }

@@ -1,20 +1,23 @@
-// The first three passes: what a text tells of the requests and of the feeder.
-ghost use Rattle.std.specs.Prelude.{◌≡◌, IfErr, IfOk, List};
+// The first three passes: what a text tells of the requests, of the feeder and of the workers.
+ghost use Rattle.std.specs.Prelude.{◌≡◌, IfErr, IfOk, List, length};
 ghost use Rattle.flow_model.specs.Setup.{setup_view};
+ghost use Rattle.flow_model.specs.Workers.{workers_in};
 ghost use Rattle.audit_laws.specs.Brought.{feed_of};
 ghost use Rattle.audit_laws.specs.declared.audit.Line.{Line as LineIs};
 ghost use Rattle.audit_laws.specs.Fits.{records_of};
 ghost use Rattle.audit_laws.specs.Lines.{feeds_in, refusals_in};
 ghost use Rattle.audit_laws.specs.Verdict.{AreInShape, IsFaultOf};
+ghost use Rattle.audit_check.specs.Telling.{Tells};
 
-use crate::{check_feed, check_refused, check_shape, feed_of_rows};
+use crate::{Told, check_feed, check_refused, feed_of_rows, read_audit};
 use audit_laws::AuditFault;
 use flow_model::Setup;
 use sink_journal::{Feeds, Noted};
 use std::alloc::Global;
 use tuple_trace::Rows;
 
-/// The feed of these rows, if a text is in shape and tells these refused requests and this feed.
+/// What a text tells of the workers, and the feed of these rows, if it is in shape and tells these
+/// refused requests and this feed.
 ///
 /// # Errors
 ///
@@ -25,19 +28,20 @@ pub fn check_text(
     refused: &[Noted],
     rows: &Rows,
     bytes: &[u8],
-) -> Result<Feeds, AuditFault>
-    ensures feeds { IfOk result (λ feeds. feeds ≡ feed_of (setup_view setup.now) rows.now) }
-    ensures lines { IfOk result (λ feeds. (lines : List LineIs) ×
+) -> Result<(Told, Feeds), AuditFault>
+    ensures feeds { IfOk result (λ both. both.1 ≡ feed_of (setup_view setup.now) rows.now) }
+    ensures lines { IfOk result (λ both. (lines : List LineIs) ×
         AreInShape (setup_view setup.now).job (records_of bytes.now) lines
         × (refusals_in lines ≡ refused.now)
-        × (feeds_in lines ≡ feed_of (setup_view setup.now) rows.now)) }
+        × (feeds_in lines ≡ feed_of (setup_view setup.now) rows.now)
+        × Tells (length (workers_in (setup_view setup.now).job)) lines both.0) }
     ensures fault { IfErr result
         (IsFaultOf (setup_view setup.now) setup.now.job.dag.order refused.now rows.now
         (records_of bytes.now)) }
 {
-    check_shape(alloc, setup, bytes)?;
+    let told = read_audit(alloc, setup, bytes)?;
     check_refused(alloc, setup, refused, bytes)?;
     let feeds = feed_of_rows(alloc, setup, rows)?;
     check_feed(alloc, setup, refused, rows, feeds.as_slice(), bytes)?;
-    Ok(feeds)
+    Ok((told, feeds))
 }

@@ -1,4 +1,4 @@
-use audit_check::{check_shape, check_text};
+use audit_check::{check_text, read_audit};
 use audit_laws::AuditFault;
 use flow_model::Setup;
 use job_file::{read_job, read_requests};
@@ -54,8 +54,8 @@ fn shape_of(alloc: Global, text: &str) -> Shape {
     let Some(setup) = setup(alloc) else {
         return Shape::Unknown;
     };
-    match check_shape(alloc, &setup, text.as_bytes()) {
-        Ok(()) => Shape::Right,
+    match read_audit(alloc, &setup, text.as_bytes()) {
+        Ok(_) => Shape::Right,
         Err(AuditFault::Shape(record)) => Shape::Wrong(record),
         Err(_) => Shape::Unknown,
     }
