@@ -1,0 +1,12 @@
+pub mod StandingLemmas
+pub mod TakingLemmas
+pub mod ByLaneLemmas
+pub mod FeedLemmas
+pub mod SendingLemmas
+pub mod OrderLemmas
+pub mod LaneLemmas
+pub mod BringingLemmas
+pub mod RestoredLemmas
+pub mod CountLemmas
+pub mod CheckLemmas
+pub mod LinesLemmas

@@ -1,0 +1,3 @@
+pub mod ByLane
+pub mod Standing
+pub mod Restored

@@ -1,0 +1,121 @@
+ghost use Rattle.std.specs.Prelude.{◌≡◌, ◌<◌, ◌^◌, All, IfErr, IfOk, OnOk, length, map};
+ghost use Rattle.std.specs.FinMap.{entries};
+ghost use Rattle.jobs.specs.Job.{job_view};
+ghost use Rattle.jobs.specs.Nodes.{AreFromSources};
+ghost use Rattle.flow_model.specs.Record.{record_view};
+ghost use Rattle.flow_model.specs.Run.{IsRun, Ran};
+ghost use Rattle.flow_model.specs.Setup.{setup_view};
+ghost use Rattle.flow_model.specs.Workers.{workers_in};
+ghost use Rattle.audit_laws.specs.Brought.{feed_of};
+ghost use Rattle.audit_laws.specs.Faults.{AreFinished, IsFaultOfWorkers};
+ghost use Rattle.audit_laws.specs.declared.fault.AuditFault.TheVariants.{NoMemory as OutOfMemory};
+ghost use Rattle.audit_laws.specs.Fits.{Fits, records_of};
+ghost use Rattle.audit_laws.specs.Verdict.{IsFaultOf};
+ghost use Rattle.report.specs.Lines.{noted as noted_as};
+ghost use Rattle.audit_replay.specs.Restored.{AllRestored};
+
+use crate::counts::check_counts;
+use crate::restore::{Restored, restore};
+use audit_check::{Told, check_text};
+use audit_laws::{
+    AuditFault, checked_journals_are_a_run, runs_fit_their_lines, texts_of_runs_have_no_fault,
+    texts_tell_the_run,
+};
+use flow_model::{RunRecord, Setup};
+use journal_law::check_law;
+use report::noted;
+use sink_journal::{Feed, Noted};
+use std::alloc::Global;
+use tuple_trace::Rows;
+
+/// The run of a setup and these rows that a text is the audit of. A refusal gives the setup up.
+///
+/// If a run of them fits the text, the answer is that run or out of memory.
+///
+/// # Errors
+///
+/// The first fault of the text, in the order of the codes, or out of memory.
+pub fn check_audit(
+    alloc: Global,
+    setup: Setup,
+    rows: &Rows,
+    bytes: &[u8],
+) -> Result<RunRecord, AuditFault>
+    requires { AreFromSources (job_view setup.job) rows.now }
+    ensures run { IfOk result (λ ran. IsRun (setup_view setup) rows.now (record_view ran)) }
+    ensures fits { IfOk result (λ ran. Fits (map noted_as setup.judged.refused) bytes.now
+        (record_view ran)) }
+    ensures same { IfOk result (λ ran. ran.setup ≡ setup) }
+    ensures fault { IfErr result (IsFaultOf (setup_view setup) setup.job.dag.order
+        (map noted_as setup.judged.refused) rows.now (records_of bytes.now)) }
+    ensures only { (run : Ran) → IsRun (setup_view setup) rows.now run →
+        Fits (map noted_as setup.judged.refused) bytes.now run →
+        IfOk result (λ ran. record_view ran ≡ run) }
+    ensures found { (run : Ran) → IsRun (setup_view setup) rows.now run →
+        Fits (map noted_as setup.judged.refused) bytes.now run →
+        IfErr result (λ fault. fault ≡ OutOfMemory) }
+{
+    checked_journals_are_a_run(&setup, rows);
+    runs_fit_their_lines(&setup);
+    texts_of_runs_have_no_fault(&setup, rows);
+    texts_tell_the_run(&setup, rows);
+    let refused = noted(alloc, setup.judged.refused.as_slice())?;
+    places_are_narrow(refused.as_slice());
+    let (told, feeds) = check_text(alloc, &setup, refused.as_slice(), rows, bytes)?;
+    let Restored { journals, states } = restore_all(alloc, &setup, rows, feeds.as_slice(), &told)?;
+    Ok(RunRecord {
+        setup,
+        feeds,
+        journals,
+        states,
+    })
+}
+
+// The passes over the workers.
+fn restore_all(
+    alloc: Global,
+    setup: &Setup,
+    rows: &Rows,
+    feeds: &[Feed],
+    told: &Told,
+) -> Result<Restored, AuditFault>
+    requires sources { AreFromSources (setup_view setup.now).job rows.now }
+    requires feeds { feeds.now ≡ feed_of (setup_view setup.now) rows.now }
+    requires journals { length told.now.journals.items
+        ≡ length (workers_in (setup_view setup.now).job) }
+    requires states { length told.now.states.items
+        ≡ length (workers_in (setup_view setup.now).job) }
+    ensures finished { OnOk result (AreFinished (setup_view setup.now) rows.now
+        told.now.journals.items) }
+    ensures restored { IfOk result (λ restored. AllRestored (setup_view setup.now) rows.now
+        told.now.journals.items restored.journals restored.states) }
+    ensures states { IfOk result (λ restored. told.now.states.items ≡ map entries restored.states) }
+    ensures fault { IfErr result (IsFaultOfWorkers (setup_view setup.now)
+        setup.now.job.dag.order rows.now told.now.journals.items told.now.states.items) }
+{
+    let audit = told.journals.as_slice();
+    check_law(alloc, setup, rows, audit)?;
+    let restored = restore(alloc, setup, rows, feeds, audit)?;
+    check_counts(
+        setup.workers(),
+        told.states.as_slice(),
+        restored.states.as_slice(),
+    )?;
+    Ok(restored)
+}
+
+// Every place of a refused request is in the range of its type.
+fn places_are_narrow(refused: &[Noted])
+    ensures { All (λ noted. noted.place < 2 ^ 32) refused.now }
+{
+    for noted in refused {
+        let _place = place_of(*noted);
+    }
+}
+
+fn place_of(noted: Noted) -> u32
+    ensures value { result ≡ noted.place }
+    ensures narrow { result < 2 ^ 32 }
+{
+    noted.place
+}

@@ -1,0 +1,20 @@
+//! A checker of one given audit: it restores the run that the text is the audit of, or says what is
+//! wrong with the text.
+//!
+//! ```text
+//! let ran = check_audit(alloc, setup, &rows, text.as_slice())?;
+//! ```
+#![tactic(auto)]
+
+mod by_lane;
+mod check;
+mod counts;
+mod feed;
+mod lanes;
+mod order;
+mod restore;
+mod sending;
+mod standing;
+mod taking;
+
+pub use check::check_audit;
