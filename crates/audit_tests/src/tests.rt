@@ -1,3 +1,9 @@
+mod case;
+mod damaged;
+mod random;
+mod texts;
+mod verified;
+
 use audit_check::{check_text, read_audit};
 use audit_laws::AuditFault;
 use flow_model::Setup;
