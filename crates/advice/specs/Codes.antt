@@ -56,6 +56,11 @@ abbrev pub long_code : FileIs → List ℕ
 long_code file.Save = codes "9 save"
 long_code _ = codes "9"
 
+-- a read fault: the input of releases has a row of its own
+abbrev pub read_code : FileIs → List ℕ
+read_code file.Asks = codes "5 asks"
+read_code _ = codes "5"
+
 -- a write fault: the standard output has a row of its own
 abbrev pub write_code : FileIs → List ℕ
 write_code file.Out = codes "6 out"
@@ -67,7 +72,7 @@ code_of (fault.Job code) = job_code code
 code_of (fault.Requests code) = requests_code code
 code_of (fault.Payments code) = payments_code code
 code_of (fault.Save code) = save_code code
-code_of (fault.Read file) = codes "5"
+code_of (fault.Read file) = read_code file
 code_of (fault.Write file) = write_code file
 code_of fault.NoMemory = codes "7"
 code_of (fault.Long file) = long_code file

@@ -22,6 +22,7 @@ pub(crate) fn title_of(file: FileIs) -> &'static str {
         FileIs::Alerts => "alerts file",
         FileIs::Audit => "audit file",
         FileIs::Save => "savepoint",
+        FileIs::Asks => "standard input",
         FileIs::Out => "standard output",
     }
 }
@@ -41,7 +42,7 @@ fn files_of(command: &Word) -> &'static [FileIs] {
         "first" => &[FileIs::Payments, FileIs::Alerts],
         "check" | "make" => &[FileIs::Job],
         "plan" => &[FileIs::Job, FileIs::Requests],
-        "run" => &[
+        "run" | "live" => &[
             FileIs::Job,
             FileIs::Requests,
             FileIs::Payments,

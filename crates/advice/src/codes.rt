@@ -20,6 +20,7 @@ pub fn help_of(fault: Fault) -> Help
         Fault::Requests(fault) => help_of_requests(fault),
         Fault::Payments(fault) => help_of_payments(fault),
         Fault::Save(fault) => help_of_save(fault),
+        Fault::Read(FileIs::Asks) => READ_ASKS,
         Fault::Read(_) => READ,
         Fault::Write(FileIs::Out) => OUT,
         Fault::Write(_) => WRITE,

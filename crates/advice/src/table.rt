@@ -221,6 +221,12 @@ pub const READ: Help = Help {
     cure: "Check its name, and that you may read it.",
 };
 
+pub const READ_ASKS: Help = Help {
+    code: "5 asks",
+    cause: "The input of releases couldn't be read on; later requests came after the last row.",
+    cure: "Keep the input open, or redirect a file or `/dev/null` to it.",
+};
+
 pub const WRITE: Help = Help {
     code: "6",
     cause: "The file couldn't be made or written; it may hold a beginning of its text.",

@@ -16,6 +16,7 @@ file_words file.Payments = codes "payments"
 file_words file.Alerts = codes "alerts"
 file_words file.Audit = codes "audit"
 file_words file.Save = codes "save"
+file_words file.Asks = codes "asks"
 file_words file.Out = codes "out"
 
 abbrev pub fault_words : Fault → List ℕ

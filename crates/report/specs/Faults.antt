@@ -64,4 +64,5 @@ limit_of file.Payments = 67108864
 limit_of file.Alerts = 0
 limit_of file.Audit = 0
 limit_of file.Save = 536870912
+limit_of file.Asks = 1048576
 limit_of file.Out = 0

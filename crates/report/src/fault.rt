@@ -20,6 +20,8 @@ pub enum FileIs {
     Audit,
     /// The savepoint, which `save` writes and `resume` reads.
     Save,
+    /// The input from which `live` reads releases.
+    Asks,
     /// The standard output.
     Out,
 }
@@ -30,7 +32,7 @@ impl FileIs {
         ensures { result ≡ limit_of self }
     {
         match self {
-            FileIs::Job | FileIs::Requests => 1_048_576,
+            FileIs::Job | FileIs::Requests | FileIs::Asks => 1_048_576,
             FileIs::Payments => 67_108_864,
             FileIs::Save => 536_870_912,
             FileIs::Alerts | FileIs::Audit | FileIs::Out => 0,
@@ -51,7 +53,7 @@ pub enum Fault {
     Payments(PFault),
     /// The savepoint was read and is refused.
     Save(SaveFault),
-    /// A file couldn't be read.
+    /// A file or the input couldn't be read.
     Read(FileIs),
     /// A file couldn't be made or written, or the standard output refused.
     Write(FileIs),

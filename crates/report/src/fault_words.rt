@@ -35,6 +35,7 @@ impl fmt::Display for FileIs {
             FileIs::Alerts => write!(f, "alerts"),
             FileIs::Audit => write!(f, "audit"),
             FileIs::Save => write!(f, "save"),
+            FileIs::Asks => write!(f, "asks"),
             FileIs::Out => write!(f, "out"),
         }
     }
