@@ -4,3 +4,4 @@ pub mod RunLemmas
 pub mod FileLemmas
 pub mod StartLemmas
 pub mod PartLemmas
+pub mod LiveLemmas

@@ -19,7 +19,7 @@ use Rattle.flow_worker.specs.Parts.{WorkedIs}
 use Rattle.flow_ends.specs.Ended.{record_of as ended}
 use Rattle.flow_engine.specs.Flown.{record_of}
 use Rattle.serial_order.specs.Serials.{serials}
-use Rattle.call_steps.specs.SetupFor.{AreSame, IsSetupFor}
+use Rattle.call_steps.specs.SetupFor.{IsSetupFor}
 use Rattle.call_steps.specs.Running.{IsDoneOf, IsRunOf}
 use Rattle.call_steps.specs.declared.running.Done.{Done}
 
@@ -30,10 +30,10 @@ pub record HasLaws (setup : Setup) (rows : List Row) : Type 0 where
   pub serial : (ran : Ran) → IsRun (setup_view setup) rows ran → IsTrue (setup_view setup).ordered → HasNoCounts (setup_view setup).job → AreFromSources (setup_view setup).job rows → IsSerial rows ran
 
 -- a run of the setup of a job and its requests is a run of these
-pub is_run_of : (ordered : Bool) (job : JobView) (requests : List Request) (rows : List Row) (setup : Setup) (ran : RunRecord) (done : Done)
-    → IsSetupFor AreSame ordered job requests setup → HasLaws setup rows → AreFromSources job rows
-    → ran.setup ≡ setup → IsRun (setup_view setup) rows (record_view ran) → IsDoneOf ran requests rows done → IsRunOf AreSame ordered job requests rows done
-is_run_of ordered job requests rows setup ran done is laws sources same run of =
+pub is_run_of : (Keeps : List Request → List Request → Type 0) (ordered : Bool) (job : JobView) (requests : List Request) (rows : List Row) (setup : Setup) (ran : RunRecord) (done : Done)
+    → IsSetupFor Keeps ordered job requests setup → HasLaws setup rows → AreFromSources job rows
+    → ran.setup ≡ setup → IsRun (setup_view setup) rows (record_view ran) → IsDoneOf ran requests rows done → IsRunOf Keeps ordered job requests rows done
+is_run_of Keeps ordered job requests rows setup ran done is laws sources same run of =
     let from = subst (λ (j : JobView). AreFromSources j rows) (sym is.job_is) sources in
     let kept : done.ran.setup ≡ setup = ap (λ (r : RunRecord). r.setup) of.ran_is ∙ same in
     let ran_so : IsRun (setup_view setup) rows (record_view done.ran) = subst (λ (r : RunRecord). IsRun (setup_view setup) rows (record_view r)) (sym of.ran_is) run in

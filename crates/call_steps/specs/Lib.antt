@@ -5,3 +5,5 @@ pub mod Ends
 pub mod SetupFor
 pub mod Running
 pub mod Parts
+pub mod Live
+pub mod inner

@@ -14,6 +14,7 @@
 
 mod answer;
 mod job;
+mod live;
 mod parts;
 mod printing;
 mod reading;
@@ -23,6 +24,7 @@ mod writing;
 
 pub use answer::Answer;
 pub use job::{first_job, first_requests};
+pub use live::{LiveDone, leave_live, run_live};
 pub use parts::{run_first_part, run_later_part};
 pub use printing::print;
 pub use reading::{job_in, requests_in, rows_in, start_in};

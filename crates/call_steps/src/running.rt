@@ -212,7 +212,7 @@ fn texts_of<'a>(alloc: Global, done: &Done, names: Outputs<'a>) -> Result<Texts<
 }
 
 // The files with their texts, in the order in which they are stored.
-fn files_in<'a>(
+pub(crate) fn files_in<'a>(
     alloc: Global,
     done: &Done,
     names: Outputs<'a>,

@@ -1,12 +1,13 @@
 use Rattle.std.proofs.Common.{false}
 use Rattle.std.proofs.lemmas.Result.{IfOk-weaker}
 use Rattle.jobs.specs.Job.{job_view}
+use Rattle.call_steps.specs.SetupFor.{AreSame}
 use Rattle.call_steps.proofs.RunLemmas.{is_run_of, journals_of, states_of}
 use Rattle.call_steps.proofs.running.run_in_order.Goals as goal
 
 pub returns-clause-run : goal.returns-clause-run
 returns-clause-run c =
-    IfOk-weaker c.done_of.result _ _ (λ done of. is_run_of false (job_view c.args.job) c.args.requests.now c.args.rows.now c.in_ok-setup.setup c.in_ok-ran.ran done c.in_ok-setup.ensures
+    IfOk-weaker c.done_of.result _ _ (λ done of. is_run_of AreSame false (job_view c.args.job) c.args.requests.now c.args.rows.now c.in_ok-setup.setup c.in_ok-ran.ran done c.in_ok-setup.ensures
     (record { consistent = c.runs_are_consistent.ensures; prefix = c.ordered_runs_are_serial.ensures.prefix; serial = c.ordered_runs_are_serial.ensures.landings })
     c.requires.sources c.in_ok-ran.ensures.same c.in_ok-ran.ensures.run of) c.done_of.ensures
 

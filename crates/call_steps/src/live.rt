@@ -1,0 +1,241 @@
+// A run whose requests are released by an input, while rows flow.
+ghost use Rattle.std.specs.Prelude.{◌≡◌, ◌≤◌, IfOk, IfSome, None, Option, Some, length};
+ghost use Rattle.std.specs.Prelude.{option_copied};
+ghost use Rattle.std.specs.Result.{result_err};
+ghost use Rattle.jobs.specs.Job.{job_view};
+ghost use Rattle.jobs.specs.Nodes.{AreFromSources, worker_count};
+ghost use Rattle.job_file.specs.RequestSizes.{AreFew};
+ghost use Rattle.flow_model.specs.Setup.{setup_view};
+ghost use Rattle.live_control.specs.Hearing.{IsHeard};
+ghost use Rattle.command_line.specs.Asked.{IsSize};
+ghost use Rattle.payments.specs.World.{world};
+ghost use Rattle.call_steps.specs.Ends.{EndsAfterRun};
+ghost use Rattle.call_steps.specs.Live.{IsLiveRun, live_fault as live_fault_of};
+ghost use Rattle.call_steps.specs.Live.{live_lines as live_lines_of};
+ghost use Rattle.call_steps.specs.Parts.{HasWorkers};
+ghost use Rattle.call_steps.specs.Running.{files_of};
+ghost use Rattle.call_steps.specs.inner.Beside.{IsFlownLive};
+ghost use Rattle.report.specs.declared.fault.Fault.{Fault as FaultIs};
+
+use crate::answer::Answer;
+use crate::running::{Done, Outputs, done_of, files_in, run_lines};
+use crate::setup::setup_of;
+use crate::writing::{Texts, write_texts};
+use command_line::EngineSize;
+use flow_engine::{Flown, run_with};
+use flow_model::{Setup, ordered_runs_are_serial, runs_are_consistent};
+use jobs::Job;
+use lane_ring::RingLanes;
+use live_control::{Asks, Heard, Inbox, LiveFeeder, Teller, hear, line, meet};
+use payments::{Shelf, Sink};
+use report::{Fault, FileIs, push_refused};
+use std::alloc::Global;
+use std::sync::Wait;
+use std::thread::{Threads, join_mut};
+use tuple_trace::{Bytes, Gate, NoMemory, Rows};
+use versions::Requests;
+
+/// What was run live, and what the reader of releases took.
+#[derive(Drop)]
+pub struct LiveDone {
+    pub done: Done,
+    pub heard: Heard,
+}
+
+/// Judges the requests, and runs the rows with those that are accepted. Each line feed of the input
+/// releases the next of them, while the rows flow.
+///
+/// The reader stands beside the engine. If no thread can be made for the engine, the reader takes
+/// all that it takes before the first row. The one error is out of memory; the reader has taken
+/// what it takes then too, or nothing.
+pub fn run_live<R, G, Q>(
+    rt: &R,
+    alloc: Global,
+    gate: &G,
+    size: EngineSize,
+    job: Job,
+    requests: &Requests,
+    rows: &Rows,
+    asks: &mut Q,
+) -> Result<LiveDone, NoMemory>
+where
+    R: Threads + Wait + Copy + Send + Sync + 'static,
+    G: Gate + Sync,
+    Q: Asks,
+    requires size { IsSize size }
+    requires few { AreFew requests.now }
+    requires sources { AreFromSources (job_view job) rows.now }
+    ensures run { IfOk result (IsLiveRun (job_view job) requests.now rows.now (Q.state asks.old)
+        (Q.state asks.new)) }
+    ensures workers { IfOk result (λ live. HasWorkers live.done) }
+{
+    let setup = setup_of(alloc, job, requests, false)?;
+    let most = setup.requests() as u32;
+    let (mut teller, inbox) = line(alloc)?;
+    let (flown, heard) = run_beside(
+        rt,
+        alloc,
+        gate,
+        size,
+        setup,
+        inbox,
+        rows,
+        asks,
+        &mut teller,
+        most,
+    );
+    let (flown, inbox) = flown?;
+    let _met = meet(teller, inbox);
+    let ran = flown.record(alloc)?;
+    runs_are_consistent(&ran.setup, rows);
+    ordered_runs_are_serial(&ran.setup, rows);
+    let done = done_of(alloc, ran, requests, rows)?;
+    Ok(LiveDone { done, heard })
+}
+
+type Run = Result<(Flown<RingLanes>, Inbox), NoMemory>;
+
+// The engine on another thread, and the reader on this one. If no thread can be made, the reader
+// comes first.
+fn run_beside<R, G: Gate + Sync, Q: Asks>(
+    rt: &R,
+    alloc: Global,
+    gate: &G,
+    size: EngineSize,
+    setup: Setup,
+    inbox: Inbox,
+    rows: &Rows,
+    asks: &mut Q,
+    teller: &mut Teller,
+    most: u32,
+) -> (Run, Heard)
+where
+    R: Threads + Wait + Sync,
+    requires size { IsSize size }
+    requires rows { AreFromSources (setup_view setup).job rows.now }
+    requires most { most ≤ 64 }
+    requires untold { teller.old.told ≡ 0 }
+    ensures flown { IfOk result.0 (λ (flown, rest). IsFlownLive setup inbox rows.now
+        flown.setup flown.feeds flown.crew.items rest) }
+    ensures heard { IsHeard most (Q.state asks.old) (Q.state asks.new) result.1 }
+    ensures told { teller.new ≡ record teller.old { told = result.1.releases } }
+{
+    let EngineSize { threads, capacity } = size;
+    let mut work = Some((setup, inbox));
+    let work = &mut work;
+    join_mut(
+        rt,
+        &mut || -> Run
+            requires some_threads { 1 ≤ threads }
+            requires few_threads { threads ≤ 16 }
+            requires some_items { 1 ≤ capacity }
+            requires few_items { capacity ≤ 64 }
+            requires rows { IfSome work.now (λ (asked, seed). AreFromSources
+                (setup_view asked).job rows.now) }
+            ensures { IfSome work.entry.now (λ (asked, seed). IfOk result (λ (flown, rest).
+                IsFlownLive asked seed rows.entry.now flown.setup flown.feeds flown.crew.items
+                rest)) }
+        {
+            match work.take() {
+                Some((setup, inbox)) => run_with::<R, RingLanes, G, LiveFeeder<RingLanes>>(
+                    rt, alloc, &RingLanes, setup, inbox, rows, threads, capacity, gate,
+                ),
+                None => Err(NoMemory),
+            }
+        },
+        &mut || -> Heard
+            requires most { most ≤ 64 }
+            requires untold { teller.now.told ≡ 0 }
+            ensures heard { IsHeard most (Q.state asks.entry.now) (Q.state asks.exit.now)
+                result }
+            ensures told { teller.exit.now ≡ record teller.entry.now { told = result.releases } }
+        { hear(asks, teller, most) },
+    )
+}
+
+/// Stores the files of a live run, and then prints its lines. The first fault ends it. If the input
+/// failed, that comes after all others, and in place of the summary.
+pub fn leave_live<S: Shelf, O: Sink>(
+    alloc: Global,
+    live: LiveDone,
+    names: Outputs<'_>,
+    shelf: &mut S,
+    out: &mut O,
+) -> Answer
+    requires { HasWorkers live.done }
+    ensures ends { (written : Option FaultIs)
+        × EndsAfterRun (files_of names.entry.alerts.now (option_copied names.entry.audit)
+        (option_copied names.entry.save) live.done) (live_lines_of live)
+        (world (S.state shelf.old) (O.state out.old))
+        (world (S.state shelf.new) (O.state out.new)) written
+        × (result.fault ≡ live_fault_of live.heard.failed written) }
+    ensures refused { result.refused ≡ live.done.refused }
+    ensures ran { result.ran ≡ Some live.done.ran }
+    ensures start { result.start ≡ None }
+{
+    let written = write_live(alloc, &live, names, shelf, out).err();
+    let fault = live_fault(live.heard.failed, written);
+    let Done { ran, refused, .. } = live.done;
+    Answer {
+        fault,
+        refused,
+        ran: Some(ran),
+        start: None,
+    }
+}
+
+// The fault of the input comes last.
+fn live_fault(failed: bool, written: Option<Fault>) -> Option<Fault>
+    ensures { result ≡ live_fault_of failed written }
+{
+    match written {
+        Some(fault) => Some(fault),
+        None if failed => Some(Fault::Read(FileIs::Asks)),
+        None => None,
+    }
+}
+
+fn write_live<S: Shelf, O: Sink>(
+    alloc: Global,
+    live: &LiveDone,
+    names: Outputs<'_>,
+    shelf: &mut S,
+    out: &mut O,
+) -> Result<(), Fault>
+    requires { HasWorkers live.now.done }
+    ensures { EndsAfterRun
+        (files_of names.entry.alerts.now (option_copied names.entry.audit)
+        (option_copied names.entry.save) live.now.done) (live_lines_of live.now)
+        (world (S.state shelf.old) (O.state out.old))
+        (world (S.state shelf.new) (O.state out.new))
+        (result_err result) }
+{
+    let texts = texts_of(alloc, live, names)?;
+    write_texts(&texts, shelf, out)
+}
+
+fn texts_of<'a>(alloc: Global, live: &LiveDone, names: Outputs<'a>) -> Result<Texts<'a>, NoMemory>
+    requires { HasWorkers live.now.done }
+    ensures files { IfOk result (λ texts. texts.files.items ≡
+        files_of names.entry.alerts.now (option_copied names.entry.audit)
+        (option_copied names.entry.save) live.now.done) }
+    ensures lines { IfOk result (λ texts. texts.lines ≡ live_lines_of live.now) }
+{
+    Ok(Texts {
+        files: files_in(alloc, &live.done, names)?,
+        lines: live_lines(alloc, live)?,
+    })
+}
+
+// What is printed of a live run: without a summary if the input failed.
+fn live_lines(alloc: Global, live: &LiveDone) -> Result<Bytes, NoMemory>
+    requires { length live.now.done.ran.journals ≡ worker_count live.now.done.ran.setup.job.nodes }
+    ensures { IfOk result (λ lines. lines ≡ live_lines_of live.now) }
+{
+    if !live.heard.failed {
+        return run_lines(alloc, &live.done);
+    }
+    let mut lines = Bytes::new(alloc);
+    push_refused(alloc, live.done.refused.as_slice(), &mut lines)?;
+    Ok(lines)
+}
