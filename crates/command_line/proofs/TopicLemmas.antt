@@ -33,6 +33,7 @@ word_of topic.Run = codes "run"
 word_of topic.Make = codes "make"
 word_of topic.Save = codes "save"
 word_of topic.Resume = codes "resume"
+word_of topic.Live = codes "live"
 
 -- the rules of a command, as it is built
 abbrev pub rules_of : Topic → List Rule
@@ -69,6 +70,7 @@ enters topic.Run ws other = ap (entered (built program_app)) (stops_at (codes "r
 enters topic.Make ws other = ap (entered (built program_app)) (stops_at (codes "make") ws refl)
 enters topic.Save ws other = ap (entered (built program_app)) (stops_at (codes "save") ws refl)
 enters topic.Resume ws other = ap (entered (built program_app)) (stops_at (codes "resume") ws refl)
+enters topic.Live ws other = ap (entered (built program_app)) (stops_at (codes "live") ws refl)
 
 -- ---- the rules read the forms
 
@@ -315,6 +317,58 @@ resume_capacity = record {
   use_of = λ value rs. refl;
 }
 
+live_job : IsName (rules_of topic.Live) 1 (codes "job")
+unfolding clap_on_literals
+live_job = record { rule = rule_at (rules_of topic.Live) 1; at = refl; one = refl; single = refl; last = refl; next = refl; by_id = refl; use_of = λ value rs. refl }
+
+live_requests : IsName (rules_of topic.Live) 2 (codes "requests")
+unfolding clap_on_literals
+live_requests = record { rule = rule_at (rules_of topic.Live) 2; at = refl; one = refl; single = refl; last = refl; next = refl; by_id = refl; use_of = λ value rs. refl }
+
+live_payments : IsName (rules_of topic.Live) 3 (codes "payments")
+unfolding clap_on_literals
+live_payments = record { rule = rule_at (rules_of topic.Live) 3; at = refl; one = refl; single = refl; last = refl; next = refl; by_id = refl; use_of = λ value rs. refl }
+
+live_alerts : IsName (rules_of topic.Live) 4 (codes "alerts")
+unfolding clap_on_literals
+live_alerts = record { rule = rule_at (rules_of topic.Live) 4; at = refl; one = refl; single = refl; last = refl; next = refl; by_id = refl; use_of = λ value rs. refl }
+
+live_audit : IsName (rules_of topic.Live) 5 (codes "audit")
+unfolding clap_on_literals
+live_audit = record { rule = rule_at (rules_of topic.Live) 5; at = refl; one = refl; single = refl; last = refl; next = refl; by_id = refl; use_of = λ value rs. refl }
+
+live_threads : IsOption (rules_of topic.Live) threads_option
+unfolding clap_on_literals
+live_threads = record {
+  rule = rule_called (rules_of topic.Live) (codes "threads");
+  dashes = refl;
+  long = refl;
+  dashes_joined = λ value. refl;
+  joined = λ value. refl;
+  by_long = refl;
+  takes = refl;
+  most = refl;
+  called = refl;
+  by_id = refl;
+  use_of = λ value rs. refl;
+}
+
+live_capacity : IsOption (rules_of topic.Live) capacity_option
+unfolding clap_on_literals
+live_capacity = record {
+  rule = rule_called (rules_of topic.Live) (codes "capacity");
+  dashes = refl;
+  long = refl;
+  dashes_joined = λ value. refl;
+  joined = λ value. refl;
+  by_long = refl;
+  takes = refl;
+  most = refl;
+  called = refl;
+  by_id = refl;
+  use_of = λ value rs. refl;
+}
+
 -- the rules of each command read its form
 pub reads : (about : Topic) → about ≢ topic.Program → Reads (rules_of about) (form_of about)
 reads topic.Program other = absurd (other refl)
@@ -325,6 +379,7 @@ reads topic.Run other = record { names = (run_job, (run_requests, (run_payments,
 reads topic.Make other = record { names = (make_job, (make_seed, (make_rows, tt))); options = (make_threads, tt); flags = tt }
 reads topic.Save other = record { names = (save_job, (save_requests, (save_payments, (save_alerts, (save_audit, (save_save, (save_rows, tt))))))); options = (save_threads, (save_capacity, tt)); flags = tt }
 reads topic.Resume other = record { names = (resume_job, (resume_requests, (resume_payments, (resume_save, (resume_alerts, (resume_audit, tt)))))); options = (resume_threads, (resume_capacity, tt)); flags = tt }
+reads topic.Live other = record { names = (live_job, (live_requests, (live_payments, (live_alerts, (live_audit, tt))))); options = (live_threads, (live_capacity, tt)); flags = tt }
 
 -- ---- the values
 
@@ -339,6 +394,7 @@ asked_same topic.Run v w same flag = rw (same (codes "job") refl, same (codes "r
 asked_same topic.Make v w same flag = rw (same (codes "job") refl, same (codes "seed") refl, same (codes "rows") refl, same (codes "threads") refl) refl
 asked_same topic.Save v w same flag = rw (same (codes "job") refl, same (codes "requests") refl, same (codes "payments") refl, same (codes "alerts") refl, same (codes "audit") refl, same (codes "save") refl, same (codes "rows") refl, same (codes "threads") refl, same (codes "capacity") refl) refl
 asked_same topic.Resume v w same flag = rw (same (codes "job") refl, same (codes "requests") refl, same (codes "payments") refl, same (codes "save") refl, same (codes "alerts") refl, same (codes "audit") refl, same (codes "threads") refl, same (codes "capacity") refl) refl
+asked_same topic.Live v w same flag = rw (same (codes "job") refl, same (codes "requests") refl, same (codes "payments") refl, same (codes "alerts") refl, same (codes "audit") refl, same (codes "threads") refl, same (codes "capacity") refl) refl
 
 no_flag_is_on : (about : Topic) → list_all (λ (a : Rule). is_off a.defaults) (rules_of about) ≡ true
 no_flag_is_on topic.Program = refl
@@ -349,6 +405,7 @@ no_flag_is_on topic.Run = refl
 no_flag_is_on topic.Make = refl
 no_flag_is_on topic.Save = refl
 no_flag_is_on topic.Resume = refl
+no_flag_is_on topic.Live = refl
 
 found_topic : (b : Bool) (about other : Topic) (rest : Option Topic) → (if b then Some other else rest) ≡ Some about → ((b ≡ true) × (other ≡ about)) ⊎ (rest ≡ Some about)
 found_topic true about other rest is = inl (refl, cc is)
@@ -377,7 +434,10 @@ word_is word about is =
                 | inl p ↦ named word about topic.Save (λ e. absurd (cc e)) p.0 p.1
                 | inr is ↦ elim (found_topic (bytes_eq word (codes "resume")) about topic.Resume _ is) [
                   | inl p ↦ named word about topic.Resume (λ e. absurd (cc e)) p.0 p.1
-                  | inr is ↦ absurd (cc is)
+                  | inr is ↦ elim (found_topic (bytes_eq word (codes "live")) about topic.Live _ is) [
+                    | inl p ↦ named word about topic.Live (λ e. absurd (cc e)) p.0 p.1
+                    | inr is ↦ absurd (cc is)
+                  ]
                 ]
               ]
             ]

@@ -78,6 +78,8 @@ pub data Asked : Type 0 where
   Make : MakeAsked → Asked
   Save : SaveAsked → Asked
   Resume : ResumeAsked → Asked
+  -- a run whose requests are released while rows flow
+  Live : RunAsked → Asked
   -- to explain the program or a command
   Help : Topic → Asked
   -- to say which version this is
@@ -143,6 +145,13 @@ resume_form = record {
   flags = [];
 }
 
+abbrev pub live_form : Form
+live_form = record {
+  names = codes "job" ∷ codes "requests" ∷ codes "payments" ∷ codes "alerts" ∷ codes "audit" ∷ [];
+  options = threads_option ∷ capacity_option ∷ [];
+  flags = [];
+}
+
 -- the full form of the words after a command
 abbrev pub form_of : Topic → Form
 form_of topic.Program = record { names = []; options = []; flags = [] }
@@ -153,6 +162,7 @@ form_of topic.Run = run_form
 form_of topic.Make = make_form
 form_of topic.Save = save_form
 form_of topic.Resume = resume_form
+form_of topic.Live = live_form
 
 -- ---- values
 
@@ -245,6 +255,10 @@ run_with plan values =
 abbrev pub run_of : Values → Option RunAsked
 run_of values = run_with (plan_of values) values
 
+-- a run that isn't in ordered mode
+abbrev pub live_of : Values → Option RunAsked
+live_of values = run_with (unordered_of values) values
+
 -- the run writes a file with this name
 abbrev pub writes : RunAsked → Text → Bool
 writes run name = bytes_eq run.alerts name || bytes_eq run.audit name
@@ -302,6 +316,7 @@ topic_of word =
     else if bytes_eq word (codes "make") then Some topic.Make
     else if bytes_eq word (codes "save") then Some topic.Save
     else if bytes_eq word (codes "resume") then Some topic.Resume
+    else if bytes_eq word (codes "live") then Some topic.Live
     else None
 
 -- what the values of a command ask for
@@ -314,6 +329,7 @@ asked_with topic.Run values = option_map Run (run_of values)
 asked_with topic.Make values = option_map Make (make_of values)
 asked_with topic.Save values = option_map Save (save_of values)
 asked_with topic.Resume values = option_map Resume (resume_of values)
+asked_with topic.Live values = option_map Live (live_of values)
 
 -- what the words after a command ask for, if they have its full form
 abbrev pub asked_after : Topic → List Text → Option Asked
@@ -390,6 +406,7 @@ asked_by (command.Run files) = Run (run_asked files)
 asked_by (command.Make make) = Make (make_asked make)
 asked_by (command.Save files) = Save (save_asked files)
 asked_by (command.Resume files) = Resume (resume_asked files)
+asked_by (command.Live files) = Live (run_asked files)
 asked_by (command.Help about) = Help about
 asked_by command.Version = Version
 
@@ -399,4 +416,5 @@ IsSized (command.Run files) = IsSize files.size
 IsSized (command.Make make) = IsThreads make.threads
 IsSized (command.Save files) = IsSize files.run.size
 IsSized (command.Resume files) = IsSize files.run.size
+IsSized (command.Live files) = IsSize files.size
 IsSized _ = ⊤

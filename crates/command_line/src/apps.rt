@@ -1,8 +1,8 @@
 // The commands that `clap` reads the words by.
 ghost use Rattle.std.specs.Prelude.{◌≡◌, IfOk, false};
 ghost use Rattle.clap.specs.Words.{rule_of};
-ghost use Rattle.command_line.specs.Apps.{IsApp, check_app, first_app, flag_rule, make_app};
-ghost use Rattle.command_line.specs.Apps.{name_rule, option_rule, plan_app, program_app};
+ghost use Rattle.command_line.specs.Apps.{IsApp, check_app, first_app, flag_rule, live_app};
+ghost use Rattle.command_line.specs.Apps.{make_app, name_rule, option_rule, plan_app, program_app};
 ghost use Rattle.command_line.specs.Apps.{resume_app, run_app, save_app};
 
 use clap::{Arg, ArgAction, Command};
@@ -20,7 +20,8 @@ pub(crate) fn program<'w>(alloc: Global) -> Result<Command<'w>, AllocError>
         .subcommand(run(alloc)?)?
         .subcommand(make(alloc)?)?
         .subcommand(save(alloc)?)?
-        .subcommand(resume(alloc)?)
+        .subcommand(resume(alloc)?)?
+        .subcommand(live(alloc)?)
 }
 
 fn first<'w>(alloc: Global) -> Result<Command<'w>, AllocError>
@@ -96,6 +97,19 @@ fn resume<'w>(alloc: Global) -> Result<Command<'w>, AllocError>
         .arg(name(alloc, "requests"))?
         .arg(name(alloc, "payments"))?
         .arg(name(alloc, "save"))?
+        .arg(name(alloc, "alerts"))?
+        .arg(name(alloc, "audit"))?
+        .arg(option(alloc, "threads"))?
+        .arg(option(alloc, "capacity"))
+}
+
+fn live<'w>(alloc: Global) -> Result<Command<'w>, AllocError>
+    ensures { IfOk result (λ made. IsApp made live_app) }
+{
+    Command::new(alloc, "live")
+        .arg(name(alloc, "job"))?
+        .arg(name(alloc, "requests"))?
+        .arg(name(alloc, "payments"))?
         .arg(name(alloc, "alerts"))?
         .arg(name(alloc, "audit"))?
         .arg(option(alloc, "threads"))?

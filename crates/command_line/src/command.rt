@@ -26,6 +26,8 @@ pub enum Command {
     Make(Make),
     Save(SaveFiles),
     Resume(ResumeFiles),
+    /// To run, with requests that are released while rows flow. It isn't in ordered mode.
+    Live(RunFiles),
     /// To explain the program or one of its commands.
     Help(Topic),
     /// To say which version of the program this is.
@@ -203,6 +205,8 @@ fn topic_of(word: &str) -> Option<Topic>
         Some(Topic::Save)
     } else if word == "resume" {
         Some(Topic::Resume)
+    } else if word == "live" {
+        Some(Topic::Live)
     } else {
         None
     }

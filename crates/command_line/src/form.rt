@@ -93,5 +93,10 @@ pub(crate) fn form_of(topic: Topic) -> Form
             options: &[THREADS, CAPACITY],
             flags: &[],
         },
+        Topic::Live => Form {
+            names: &["job", "requests", "payments", "alerts", "audit"],
+            options: &[THREADS, CAPACITY],
+            flags: &[],
+        },
     }
 }

@@ -16,6 +16,7 @@ pub fn help_text(topic: Topic) -> &'static str
         Topic::Make => MAKE,
         Topic::Save => SAVE,
         Topic::Resume => RESUME,
+        Topic::Live => LIVE,
     }
 }
 
@@ -36,6 +37,7 @@ usage: fries COMMAND NAMES [OPTIONS]
   check JOB                                       prints the sizes of a job
   plan JOB REQUESTS                               prints what each request changes
   run JOB REQUESTS PAYMENTS ALERTS AUDIT          runs payments through a job
+  live JOB REQUESTS PAYMENTS ALERTS AUDIT         the same, with requests released by lines
   save JOB REQUESTS PAYMENTS ALERTS AUDIT SAVE N  runs the first payments, saves the counts
   resume JOB REQUESTS PAYMENTS SAVE ALERTS AUDIT  runs the later payments from there
   make JOB SEED ROWS                              runs rows that are made up
@@ -146,4 +148,23 @@ Runs the payments after a savepoint, from the counts that `save` wrote.
   --capacity C  items on a lane, 1 to 64; without it, 16
 
 example: fries resume job.toml requests.toml pay.csv save.csv alerts.csv audit.csv
+";
+
+const LIVE: &str = "\
+usage: fries live JOB REQUESTS PAYMENTS ALERTS AUDIT [OPTIONS]
+
+Runs payments through a job, while the standard input releases its requests.
+Each line feed there releases the next request. It changes operators once the payments that it
+waits for are read, and after the last payment if it isn't released by then. The command ends once
+the input has ended or has released all requests.
+
+  JOB           file to read: a job as TOML
+  REQUESTS      file to read: requests as TOML
+  PAYMENTS      file to read: payments as CSV
+  ALERTS        file to write: what comes to the sinks, as CSV
+  AUDIT         file to write: what each worker did, as CSV; another word than ALERTS
+  --threads N   threads, 1 to 16; without it, 1
+  --capacity C  items on a lane, 1 to 64; without it, 16
+
+example: fries live job.toml requests.toml pay.csv alerts.csv audit.csv
 ";

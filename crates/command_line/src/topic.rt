@@ -10,4 +10,5 @@ pub enum Topic {
     Make,
     Save,
     Resume,
+    Live,
 }

@@ -5,6 +5,7 @@ ghost use Rattle.clap.specs.Words.{first_value, found_of};
 ghost use Rattle.command_line.specs.Asked.{IsSize, IsSized, IsThreads, amount_in as amount_of};
 ghost use Rattle.command_line.specs.Asked.{asked_by, asked_with, engine_in as engine_of};
 ghost use Rattle.command_line.specs.Asked.{first_asked, first_of as first_of_values};
+ghost use Rattle.command_line.specs.Asked.{live_of as live_of_values};
 ghost use Rattle.command_line.specs.Asked.{is_true as is_true_text, make_asked};
 ghost use Rattle.command_line.specs.Asked.{make_of as make_of_values, name_in as name_of};
 ghost use Rattle.command_line.specs.Asked.{number_in as number_of, plan_asked};
@@ -47,6 +48,7 @@ pub(crate) fn command_with(
         Topic::Make => Ok(Command::Make(make_of(alloc, values)?)),
         Topic::Save => Ok(Command::Save(save_of(alloc, values)?)),
         Topic::Resume => Ok(Command::Resume(resume_of(alloc, values)?)),
+        Topic::Live => Ok(Command::Live(live_of(alloc, values)?)),
     }
 }
 
@@ -143,6 +145,16 @@ fn save_of(alloc: Global, values: &ArgMatches<'_>) -> Result<SaveFiles, WordsFau
     };
     let ResumeFiles { run, save } = resume_of(alloc, values)?;
     Ok(SaveFiles { run, save, rows })
+}
+
+fn live_of(alloc: Global, values: &ArgMatches<'_>) -> Result<RunFiles, WordsFault>
+    ensures asked { IfOk result (λ files. live_of_values (first_value (found_of values.now))
+        ≡ Some (run_asked files)) }
+    ensures sized { IfOk result (λ files. IsSize files.size) }
+    ensures usage { IfErr result (λ fault. fault ≢ WordsFault.NoMemory →
+        live_of_values (first_value (found_of values.now)) ≡ None) }
+{
+    run_with(alloc, unordered_of(alloc, values)?, values)
 }
 
 fn resume_of(alloc: Global, values: &ArgMatches<'_>) -> Result<ResumeFiles, WordsFault>

@@ -12,6 +12,7 @@ mod texts;
 
 use crate::tests::lawful::is_lawful;
 use crate::tests::seen::{Seen, Wanted, are_wanted, is_audit, is_printed, met_before_turn};
+use live_control::MemoryAsks;
 use payments::{Calls, MemoryShelf, MemorySink};
 use std::alloc::Global;
 use std::sync::Wait;
@@ -108,7 +109,8 @@ where
     R: Threads + Wait + Copy + Send + Sync + 'static,
     G: Gate + Sync,
 {
-    fries(rt, alloc, words, shelf, out, gate)
+    let mut asks = MemoryAsks::new(Bytes::new(alloc), Calls::new(alloc));
+    fries(rt, alloc, words, shelf, out, &mut asks, gate)
 }
 
 fn see(

@@ -4,17 +4,18 @@
 #![tactic(auto)]
 
 use advice::{Call, HostLook, advice};
+use live_control::StdIn;
 use payments::{HostShelf, StdOut};
 use report::{Fault, FileIs};
 use std::alloc::{AllocError, Global};
 use std::fs::File;
-use std::io::ErrorKind;
+use std::io::{ErrorKind, Input, IsTerminal};
 use std::mem::ManuallyDrop;
 use std::process::ExitCode;
 use std::rt::Files;
 use std::{env, io};
 use top_call::{Outcome, fries};
-use tuple_trace::{OpenGate, Word};
+use tuple_trace::{Gate, Word};
 
 fn main(rt: HostRuntime) -> ExitCode {
     // They are held until the program ends.
@@ -27,12 +28,42 @@ fn main(rt: HostRuntime) -> ExitCode {
     };
     let mut shelf = HostShelf::new(rt);
     let mut out = StdOut::new(rt);
-    let outcome = fries(&rt, alloc, &words, &mut shelf, &mut out, &OpenGate);
+    let mut asks = StdIn::new(rt.reader());
+    let gate = Telling {
+        rt,
+        tells: is_live(&words) && rt.stderr().is_terminal(),
+    };
+    let outcome = fries(&rt, alloc, &words, &mut shelf, &mut out, &mut asks, &gate);
     tell(&rt, alloc, &words, &outcome);
     let status = outcome.status;
     // The program ends here, so the record isn't freed entry by entry.
     let _kept = ManuallyDrop::new(outcome);
     ExitCode::from(status)
+}
+
+/// A gate that lets everything pass at once, and may tell on the standard error that a request was
+/// issued, as it happens.
+#[derive(Drop)]
+struct Telling {
+    rt: HostRuntime,
+    tells: bool,
+}
+
+impl Gate for Telling {
+    fn pass(&self, _node: u32, _worker: u32, _place: u64) {}
+
+    fn issued(&self, request: u64) {
+        if self.tells {
+            let _ = eprint!(self.rt; "fries: request {request} is issued\n");
+        }
+    }
+}
+
+fn is_live(words: &[Word]) -> bool {
+    match words.first() {
+        Some(word) => word.as_str() == "live",
+        None => false,
+    }
 }
 
 // Tells on the standard error what ended the call, or why requests were refused. What comes of that

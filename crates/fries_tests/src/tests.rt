@@ -15,6 +15,7 @@ mod words;
 use crate::tests::alone::{ByThemselves, are_alerts};
 use crate::tests::told::{has_audit, tells_feed, tells_turns};
 use flow_model::RunRecord;
+use live_control::MemoryAsks;
 use payments::{Calls, MemoryShelf, MemorySink};
 use std::alloc::Global;
 use std::sync::Wait;
@@ -177,7 +178,8 @@ fn answer<R>(
 where
     R: Threads + Wait + Copy + Send + Sync + 'static,
 {
-    fries(rt, alloc, words, shelf, out, &OpenGate)
+    let mut asks = MemoryAsks::new(Bytes::new(alloc), Calls::new(alloc));
+    fries(rt, alloc, words, shelf, out, &mut asks, &OpenGate)
 }
 
 fn has_left(

@@ -6,6 +6,7 @@ mod texts;
 
 use crate::tests::cut::Cuts;
 use crate::tests::texts::{CHAIN, FOUR_PAYMENTS};
+use live_control::MemoryAsks;
 use payments::{Calls, MemoryShelf, MemorySink};
 use std::alloc::Global;
 use std::sync::Wait;
@@ -212,7 +213,8 @@ fn answer<R>(
 where
     R: Threads + Wait + Copy + Send + Sync + 'static,
 {
-    fries(rt, alloc, words, shelf, out, &OpenGate)
+    let mut asks = MemoryAsks::new(Bytes::new(alloc), Calls::new(alloc));
+    fries(rt, alloc, words, shelf, out, &mut asks, &OpenGate)
 }
 
 /// Calls of which each has a number.

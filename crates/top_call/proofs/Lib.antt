@@ -4,3 +4,4 @@ pub mod MemoryLemmas
 pub mod MakeLemmas
 pub mod FirstLemmas
 pub mod SureLemmas
+pub mod LiveLemmas

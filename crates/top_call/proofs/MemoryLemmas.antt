@@ -2,8 +2,9 @@
 use Rattle.std.proofs.Common.{◌≡◌, inl, inr, ℕ, List, Option, None, Some, length, refl, ap}
 use Rattle.std.specs.Prelude.{IfSome}
 use Rattle.payments.specs.Causes.{Faults}
-use Rattle.command_line.specs.Asked.{Asked, Check, First, Help, Make, Plan, Resume, Run, Save, Version}
+use Rattle.command_line.specs.Asked.{Asked, Check, First, Help, Live, Make, Plan, Resume, Run, Save, Version}
 use Rattle.command_line.specs.Help.{help_of, version_line}
+use Rattle.live_control.specs.Asking.{AsksIs}
 use Rattle.top_call.specs.Answers.{Answers, Follows}
 use Rattle.top_call.specs.Explain.{AnswersText}
 use Rattle.call_steps.specs.Ends.{Stops, stopped}
@@ -35,60 +36,67 @@ text_for_memory text old new answer is prints = record {
 }
 
 -- any call may end so
-pub answers_memory : (asked : Asked) (old new : World) (answer : Answer) → answer ≡ stopped fault.NoMemory → PrintsFault answer.fault old new → Answers asked old new answer
-answers_memory (First asked) old new answer is prints = record { between = old; ends = inl (stops_for_memory _ old answer is refl); prints = prints }
-answers_memory (Check name) old new answer is prints = record { between = old; ends = inl (stops_for_memory _ old answer is refl); prints = prints }
-answers_memory (Plan asked) old new answer is prints = record { between = old; ends = inl (stops_for_memory _ old answer is (inl refl)); prints = prints }
-answers_memory (Run asked) old new answer is prints = record { between = old; ends = inl (stops_for_memory _ old answer is (inl (inl refl))); prints = prints }
-answers_memory (Make asked) old new answer is prints = record { between = old; ends = inl (stops_for_memory _ old answer is (inl refl)); prints = prints }
-answers_memory (Save asked) old new answer is prints = record { between = old; ends = inl (stops_for_memory _ old answer is (inl (inl refl))); prints = prints }
-answers_memory (Resume asked) old new answer is prints = record { between = old; ends = inl (stops_for_memory _ old answer is (inl (inl (inl refl)))); prints = prints }
-answers_memory (Help about) old new answer is prints = text_for_memory (help_of about) old new answer is prints
-answers_memory Version old new answer is prints = text_for_memory version_line old new answer is prints
+pub answers_memory : (asked : Asked) (asks : AsksIs) (old new : World) (answer : Answer) → answer ≡ stopped fault.NoMemory → PrintsFault answer.fault old new → Answers asked asks asks old new answer
+answers_memory (First asked) asks old new answer is prints = record { between = old; ends = inl (stops_for_memory _ old answer is refl); prints = prints }
+answers_memory (Check name) asks old new answer is prints = record { between = old; ends = inl (stops_for_memory _ old answer is refl); prints = prints }
+answers_memory (Plan asked) asks old new answer is prints = record { between = old; ends = inl (stops_for_memory _ old answer is (inl refl)); prints = prints }
+answers_memory (Run asked) asks old new answer is prints = record { between = old; ends = inl (stops_for_memory _ old answer is (inl (inl refl))); prints = prints }
+answers_memory (Make asked) asks old new answer is prints = record { between = old; ends = inl (stops_for_memory _ old answer is (inl refl)); prints = prints }
+answers_memory (Save asked) asks old new answer is prints = record { between = old; ends = inl (stops_for_memory _ old answer is (inl (inl refl))); prints = prints }
+answers_memory (Resume asked) asks old new answer is prints = record { between = old; ends = inl (stops_for_memory _ old answer is (inl (inl (inl refl)))); prints = prints }
+answers_memory (Live asked) asks old new answer is prints = record { between = old; ends = inl (record { stops = stops_for_memory _ old answer is (inl (inl refl)); asks = inl refl }); prints = prints }
+answers_memory (Help about) asks old new answer is prints = text_for_memory (help_of about) old new answer is prints
+answers_memory Version asks old new answer is prints = text_for_memory version_line old new answer is prints
 
 no_memory : (old new : World) → IsExcused old new (Some fault.NoMemory)
 no_memory old new = inr refl
 
-pub follows_memory : (asked : Asked) (old new : World) → Follows asked old new (Some fault.NoMemory)
-follows_memory (First asked) old new = record {
+pub follows_memory : (asked : Asked) (was now : AsksIs) (old new : World) → Follows asked was now old new (Some fault.NoMemory)
+follows_memory (First asked) was now old new = record {
   payments = follows_excused file.Payments (RefusesRows (asked_job asked)) asked.payments old new (Some fault.NoMemory) (no_memory old new);
   done = λ rows tells. inr (no_memory old new);
 }
-follows_memory (Check name) old new = record {
+follows_memory (Check name) was now old new = record {
   job = follows_excused file.Job RefusesJob name old new (Some fault.NoMemory) (no_memory old new);
   done = λ job tells. inr (no_memory old new);
 }
-follows_memory (Plan asked) old new = record {
+follows_memory (Plan asked) was now old new = record {
   job = follows_excused file.Job RefusesJob asked.job old new (Some fault.NoMemory) (no_memory old new);
   requests = λ job tells. follows_excused file.Requests (RefusesRequests job) asked.requests old new (Some fault.NoMemory) (no_memory old new);
   done = λ job requests tells more. inr (no_memory old new);
 }
-follows_memory (Run asked) old new = record {
+follows_memory (Run asked) was now old new = record {
   job = follows_excused file.Job RefusesJob asked.plan.job old new (Some fault.NoMemory) (no_memory old new);
   requests = λ job tells. follows_excused file.Requests (RefusesRequests job) asked.plan.requests old new (Some fault.NoMemory) (no_memory old new);
   payments = λ job requests tells more. follows_excused file.Payments (RefusesRows job) asked.payments old new (Some fault.NoMemory) (no_memory old new);
   done = λ job requests rows tells more most. inr (no_memory old new);
 }
-follows_memory (Make asked) old new = record {
+follows_memory (Make asked) was now old new = record {
   job = follows_excused file.Job RefusesJob asked.job old new (Some fault.NoMemory) (no_memory old new);
   rows = λ job code tells refused. inr (no_memory old new);
   done = λ job rows tells made. inr (no_memory old new);
 }
-follows_memory (Save asked) old new = record {
+follows_memory (Save asked) was now old new = record {
   job = follows_excused file.Job RefusesJob asked.run.plan.job old new (Some fault.NoMemory) (no_memory old new);
   requests = λ job tells. follows_excused file.Requests (RefusesRequests job) asked.run.plan.requests old new (Some fault.NoMemory) (no_memory old new);
   payments = λ job requests tells more. follows_excused file.Payments (RefusesRows job) asked.run.payments old new (Some fault.NoMemory) (no_memory old new);
   done = λ job requests rows tells more most. inr (no_memory old new);
 }
-follows_memory (Resume asked) old new = record {
+follows_memory (Resume asked) was now old new = record {
   job = follows_excused file.Job RefusesJob asked.run.plan.job old new (Some fault.NoMemory) (no_memory old new);
   requests = λ job tells. follows_excused file.Requests (RefusesRequests job) asked.run.plan.requests old new (Some fault.NoMemory) (no_memory old new);
   payments = λ job requests tells more. follows_excused file.Payments (RefusesRows job) asked.run.payments old new (Some fault.NoMemory) (no_memory old new);
   save = λ job requests rows setup tells. follows_excused file.Save (RefusesSave (setup_view setup) (length rows)) asked.save old new (Some fault.NoMemory) (no_memory old new);
   done = λ job requests rows setup start tells more. inr (no_memory old new);
 }
-follows_memory (Help about) old new = inr (no_memory old new)
-follows_memory Version old new = inr (no_memory old new)
+follows_memory (Live asked) was now old new = record {
+  job = follows_excused file.Job RefusesJob asked.plan.job old new (Some fault.NoMemory) (no_memory old new);
+  requests = λ job tells. follows_excused file.Requests (RefusesRequests job) asked.plan.requests old new (Some fault.NoMemory) (no_memory old new);
+  payments = λ job requests tells more. follows_excused file.Payments (RefusesRows job) asked.payments old new (Some fault.NoMemory) (no_memory old new);
+  done = λ job requests rows tells more most. inr (inr (no_memory old new));
+}
+follows_memory (Help about) was now old new = inr (no_memory old new)
+follows_memory Version was now old new = inr (no_memory old new)
 
 -- what holds of anything that was asked holds of what was
 pub whatever : {A : Type 0} (o : Option A) (P : A → Type 0) → ((a : A) → P a) → IfSome o P

@@ -26,13 +26,13 @@ use Rattle.top_call.proofs.FollowLemmas.{excused_where_undone, follows_no_run, f
 use Rattle.call_steps.proofs.FileLemmas.{ReadSame, follows_excused, follows_read, follows_unread, no_job, no_rows, no_start, ran_or_excused, same_job, same_requests, same_rows, sole_start, start_follows_same, start_told_same, unread_excused}
 
 -- what a call does that read a job, its requests and its rows
-record ReadsAll (asked : RunAsked) (old new : World) (answer : Option Fault) : Type 0 where
-  job : FollowsJob asked.plan.job old new answer
-  requests : (job : JobView) → TellsJob old.shelf.files asked.plan.job job → FollowsRequests job asked.plan.requests old new answer
-  payments : (job : JobView) (requests : List Request) → TellsJob old.shelf.files asked.plan.job job → TellsRequests old.shelf.files asked.plan.requests job requests →
+pub record ReadsAll (asked : RunAsked) (old new : World) (answer : Option Fault) : Type 0 where
+  pub job : FollowsJob asked.plan.job old new answer
+  pub requests : (job : JobView) → TellsJob old.shelf.files asked.plan.job job → FollowsRequests job asked.plan.requests old new answer
+  pub payments : (job : JobView) (requests : List Request) → TellsJob old.shelf.files asked.plan.job job → TellsRequests old.shelf.files asked.plan.requests job requests →
       FollowsRows job asked.payments old new answer
 
-reads_all : Excludes → (asked : RunAsked) (old new : World) (answer : Option Fault) (read : JobView) (requested : List Request) (rows : List Row) → IsJobOf old.shelf.files asked.plan.job read →
+pub reads_all : Excludes → (asked : RunAsked) (old new : World) (answer : Option Fault) (read : JobView) (requested : List Request) (rows : List Row) → IsJobOf old.shelf.files asked.plan.job read →
     AreRequestsOf old.shelf.files asked.plan.requests read requested → AreRowsOf old.shelf.files asked.payments read rows → ReadsAll asked old new answer
 reads_all excludes asked old new answer read requested rows of_job of_requests of_rows =
     let same : (job : JobView) → TellsJob old.shelf.files asked.plan.job job → read ≡ job = λ job tells. same_job old.shelf.files asked.plan.job read job of_job tells in

@@ -1,7 +1,7 @@
 -- What calls answer if the outside counts no fault.
-use Rattle.std.proofs.Common.{◌≡◌, ◌⊎◌, ◌≤◌, ◌∙◌, ◌∷◌, [], inl, inr, ℕ, List, Option, None, Some, length, refl, sym, ap, subst, arith}
+use Rattle.std.proofs.Common.{◌≡◌, ◌⊎◌, ◌≤◌, ◌∙◌, ◌∷◌, [], inl, inr, ℕ, Bool, true, false, List, Option, None, Some, length, refl, sym, ap, subst, arith}
 use Rattle.std.specs.Prelude.{⊤}
-use Rattle.command_line.specs.Asked.{Asked, Check, First, Help, Make, MakeAsked, Plan, PlanAsked, Resume, ResumeAsked, Run, RunAsked, Save, Version}
+use Rattle.command_line.specs.Asked.{Asked, Check, First, Help, Live, Make, MakeAsked, Plan, PlanAsked, Resume, ResumeAsked, Run, RunAsked, Save, Version}
 use Rattle.command_line.specs.Help.{help_of, version_line}
 use Rattle.jobs.specs.JobView.{JobView}
 use Rattle.payments.specs.Causes.{Faults}
@@ -27,7 +27,9 @@ use Rattle.top_call.specs.Run.{IsNoRun}
 use Rattle.top_call.specs.Resume.{IsNoResume}
 use Rattle.flow_model.specs.SetupView.{SetupView}
 use Rattle.flow_model.specs.Setup.{setup_view}
+use Rattle.call_steps.specs.Live.{live_fault, live_lines}
 use Rattle.call_steps.specs.Running.{files_of, run_lines}
+use Rattle.live_control.specs.Asking.{AsksIs}
 use Rattle.top_call.specs.Sure.{IsSure, IsSureStatus, SureCallsEndWell}
 use Rattle.call_steps.specs.declared.answer.Answer.{Answer}
 
@@ -201,55 +203,70 @@ usage_own answer usage =
       | inr e ↦ subst (λ (x : Answer). IsOwn x.fault) (sym e) tt
     ]
 
-answers_own : (asked : Asked) (old new : World) (answer : Answer) → Answers asked old new answer → IsSure old → IsSure new → IsOwn answer.fault
-answers_own (First asked) old new answer a sure later =
+-- the fault of an input that failed is no own one
+live_own : (failed : Bool) (written answer : Option Fault) → answer ≡ live_fault failed written → IsOwn written → (failed ≡ true → ⊥) → IsOwn answer
+live_own true (Some why) answer is own sure = subst IsOwn (sym is) own
+live_own true None answer is own sure = absurd (sure refl)
+live_own false (Some why) answer is own sure = subst IsOwn (sym is) own
+live_own false None answer is own sure = subst IsOwn (sym is) tt
+
+answers_own : (asked : Asked) (was now : AsksIs) (old new : World) (answer : Answer) → Answers asked was now old new answer → IsSure old → IsSure new → was.faults ≡ 0 → now.faults ≡ 0 → IsOwn answer.fault
+answers_own (First asked) was now old new answer a sure later first last =
     let before = sure_before answer.fault a.between new a.prints later in
     elim a.ends [
       | inl s ↦ stopped_own _ old a.between answer s (unread_own file.Payments (RefusesRows (asked_job asked)) old.shelf.files asked.payments old a.between s.why (of_rows (asked_job asked)) sure before s.cause)
       | inr r ↦ run_own (files_of asked.alerts None None r.done) (run_lines r.done) old a.between answer.fault sure before r.ends
     ]
-answers_own (Check name) old new answer a sure later =
+answers_own (Check name) was now old new answer a sure later first last =
     let before = sure_before answer.fault a.between new a.prints later in
     elim a.ends [
       | inl s ↦ stopped_own _ old a.between answer s (unread_own file.Job RefusesJob old.shelf.files name old a.between s.why of_job sure before s.cause)
       | inr p ↦ prints_own (sizes_line p.job) old.out a.between.out answer.fault sure.out before.out p.lines.prints
     ]
-answers_own (Plan asked) old new answer a sure later =
+answers_own (Plan asked) was now old new answer a sure later first last =
     let before = sure_before answer.fault a.between new a.prints later in
     elim a.ends [
       | inl s ↦ stopped_own _ old a.between answer s (no_setup_own asked old.shelf.files old a.between s.why sure before s.cause)
       | inr p ↦ prints_own (setup_lines p.setup) old.out a.between.out answer.fault sure.out before.out p.lines.prints
     ]
-answers_own (Run asked) old new answer a sure later =
+answers_own (Run asked) was now old new answer a sure later first last =
     let before = sure_before answer.fault a.between new a.prints later in
     elim a.ends [
       | inl s ↦ stopped_own _ old a.between answer s (no_run_own asked old.shelf.files old a.between s.why sure before s.cause)
       | inr r ↦ run_own (files_of asked.alerts (Some asked.audit) None r.done) (run_lines r.done) old a.between answer.fault sure before r.ends
     ]
-answers_own (Make asked) old new answer a sure later =
+answers_own (Make asked) was now old new answer a sure later first last =
     let before = sure_before answer.fault a.between new a.prints later in
     elim a.ends [
       | inl s ↦ stopped_own _ old a.between answer s (not_made_own asked old.shelf.files old a.between s.why sure before s.cause)
       | inr r ↦ prints_own (run_lines r.done) old.out a.between.out answer.fault sure.out before.out r.lines.prints
     ]
-answers_own (Save asked) old new answer a sure later =
+answers_own (Save asked) was now old new answer a sure later first last =
     let before = sure_before answer.fault a.between new a.prints later in
     elim a.ends [
       | inl s ↦ stopped_own _ old a.between answer s (no_run_own asked.run old.shelf.files old a.between s.why sure before s.cause)
       | inr r ↦ run_own (files_of asked.run.alerts (Some asked.run.audit) (Some asked.save) r.done) (run_lines r.done) old a.between answer.fault sure before r.ends
     ]
-answers_own (Resume asked) old new answer a sure later =
+answers_own (Resume asked) was now old new answer a sure later first last =
     let before = sure_before answer.fault a.between new a.prints later in
     elim a.ends [
       | inl s ↦ stopped_own _ old a.between answer s (no_resume_own asked old.shelf.files old a.between s.why sure before s.cause)
       | inr (start, r) ↦ run_own (files_of asked.run.alerts (Some asked.run.audit) None r.done) (run_lines r.done) old a.between answer.fault sure before r.ends
     ]
-answers_own (Help about) old new answer a sure later = text_own (help_of about) old new answer a sure later
-answers_own Version old new answer a sure later = text_own version_line old new answer a sure later
+answers_own (Live asked) was now old new answer a sure later first last =
+    let before = sure_before answer.fault a.between new a.prints later in
+    elim a.ends [
+      | inl s ↦ stopped_own _ old a.between answer s.stops (no_run_own asked old.shelf.files old a.between s.stops.why sure before s.stops.cause)
+      | inr r ↦ live_own r.live.heard.failed r.written answer.fault r.fault_is
+          (run_own (files_of asked.alerts (Some asked.audit) None r.live.done) (live_lines r.live) old a.between r.written sure before r.ends)
+          (λ e. not_risen was.faults now.faults first last (r.is_so.run.heard.failed e))
+    ]
+answers_own (Help about) was now old new answer a sure later first last = text_own (help_of about) old new answer a sure later
+answers_own Version was now old new answer a sure later first last = text_own version_line old new answer a sure later
 
 pub sure_calls : SureCallsEndWell
-sure_calls old new answer answered sure later =
+sure_calls was now old new answer answered sure later first last =
     own_status answer.fault answer.refused (elim answered [
       | inl usage ↦ usage_own answer usage.usage
-      | inr (asked, answers) ↦ answers_own asked old new answer answers sure later
+      | inr (asked, answers) ↦ answers_own asked was now old new answer answers sure later first last
     ])

@@ -4,6 +4,7 @@ pub mod Plan
 pub mod Run
 pub mod Save
 pub mod Resume
+pub mod Live
 pub mod Make
 pub mod Explain
 pub mod Answers

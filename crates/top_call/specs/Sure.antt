@@ -1,6 +1,7 @@
 -- Which statuses of a call are left if the outside counts no fault.
 use Rattle.std.specs.Prelude.{◌≡◌, ◌⊎◌, ℕ, [], ◌∷◌, Contains}
 use Rattle.command_line.specs.Asked.{Asked}
+use Rattle.live_control.specs.Asking.{AsksIs}
 use Rattle.report.specs.Faults.{status_for}
 use Rattle.top_call.specs.Answers.{Answers, AnswersUsage}
 use Rattle.payments.specs.World.{World}
@@ -17,10 +18,10 @@ abbrev pub IsSureStatus : ℕ → Type 0
 IsSureStatus status = Contains (0 ∷ 1 ∷ 2 ∷ 3 ∷ 4 ∷ 7 ∷ 8 ∷ 9 ∷ 10 ∷ []) status
 
 -- a call answered this, whatever it was asked
-abbrev pub IsAnswered : World → World → Answer → Type 0
-IsAnswered old new answer = AnswersUsage old new answer ⊎ ((asked : Asked) × Answers asked old new answer)
+abbrev pub IsAnswered : AsksIs → AsksIs → World → World → Answer → Type 0
+IsAnswered was now old new answer = AnswersUsage old new answer ⊎ ((asked : Asked) × Answers asked was now old new answer)
 
--- a call ends with such a status if neither the shelf nor the output has counted a fault before or in it
+-- a call ends with such a status if neither the shelf nor the output nor the input has counted a fault before or in it
 abbrev pub SureCallsEndWell : Type 0
-SureCallsEndWell = (old new : World) (answer : Answer) → IsAnswered old new answer → IsSure old → IsSure new →
-    IsSureStatus (status_for answer.fault answer.refused)
+SureCallsEndWell = (was now : AsksIs) (old new : World) (answer : Answer) → IsAnswered was now old new answer → IsSure old → IsSure new →
+    was.faults ≡ 0 → now.faults ≡ 0 → IsSureStatus (status_for answer.fault answer.refused)

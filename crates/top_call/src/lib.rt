@@ -4,7 +4,7 @@
 //! change. [`fries`] is the call that `main` makes; its contract is what the program promises.
 //!
 //! ```text
-//! let outcome = fries(&rt, rt.alloc(), &words, &mut shelf, &mut out, &OpenGate);
+//! let outcome = fries(&rt, rt.alloc(), &words, &mut shelf, &mut out, &mut asks, &OpenGate);
 //! ExitCode::from(outcome.status)
 //! ```
 #![tactic(auto)]
@@ -12,6 +12,7 @@
 mod check;
 mod first;
 mod laws;
+mod live;
 mod make;
 mod plan;
 mod resume;

@@ -1,6 +1,6 @@
 ghost use Rattle.std.specs.Prelude.{◌≡◌, IfNone, IfSome};
 ghost use Rattle.std.specs.Result.{result_err};
-ghost use Rattle.top_call.specs.Answers.{outcome_view, Answers, AnswersUsage, Follows};
+ghost use Rattle.top_call.specs.Answers.{outcome_view, Answers, AnswersUsage, Follows, LeavesAsks};
 ghost use Rattle.command_line.specs.Asked.{IsSize, IsSized, IsThreads, asked_by, asked_of};
 ghost use Rattle.command_line.specs.Asked.{first_asked, make_asked, plan_asked, resume_asked};
 ghost use Rattle.command_line.specs.Asked.{run_asked, save_asked};
@@ -20,6 +20,7 @@ ghost use Rattle.top_call.specs.Save.{AnswersSave, FollowsSave};
 
 use crate::check::check_command;
 use crate::first::first_command;
+use crate::live::answer_live;
 use crate::make::make_command;
 use crate::plan::plan_command;
 use crate::resume::resume_command;
@@ -32,6 +33,7 @@ use command_line::{
 };
 use flow_model::{RunRecord, Start};
 use job_file::{faulty_is_no_job, files_have_one_fault};
+use live_control::Asks;
 use payments::{Shelf, Sink};
 use report::{Fault, FileIs, fault_line};
 use std::alloc::Global;
@@ -43,13 +45,11 @@ use versions::Refusals;
 /// What a call of the program came to.
 #[derive(Drop)]
 pub struct Outcome {
-    /// The status that the program ends with: that of the fault; without one 0, and 8 where a
-    /// request was refused.
+    /// The status of the program: that of the fault; without one 0, and 8 if a request was refused.
     pub status: u8,
     /// What ended the call early, if anything did.
     pub fault: Option<Fault>,
-    /// The requests that judging refused, in the order of their file; none where the call came to
-    /// no judging.
+    /// The requests that judging refused, in the order of their file; none without judging.
     pub refused: Refusals,
     /// What the run did, if one was completed.
     pub ran: Option<RunRecord>,
@@ -61,14 +61,16 @@ pub struct Outcome {
 ///
 /// The words are those after the program's name. Files are reached by the shelf alone, and what is
 /// printed goes to `out`. A fault ends the call: nothing is done after it but to print its line,
-/// and once `out` has refused not even that. The statuses are those of [`Fault::status`]. `run` and
-/// `make` start as many threads as their words ask for, and their workers call the gate.
-pub fn fries<R, S, O, G>(
+/// and once `out` has refused not even that. The statuses are those of [`Fault::status`]. Commands
+/// with threads start as many as their words ask for, and their workers call the gate. Only `live`
+/// reads from `asks`.
+pub fn fries<R, S, O, G, Q>(
     rt: &R,
     alloc: Global,
     words: &[Word],
     shelf: &mut S,
     out: &mut O,
+    asks: &mut Q,
     gate: &G,
 ) -> Outcome
 where
@@ -76,22 +78,28 @@ where
     S: Shelf,
     O: Sink,
     G: Gate + Sync,
+    Q: Asks,
     ensures usage { IfNone (asked_of words.now) (AnswersUsage
         (world (S.state shelf.old) (O.state out.old))
         (world (S.state shelf.new) (O.state out.new))
         (outcome_view result)) }
     ensures answers { IfSome (asked_of words.now) (λ asked. Answers asked
+        (Q.state asks.old) (Q.state asks.new)
         (world (S.state shelf.old) (O.state out.old))
         (world (S.state shelf.new) (O.state out.new))
         (outcome_view result)) }
     ensures file { IfSome (asked_of words.now) (λ asked. Follows asked
+        (Q.state asks.old) (Q.state asks.new)
         (world (S.state shelf.old) (O.state out.old))
         (world (S.state shelf.new) (O.state out.new))
         result.fault) }
+    ensures asks { IfSome (asked_of words.now) (λ asked. LeavesAsks asked (Q.state asks.old)
+        (Q.state asks.new)) }
+    ensures unasked { IfNone (asked_of words.now) (Q.state asks.new ≡ Q.state asks.old) }
     ensures status { result.status ≡ status_for result.fault result.refused }
 {
     let answer = match command_of(alloc, words) {
-        Ok(command) => answer_command(rt, alloc, &command, shelf, out, gate),
+        Ok(command) => answer_command(rt, alloc, &command, shelf, out, asks, gate),
         Err(WordsFault::Usage) => answer_fault(alloc, Fault::Usage, out),
         Err(WordsFault::NoMemory) => answer_fault(alloc, Fault::NoMemory, out),
     };
@@ -111,12 +119,13 @@ where
     }
 }
 
-fn answer_command<R, S, O, G>(
+fn answer_command<R, S, O, G, Q>(
     rt: &R,
     alloc: Global,
     command: &Command,
     shelf: &mut S,
     out: &mut O,
+    asks: &mut Q,
     gate: &G,
 ) -> Answer
 where
@@ -124,15 +133,17 @@ where
     S: Shelf,
     O: Sink,
     G: Gate + Sync,
+    Q: Asks,
     requires { IsSized command.now }
-    ensures answers { Answers (asked_by command.now)
+    ensures answers { Answers (asked_by command.now) (Q.state asks.old) (Q.state asks.new)
         (world (S.state shelf.old) (O.state out.old))
         (world (S.state shelf.new) (O.state out.new))
         result }
-    ensures file { Follows (asked_by command.now)
+    ensures file { Follows (asked_by command.now) (Q.state asks.old) (Q.state asks.new)
         (world (S.state shelf.old) (O.state out.old))
         (world (S.state shelf.new) (O.state out.new))
         result.fault }
+    ensures asks { LeavesAsks (asked_by command.now) (Q.state asks.old) (Q.state asks.new) }
 {
     match command {
         Command::First(first) => answer_first(alloc, first, shelf, out),
@@ -142,6 +153,7 @@ where
         Command::Make(make) => answer_make(rt, alloc, make, shelf, out, gate),
         Command::Save(files) => answer_save(rt, alloc, files, shelf, out, gate),
         Command::Resume(files) => answer_resume(rt, alloc, files, shelf, out, gate),
+        Command::Live(files) => answer_live(rt, alloc, files, shelf, out, asks, gate),
         Command::Help(topic) => answer_text(alloc, help_text(*topic), shelf, out),
         Command::Version => answer_text(alloc, version_text(), shelf, out),
     }
@@ -365,10 +377,9 @@ fn answer_fault<O: Sink>(alloc: Global, fault: Fault, out: &mut O) -> Answer
     Answer::stopped(alloc, fault)
 }
 
-// Prints the line of a fault, unless it is the output that failed. What printing it comes to
-// changes no answer.
+// Prints the line of a fault, unless the output failed. What comes of it changes no answer.
 #[tactic(auto, using(call_steps::proofs::PrintLemmas::reports))]
-fn report<O: Sink>(alloc: Global, fault: Option<Fault>, out: &mut O)
+pub(crate) fn report<O: Sink>(alloc: Global, fault: Option<Fault>, out: &mut O)
     ensures { PrintsReport fault (O.state out.old) (O.state out.new) }
 {
     match fault {
