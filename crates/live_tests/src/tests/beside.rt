@@ -1,0 +1,124 @@
+use crate::tests::{call, live_words, shelf_of};
+use live_control::{Asks, Failed, MemoryAsks};
+use payments::{Calls, MemorySink};
+use sink_journal::Feed;
+use std::alloc::Global;
+use std::sync::Wait;
+use std::sync::atomic::{AtomicBool, Ordering};
+use std::thread;
+use std::thread::Threads;
+use top_call::Outcome;
+use tuple_trace::{Bytes, Gate, NoMemory};
+
+const TWELVE_PAYMENTS: &str = "source,amount
+card,75
+card,75
+card,75
+card,75
+card,75
+card,75
+card,75
+card,75
+card,75
+card,75
+card,75
+card,75
+";
+
+/// How often a gate or an input looks before it gives up.
+const LOOKS: u32 = 1_000_000;
+
+// Waits until the word is set. False if it wasn't set within the limit.
+fn seen_set(word: &AtomicBool) -> bool {
+    for _ in 0..LOOKS {
+        if word.load(Ordering::SeqCst) {
+            return true;
+        }
+        thread::yield_now();
+    }
+    false
+}
+
+/// Holds the fourth tuple of node 1 until request 1 was issued.
+#[derive(Drop)]
+struct Watched {
+    passed: AtomicBool,
+    issued: AtomicBool,
+    missed: AtomicBool,
+}
+
+impl Gate for Watched {
+    fn pass(&self, node: u32, _worker: u32, place: u64) {
+        self.passed.store(true, Ordering::SeqCst);
+        if node == 1 && place == 3 && !seen_set(&self.issued) {
+            self.missed.store(true, Ordering::SeqCst);
+        }
+    }
+
+    fn issued(&self, request: u64) {
+        if request == 1 {
+            self.issued.store(true, Ordering::SeqCst);
+        }
+    }
+}
+
+/// An input that gives its bytes once a tuple has passed the gate.
+#[derive(Drop)]
+struct AfterPass<'a> {
+    asks: MemoryAsks,
+    gate: &'a Watched,
+}
+
+impl<'a> Asks for AfterPass<'a> {
+    ghost use Rattle.live_control.specs.Asking.{memory_state_of};
+
+    ghost state = { λ asks. memory_state_of asks.asks };
+
+    fn next(&mut self) -> Result<Option<u8>, Failed> {
+        if !seen_set(&self.gate.passed) {
+            self.gate.missed.store(true, Ordering::SeqCst);
+        }
+        self.asks.next()
+    }
+}
+
+// Whether request 1 is issued before the last row, and neither the gate nor the input gave up.
+fn is_issued_in_time<R>(rt: &R, alloc: Global) -> Result<bool, NoMemory>
+where
+    R: Threads + Wait + Copy + Send + Sync + 'static,
+{
+    let words = live_words(alloc, "2", "1")?;
+    let mut shelf = shelf_of(alloc, TWELVE_PAYMENTS)?;
+    let mut out = MemorySink::new(alloc, Calls::new(alloc));
+    let gate = Watched {
+        passed: AtomicBool::new(false),
+        issued: AtomicBool::new(false),
+        missed: AtomicBool::new(false),
+    };
+    let bytes = Bytes::from_slice(alloc, b"\n")?;
+    let asks = MemoryAsks::new(bytes, Calls::new(alloc));
+    let mut asks = AfterPass { asks, gate: &gate };
+    let outcome = call(rt, alloc, &words, &mut shelf, &mut out, &mut asks, &gate);
+    Ok(outcome.status == 0 && !gate.missed.load(Ordering::SeqCst) && is_before_last(&outcome))
+}
+
+// Whether request 1 is issued before row 12 is fed.
+fn is_before_last(outcome: &Outcome) -> bool {
+    let Some(ran) = &outcome.ran else {
+        return false;
+    };
+    let mut is_issued = false;
+    for feed in ran.feeds.as_slice() {
+        match feed {
+            Feed::Issued(1) => is_issued = true,
+            Feed::Fed(12) => return is_issued,
+            _ => {}
+        }
+    }
+    false
+}
+
+#[test]
+fn reader_beside_the_engine(rt: HostRuntime) {
+    assert!(rt; matches!(is_issued_in_time(&rt, rt.alloc()), Ok(true)));
+}
