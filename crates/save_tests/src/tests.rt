@@ -1,0 +1,199 @@
+//! Calls over files in memory, and what they leave.
+
+mod cases;
+mod cuts;
+mod faults;
+mod joins;
+mod parts;
+mod plain;
+mod stages;
+mod texts;
+
+use flow_model::RunRecord;
+use live_control::MemoryAsks;
+use payments::{Calls, MemoryShelf, MemorySink};
+use std::alloc::Global;
+use std::str;
+use std::sync::Wait;
+use std::thread::Threads;
+use top_call::{Outcome, fries};
+use tuple_trace::{Bytes, NoMemory, OpenGate, Word};
+
+/// The texts of the files that both commands read.
+#[derive(Clone, Copy)]
+pub struct Input<'a> {
+    pub job: &'a str,
+    pub requests: &'a str,
+    pub payments: &'a str,
+}
+
+/// What a call finds outside.
+#[derive(Clone, Copy)]
+pub struct Around<'a> {
+    pub input: Input<'a>,
+    /// What stands under `alerts`, `audit` and `save` before the call.
+    pub before: [&'a str; 3],
+    /// The number of the call of the shelf that fails, counted from 0.
+    pub failing: Option<u64>,
+}
+
+/// What a call is to leave.
+#[derive(Clone, Copy)]
+pub struct Left<'a> {
+    pub status: u8,
+    /// What is printed.
+    pub out: &'a str,
+    /// What stands under `alerts`, `audit` and `save` after the call. `None` isn't compared.
+    pub after: [Option<&'a str>; 3],
+}
+
+const NAMES: [&str; 3] = ["alerts", "audit", "save"];
+
+/// Whether a call leaves this. The line has its words, with a space between two.
+pub fn leaves<R>(rt: &R, alloc: Global, around: Around<'_>, line: &str, left: Left<'_>) -> bool
+where
+    R: Threads + Wait + Copy + Send + Sync + 'static,
+{
+    let Ok(mut shelf) = shelf_of(alloc, around) else {
+        return false;
+    };
+    ends(rt, alloc, line, &mut shelf, left) && are_left(alloc, &shelf, left.after)
+}
+
+// What a call answers, and what it prints.
+#[derive(Drop)]
+struct Answered {
+    outcome: Outcome,
+    out: MemorySink,
+}
+
+fn called<R>(
+    rt: &R,
+    alloc: Global,
+    line: &str,
+    shelf: &mut MemoryShelf,
+) -> Result<Answered, NoMemory>
+where
+    R: Threads + Wait + Copy + Send + Sync + 'static,
+{
+    let words = words_of(alloc, line)?;
+    Ok(call(rt, alloc, &words, shelf))
+}
+
+// The top call. It stands in a function without clauses, since a caller of its contract is dear to
+// prove.
+fn call<R>(rt: &R, alloc: Global, words: &[Word], shelf: &mut MemoryShelf) -> Answered
+where
+    R: Threads + Wait + Copy + Send + Sync + 'static,
+{
+    let mut out = MemorySink::new(alloc, Calls::new(alloc));
+    let mut asks = MemoryAsks::new(Bytes::new(alloc), Calls::new(alloc));
+    let outcome = fries(rt, alloc, words, shelf, &mut out, &mut asks, &OpenGate);
+    Answered { outcome, out }
+}
+
+// Whether a call has this status, and prints this.
+fn ends<R>(rt: &R, alloc: Global, line: &str, shelf: &mut MemoryShelf, left: Left<'_>) -> bool
+where
+    R: Threads + Wait + Copy + Send + Sync + 'static,
+{
+    match called(rt, alloc, line, shelf) {
+        Ok(it) => it.outcome.status == left.status && it.out.written() == left.out.as_bytes(),
+        Err(_) => false,
+    }
+}
+
+/// Whether a call ends well, with requests refused or not.
+pub fn is_done<R>(rt: &R, alloc: Global, line: &str, shelf: &mut MemoryShelf) -> bool
+where
+    R: Threads + Wait + Copy + Send + Sync + 'static,
+{
+    match called(rt, alloc, line, shelf) {
+        Ok(it) => it.outcome.status == 0 || it.outcome.status == 8,
+        Err(_) => false,
+    }
+}
+
+/// The record of a call, if it leaves one.
+pub fn record_of<R>(rt: &R, alloc: Global, line: &str, shelf: &mut MemoryShelf) -> Option<RunRecord>
+where
+    R: Threads + Wait + Copy + Send + Sync + 'static,
+{
+    match called(rt, alloc, line, shelf) {
+        Ok(it) => ran_of(it.outcome),
+        Err(_) => None,
+    }
+}
+
+fn ran_of(outcome: Outcome) -> Option<RunRecord> {
+    let Outcome { ran, .. } = outcome;
+    ran
+}
+
+fn are_left(alloc: Global, shelf: &MemoryShelf, after: [Option<&str>; 3]) -> bool {
+    let mut well = true;
+    for (name, wanted) in NAMES.iter().zip(after.iter()) {
+        well &= wanted.is_none() || stored(alloc, shelf, name) == *wanted;
+    }
+    well
+}
+
+/// The text that stands under this name.
+pub fn stored<'a>(alloc: Global, shelf: &'a MemoryShelf, name: &str) -> Option<&'a str> {
+    let Ok(name) = word(alloc, name) else {
+        return None;
+    };
+    match shelf.get(&name) {
+        Some(bytes) => str::from_utf8(bytes.as_slice()).ok(),
+        None => None,
+    }
+}
+
+fn words_of(alloc: Global, line: &str) -> Result<Vec<Word>, NoMemory> {
+    let mut words = Vec::new(alloc);
+    for text in line.split(' ') {
+        push_word(alloc, text, &mut words)?;
+    }
+    Ok(words)
+}
+
+fn push_word(alloc: Global, text: &str, words: &mut Vec<Word>) -> Result<(), NoMemory> {
+    let word = word(alloc, text)?;
+    Ok(words.push(word)?)
+}
+
+fn word(alloc: Global, text: &str) -> Result<Word, NoMemory> {
+    Ok(Word::from_string(text.to_string(alloc)?))
+}
+
+/// Files in memory. An append takes the whole text.
+pub fn shelf_of(alloc: Global, around: Around<'_>) -> Result<MemoryShelf, NoMemory> {
+    let files = [
+        ("job", around.input.job),
+        ("requests", around.input.requests),
+        ("payments", around.input.payments),
+        ("alerts", around.before[0]),
+        ("audit", around.before[1]),
+        ("save", around.before[2]),
+    ];
+    let mut shelf = MemoryShelf::new(alloc, 1_000_000, calls_of(alloc, around.failing)?);
+    for (name, text) in files {
+        put(alloc, name, text, &mut shelf)?;
+    }
+    Ok(shelf)
+}
+
+fn calls_of(alloc: Global, number: Option<u64>) -> Result<Calls, NoMemory> {
+    match number {
+        Some(number) => Calls::from_slice(alloc, &[number]),
+        None => Ok(Calls::new(alloc)),
+    }
+}
+
+fn put(alloc: Global, name: &str, text: &str, shelf: &mut MemoryShelf) -> Result<(), NoMemory> {
+    let bytes = Bytes::from_slice(alloc, text.as_bytes())?;
+    match shelf.put(word(alloc, name)?, bytes) {
+        Ok(()) => Ok(()),
+        Err(_) => Err(NoMemory),
+    }
+}

@@ -1,0 +1,159 @@
+//! The records of both parts, joined to one.
+
+use crate::tests::plain::{Texts, job_of, setup_of, texts_of};
+use crate::tests::texts::{PAYMENTS_ALERTS, TEN};
+use crate::tests::{Around, record_of, shelf_of};
+use flow_model::{RunRecord, Setup};
+use payments::MemoryShelf;
+use std::alloc::Global;
+use std::str;
+use std::sync::Wait;
+use std::thread::Threads;
+use tuple_trace::NoMemory;
+
+/// Both commands, on one thread and on four.
+const BOTH: [[&str; 2]; 2] = [
+    [
+        "save job requests payments alerts audit save 8",
+        "resume job requests payments save alerts audit",
+    ],
+    [
+        "save job requests payments alerts audit save 8 --threads 4",
+        "resume job requests payments save alerts audit --threads 4",
+    ],
+];
+
+/// How many records the audit of ten payments has, with its header and without the refused request.
+const RECORDS: usize = 70;
+
+/// What no schedule changes of that audit: the feed, and the workers with one lane in that no
+/// request covers.
+const STEADY: &str = "entry,node,worker,lane,number,extra
+fed,,,,1,
+fed,,,,2,
+fed,,,,3,
+fed,,,,4,
+issued,,,,1,
+fed,,,,5,
+fed,,,,6,
+fed,,,,7,
+fed,,,,8,
+issued,,,,2,
+fed,,,,9,
+fed,,,,10,
+stopped,,,,,
+met,tally,0,4,4,
+ended,tally,0,4,,
+state,tally,0,,1,dee
+met,tally,1,5,1,
+met,tally,1,5,8,
+met,tally,1,5,9,
+met,tally,1,5,10,
+ended,tally,1,5,,
+state,tally,1,,2,ann
+state,tally,1,,2,gus
+met,review,0,6,2,
+met,review,0,6,6,
+ended,review,0,6,,
+met,watch,0,9,9,
+met,watch,0,9,10,
+ended,watch,0,9,,
+";
+
+fn shelf(alloc: Global) -> Result<MemoryShelf, NoMemory> {
+    shelf_of(
+        alloc,
+        Around {
+            input: TEN,
+            before: ["", "", ""],
+            failing: None,
+        },
+    )
+}
+
+/// The records of both commands, of which the second reads what the first saved.
+fn records_of<R>(rt: &R, alloc: Global, lines: [&str; 2]) -> Option<(RunRecord, RunRecord)>
+where
+    R: Threads + Wait + Copy + Send + Sync + 'static,
+{
+    let mut shelf = shelf(alloc).ok()?;
+    let first = record_of(rt, alloc, lines[0], &mut shelf)?;
+    let second = record_of(rt, alloc, lines[1], &mut shelf)?;
+    Some((first, second))
+}
+
+fn ten_setup(alloc: Global) -> Result<Setup, NoMemory> {
+    let job = job_of(alloc, TEN.job)?;
+    setup_of(alloc, job, TEN.requests)
+}
+
+fn joined_in(
+    alloc: Global,
+    setup: Setup,
+    first: RunRecord,
+    second: RunRecord,
+) -> Result<RunRecord, NoMemory> {
+    savepoint::join(alloc, setup, first, second)
+}
+
+fn joined(alloc: Global, first: RunRecord, second: RunRecord) -> Result<RunRecord, NoMemory> {
+    match ten_setup(alloc) {
+        Ok(setup) => joined_in(alloc, setup, first, second),
+        Err(_) => Err(NoMemory),
+    }
+}
+
+// Whether a record is of no node whose records depend on the schedule.
+fn is_steady(record: &str) -> bool {
+    let node = record.split(',').nth(1).unwrap_or("");
+    node != "rate" && node != "big" && node != "hot" && node != "often"
+}
+
+fn is_audit(audit: &str) -> bool {
+    let mut wanted = STEADY.lines();
+    let mut well = audit.lines().count() == RECORDS;
+    for line in audit.lines() {
+        if is_steady(line) {
+            well &= wanted.next().unwrap_or("") == line;
+        }
+    }
+    well && wanted.next().is_none()
+}
+
+fn are_whole(texts: &Texts) -> bool {
+    match str::from_utf8(texts.audit.as_slice()) {
+        Ok(audit) => is_audit(audit) && texts.alerts.as_slice() == PAYMENTS_ALERTS.as_bytes(),
+        Err(_) => false,
+    }
+}
+
+fn is_whole(alloc: Global, ran: &RunRecord) -> bool {
+    match texts_of(alloc, ran) {
+        Ok(texts) => are_whole(&texts),
+        Err(_) => false,
+    }
+}
+
+fn are_joined(alloc: Global, first: RunRecord, second: RunRecord) -> bool {
+    match joined(alloc, first, second) {
+        Ok(ran) => is_whole(alloc, &ran),
+        Err(_) => false,
+    }
+}
+
+fn is_joined<R>(rt: &R, alloc: Global, lines: [&str; 2]) -> bool
+where
+    R: Threads + Wait + Copy + Send + Sync + 'static,
+{
+    match records_of(rt, alloc, lines) {
+        Some((first, second)) => are_joined(alloc, first, second),
+        None => false,
+    }
+}
+
+#[test]
+fn join(rt: HostRuntime) {
+    for lines in BOTH {
+        assert!(rt; is_joined(&rt, rt.alloc(), lines));
+    }
+}

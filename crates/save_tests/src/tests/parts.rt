@@ -1,0 +1,119 @@
+//! The ten payments in two parts, cut after row 8.
+
+use crate::tests::texts::TEN;
+use crate::tests::{Around, Left, leaves};
+
+/// What stands in files that a call doesn't change.
+const OLD: &str = "old\n";
+
+const SAVED: &str = "\
+fries,save,8,2
+tally,0,dee,1
+tally,1,ann,1
+tally,1,gus,1
+";
+
+/// The review alerts of rows 2 and 6.
+const FIRST_ALERTS: &str = "\
+sink,row,account,merchant,amount,risk,seen
+review,2,bob,casino,250.00,3,
+review,6,fay,casino,75.00,3,
+";
+
+/// The watch alerts of rows 9 and 10: both accounts are seen for the second time.
+const LATER_ALERTS: &str = r#"sink,row,account,merchant,amount,risk,seen
+watch,9,ann,"A, ""B"" Ltd",,,2
+watch,10,gus,grocer,,,2
+"#;
+
+/// The same command on one thread and on four.
+const SAVE: [&str; 2] = [
+    "save job requests payments alerts audit save 8",
+    "save job requests payments alerts audit save 8 --threads 4",
+];
+
+const RESUME: [&str; 2] = [
+    "resume job requests payments save alerts audit",
+    "resume job requests payments save alerts audit --threads 4",
+];
+
+fn before(save: &str) -> Around<'_> {
+    Around {
+        input: TEN,
+        before: [OLD, OLD, save],
+        failing: None,
+    }
+}
+
+#[test]
+fn save(rt: HostRuntime) {
+    let left = Left {
+        status: 8,
+        out: "refused 3 Q4 change 1 current 1\nrows 8 alerts 2 requests 3 refused 1\n",
+        after: [Some(FIRST_ALERTS), None, Some(SAVED)],
+    };
+    for line in SAVE {
+        assert!(rt; leaves(&rt, rt.alloc(), before(OLD), line, left), "{line}");
+    }
+}
+
+#[test]
+fn resume(rt: HostRuntime) {
+    let left = Left {
+        status: 8,
+        out: "refused 3 Q4 change 1 current 1\nrows 2 alerts 2 requests 3 refused 1\n",
+        after: [Some(LATER_ALERTS), None, Some(SAVED)],
+    };
+    for line in RESUME {
+        assert!(rt;
+            leaves(&rt, rt.alloc(), before(SAVED), line, left),
+            "{line}"
+        );
+    }
+}
+
+/// Savepoints that are refused, and the line. Where two codes hold, it is the first.
+const REFUSED: [(&str, &str); 10] = [
+    ("", "fault 10 S1 record 0\n"),
+    ("fries,save,8\n", "fault 10 S1 record 0\n"),
+    ("fries,save,11,1\ntally,0,dee\n", "fault 10 S1 record 1\n"),
+    (
+        "fries,save,8,1\ntally,0,dee,1\ntally,1,ann,1\ntally,1,gus,one\n",
+        "fault 10 S1 record 3\n",
+    ),
+    (
+        "fries,save,11,2\ntally,0,dee,1\ntally,1,ann,1\ntally,1,gus,1\n",
+        "fault 10 S2 rows 11\n",
+    ),
+    ("fries,save,11,1\n", "fault 10 S2 rows 11\n"),
+    (
+        "fries,save,8,1\ntally,0,dee,1\ntally,1,ann,1\ntally,1,gus,1\n",
+        "fault 10 S3 requests 2\n",
+    ),
+    (
+        "fries,save,8,3\ntally,9,dee,1\n",
+        "fault 10 S3 requests 2\n",
+    ),
+    (
+        "fries,save,8,2\ntally,0,dee,1\ntally,1,gus,1\ntally,1,ann,1\n",
+        "fault 10 S4 record 3\n",
+    ),
+    ("fries,save,8,2\ntally,2,dee,1\n", "fault 10 S4 record 1\n"),
+];
+
+#[test]
+fn refused_savepoints(rt: HostRuntime) {
+    for (save, out) in REFUSED {
+        for line in RESUME {
+            let left = Left {
+                status: 10,
+                out,
+                after: [Some(OLD), Some(OLD), Some(save)],
+            };
+            assert!(rt;
+                leaves(&rt, rt.alloc(), before(save), line, left),
+                "{line} {save}"
+            );
+        }
+    }
+}
