@@ -34,6 +34,7 @@ word_of topic.Make = codes "make"
 word_of topic.Save = codes "save"
 word_of topic.Resume = codes "resume"
 word_of topic.Live = codes "live"
+word_of topic.Verify = codes "verify"
 
 -- the rules of a command, as it is built
 abbrev pub rules_of : Topic → List Rule
@@ -71,6 +72,7 @@ enters topic.Make ws other = ap (entered (built program_app)) (stops_at (codes "
 enters topic.Save ws other = ap (entered (built program_app)) (stops_at (codes "save") ws refl)
 enters topic.Resume ws other = ap (entered (built program_app)) (stops_at (codes "resume") ws refl)
 enters topic.Live ws other = ap (entered (built program_app)) (stops_at (codes "live") ws refl)
+enters topic.Verify ws other = ap (entered (built program_app)) (stops_at (codes "verify") ws refl)
 
 -- ---- the rules read the forms
 
@@ -369,6 +371,26 @@ live_capacity = record {
   use_of = λ value rs. refl;
 }
 
+verify_job : IsName (rules_of topic.Verify) 1 (codes "job")
+unfolding clap_on_literals
+verify_job = record { rule = rule_at (rules_of topic.Verify) 1; at = refl; one = refl; single = refl; last = refl; next = refl; by_id = refl; use_of = λ value rs. refl }
+
+verify_requests : IsName (rules_of topic.Verify) 2 (codes "requests")
+unfolding clap_on_literals
+verify_requests = record { rule = rule_at (rules_of topic.Verify) 2; at = refl; one = refl; single = refl; last = refl; next = refl; by_id = refl; use_of = λ value rs. refl }
+
+verify_payments : IsName (rules_of topic.Verify) 3 (codes "payments")
+unfolding clap_on_literals
+verify_payments = record { rule = rule_at (rules_of topic.Verify) 3; at = refl; one = refl; single = refl; last = refl; next = refl; by_id = refl; use_of = λ value rs. refl }
+
+verify_audit : IsName (rules_of topic.Verify) 4 (codes "audit")
+unfolding clap_on_literals
+verify_audit = record { rule = rule_at (rules_of topic.Verify) 4; at = refl; one = refl; single = refl; last = refl; next = refl; by_id = refl; use_of = λ value rs. refl }
+
+verify_ordered : IsFlag (rules_of topic.Verify) ordered_flag
+unfolding clap_on_literals
+verify_ordered = record { rule = rule_called (rules_of topic.Verify) (codes "ordered"); dashes = refl; long = refl; by_long = refl; takes = refl; use_of = λ rs. refl }
+
 -- the rules of each command read its form
 pub reads : (about : Topic) → about ≢ topic.Program → Reads (rules_of about) (form_of about)
 reads topic.Program other = absurd (other refl)
@@ -380,6 +402,7 @@ reads topic.Make other = record { names = (make_job, (make_seed, (make_rows, tt)
 reads topic.Save other = record { names = (save_job, (save_requests, (save_payments, (save_alerts, (save_audit, (save_save, (save_rows, tt))))))); options = (save_threads, (save_capacity, tt)); flags = tt }
 reads topic.Resume other = record { names = (resume_job, (resume_requests, (resume_payments, (resume_save, (resume_alerts, (resume_audit, tt)))))); options = (resume_threads, (resume_capacity, tt)); flags = tt }
 reads topic.Live other = record { names = (live_job, (live_requests, (live_payments, (live_alerts, (live_audit, tt))))); options = (live_threads, (live_capacity, tt)); flags = tt }
+reads topic.Verify other = record { names = (verify_job, (verify_requests, (verify_payments, (verify_audit, tt)))); options = tt; flags = (verify_ordered, tt) }
 
 -- ---- the values
 
@@ -395,6 +418,7 @@ asked_same topic.Make v w same flag = rw (same (codes "job") refl, same (codes "
 asked_same topic.Save v w same flag = rw (same (codes "job") refl, same (codes "requests") refl, same (codes "payments") refl, same (codes "alerts") refl, same (codes "audit") refl, same (codes "save") refl, same (codes "rows") refl, same (codes "threads") refl, same (codes "capacity") refl) refl
 asked_same topic.Resume v w same flag = rw (same (codes "job") refl, same (codes "requests") refl, same (codes "payments") refl, same (codes "save") refl, same (codes "alerts") refl, same (codes "audit") refl, same (codes "threads") refl, same (codes "capacity") refl) refl
 asked_same topic.Live v w same flag = rw (same (codes "job") refl, same (codes "requests") refl, same (codes "payments") refl, same (codes "alerts") refl, same (codes "audit") refl, same (codes "threads") refl, same (codes "capacity") refl) refl
+asked_same topic.Verify v w same flag = rw (same (codes "job") refl, same (codes "requests") refl, flag, same (codes "payments") refl, same (codes "audit") refl) refl
 
 no_flag_is_on : (about : Topic) → list_all (λ (a : Rule). is_off a.defaults) (rules_of about) ≡ true
 no_flag_is_on topic.Program = refl
@@ -406,6 +430,7 @@ no_flag_is_on topic.Make = refl
 no_flag_is_on topic.Save = refl
 no_flag_is_on topic.Resume = refl
 no_flag_is_on topic.Live = refl
+no_flag_is_on topic.Verify = refl
 
 found_topic : (b : Bool) (about other : Topic) (rest : Option Topic) → (if b then Some other else rest) ≡ Some about → ((b ≡ true) × (other ≡ about)) ⊎ (rest ≡ Some about)
 found_topic true about other rest is = inl (refl, cc is)
@@ -436,7 +461,10 @@ word_is word about is =
                   | inl p ↦ named word about topic.Resume (λ e. absurd (cc e)) p.0 p.1
                   | inr is ↦ elim (found_topic (bytes_eq word (codes "live")) about topic.Live _ is) [
                     | inl p ↦ named word about topic.Live (λ e. absurd (cc e)) p.0 p.1
-                    | inr is ↦ absurd (cc is)
+                    | inr is ↦ elim (found_topic (bytes_eq word (codes "verify")) about topic.Verify _ is) [
+                      | inl p ↦ named word about topic.Verify (λ e. absurd (cc e)) p.0 p.1
+                      | inr is ↦ absurd (cc is)
+                    ]
                   ]
                 ]
               ]

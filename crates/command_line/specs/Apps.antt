@@ -56,12 +56,17 @@ live_app = with_rule (with_rule (with_rule (with_rule (with_rule (with_rule (wit
     (name_rule (codes "job"))) (name_rule (codes "requests"))) (name_rule (codes "payments"))) (name_rule (codes "alerts"))) (name_rule (codes "audit")))
     (option_rule (codes "threads"))) (option_rule (codes "capacity"))
 
+abbrev pub verify_app : App
+verify_app = with_rule (with_rule (with_rule (with_rule (with_rule (new_app (codes "verify"))
+    (name_rule (codes "job"))) (name_rule (codes "requests"))) (name_rule (codes "payments")))
+    (name_rule (codes "audit"))) (flag_rule (codes "ordered"))
+
 -- the program gets the words after its own name
 abbrev pub without_its_name : App → App
 without_its_name app = record app { top = record app.top { no_binary_name = true } }
 
 -- the program with its commands
 abbrev pub program_app : App
-program_app = with_subcommand (with_subcommand (with_subcommand (with_subcommand (with_subcommand (with_subcommand (with_subcommand (with_subcommand
+program_app = with_subcommand (with_subcommand (with_subcommand (with_subcommand (with_subcommand (with_subcommand (with_subcommand (with_subcommand (with_subcommand
     (without_its_name (new_app (codes "fries")))
-    first_app.top) check_app.top) plan_app.top) run_app.top) make_app.top) save_app.top) resume_app.top) live_app.top
+    first_app.top) check_app.top) plan_app.top) run_app.top) make_app.top) save_app.top) resume_app.top) live_app.top) verify_app.top

@@ -12,6 +12,7 @@ use Rattle.command_line.specs.declared.command.PlanFiles.{PlanFiles}
 use Rattle.command_line.specs.declared.command.ResumeFiles.{ResumeFiles}
 use Rattle.command_line.specs.declared.command.RunFiles.{RunFiles}
 use Rattle.command_line.specs.declared.command.SaveFiles.{SaveFiles}
+use Rattle.command_line.specs.declared.command.VerifyFiles.{VerifyFiles}
 use Rattle.command_line.specs.declared.topic.Topic.{Topic}
 use Rattle.command_line.specs.declared.topic.Topic.TheVariants as topic
 
@@ -64,6 +65,12 @@ pub record ResumeAsked : Type 0 where
   pub run : RunAsked
   pub save : Text
 
+-- what `verify` is asked to do: the files of a run, and the audit that it is to look at
+pub record VerifyAsked : Type 0 where
+  pub plan : PlanAsked
+  pub payments : Text
+  pub audit : Text
+
 -- an engine has 1 to 16 threads
 abbrev pub IsThreads : ℕ → Type 0
 IsThreads threads = (1 ≤ threads) × (threads ≤ 16)
@@ -80,6 +87,7 @@ pub data Asked : Type 0 where
   Resume : ResumeAsked → Asked
   -- a run whose requests are released while rows flow
   Live : RunAsked → Asked
+  Verify : VerifyAsked → Asked
   -- to explain the program or a command
   Help : Topic → Asked
   -- to say which version this is
@@ -152,6 +160,13 @@ live_form = record {
   flags = [];
 }
 
+abbrev pub verify_form : Form
+verify_form = record {
+  names = codes "job" ∷ codes "requests" ∷ codes "payments" ∷ codes "audit" ∷ [];
+  options = [];
+  flags = ordered_flag ∷ [];
+}
+
 -- the full form of the words after a command
 abbrev pub form_of : Topic → Form
 form_of topic.Program = record { names = []; options = []; flags = [] }
@@ -163,6 +178,7 @@ form_of topic.Make = make_form
 form_of topic.Save = save_form
 form_of topic.Resume = resume_form
 form_of topic.Live = live_form
+form_of topic.Verify = verify_form
 
 -- ---- values
 
@@ -255,6 +271,14 @@ run_with plan values =
 abbrev pub run_of : Values → Option RunAsked
 run_of values = run_with (plan_of values) values
 
+-- the files of a run, and its audit
+abbrev pub verify_of : Values → VerifyAsked
+verify_of values = record {
+  plan = plan_of values;
+  payments = name_in values (codes "payments");
+  audit = name_in values (codes "audit");
+}
+
 -- a run that isn't in ordered mode
 abbrev pub live_of : Values → Option RunAsked
 live_of values = run_with (unordered_of values) values
@@ -317,6 +341,7 @@ topic_of word =
     else if bytes_eq word (codes "save") then Some topic.Save
     else if bytes_eq word (codes "resume") then Some topic.Resume
     else if bytes_eq word (codes "live") then Some topic.Live
+    else if bytes_eq word (codes "verify") then Some topic.Verify
     else None
 
 -- what the values of a command ask for
@@ -330,6 +355,7 @@ asked_with topic.Make values = option_map Make (make_of values)
 asked_with topic.Save values = option_map Save (save_of values)
 asked_with topic.Resume values = option_map Resume (resume_of values)
 asked_with topic.Live values = option_map Live (live_of values)
+asked_with topic.Verify values = Some (Verify (verify_of values))
 
 -- what the words after a command ask for, if they have its full form
 abbrev pub asked_after : Topic → List Text → Option Asked
@@ -397,6 +423,14 @@ resume_asked files = record { run = run_asked files.run; save = files.save }
 abbrev pub save_asked : SaveFiles → SaveAsked
 save_asked files = record { run = run_asked files.run; save = files.save; rows = files.rows }
 
+-- what the files of `verify` ask for
+abbrev pub verify_asked : VerifyFiles → VerifyAsked
+verify_asked files = record {
+  plan = plan_asked files.plan;
+  payments = files.payments;
+  audit = files.audit;
+}
+
 -- what a `Command` asks for
 abbrev pub asked_by : Command → Asked
 asked_by (command.First first) = First (first_asked first)
@@ -407,6 +441,7 @@ asked_by (command.Make make) = Make (make_asked make)
 asked_by (command.Save files) = Save (save_asked files)
 asked_by (command.Resume files) = Resume (resume_asked files)
 asked_by (command.Live files) = Live (run_asked files)
+asked_by (command.Verify files) = Verify (verify_asked files)
 asked_by (command.Help about) = Help about
 asked_by command.Version = Version
 

@@ -3,7 +3,7 @@ ghost use Rattle.std.specs.Prelude.{◌≡◌, IfOk, false};
 ghost use Rattle.clap.specs.Words.{rule_of};
 ghost use Rattle.command_line.specs.Apps.{IsApp, check_app, first_app, flag_rule, live_app};
 ghost use Rattle.command_line.specs.Apps.{make_app, name_rule, option_rule, plan_app, program_app};
-ghost use Rattle.command_line.specs.Apps.{resume_app, run_app, save_app};
+ghost use Rattle.command_line.specs.Apps.{resume_app, run_app, save_app, verify_app};
 
 use clap::{Arg, ArgAction, Command};
 use std::alloc::{AllocError, Global};
@@ -21,7 +21,8 @@ pub(crate) fn program<'w>(alloc: Global) -> Result<Command<'w>, AllocError>
         .subcommand(make(alloc)?)?
         .subcommand(save(alloc)?)?
         .subcommand(resume(alloc)?)?
-        .subcommand(live(alloc)?)
+        .subcommand(live(alloc)?)?
+        .subcommand(verify(alloc)?)
 }
 
 fn first<'w>(alloc: Global) -> Result<Command<'w>, AllocError>
@@ -114,6 +115,17 @@ fn live<'w>(alloc: Global) -> Result<Command<'w>, AllocError>
         .arg(name(alloc, "audit"))?
         .arg(option(alloc, "threads"))?
         .arg(option(alloc, "capacity"))
+}
+
+fn verify<'w>(alloc: Global) -> Result<Command<'w>, AllocError>
+    ensures { IfOk result (λ made. IsApp made verify_app) }
+{
+    Command::new(alloc, "verify")
+        .arg(name(alloc, "job"))?
+        .arg(name(alloc, "requests"))?
+        .arg(name(alloc, "payments"))?
+        .arg(name(alloc, "audit"))?
+        .arg(flag(alloc, "ordered"))
 }
 
 fn name<'w>(alloc: Global, id: &'w str) -> Arg<'w>

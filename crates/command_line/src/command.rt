@@ -28,6 +28,7 @@ pub enum Command {
     Resume(ResumeFiles),
     /// To run, with requests that are released while rows flow. It isn't in ordered mode.
     Live(RunFiles),
+    Verify(VerifyFiles),
     /// To explain the program or one of its commands.
     Help(Topic),
     /// To say which version of the program this is.
@@ -111,6 +112,17 @@ pub struct ResumeFiles {
     /// The file that the savepoint is read from. Its name is another word than those of the alerts
     /// and the audit.
     pub save: Word,
+}
+
+/// The files of the command `verify`.
+#[derive(Debug, Drop)]
+pub struct VerifyFiles {
+    /// The files of the plan that the run went by.
+    pub plan: PlanFiles,
+    /// The file that the payments are read from.
+    pub payments: Word,
+    /// The file that the audit is read from.
+    pub audit: Word,
 }
 
 /// Why words are no command.
@@ -207,6 +219,8 @@ fn topic_of(word: &str) -> Option<Topic>
         Some(Topic::Resume)
     } else if word == "live" {
         Some(Topic::Live)
+    } else if word == "verify" {
+        Some(Topic::Verify)
     } else {
         None
     }

@@ -98,5 +98,10 @@ pub(crate) fn form_of(topic: Topic) -> Form
             options: &[THREADS, CAPACITY],
             flags: &[],
         },
+        Topic::Verify => Form {
+            names: &["job", "requests", "payments", "audit"],
+            options: &[],
+            flags: &[ORDERED],
+        },
     }
 }

@@ -17,6 +17,7 @@ pub fn help_text(topic: Topic) -> &'static str
         Topic::Save => SAVE,
         Topic::Resume => RESUME,
         Topic::Live => LIVE,
+        Topic::Verify => VERIFY,
     }
 }
 
@@ -40,6 +41,7 @@ usage: fries COMMAND NAMES [OPTIONS]
   live JOB REQUESTS PAYMENTS ALERTS AUDIT         the same, with requests released by lines
   save JOB REQUESTS PAYMENTS ALERTS AUDIT SAVE N  runs the first payments, saves the counts
   resume JOB REQUESTS PAYMENTS SAVE ALERTS AUDIT  runs the later payments from there
+  verify JOB REQUESTS PAYMENTS AUDIT              looks whether an audit is that of a run
   make JOB SEED ROWS                              runs rows that are made up
   first PAYMENTS ALERTS MIN AFTER MIN2            runs the smallest job
 
@@ -167,4 +169,18 @@ the input has ended or has released all requests.
   --capacity C  items on a lane, 1 to 64; without it, 16
 
 example: fries live job.toml requests.toml pay.csv alerts.csv audit.csv
+";
+
+const VERIFY: &str = "\
+usage: fries verify JOB REQUESTS PAYMENTS AUDIT [--ordered]
+
+Looks whether an audit is that of a run, and rebuilds the run: then no row met half of a change.
+
+  JOB        file to read: a job as TOML
+  REQUESTS   file to read: requests as TOML
+  PAYMENTS   file to read: payments as CSV
+  AUDIT      file to read: the audit that `run` wrote, as CSV
+  --ordered  the run gave rows and requests one order
+
+example: fries verify job.toml requests.toml pay.csv audit.csv
 ";

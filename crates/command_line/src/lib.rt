@@ -18,8 +18,8 @@ mod topic;
 mod values;
 
 pub use command::{
-    Command, EngineSize, First, Make, PlanFiles, ResumeFiles, RunFiles, SaveFiles, WordsFault,
-    command_of,
+    Command, EngineSize, First, Make, PlanFiles, ResumeFiles, RunFiles, SaveFiles, VerifyFiles,
+    WordsFault, command_of,
 };
 pub use help::{help_text, version_text};
 pub use topic::Topic;

@@ -11,4 +11,5 @@ pub enum Topic {
     Save,
     Resume,
     Live,
+    Verify,
 }

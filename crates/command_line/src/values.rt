@@ -14,11 +14,12 @@ ghost use Rattle.command_line.specs.Asked.{resume_of as resume_of_values, run_as
 ghost use Rattle.command_line.specs.Asked.{run_of as run_of_values, run_with as run_with_values};
 ghost use Rattle.command_line.specs.Asked.{save_asked, save_of as save_of_values};
 ghost use Rattle.command_line.specs.Asked.{size_in as size_of, unordered_of as unordered_of_values};
+ghost use Rattle.command_line.specs.Asked.{verify_asked, verify_of as verify_of_values};
 ghost use Rattle.command_line.specs.Asked.{writes as writes_to};
 
 use crate::{
     Command, EngineSize, First, Make, PlanFiles, ResumeFiles, RunFiles, SaveFiles, Topic,
-    WordsFault,
+    VerifyFiles, WordsFault,
 };
 use clap::ArgMatches;
 use std::alloc::Global;
@@ -49,6 +50,7 @@ pub(crate) fn command_with(
         Topic::Save => Ok(Command::Save(save_of(alloc, values)?)),
         Topic::Resume => Ok(Command::Resume(resume_of(alloc, values)?)),
         Topic::Live => Ok(Command::Live(live_of(alloc, values)?)),
+        Topic::Verify => Ok(Command::Verify(verify_of(alloc, values)?)),
     }
 }
 
@@ -155,6 +157,17 @@ fn live_of(alloc: Global, values: &ArgMatches<'_>) -> Result<RunFiles, WordsFaul
         live_of_values (first_value (found_of values.now)) ≡ None) }
 {
     run_with(alloc, unordered_of(alloc, values)?, values)
+}
+
+fn verify_of(alloc: Global, values: &ArgMatches<'_>) -> Result<VerifyFiles, NoMemory>
+    ensures { IfOk result (λ files. verify_asked files
+        ≡ verify_of_values (first_value (found_of values.now))) }
+{
+    Ok(VerifyFiles {
+        plan: plan_of(alloc, values)?,
+        payments: name_in(alloc, values, "payments")?,
+        audit: name_in(alloc, values, "audit")?,
+    })
 }
 
 fn resume_of(alloc: Global, values: &ArgMatches<'_>) -> Result<ResumeFiles, WordsFault>

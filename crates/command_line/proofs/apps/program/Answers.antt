@@ -17,4 +17,5 @@ returns c =
     let with_make = sub_added _ _ _ _ _ with_run c.in_ok-make.ensures c.in_ok-subcommand-5.ensures in
     let with_save = sub_added _ _ _ _ _ with_make c.in_ok-save.ensures c.in_ok-subcommand-6.ensures in
     let with_resume = sub_added _ _ _ _ _ with_save c.in_ok-resume.ensures c.in_ok-subcommand-7.ensures in
-    IfOk-weaker c.subcommand-8.result _ _ (λ made adds. sub_added _ _ made _ _ with_resume c.in_ok-live.ensures adds) c.subcommand-8.ensures
+    let with_live = sub_added _ _ _ _ _ with_resume c.in_ok-live.ensures c.in_ok-subcommand-8.ensures in
+    IfOk-weaker c.subcommand-9.result _ _ (λ made adds. sub_added _ _ made _ _ with_live c.in_ok-verify.ensures adds) c.subcommand-9.ensures
