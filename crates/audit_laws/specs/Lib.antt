@@ -9,3 +9,4 @@ pub mod Lines
 pub mod Verdict
 pub mod Fits
 pub mod Examples
+pub mod FaultWords

@@ -1,6 +1,9 @@
-ghost use Rattle.std.specs.Prelude.{◌≡◌};
+ghost use Rattle.std.specs.Prelude.{◌≡◌, Some};
+ghost use Rattle.audit_laws.specs.FaultWords.{audit_words};
 ghost use Rattle.audit_laws.specs.declared.fault.AuditFault.TheVariants.{NoMemory as OutOfMemory};
 
+use std::error::Error;
+use std::fmt;
 use tuple_trace::NoMemory;
 
 /// Why a text is the audit of no run. Records are counted from 0, and the header is record 0.
@@ -29,3 +32,21 @@ impl From<NoMemory> for AuditFault {
         AuditFault::NoMemory
     }
 }
+
+impl fmt::Display for AuditFault {
+    ghost output = { λ fault. Some (audit_words fault) };
+
+    fn fmt<W: fmt::Write>(&self, f: &mut fmt::Formatter<W>) -> fmt::Result {
+        match self {
+            AuditFault::Shape(number) => write!(f, "V1 record {number}"),
+            AuditFault::Refused(number) => write!(f, "V2 record {number}"),
+            AuditFault::Feed(number) => write!(f, "V3 record {number}"),
+            AuditFault::Law(worker) => write!(f, "V4 worker {worker}"),
+            AuditFault::Lane(lane) => write!(f, "V5 lane {lane}"),
+            AuditFault::State(worker) => write!(f, "V6 worker {worker}"),
+            AuditFault::NoMemory => write!(f, "memory"),
+        }
+    }
+}
+
+impl Error for AuditFault {}

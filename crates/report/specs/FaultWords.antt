@@ -1,5 +1,6 @@
 -- What is printed of a fault.
 use Rattle.std.specs.Prelude.{ℕ, List, ◌++◌, codes, decimal}
+use Rattle.audit_laws.specs.FaultWords.{audit_words}
 use Rattle.job_file.specs.FaultWords.{job_words, requests_words}
 use Rattle.payments.specs.FaultWords.{payments_words}
 use Rattle.savepoint.specs.FaultWords.{save_words}
@@ -25,6 +26,7 @@ fault_words (fault.Job code) = job_words code
 fault_words (fault.Requests code) = requests_words code
 fault_words (fault.Payments code) = payments_words code
 fault_words (fault.Save code) = save_words code
+fault_words (fault.Audit code) = audit_words code
 fault_words (fault.Read file) = file_words file
 fault_words (fault.Write file) = file_words file
 fault_words fault.NoMemory = codes "memory"

@@ -1,5 +1,7 @@
 -- Faults and their statuses, and the files that they speak of.
 use Rattle.std.specs.Prelude.{ℕ, List, [], ◌∷◌, Option, None, Some}
+use Rattle.audit_laws.specs.declared.fault.AuditFault.{AuditFault}
+use Rattle.audit_laws.specs.declared.fault.AuditFault.TheVariants as audit
 use Rattle.job_file.specs.declared.fault.JobFault.{JobFault}
 use Rattle.job_file.specs.declared.fault.JobFault.TheVariants as job
 use Rattle.job_file.specs.declared.fault.ReqFileFault.{ReqFileFault}
@@ -34,6 +36,11 @@ abbrev pub save_fault : SaveFault → Fault
 save_fault save.NoMemory = fault.NoMemory
 save_fault code = fault.Save code
 
+-- the fault of the program for one of the audit
+abbrev pub audit_fault : AuditFault → Fault
+audit_fault audit.NoMemory = fault.NoMemory
+audit_fault code = fault.Audit code
+
 -- the status that a fault ends with
 abbrev pub status_of : Fault → ℕ
 status_of fault.Usage = 1
@@ -45,6 +52,7 @@ status_of (fault.Write file) = 6
 status_of fault.NoMemory = 7
 status_of (fault.Long file) = 9
 status_of (fault.Save code) = 10
+status_of (fault.Audit code) = 11
 
 -- the status of a call that was done: 8 where a request was refused
 abbrev pub status_of_done : List Refused → ℕ
@@ -62,7 +70,7 @@ limit_of file.Job = 1048576
 limit_of file.Requests = 1048576
 limit_of file.Payments = 67108864
 limit_of file.Alerts = 0
-limit_of file.Audit = 0
+limit_of file.Audit = 536870912
 limit_of file.Save = 536870912
 limit_of file.Asks = 1048576
 limit_of file.Out = 0

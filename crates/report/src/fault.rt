@@ -1,9 +1,10 @@
 ghost use Rattle.std.specs.Prelude.{◌≡◌};
-ghost use Rattle.report.specs.Faults.{job_fault, payments_fault, requests_fault, save_fault};
+ghost use Rattle.report.specs.Faults.{audit_fault, job_fault, payments_fault, requests_fault, save_fault};
 ghost use Rattle.report.specs.Faults.{status_of as status_of_fault};
 ghost use Rattle.report.specs.Faults.{limit_of};
 ghost use Rattle.report.specs.declared.fault.Fault.TheVariants.{NoMemory as OutOfMemory};
 
+use audit_laws::AuditFault;
 use job_file::{JobFault, ReqFileFault};
 use payments::PFault;
 use savepoint::SaveFault;
@@ -17,6 +18,7 @@ pub enum FileIs {
     Requests,
     Payments,
     Alerts,
+    /// The audit, which `run` writes and `verify` reads.
     Audit,
     /// The savepoint, which `save` writes and `resume` reads.
     Save,
@@ -34,8 +36,8 @@ impl FileIs {
         match self {
             FileIs::Job | FileIs::Requests | FileIs::Asks => 1_048_576,
             FileIs::Payments => 67_108_864,
-            FileIs::Save => 536_870_912,
-            FileIs::Alerts | FileIs::Audit | FileIs::Out => 0,
+            FileIs::Save | FileIs::Audit => 536_870_912,
+            FileIs::Alerts | FileIs::Out => 0,
         }
     }
 }
@@ -53,6 +55,8 @@ pub enum Fault {
     Payments(PFault),
     /// The savepoint was read and is refused.
     Save(SaveFault),
+    /// The audit was read and is that of no run.
+    Audit(AuditFault),
     /// A file or the input couldn't be read.
     Read(FileIs),
     /// A file couldn't be made or written, or the standard output refused.
@@ -77,6 +81,7 @@ impl Fault {
             Fault::NoMemory => 7,
             Fault::Long(_) => 9,
             Fault::Save(_) => 10,
+            Fault::Audit(_) => 11,
         }
     }
 }
@@ -137,6 +142,17 @@ impl From<SaveFault> for Fault {
         match fault {
             SaveFault::NoMemory => Fault::NoMemory,
             refused => Fault::Save(refused),
+        }
+    }
+}
+
+impl From<AuditFault> for Fault {
+    ghost from_gives = { λ p e. e ≡ audit_fault p };
+
+    fn from(fault: AuditFault) -> Self {
+        match fault {
+            AuditFault::NoMemory => Fault::NoMemory,
+            refused => Fault::Audit(refused),
         }
     }
 }

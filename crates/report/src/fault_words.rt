@@ -16,6 +16,7 @@ impl fmt::Display for Fault {
             Fault::Requests(fault) => fault.fmt(f),
             Fault::Payments(fault) => fault.fmt(f),
             Fault::Save(fault) => fault.fmt(f),
+            Fault::Audit(fault) => fault.fmt(f),
             Fault::Read(file) | Fault::Write(file) | Fault::Long(file) => file.fmt(f),
             Fault::NoMemory => write!(f, "memory"),
         }

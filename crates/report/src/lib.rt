@@ -18,4 +18,4 @@ pub use counts::{alert_count, row_count};
 pub use fault::{Fault, FileIs};
 pub use lines::{Sizes, Summary, fault_line, sizes_line, summary_line};
 pub use plan_lines::push_plans;
-pub use refused_lines::{noted, push_refused};
+pub use refused_lines::{noted, push_refused, refused_are_noted};

@@ -1,5 +1,6 @@
 // The lines of requests that are refused.
-ghost use Rattle.std.specs.Prelude.{◌≡◌, ◌++◌, Some, IfOk, OnErr, OnOk, map, string_bytes};
+ghost use Rattle.std.specs.Prelude.{◌≡◌, ◌++◌, All, Some, IfOk, OnErr, OnOk, map, string_bytes};
+ghost use Rattle.audit_laws.specs.Lines.{IsNoted};
 ghost use Rattle.report.specs.Lines.{code_of as code_of_fault, noted as noted_as, refusal_words};
 ghost use Rattle.report.specs.Lines.{refused_line as refused_line_of, refused_lines};
 
@@ -59,8 +60,19 @@ pub fn noted(alloc: Global, refused: &[Refused]) -> Result<Vec<Noted>, NoMemory>
     Ok(noted)
 }
 
+/// Each refused request is noted by its place, below 2^32, and by one of nine codes. The function
+/// proves its clause, and does nothing else.
+pub fn refused_are_noted(refused: &[Refused])
+    ensures { All (λ refused. IsNoted (noted_as refused)) refused.now }
+{
+    for one in refused {
+        let _noted = note(*one);
+    }
+}
+
 fn note(refused: Refused) -> Noted
-    ensures { result ≡ noted_as refused }
+    ensures is { result ≡ noted_as refused }
+    ensures noted { IsNoted (noted_as refused) }
 {
     Noted {
         place: refused.place,
