@@ -1,5 +1,7 @@
 -- The codes under which the table tells of a fault: those that are printed, and a status where there is none.
 use Rattle.std.specs.Prelude.{ℕ, List, codes}
+use Rattle.audit_laws.specs.declared.fault.AuditFault.{AuditFault}
+use Rattle.audit_laws.specs.declared.fault.AuditFault.TheVariants as audit
 use Rattle.job_file.specs.declared.fault.JobFault.{JobFault}
 use Rattle.job_file.specs.declared.fault.JobFault.TheVariants as job
 use Rattle.job_file.specs.declared.fault.ReqFileFault.{ReqFileFault}
@@ -51,9 +53,19 @@ save_code (save.Count requests) = codes "S3"
 save_code (save.State number) = codes "S4"
 save_code save.NoMemory = codes "7"
 
--- a file that is too long: the savepoint has a row of its own
+abbrev pub audit_code : AuditFault → List ℕ
+audit_code (audit.Shape number) = codes "V1"
+audit_code (audit.Refused number) = codes "V2"
+audit_code (audit.Feed number) = codes "V3"
+audit_code (audit.Law worker) = codes "V4"
+audit_code (audit.Lane lane) = codes "V5"
+audit_code (audit.State worker) = codes "V6"
+audit_code audit.NoMemory = codes "7"
+
+-- a file that is too long: the savepoint and the audit have rows of their own
 abbrev pub long_code : FileIs → List ℕ
 long_code file.Save = codes "9 save"
+long_code file.Audit = codes "9 audit"
 long_code _ = codes "9"
 
 -- a read fault: the input of releases has a row of its own
@@ -72,6 +84,7 @@ code_of (fault.Job code) = job_code code
 code_of (fault.Requests code) = requests_code code
 code_of (fault.Payments code) = payments_code code
 code_of (fault.Save code) = save_code code
+code_of (fault.Audit code) = audit_code code
 code_of (fault.Read file) = read_code file
 code_of (fault.Write file) = write_code file
 code_of fault.NoMemory = codes "7"

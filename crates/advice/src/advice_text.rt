@@ -9,7 +9,7 @@ use crate::job_places::job_place;
 use crate::look::Look;
 use crate::place::Place;
 use crate::request_places::{push_number, push_refused, request_place};
-use crate::row_places::{row_place, save_place};
+use crate::row_places::{audit_place, row_place, save_place};
 use crate::shown::push_shown;
 use crate::table::{Help, REFUSED};
 use job_file::read_job;
@@ -90,6 +90,7 @@ fn head_of(alloc: Global, call: Call<'_>, fault: Fault, note: &str) -> Result<St
         Fault::Requests(_) => push_coded(call, FileIs::Requests, fault, &mut out)?,
         Fault::Payments(_) => push_coded(call, FileIs::Payments, fault, &mut out)?,
         Fault::Save(_) => push_coded(call, FileIs::Save, fault, &mut out)?,
+        Fault::Audit(_) => push_coded(call, FileIs::Audit, fault, &mut out)?,
         Fault::Read(file) | Fault::Write(file) | Fault::Long(file) => {
             push_file(call, file, &mut out)?
         }
@@ -155,6 +156,10 @@ fn place_of<L: Look>(
         }
         Fault::Save(fault) => match file_of(alloc, call, FileIs::Save, look) {
             Some(save) => Ok(save_place(alloc, save.as_slice(), fault)?),
+            None => Ok(Place::new(alloc)),
+        },
+        Fault::Audit(fault) => match file_of(alloc, call, FileIs::Audit, look) {
+            Some(audit) => Ok(audit_place(alloc, audit.as_slice(), fault)?),
             None => Ok(Place::new(alloc)),
         },
         Fault::Long(file) => {

@@ -49,6 +49,12 @@ fn files_of(command: &Word) -> &'static [FileIs] {
             FileIs::Alerts,
             FileIs::Audit,
         ],
+        "verify" => &[
+            FileIs::Job,
+            FileIs::Requests,
+            FileIs::Payments,
+            FileIs::Audit,
+        ],
         "save" => &[
             FileIs::Job,
             FileIs::Requests,

@@ -1,9 +1,10 @@
 // Which row of the table tells of a fault.
 ghost use Rattle.std.specs.Prelude.{◌≡◌};
 ghost use Rattle.advice.specs.Codes.{code_of, job_code, payments_code, refusal_code, requests_code};
-ghost use Rattle.advice.specs.Codes.{save_code};
+ghost use Rattle.advice.specs.Codes.{audit_code, save_code};
 
 use crate::table::*;
+use audit_laws::AuditFault;
 use job_file::{JobFault, ReqFileFault};
 use payments::PFault;
 use report::{Fault, FileIs};
@@ -20,12 +21,14 @@ pub fn help_of(fault: Fault) -> Help
         Fault::Requests(fault) => help_of_requests(fault),
         Fault::Payments(fault) => help_of_payments(fault),
         Fault::Save(fault) => help_of_save(fault),
+        Fault::Audit(fault) => help_of_audit(fault),
         Fault::Read(FileIs::Asks) => READ_ASKS,
         Fault::Read(_) => READ,
         Fault::Write(FileIs::Out) => OUT,
         Fault::Write(_) => WRITE,
         Fault::NoMemory => MEMORY,
         Fault::Long(FileIs::Save) => LONG_SAVE,
+        Fault::Long(FileIs::Audit) => LONG_AUDIT,
         Fault::Long(_) => LONG,
     }
 }
@@ -39,6 +42,20 @@ fn help_of_save(fault: SaveFault) -> Help
         SaveFault::Count(_) => S3,
         SaveFault::State(_) => S4,
         SaveFault::NoMemory => MEMORY,
+    }
+}
+
+fn help_of_audit(fault: AuditFault) -> Help
+    ensures { result.code.now ≡ audit_code fault }
+{
+    match fault {
+        AuditFault::Shape(_) => V1,
+        AuditFault::Refused(_) => V2,
+        AuditFault::Feed(_) => V3,
+        AuditFault::Law(_) => V4,
+        AuditFault::Lane(_) => V5,
+        AuditFault::State(_) => V6,
+        AuditFault::NoMemory => MEMORY,
     }
 }
 

@@ -1,6 +1,7 @@
-// What a payments file and its job tell of the place of a fault.
+// What a payments file, a savepoint or an audit tells of the place of a fault.
 use crate::place::Place;
 use crate::shown::{line_at, push_bytes};
+use audit_laws::AuditFault;
 use csv::{ByteRecord, ReaderBuilder};
 use jobs::{ColumnKind, Job, is_source, weight};
 use payments::PFault;
@@ -67,6 +68,24 @@ pub(crate) fn save_place(
             }
         }
         SaveFault::Past(_) | SaveFault::Count(_) | SaveFault::NoMemory => {}
+    }
+    Ok(place)
+}
+
+/// What the bytes of an audit tell of the place of a fault.
+pub(crate) fn audit_place(
+    alloc: Global,
+    bytes: &[u8],
+    fault: AuditFault,
+) -> Result<Place, AllocError> {
+    let mut place = Place::new(alloc);
+    match fault {
+        AuditFault::Shape(number) | AuditFault::Refused(number) | AuditFault::Feed(number) => {
+            if let Some(found) = record_at(alloc, bytes, number) {
+                found.push_line(&mut place.note)?;
+            }
+        }
+        AuditFault::Law(_) | AuditFault::Lane(_) | AuditFault::State(_) | AuditFault::NoMemory => {}
     }
     Ok(place)
 }

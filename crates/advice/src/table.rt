@@ -161,6 +161,42 @@ pub const S4: Help = Help {
     cure: "Give the job of the run that was saved, and the savepoint as it was written.",
 };
 
+pub const V1: Help = Help {
+    code: "V1",
+    cause: "This record of the audit isn't of the form that `run` writes, or stands out of order.",
+    cure: "Give the audit as `fries run` wrote it, with the job that was run.",
+};
+
+pub const V2: Help = Help {
+    code: "V2",
+    cause: "The audit has other refused requests than the request file. This record differs first.",
+    cure: "Give the requests that were run, and `--ordered` if the run had it.",
+};
+
+pub const V3: Help = Help {
+    code: "V3",
+    cause: "The audit has other rows or requests than the files. This record differs first.",
+    cure: "Give the payments and the requests that were run; no part of a run is verified.",
+};
+
+pub const V4: Help = Help {
+    code: "V4",
+    cause: "This worker's steps break the law of a worker: no worker of the engine does that.",
+    cure: "Don't trust the audit: records of it are missing, or were added or changed.",
+};
+
+pub const V5: Help = Help {
+    code: "V5",
+    cause: "What came by this lane isn't what was sent on it.",
+    cure: "Don't trust the audit: records of it are missing, or were added or changed.",
+};
+
+pub const V6: Help = Help {
+    code: "V6",
+    cause: "This worker's counts aren't those that its steps make.",
+    cure: "Don't trust the audit: records of it are missing, or were added or changed.",
+};
+
 pub const Q1: Help = Help {
     code: "Q1",
     cause: "The change names no node of the job.",
@@ -261,4 +297,10 @@ pub const LONG_SAVE: Help = Help {
     code: "9 save",
     cause: "The savepoint is longer than the program reads.",
     cure: "Save after fewer rows, before there are so many counts, or run the job in one part.",
+};
+
+pub const LONG_AUDIT: Help = Help {
+    code: "9 audit",
+    cause: "The audit is longer than any that `run` writes.",
+    cure: "Give the file that `fries run` wrote.",
 };
