@@ -5,3 +5,4 @@ pub mod FileLemmas
 pub mod StartLemmas
 pub mod PartLemmas
 pub mod LiveLemmas
+pub mod AuditLemmas

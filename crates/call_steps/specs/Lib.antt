@@ -7,3 +7,4 @@ pub mod Running
 pub mod Parts
 pub mod Live
 pub mod inner
+pub mod Audits

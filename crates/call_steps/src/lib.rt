@@ -13,6 +13,7 @@
 #![tactic(auto)]
 
 mod answer;
+mod audits;
 mod job;
 mod live;
 mod parts;
@@ -23,6 +24,7 @@ mod setup;
 mod writing;
 
 pub use answer::Answer;
+pub use audits::{audited_run, verified_lines};
 pub use job::{first_job, first_requests};
 pub use live::{LiveDone, leave_live, run_live};
 pub use parts::{run_first_part, run_later_part};

@@ -94,7 +94,7 @@ pub fn start_in<S: Shelf>(
 
 // All bytes of a file.
 #[tactic(auto, using(crate::proofs::ReadLemmas::kept_whole))]
-fn read_file<S: Shelf>(
+pub(crate) fn read_file<S: Shelf>(
     alloc: Global,
     file: FileIs,
     name: &Word,

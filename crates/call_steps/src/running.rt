@@ -300,7 +300,7 @@ fn serial_lines(alloc: Global, done: &Done) -> Result<Bytes, NoMemory>
     Ok(lines)
 }
 
-fn summary_of(done: &Done) -> Result<Summary, NoMemory>
+pub(crate) fn summary_of(done: &Done) -> Result<Summary, NoMemory>
     requires { length done.now.ran.journals ≡ worker_count done.now.ran.setup.job.nodes }
     ensures { IfOk result (λ summary. summary ≡ summary_of_done done.now) }
 {

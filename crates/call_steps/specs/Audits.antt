@@ -1,0 +1,77 @@
+-- What is read of an audit, and why it isn't.
+use Rattle.std.specs.Prelude.{◌≡◌, ◌≢◌, ◌++◌, ℕ, Bool, List, Option, codes, map}
+use Rattle.audit_laws.specs.Fits.{Fits, records_of}
+use Rattle.audit_laws.specs.Verdict.{IsFaultOf}
+use Rattle.audit_laws.specs.declared.fault.AuditFault.TheVariants as audit
+use Rattle.jobs.specs.JobView.{JobView}
+use Rattle.flow_model.specs.Record.{record_view}
+use Rattle.flow_model.specs.Run.{IsRun, Ran}
+use Rattle.flow_model.specs.Setup.{setup_view}
+use Rattle.flow_model.specs.declared.setup.Setup.{Setup}
+use Rattle.payments.specs.Causes.{Faults}
+use Rattle.payments.specs.Files.{Files}
+use Rattle.payments.specs.World.{World}
+use Rattle.report.specs.Lines.{noted, summary_line}
+use Rattle.report.specs.declared.fault.Fault.{Fault}
+use Rattle.report.specs.declared.fault.Fault.TheVariants as fault
+use Rattle.report.specs.declared.fault.FileIs.TheVariants as file
+use Rattle.tuple_trace.specs.declared.row.Row.{Row}
+use Rattle.call_steps.specs.Reading.{FollowsFile, HasRead, IsUnread, Tells}
+use Rattle.call_steps.specs.Running.{IsRunOf, summary_of}
+use Rattle.call_steps.specs.SetupFor.{AreSame, IsSetupFor}
+use Rattle.versions.specs.declared.request.Request.{Request}
+use Rattle.call_steps.specs.declared.running.Done.{Done}
+
+-- the record is a run of the setup and these rows, and its audit has the records of the bytes
+pub record IsAudited (setup : Setup) (rows : List Row) (ran : Ran) (bytes : List ℕ) : Type 0 where
+  pub run : IsRun (setup_view setup) rows ran
+  pub fits : Fits (map noted setup.judged.refused) bytes ran
+
+-- the bytes are the audit of no run of the setup and these rows, for this fault
+abbrev pub RefusesAudit : Setup → List Row → Fault → List ℕ → Type 0
+RefusesAudit setup rows (fault.Audit code) bytes =
+    (code ≢ audit.NoMemory)
+    × IsFaultOf (setup_view setup) setup.job.dag.order (map noted setup.judged.refused) rows
+    (records_of bytes) code
+RefusesAudit setup rows _ bytes = ⊥
+
+-- the record is the run whose audit the file holds
+abbrev pub IsAuditOf : Option Files → List ℕ → Setup → List Row → Ran → Type 0
+IsAuditOf files name setup rows ran = HasRead file.Audit (IsAudited setup rows ran) files name
+
+abbrev pub IsNoAudit : Option Files → List ℕ → Setup → List Row → Faults → Faults → Fault → Type 0
+IsNoAudit files name setup rows old new why =
+    IsUnread file.Audit (RefusesAudit setup rows) files name old new why
+
+-- bytes with an audit are refused for no fault, and no bytes are refused for two
+pub record HaveOneVerdict (setup : Setup) (rows : List Row) : Type 0 where
+  pub apart :
+      (ran : Ran) (why : Fault) (bytes : List ℕ) → IsAudited setup rows ran bytes →
+      RefusesAudit setup rows why bytes → ⊥
+  pub sole :
+      (f g : Fault) (bytes : List ℕ) → RefusesAudit setup rows f bytes →
+      RefusesAudit setup rows g bytes → f ≡ g
+
+-- The file holds the audit of this run of the setup and these rows. What judging the requests of a
+-- job makes the setup of, it is the run of.
+pub record IsAuditedRun (files : Option Files) (name : List ℕ) (setup : Setup)
+    (requests : List Request) (rows : List Row) (done : Done) : Type 0 where
+  pub setup_is : done.ran.setup ≡ setup
+  pub of_audit : IsAuditOf files name setup rows (record_view done.ran)
+  pub run :
+      (ordered : Bool) (job : JobView) → IsSetupFor AreSame ordered job requests setup →
+      IsRunOf AreSame ordered job requests rows done
+
+-- ---- seen from a file that is told
+
+abbrev pub TellsAudit : Option Files → List ℕ → Setup → List Row → Ran → Type 0
+TellsAudit files name setup rows ran = Tells file.Audit (IsAudited setup rows ran) files name
+
+abbrev pub FollowsAudit : Setup → List Row → List ℕ → World → World → Option Fault → Type 0
+FollowsAudit setup rows name old new answer =
+    FollowsFile file.Audit (RefusesAudit setup rows) name old new answer
+
+-- ---- what is printed of it
+
+abbrev pub verified_lines : Done → List ℕ
+verified_lines done = codes "verified\n" ++ summary_line (summary_of done)

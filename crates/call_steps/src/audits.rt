@@ -1,0 +1,65 @@
+// The run whose audit a file holds.
+ghost use Rattle.std.specs.Prelude.{◌≡◌, IfErr, IfOk, OnOk, length};
+ghost use Rattle.jobs.specs.Job.{job_view};
+ghost use Rattle.jobs.specs.Nodes.{AreFromSources, worker_count};
+ghost use Rattle.call_steps.specs.Audits.{HaveOneVerdict, IsAuditedRun, IsNoAudit};
+ghost use Rattle.call_steps.specs.Audits.{verified_lines as verified_lines_of};
+
+use crate::reading::read_file;
+use crate::running::{Done, done_of, summary_of};
+use audit_laws::{texts_have_one_fault, texts_of_runs_have_no_fault};
+use audit_replay::check_audit;
+use flow_model::{Setup, ordered_runs_are_serial, runs_are_consistent};
+use payments::Shelf;
+use report::{Fault, FileIs, refused_are_noted, summary_line};
+use std::alloc::Global;
+use tuple_trace::{Bytes, NoMemory, Rows, Word};
+use versions::Requests;
+
+/// The run of a setup and these rows whose audit a file holds. Audits of `live`, `save` and
+/// `resume` are looked at as if `run` had written them.
+///
+/// # Errors
+///
+/// The file couldn't be read, is too long, or holds the audit of no such run; or out of memory. The
+/// setup is then lost.
+pub fn audited_run<S: Shelf>(
+    alloc: Global,
+    setup: Setup,
+    requests: &Requests,
+    rows: &Rows,
+    name: &Word,
+    shelf: &mut S,
+) -> Result<Done, Fault>
+    requires sources { AreFromSources (job_view setup.job) rows.now }
+    ensures run { IfOk result (IsAuditedRun (S.state shelf.old).files name.now setup requests.now
+        rows.now) }
+    ensures journals { IfOk result (λ done. length done.ran.journals
+        ≡ worker_count done.ran.setup.job.nodes) }
+    ensures verdict { HaveOneVerdict setup rows.now }
+    ensures kept { OnOk result (S.state shelf.new ≡ S.state shelf.old) }
+    ensures files { (S.state shelf.new).files ≡ (S.state shelf.old).files }
+    ensures target { (S.state shelf.new).target ≡ (S.state shelf.old).target }
+    ensures cause { IfErr result (IsNoAudit (S.state shelf.old).files name.now setup rows.now
+        (S.state shelf.old).faults (S.state shelf.new).faults) }
+{
+    runs_are_consistent(&setup, rows);
+    ordered_runs_are_serial(&setup, rows);
+    texts_of_runs_have_no_fault(&setup, rows);
+    texts_have_one_fault(&setup);
+    refused_are_noted(setup.judged.refused.as_slice());
+    let bytes = read_file(alloc, FileIs::Audit, name, shelf)?;
+    let ran = check_audit(alloc, setup, rows, bytes.as_slice())?;
+    Ok(done_of(alloc, ran, requests, rows)?)
+}
+
+/// What is printed of a run whose audit was looked at: that it is verified, and the summary.
+pub fn verified_lines(alloc: Global, done: &Done) -> Result<Bytes, NoMemory>
+    requires { length done.now.ran.journals ≡ worker_count done.now.ran.setup.job.nodes }
+    ensures { IfOk result (λ lines. lines ≡ verified_lines_of done.now) }
+{
+    let summary = summary_line(alloc, summary_of(done)?)?;
+    let mut lines = Bytes::from_slice(alloc, b"verified\n")?;
+    lines.extend_from_slice(summary.as_bytes())?;
+    Ok(lines)
+}
