@@ -5,3 +5,4 @@ pub mod MakeLemmas
 pub mod FirstLemmas
 pub mod SureLemmas
 pub mod LiveLemmas
+pub mod VerifyLemmas

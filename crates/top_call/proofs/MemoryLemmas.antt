@@ -2,7 +2,7 @@
 use Rattle.std.proofs.Common.{◌≡◌, inl, inr, ℕ, List, Option, None, Some, length, refl, ap}
 use Rattle.std.specs.Prelude.{IfSome}
 use Rattle.payments.specs.Causes.{Faults}
-use Rattle.command_line.specs.Asked.{Asked, Check, First, Help, Live, Make, Plan, Resume, Run, Save, Version}
+use Rattle.command_line.specs.Asked.{Asked, Check, First, Help, Live, Make, Plan, Resume, Run, Save, Verify, Version}
 use Rattle.command_line.specs.Help.{help_of, version_line}
 use Rattle.live_control.specs.Asking.{AsksIs}
 use Rattle.top_call.specs.Answers.{Answers, Follows}
@@ -45,6 +45,7 @@ answers_memory (Make asked) asks old new answer is prints = record { between = o
 answers_memory (Save asked) asks old new answer is prints = record { between = old; ends = inl (stops_for_memory _ old answer is (inl (inl refl))); prints = prints }
 answers_memory (Resume asked) asks old new answer is prints = record { between = old; ends = inl (stops_for_memory _ old answer is (inl (inl (inl refl)))); prints = prints }
 answers_memory (Live asked) asks old new answer is prints = record { between = old; ends = inl (record { stops = stops_for_memory _ old answer is (inl (inl refl)); asks = inl refl }); prints = prints }
+answers_memory (Verify asked) asks old new answer is prints = record { between = old; ends = inl (stops_for_memory _ old answer is (inl (inl (inl refl)))); prints = prints }
 answers_memory (Help about) asks old new answer is prints = text_for_memory (help_of about) old new answer is prints
 answers_memory Version asks old new answer is prints = text_for_memory version_line old new answer is prints
 
@@ -94,6 +95,12 @@ follows_memory (Live asked) was now old new = record {
   requests = λ job tells. follows_excused file.Requests (RefusesRequests job) asked.plan.requests old new (Some fault.NoMemory) (no_memory old new);
   payments = λ job requests tells more. follows_excused file.Payments (RefusesRows job) asked.payments old new (Some fault.NoMemory) (no_memory old new);
   done = λ job requests rows tells more most. inr (inr (no_memory old new));
+}
+follows_memory (Verify asked) was now old new = record {
+  job = follows_excused file.Job RefusesJob asked.plan.job old new (Some fault.NoMemory) (no_memory old new);
+  requests = λ job tells. follows_excused file.Requests (RefusesRequests job) asked.plan.requests old new (Some fault.NoMemory) (no_memory old new);
+  payments = λ job requests tells more. follows_excused file.Payments (RefusesRows job) asked.payments old new (Some fault.NoMemory) (no_memory old new);
+  audit = λ job requests rows tells more most. inl (no_memory old new);
 }
 follows_memory (Help about) was now old new = inr (no_memory old new)
 follows_memory Version was now old new = inr (no_memory old new)

@@ -1,7 +1,7 @@
 -- What calls answer if the outside counts no fault.
 use Rattle.std.proofs.Common.{◌≡◌, ◌⊎◌, ◌≤◌, ◌∙◌, ◌∷◌, [], inl, inr, ℕ, Bool, true, false, List, Option, None, Some, length, refl, sym, ap, subst, arith}
 use Rattle.std.specs.Prelude.{⊤}
-use Rattle.command_line.specs.Asked.{Asked, Check, First, Help, Live, Make, MakeAsked, Plan, PlanAsked, Resume, ResumeAsked, Run, RunAsked, Save, Version}
+use Rattle.command_line.specs.Asked.{Asked, Check, First, Help, Live, Make, MakeAsked, Plan, PlanAsked, Resume, ResumeAsked, Run, RunAsked, Save, Verify, VerifyAsked, Version}
 use Rattle.command_line.specs.Help.{help_of, version_line}
 use Rattle.jobs.specs.JobView.{JobView}
 use Rattle.payments.specs.Causes.{Faults}
@@ -23,7 +23,11 @@ use Rattle.payments.specs.World.{ShelfState, SinkState, World}
 use Rattle.call_steps.specs.Outside.{FileText, Prints, PrintsFault, PrintsReport}
 use Rattle.top_call.specs.Plan.{IsNoSetup, setup_lines}
 use Rattle.call_steps.specs.Reading.{IsUnread, RefusesJob, RefusesRequests, RefusesRows, RefusesSave}
-use Rattle.top_call.specs.Run.{IsNoRun}
+use Rattle.top_call.specs.Run.{HasNoRows, IsNoRun}
+use Rattle.top_call.specs.Verify.{IsNotVerified}
+use Rattle.call_steps.specs.Audits.{RefusesAudit, verified_lines}
+use Rattle.flow_model.specs.declared.setup.Setup.{Setup}
+use Rattle.tuple_trace.specs.declared.row.Row.{Row}
 use Rattle.top_call.specs.Resume.{IsNoResume}
 use Rattle.flow_model.specs.SetupView.{SetupView}
 use Rattle.flow_model.specs.Setup.{setup_view}
@@ -52,6 +56,7 @@ own_status (Some (fault.Write which)) refused own = absurd own
 own_status (Some fault.NoMemory) refused own = (5, omega arith, refl)
 own_status (Some (fault.Long which)) refused own = (7, omega arith, refl)
 own_status (Some (fault.Save code)) refused own = (8, omega arith, refl)
+own_status (Some (fault.Audit code)) refused own = (9, omega arith, refl)
 
 -- ---- counts that stay
 
@@ -104,6 +109,10 @@ of_save : (setup : SetupView) (rows : ℕ) → IsOfBytes (RefusesSave setup rows
 of_save setup rows (fault.Save code) bytes refused = tt
 of_save setup rows _ bytes refused = absurd refused
 
+of_audit : (setup : Setup) (rows : List Row) → IsOfBytes (RefusesAudit setup rows)
+of_audit setup rows (fault.Audit code) bytes refused = tt
+of_audit setup rows _ bytes refused = absurd refused
+
 unread_own : (is : FileIs) (Refuses : Fault → List ℕ → Type 0) (files : Option Files) (name : List ℕ) (old new : World) (why : Fault) → IsOfBytes Refuses →
     IsSure old → IsSure new → IsUnread is Refuses files name old.shelf.faults new.shelf.faults why → IsOwn (Some why)
 unread_own is Refuses files name old new (fault.Read which) of sure later unread =
@@ -120,12 +129,24 @@ no_setup_own asked files old new why sure later none =
       | inr (job, of, unread) ↦ unread_own file.Requests (RefusesRequests job) files asked.requests old new why (of_requests job) sure later unread
     ]
 
+no_rows_read_own : (plan : PlanAsked) (payments : List ℕ) (files : Option Files) (old new : World) (why : Fault) → IsSure old → IsSure new →
+    HasNoRows plan payments files old.shelf.faults new.shelf.faults why → IsOwn (Some why)
+no_rows_read_own plan payments files old new why sure later none =
+    elim none [
+      | inl unread ↦ no_setup_own plan files old new why sure later unread
+      | inr (job, requests, of, them, unread) ↦ unread_own file.Payments (RefusesRows job) files payments old new why (of_rows job) sure later unread
+    ]
+
 no_run_own : (asked : RunAsked) (files : Option Files) (old new : World) (why : Fault) → IsSure old → IsSure new →
     IsNoRun asked files old.shelf.faults new.shelf.faults why → IsOwn (Some why)
-no_run_own asked files old new why sure later none =
+no_run_own asked files old new why sure later none = no_rows_read_own asked.plan asked.payments files old new why sure later none
+
+not_verified_own : (asked : VerifyAsked) (files : Option Files) (old new : World) (why : Fault) → IsSure old → IsSure new →
+    IsNotVerified asked files old.shelf.faults new.shelf.faults why → IsOwn (Some why)
+not_verified_own asked files old new why sure later none =
     elim none [
-      | inl unread ↦ no_setup_own asked.plan files old new why sure later unread
-      | inr (job, requests, of, them, unread) ↦ unread_own file.Payments (RefusesRows job) files asked.payments old new why (of_rows job) sure later unread
+      | inl none ↦ no_rows_read_own asked.plan asked.payments files old new why sure later none
+      | inr none ↦ unread_own file.Audit (RefusesAudit none.setup none.rows) files asked.audit old new why (of_audit none.setup none.rows) sure later none.unread
     ]
 
 no_resume_own : (asked : ResumeAsked) (files : Option Files) (old new : World) (why : Fault) → IsSure old → IsSure new →
@@ -260,6 +281,12 @@ answers_own (Live asked) was now old new answer a sure later first last =
       | inr r ↦ live_own r.live.heard.failed r.written answer.fault r.fault_is
           (run_own (files_of asked.alerts (Some asked.audit) None r.live.done) (live_lines r.live) old a.between r.written sure before r.ends)
           (λ e. not_risen was.faults now.faults first last (r.is_so.run.heard.failed e))
+    ]
+answers_own (Verify asked) was now old new answer a sure later first last =
+    let before = sure_before answer.fault a.between new a.prints later in
+    elim a.ends [
+      | inl s ↦ stopped_own _ old a.between answer s (not_verified_own asked old.shelf.files old a.between s.why sure before s.cause)
+      | inr p ↦ prints_own (verified_lines p.done) old.out a.between.out answer.fault sure.out before.out p.lines.prints
     ]
 answers_own (Help about) was now old new answer a sure later first last = text_own (help_of about) old new answer a sure later
 answers_own Version was now old new answer a sure later first last = text_own version_line old new answer a sure later

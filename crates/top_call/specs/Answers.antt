@@ -1,6 +1,6 @@
 -- What a call of the program answers, and what it leaves.
 use Rattle.std.specs.Prelude.{◌≡◌, ◌⊎◌, ⊤, Option}
-use Rattle.command_line.specs.Asked.{Asked, Check, First, Help, Live, Make, Plan, Resume, Run, Save, Version}
+use Rattle.command_line.specs.Asked.{Asked, Check, First, Help, Live, Make, Plan, Resume, Run, Save, Verify, Version}
 use Rattle.command_line.specs.Help.{help_of, version_line}
 use Rattle.top_call.specs.Check.{AnswersCheck, FollowsCheck}
 use Rattle.call_steps.specs.Ends.{stopped}
@@ -15,6 +15,7 @@ use Rattle.top_call.specs.Plan.{AnswersPlan, FollowsPlan}
 use Rattle.top_call.specs.Resume.{AnswersResume, FollowsResume}
 use Rattle.top_call.specs.Run.{AnswersRun, FollowsRun}
 use Rattle.top_call.specs.Save.{AnswersSave, FollowsSave}
+use Rattle.top_call.specs.Verify.{AnswersVerify, FollowsVerify}
 use Rattle.call_steps.specs.declared.answer.Answer.{Answer}
 use Rattle.report.specs.declared.fault.Fault.{Fault}
 use Rattle.report.specs.declared.fault.Fault.TheVariants as fault
@@ -35,6 +36,7 @@ Answers (Make asked) was now old new answer = AnswersMake asked old new answer
 Answers (Save asked) was now old new answer = AnswersSave asked old new answer
 Answers (Resume asked) was now old new answer = AnswersResume asked old new answer
 Answers (Live asked) was now old new answer = AnswersLive asked was now old new answer
+Answers (Verify asked) was now old new answer = AnswersVerify asked old new answer
 Answers (Help about) was now old new answer = AnswersText (help_of about) old new answer
 Answers Version was now old new answer = AnswersText version_line old new answer
 
@@ -58,5 +60,6 @@ Follows (Make asked) was now old new answer = FollowsMake asked old new answer
 Follows (Save asked) was now old new answer = FollowsSave asked old new answer
 Follows (Resume asked) was now old new answer = FollowsResume asked old new answer
 Follows (Live asked) was now old new answer = FollowsLive asked was now old new answer
+Follows (Verify asked) was now old new answer = FollowsVerify asked old new answer
 Follows (Help about) was now old new answer = FollowsText old new answer
 Follows Version was now old new answer = FollowsText old new answer

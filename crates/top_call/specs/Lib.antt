@@ -7,5 +7,6 @@ pub mod Resume
 pub mod Live
 pub mod Make
 pub mod Explain
+pub mod Verify
 pub mod Answers
 pub mod Sure

@@ -1,11 +1,11 @@
 -- What a call of `run` answers, why, and what it leaves.
-use Rattle.std.specs.Prelude.{◌≡◌, ◌⊎◌, List, Option, None, Some}
+use Rattle.std.specs.Prelude.{◌≡◌, ◌⊎◌, ℕ, List, Option, None, Some}
 use Rattle.jobs.specs.JobView.{JobView}
 use Rattle.payments.specs.Causes.{Faults}
 use Rattle.payments.specs.Files.{Files}
 use Rattle.tuple_trace.specs.declared.row.Row.{Row}
 use Rattle.versions.specs.declared.request.Request.{Request}
-use Rattle.command_line.specs.Asked.{RunAsked}
+use Rattle.command_line.specs.Asked.{PlanAsked, RunAsked}
 use Rattle.call_steps.specs.Ends.{Stops}
 use Rattle.payments.specs.World.{World}
 use Rattle.call_steps.specs.Outside.{IsExcused, PrintsFault}
@@ -27,12 +27,17 @@ pub record IsRunOfFiles (asked : RunAsked) (files : Option Files) (done : Done) 
   pub of_rows : AreRowsOf files asked.payments job rows
   pub run : IsRunOf AreSame asked.plan.ordered job requests rows done
 
--- why there is no run: no job or no requests were read, or else no rows
+-- why no rows were read: no job or no requests were read, or else no payments
+abbrev pub HasNoRows :
+    PlanAsked → List ℕ → Option Files → Faults → Faults → Fault → Type 0
+HasNoRows plan payments files old new why =
+    IsNoSetup plan files old new why
+    ⊎ ((job : JobView) × (requests : List Request) × IsJobOf files plan.job job
+    × AreRequestsOf files plan.requests job requests × AreNoRows files payments job old new why)
+
+-- why there is no run: no rows were read
 abbrev pub IsNoRun : RunAsked → Option Files → Faults → Faults → Fault → Type 0
-IsNoRun asked files old new why =
-    IsNoSetup asked.plan files old new why
-    ⊎ ((job : JobView) × (requests : List Request) × IsJobOf files asked.plan.job job × AreRequestsOf files asked.plan.requests job requests
-    × AreNoRows files asked.payments job old new why)
+IsNoRun asked files old new why = HasNoRows asked.plan asked.payments files old new why
 
 -- ---- the answer
 

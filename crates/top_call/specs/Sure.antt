@@ -15,7 +15,7 @@ pub record IsSure (outside : World) : Type 0 where
 
 -- the status of a call that no refusal of the outside has ended
 abbrev pub IsSureStatus : ℕ → Type 0
-IsSureStatus status = Contains (0 ∷ 1 ∷ 2 ∷ 3 ∷ 4 ∷ 7 ∷ 8 ∷ 9 ∷ 10 ∷ []) status
+IsSureStatus status = Contains (0 ∷ 1 ∷ 2 ∷ 3 ∷ 4 ∷ 7 ∷ 8 ∷ 9 ∷ 10 ∷ 11 ∷ []) status
 
 -- a call answered this, whatever it was asked
 abbrev pub IsAnswered : AsksIs → AsksIs → World → World → Answer → Type 0

@@ -19,6 +19,7 @@ mod resume;
 mod run;
 mod save;
 mod top;
+mod verify;
 
 pub use laws::sure_calls_end_well;
 pub use top::{Outcome, fries};

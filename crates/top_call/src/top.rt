@@ -1,6 +1,7 @@
 ghost use Rattle.std.specs.Prelude.{◌≡◌, IfNone, IfSome};
 ghost use Rattle.std.specs.Result.{result_err};
-ghost use Rattle.top_call.specs.Answers.{outcome_view, Answers, AnswersUsage, Follows, LeavesAsks};
+ghost use Rattle.top_call.specs.Answers.{outcome_view, Answers, AnswersUsage, Follows};
+ghost use Rattle.top_call.specs.Answers.{LeavesAsks};
 ghost use Rattle.command_line.specs.Asked.{IsSize, IsSized, IsThreads, asked_by, asked_of};
 ghost use Rattle.command_line.specs.Asked.{first_asked, make_asked, plan_asked, resume_asked};
 ghost use Rattle.command_line.specs.Asked.{run_asked, save_asked};
@@ -26,6 +27,7 @@ use crate::plan::plan_command;
 use crate::resume::resume_command;
 use crate::run::run_command;
 use crate::save::save_command;
+use crate::verify::answer_verify;
 use call_steps::{Answer, print};
 use command_line::{
     Command, First, Make, PlanFiles, ResumeFiles, RunFiles, SaveFiles, WordsFault, command_of,
@@ -45,11 +47,13 @@ use versions::Refusals;
 /// What a call of the program came to.
 #[derive(Drop)]
 pub struct Outcome {
-    /// The status of the program: that of the fault; without one 0, and 8 if a request was refused.
+    /// The status that the program ends with: that of the fault; without one 0, and 8 where a
+    /// request was refused.
     pub status: u8,
     /// What ended the call early, if anything did.
     pub fault: Option<Fault>,
-    /// The requests that judging refused, in the order of their file; none without judging.
+    /// The requests that judging refused, in the order of their file; none where the call came to
+    /// no judging.
     pub refused: Refusals,
     /// What the run did, if one was completed.
     pub ran: Option<RunRecord>,
@@ -61,9 +65,9 @@ pub struct Outcome {
 ///
 /// The words are those after the program's name. Files are reached by the shelf alone, and what is
 /// printed goes to `out`. A fault ends the call: nothing is done after it but to print its line,
-/// and once `out` has refused not even that. The statuses are those of [`Fault::status`]. Commands
-/// with threads start as many as their words ask for, and their workers call the gate. Only `live`
-/// reads from `asks`.
+/// and once `out` has refused not even that. The statuses are those of [`Fault::status`]. `run` and
+/// `make` start as many threads as their words ask for, and their workers call the gate. `live`
+/// reads releases from `asks`, and no other command reads from it.
 pub fn fries<R, S, O, G, Q>(
     rt: &R,
     alloc: Global,
@@ -154,6 +158,7 @@ where
         Command::Save(files) => answer_save(rt, alloc, files, shelf, out, gate),
         Command::Resume(files) => answer_resume(rt, alloc, files, shelf, out, gate),
         Command::Live(files) => answer_live(rt, alloc, files, shelf, out, asks, gate),
+        Command::Verify(files) => answer_verify(alloc, files, shelf, out),
         Command::Help(topic) => answer_text(alloc, help_text(*topic), shelf, out),
         Command::Version => answer_text(alloc, version_text(), shelf, out),
     }
@@ -377,7 +382,8 @@ fn answer_fault<O: Sink>(alloc: Global, fault: Fault, out: &mut O) -> Answer
     Answer::stopped(alloc, fault)
 }
 
-// Prints the line of a fault, unless the output failed. What comes of it changes no answer.
+// Prints the line of a fault, unless it is the output that failed. What printing it comes to
+// changes no answer.
 #[tactic(auto, using(call_steps::proofs::PrintLemmas::reports))]
 pub(crate) fn report<O: Sink>(alloc: Global, fault: Option<Fault>, out: &mut O)
     ensures { PrintsReport fault (O.state out.old) (O.state out.new) }

@@ -1,0 +1,15 @@
+use Rattle.std.proofs.Common.{refl}
+use Rattle.command_line.specs.Asked.{verify_asked}
+use Rattle.payments.specs.World.{world}
+use Rattle.top_call.proofs.VerifyLemmas.{follows_verify}
+use Rattle.top_call.proofs.verify.answer_verify.Goals as goal
+
+pub returns-clause-answers : goal.returns-clause-answers
+returns-clause-answers g c = record {
+  between = world (g.S.Shelf.state c.verify_command-answer.new.shelf) (g.O.Sink.state c.verify_command-answer.new.out);
+  ends = c.verify_command-answer.ensures;
+  prints = record { shelf = refl; line = c.report.ensures };
+}
+
+pub returns-clause-file : goal.returns-clause-file
+returns-clause-file g c = follows_verify c.faulty_is_no_job.ensures c.files_have_one_fault.ensures (verify_asked c.args.files.now) _ _ _ (returns-clause-answers g c)

@@ -1,0 +1,103 @@
+-- What a call of `verify` answers, why, and what it leaves.
+use Rattle.std.specs.Prelude.{◌≡◌, ◌⊎◌, List, Option, None, Some}
+use Rattle.jobs.specs.JobView.{JobView}
+use Rattle.payments.specs.Causes.{Faults}
+use Rattle.payments.specs.Files.{Files}
+use Rattle.payments.specs.World.{World}
+use Rattle.tuple_trace.specs.declared.row.Row.{Row}
+use Rattle.versions.specs.declared.request.Request.{Request}
+use Rattle.flow_model.specs.Record.{record_view}
+use Rattle.flow_model.specs.Run.{Ran}
+use Rattle.flow_model.specs.declared.setup.Setup.{Setup}
+use Rattle.command_line.specs.Asked.{VerifyAsked}
+use Rattle.report.specs.declared.fault.Fault.{Fault}
+use Rattle.call_steps.specs.Audits.{FollowsAudit, HaveOneVerdict, IsAuditOf, IsNoAudit, TellsAudit, verified_lines}
+use Rattle.call_steps.specs.Ends.{PrintsLines, Stops}
+use Rattle.call_steps.specs.Outside.{IsExcused, PrintsFault}
+use Rattle.call_steps.specs.Reading.{AreRequestsOf, AreRowsOf, FollowsJob, FollowsRequests, FollowsRows, IsJobOf, TellsJob, TellsRequests, TellsRows}
+use Rattle.call_steps.specs.Running.{IsRunOf}
+use Rattle.call_steps.specs.SetupFor.{AreSame, IsSetupFor}
+use Rattle.call_steps.specs.declared.answer.Answer.{Answer}
+use Rattle.call_steps.specs.declared.running.Done.{Done}
+use Rattle.top_call.specs.Run.{HasNoRows}
+
+-- the record is the run of what the files hold whose audit the audit's file holds
+pub record IsVerifiedRun (asked : VerifyAsked) (files : Option Files) (done : Done) : Type 0 where
+  pub job : JobView
+  pub requests : List Request
+  pub rows : List Row
+  pub of_job : IsJobOf files asked.plan.job job
+  pub of_requests : AreRequestsOf files asked.plan.requests job requests
+  pub of_rows : AreRowsOf files asked.payments job rows
+  pub run : IsRunOf AreSame asked.plan.ordered job requests rows done
+  pub of_audit : IsAuditOf files asked.audit done.ran.setup rows (record_view done.ran)
+  pub verdict : HaveOneVerdict done.ran.setup rows
+
+-- the files hold a job, requests and rows, and the audit's file holds no audit of a run of them, for
+-- this fault
+pub record HasNoAudit (asked : VerifyAsked) (files : Option Files) (old new : Faults) (why : Fault)
+    : Type 0 where
+  pub job : JobView
+  pub requests : List Request
+  pub rows : List Row
+  pub setup : Setup
+  pub of_job : IsJobOf files asked.plan.job job
+  pub of_requests : AreRequestsOf files asked.plan.requests job requests
+  pub of_rows : AreRowsOf files asked.payments job rows
+  pub setup_is : IsSetupFor AreSame asked.plan.ordered job requests setup
+  pub unread : IsNoAudit files asked.audit setup rows old new why
+  pub verdict : HaveOneVerdict setup rows
+
+-- why no run is verified: no job, no requests or no rows were read, or else no audit
+abbrev pub IsNotVerified : VerifyAsked → Option Files → Faults → Faults → Fault → Type 0
+IsNotVerified asked files old new why =
+    HasNoRows asked.plan asked.payments files old new why ⊎ HasNoAudit asked files old new why
+
+-- ---- the answer
+
+-- it rebuilt the run, and came to printing that it is verified; it changed no file
+pub record PrintsVerified (asked : VerifyAsked) (old new : World) (answer : Answer) : Type 0 where
+  pub done : Done
+  pub is_so : IsVerifiedRun asked old.shelf.files done
+  pub lines : PrintsLines (verified_lines done) old new answer.fault
+  pub refused : answer.refused ≡ done.refused
+  pub ran : answer.ran ≡ Some done.ran
+  pub start : answer.start ≡ None
+
+-- how a call of `verify` ends, before the line of its fault is printed
+abbrev pub EndsVerify : VerifyAsked → World → World → Answer → Type 0
+EndsVerify asked old new answer =
+    Stops (IsNotVerified asked old.shelf.files) old new answer ⊎ PrintsVerified asked old new answer
+
+-- what a call of `verify` answers, leaves and prints
+pub record AnswersVerify (asked : VerifyAsked) (old new : World) (answer : Answer) : Type 0 where
+  pub between : World
+  pub ends : EndsVerify asked old between answer
+  pub prints : PrintsFault answer.fault between new
+
+-- the audit's file is answered by what it holds, seen by the setup of the job and its requests
+pub record FollowsVerdict (asked : VerifyAsked) (job : JobView) (requests : List Request)
+    (rows : List Row) (old new : World) (answer : Option Fault) : Type 0 where
+  pub setup : Setup
+  pub setup_is : IsSetupFor AreSame asked.plan.ordered job requests setup
+  pub audit : FollowsAudit setup rows asked.audit old new answer
+  pub done :
+      (ran : Ran) → TellsAudit old.shelf.files asked.audit setup rows ran →
+      (answer ≡ None) ⊎ IsExcused old new answer
+
+-- the answer, seen from the files: each is looked at if those before it hold what they should
+pub record FollowsVerify (asked : VerifyAsked) (old new : World) (answer : Option Fault) : Type 0 where
+  pub job : FollowsJob asked.plan.job old new answer
+  pub requests :
+      (job : JobView) → TellsJob old.shelf.files asked.plan.job job →
+      FollowsRequests job asked.plan.requests old new answer
+  pub payments :
+      (job : JobView) (requests : List Request) → TellsJob old.shelf.files asked.plan.job job →
+      TellsRequests old.shelf.files asked.plan.requests job requests →
+      FollowsRows job asked.payments old new answer
+  pub audit :
+      (job : JobView) (requests : List Request) (rows : List Row) →
+      TellsJob old.shelf.files asked.plan.job job →
+      TellsRequests old.shelf.files asked.plan.requests job requests →
+      TellsRows old.shelf.files asked.payments job rows →
+      IsExcused old new answer ⊎ FollowsVerdict asked job requests rows old new answer
