@@ -9,6 +9,7 @@ mod schedules;
 mod seen;
 mod side_by_side;
 mod texts;
+mod verified;
 
 use crate::tests::lawful::is_lawful;
 use crate::tests::seen::{Seen, Wanted, are_wanted, is_audit, is_printed, met_before_turn};

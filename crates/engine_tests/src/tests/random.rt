@@ -16,7 +16,7 @@ const CAPACITIES: [&str; 4] = ["1", "2", "16", "64"];
 
 /// The texts of a run, which a seed determines.
 #[derive(Drop)]
-struct Case {
+pub struct Case {
     job: String,
     requests: String,
     payments: String,
@@ -24,7 +24,8 @@ struct Case {
 }
 
 impl Case {
-    fn of(alloc: Global, seed: u64) -> Result<Case, AllocError> {
+    /// The case of a seed.
+    pub fn of(alloc: Global, seed: u64) -> Result<Case, AllocError> {
         let stages = draw(seed, 1, 3).wrapping_add(1);
         let rows = draw(seed, 2, 8).wrapping_add(6);
         let capacity = CAPACITIES.get(draw(seed, 3, 4) as usize);
@@ -36,7 +37,8 @@ impl Case {
         })
     }
 
-    fn input(&self) -> Input<'_> {
+    /// What `run` is called with.
+    pub fn input(&self) -> Input<'_> {
         Input {
             job: self.job.as_str(),
             requests: self.requests.as_str(),

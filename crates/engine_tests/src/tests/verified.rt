@@ -1,0 +1,235 @@
+//! What `verify` says of audits that `run` wrote, and of audits with a damage.
+use crate::tests::random::Case;
+use crate::tests::texts::{CHAIN, PAYMENTS, PAYMENTS_REQUESTS, TEN_PAYMENTS};
+use crate::tests::{AUDIT, Input, bytes_of, call, put, shelf_of, word, words_of};
+use payments::{Calls, MemoryShelf, MemorySink};
+use std::alloc::Global;
+use std::str;
+use std::sync::Wait;
+use std::thread::Threads;
+use tuple_trace::{NoMemory, OpenGate};
+
+/// What a call ended with, and what it printed.
+#[derive(Drop)]
+struct Said {
+    status: u8,
+    out: MemorySink,
+}
+
+// Calls the program over these files with the words of `run` or of `verify`.
+fn say<R>(
+    rt: &R,
+    alloc: Global,
+    words: &[&str],
+    shelf: &mut MemoryShelf,
+) -> Result<Said, NoMemory>
+where
+    R: Threads + Wait + Copy + Send + Sync + 'static,
+{
+    let words = words_of(alloc, words)?;
+    let mut out = MemorySink::new(alloc, Calls::new(alloc));
+    let outcome = call(rt, alloc, &words, shelf, &mut out, &OpenGate);
+    Ok(Said {
+        status: outcome.status,
+        out,
+    })
+}
+
+const VERIFY: [&str; 5] = ["verify", "job.toml", "requests.toml", "payments.csv", AUDIT];
+
+fn run_with<R>(rt: &R, alloc: Global, input: Input<'_>, shelf: &mut MemoryShelf) -> bool
+where
+    R: Threads + Wait + Copy + Send + Sync + 'static,
+{
+    let words = [
+        "run",
+        "job.toml",
+        "requests.toml",
+        "payments.csv",
+        "alerts.csv",
+        AUDIT,
+        "--threads",
+        input.threads,
+        "--capacity",
+        input.capacity,
+    ];
+    match say(rt, alloc, &words, shelf) {
+        Ok(said) => said.status == 0 || said.status == 8,
+        Err(_) => false,
+    }
+}
+
+// Whether `verify` ends so over these files and this audit.
+fn is_said<R>(
+    rt: &R,
+    alloc: Global,
+    input: Input<'_>,
+    audit: &str,
+    wanted: (u8, &str),
+) -> Result<bool, NoMemory>
+where
+    R: Threads + Wait + Copy + Send + Sync + 'static,
+{
+    let mut shelf = shelf_of(alloc, input)?;
+    put(alloc, AUDIT, audit, &mut shelf)?;
+    let said = say(rt, alloc, &VERIFY, &mut shelf)?;
+    Ok(said.status == wanted.0 && said.out.written() == wanted.1.as_bytes())
+}
+
+fn says<R>(rt: &R, alloc: Global, payments: &str, audit: &str, wanted: (u8, &str)) -> bool
+where
+    R: Threads + Wait + Copy + Send + Sync + 'static,
+{
+    let input = Input {
+        job: CHAIN,
+        requests: "",
+        payments,
+        threads: "1",
+        capacity: "16",
+    };
+    matches!(is_said(rt, alloc, input, audit, wanted), Ok(true))
+}
+
+const NONE: &str = "source,amount\n";
+
+const AUDIT_OF_NONE: &str = "entry,node,worker,lane,number,extra
+stopped,,,,,
+ended,big,0,0,,
+ended,alerts,0,1,,
+";
+
+const AUDIT_CUT: &str = "entry,node,worker,lane,number,extra
+stopped,,,,,
+ended,alerts,0,1,,
+";
+
+#[test]
+fn verify_empty(rt: HostRuntime) {
+    let lines = "verified\nrows 0 alerts 0 requests 0 refused 0\n";
+    assert!(rt; says(&rt, rt.alloc(), NONE, AUDIT_OF_NONE, (0, lines)));
+    assert!(rt; says(&rt, rt.alloc(), NONE, AUDIT_CUT, (11, "fault 11 V4 worker 0\n")));
+}
+
+const FOUR: &str = "source,amount\ncard,99.99\ncard,100.00\ncard,150.00\ncard,50.00\n";
+
+const AUDIT_OF_FOUR: &str = "entry,node,worker,lane,number,extra
+fed,,,,1,\nfed,,,,2,\nfed,,,,3,\nfed,,,,4,\nstopped,,,,,
+met,big,0,0,1,\nmet,big,0,0,2,\nmet,big,0,0,3,\nmet,big,0,0,4,\nended,big,0,0,,
+met,alerts,0,1,2,\nmet,alerts,0,1,3,\nended,alerts,0,1,,
+";
+
+/// A part of the audit, what stands in its place, and the line of the fault.
+const DAMAGES: [(&str, &str, &str); 4] = [
+    ("met,alerts,0,1,2,\n", "", "fault 11 V5 lane 1\n"),
+    ("fed,,,,2,\n", "fed,,,,3,\n", "fault 11 V3 record 2\n"),
+    ("entry,", "x,", "fault 11 V1 record 0\n"),
+    ("stopped", "refused,,,,1,Q4\nstopped", "fault 11 V1 record 5\n"),
+];
+
+fn is_found<R>(rt: &R, alloc: Global, damage: (&str, &str, &str)) -> bool
+where
+    R: Threads + Wait + Copy + Send + Sync + 'static,
+{
+    let Some((before, after)) = AUDIT_OF_FOUR.split_once(damage.0) else {
+        return false;
+    };
+    let new = damage.1;
+    match format!(in alloc; "{before}{new}{after}") {
+        Ok(text) => says(rt, alloc, FOUR, text.as_str(), (11, damage.2)),
+        Err(_) => false,
+    }
+}
+
+#[test]
+fn verify_damaged(rt: HostRuntime) {
+    let lines = "verified\nrows 4 alerts 2 requests 0 refused 0\n";
+    assert!(rt; says(&rt, rt.alloc(), FOUR, AUDIT_OF_FOUR, (0, lines)));
+    for damage in DAMAGES {
+        assert!(rt; is_found(&rt, rt.alloc(), damage));
+    }
+}
+
+const ON_FOUR: Input<'static> = Input {
+    job: PAYMENTS,
+    requests: PAYMENTS_REQUESTS,
+    payments: TEN_PAYMENTS,
+    threads: "4",
+    capacity: "16",
+};
+
+// Whether the audit of a run is verified. Then, whether one with another count of ann's isn't.
+fn are_counted<R>(rt: &R, alloc: Global) -> Result<bool, NoMemory>
+where
+    R: Threads + Wait + Copy + Send + Sync + 'static,
+{
+    let mut shelf = shelf_of(alloc, ON_FOUR)?;
+    let has_run = run_with(rt, alloc, ON_FOUR, &mut shelf);
+    let said = say(rt, alloc, &VERIFY, &mut shelf)?;
+    let lines = "verified\nrows 10 alerts 4 requests 3 refused 1\n";
+    let name = word(alloc, AUDIT)?;
+    let audit = bytes_of(shelf.get(&name));
+    Ok(has_run
+        && said.status == 8
+        && said.out.written() == lines.as_bytes()
+        && is_miscounted(rt, alloc, audit))
+}
+
+fn is_miscounted<R>(rt: &R, alloc: Global, audit: &[u8]) -> bool
+where
+    R: Threads + Wait + Copy + Send + Sync + 'static,
+{
+    let Ok(text) = str::from_utf8(audit) else {
+        return false;
+    };
+    let Some((before, after)) = text.split_once("state,tally,1,,2,ann\n") else {
+        return false;
+    };
+    let Ok(other) = format!(in alloc; "{before}state,tally,1,,3,ann\n{after}") else {
+        return false;
+    };
+    let wanted = (11, "fault 11 V6 worker 4\n");
+    matches!(is_said(rt, alloc, ON_FOUR, other.as_str(), wanted), Ok(true))
+}
+
+#[test]
+fn verify_payments(rt: HostRuntime) {
+    assert!(rt; matches!(are_counted(&rt, rt.alloc()), Ok(true)));
+}
+
+const THREADS: [&str; 4] = ["1", "2", "4", "16"];
+
+// How many of the audits of random jobs aren't verified, where the program runs the job.
+fn unverified<R>(rt: &R, alloc: Global, seeds: u64) -> Result<u32, NoMemory>
+where
+    R: Threads + Wait + Copy + Send + Sync + 'static,
+{
+    let mut wrong = 0u32;
+    for seed in 0..seeds {
+        let case = Case::of(alloc, seed)?;
+        for threads in THREADS {
+            let input = Input {
+                threads,
+                ..case.input()
+            };
+            wrong = wrong.wrapping_add(u32::from(!is_verified(rt, alloc, input)?));
+        }
+    }
+    Ok(wrong)
+}
+
+fn is_verified<R>(rt: &R, alloc: Global, input: Input<'_>) -> Result<bool, NoMemory>
+where
+    R: Threads + Wait + Copy + Send + Sync + 'static,
+{
+    let mut shelf = shelf_of(alloc, input)?;
+    if !run_with(rt, alloc, input, &mut shelf) {
+        return Ok(true);
+    }
+    let said = say(rt, alloc, &VERIFY, &mut shelf)?;
+    Ok((said.status == 0 || said.status == 8) && said.out.written().starts_with(b"verified\n"))
+}
+
+#[test]
+fn audits_of_random_runs_are_verified(rt: HostRuntime) {
+    assert!(rt; matches!(unverified(&rt, rt.alloc(), 25), Ok(0)));
+}
