@@ -9,7 +9,7 @@ _fries_options() {
   case $1 in
     run) echo "--threads --capacity --ordered --help" ;;
     live | save | resume) echo "--threads --capacity --help" ;;
-    plan) echo "--ordered --help" ;;
+    plan | verify) echo "--ordered --help" ;;
     make) echo "--threads --help" ;;
     first | check) echo "--help" ;;
   esac
@@ -18,8 +18,8 @@ _fries_options() {
 # What the file names of a command end in, by the place of the name after the command, from 1.
 _fries_ending() {
   case $1-$2 in
-    check-1 | plan-[12] | run-[12] | live-[12] | save-[12] | resume-[12] | make-1) echo "toml" ;;
-    first-[12] | run-[345] | live-[345] | save-[3456] | resume-[3456]) echo "csv" ;;
+    check-1 | plan-[12] | run-[12] | live-[12] | save-[12] | resume-[12] | verify-[12] | make-1) echo "toml" ;;
+    first-[12] | run-[345] | live-[345] | save-[3456] | resume-[3456] | verify-[34]) echo "csv" ;;
   esac
 }
 
@@ -58,7 +58,7 @@ _fries() {
   local typed=${COMP_WORDS[COMP_CWORD]} before=${COMP_WORDS[COMP_CWORD - 1]}
   local command=${COMP_WORDS[1]} names
   if [ "$COMP_CWORD" = 1 ]; then
-    mapfile -t COMPREPLY < <(compgen -W "first check plan run live save resume make --help --version" -- "$typed")
+    mapfile -t COMPREPLY < <(compgen -W "first check plan run live save resume verify make --help --version" -- "$typed")
     return
   fi
   # Bash cuts words at `=`, so `--threads=2` comes as three words.
