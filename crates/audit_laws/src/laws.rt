@@ -42,7 +42,7 @@ pub fn checked_journals_are_a_run(setup: &Setup, rows: &Rows)
         (feed_of (setup_view setup.now) rows.now) journals states) }
     ensures complete { (ran : Ran) → IsRun (setup_view setup.now) rows.now ran →
         IsChecked (setup_view setup.now) rows.now
-            (map trimmed ran.journals) ran.journals ran.states }
+        (map trimmed ran.journals) ran.journals ran.states }
 {
     let _numbered = rows.as_slice();
 }
@@ -84,7 +84,7 @@ pub fn runs_fit_their_lines(setup: &Setup)
     ensures { (rows : List RowIs) (refused : List NotedIs) (text : List ℕ) (ran : Ran) →
         IsRun (setup_view setup.now) rows ran →
         records_of text ≡ audit_header
-            ∷ fields_of (setup_view setup.now).job (kept_lines refused ran)
+        ∷ fields_of (setup_view setup.now).job (kept_lines refused ran)
         ↔ Fits refused text ran }
 {}
 

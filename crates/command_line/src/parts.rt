@@ -49,7 +49,7 @@ impl<'w> Parts<'w> {
     fn take(&mut self, form: &Form, word: &'w [u8]) -> Result<bool, NoMemory>
         ensures { IfOk result (λ taken. if_taken taken (parts_view self.new)
             (with_word (form_view form.now) (parts_view self.old)
-                (parts_view self.old).waiting word.entry.now)) }
+            (parts_view self.old).waiting word.entry.now)) }
     {
         if let Some(id) = self.waiting {
             return self.give(id, word);

@@ -25,8 +25,11 @@ impl Model for Poster {
 
     ghost Value = { PosterIs };
 
-    ghost view = { λ p. record { within = p.seat.table_id; posted = p.seat.me.0.posted;
-        loads = p.seat.me.0.loads } };
+    ghost view = { λ p. record {
+      within = p.seat.table_id;
+      posted = p.seat.me.0.posted;
+      loads = p.seat.me.0.loads;
+    } };
 
     ghost invariant = { λ p. ((arc_value p.words).shared.table_id ≡ p.seat.table_id)
         × (p.seat.table_id.words ≡ 2) × (p.seat.me.1 ≡ []) × (p.seat.me.0.may_post ≡ true) };
@@ -48,8 +51,11 @@ impl Model for Owner {
 
     ghost Value = { OwnerIs };
 
-    ghost view = { λ p. record { within = p.seat.table_id; turned = p.seat.me.0.turned;
-        polls = p.seat.me.0.polls } };
+    ghost view = { λ p. record {
+      within = p.seat.table_id;
+      turned = p.seat.me.0.turned;
+      polls = p.seat.me.0.polls;
+    } };
 
     ghost invariant = { λ p. ((arc_value p.words).shared.table_id ≡ p.seat.table_id)
         × (p.seat.table_id.words ≡ 2) × (p.seat.me.1 ≡ []) × (p.seat.me.0.may_turn ≡ true)

@@ -37,8 +37,12 @@ impl Model for Dag {
 
     ghost Value = { DagView };
 
-    ghost view = { λ d. record { nodes = d.nodes; edges = d.edges.items; order = d.order.items;
-        lawful = d.lawful } };
+    ghost view = { λ d. record {
+      nodes = d.nodes;
+      edges = d.edges.items;
+      order = d.order.items;
+      lawful = d.lawful;
+    } };
 
     ghost invariant = { λ d. IsReachOf d.edges.items d.reach };
 }

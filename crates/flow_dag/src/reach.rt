@@ -45,7 +45,7 @@ impl Reach {
         ensures { MatchOption result
             ((a : ℕ) → a < n → ¬ RowHas self.now.below a a)
             (λ a. (a < n) × RowHas self.now.below a a
-                × ((b : ℕ) → b < a → ¬ RowHas self.now.below b b)) }
+            × ((b : ℕ) → b < a → ¬ RowHas self.now.below b b)) }
     {
         (0..n).find(|&node| mask::has_bit(self.below[node as usize], node))
     }

@@ -228,7 +228,7 @@ pub fn edges_by_node(alloc: Global, job: &Job, all: &[OutEdge]) -> Result<Items<
         ≡ map (out_edge (job_view job.now)) (enumerate_from 0 (job_view job.now).edges) }
     ensures { IfOk result (λ outs.
         outs ≡ map (out_edges (job_view job.now))
-            (range_with_len 0 (length (job_view job.now).nodes))) }
+        (range_with_len 0 (length (job_view job.now).nodes))) }
 {
     let mut outs = Items::new(alloc);
     for node in 0..job.nodes.len() {

@@ -199,7 +199,7 @@ fn send(setup: &Setup, worker: u32, lists: &mut [LaneItems], outs: Outs) -> Resu
     requires long { length lists.old ≡ length (out_numbers (setup_view setup.now).job worker) }
     ensures { OnOk result (lists.new ≡ with_puts (lanes_out (setup_view setup.now).job worker)
         (map (put_out (setup_view setup.now).job
-            (nth_worker (setup_view setup.now).job worker)) outs)
+        (nth_worker (setup_view setup.now).job worker)) outs)
         lists.old) }
 {
     let at = setup.worker_at(worker);

@@ -120,9 +120,9 @@ state_at setup begin w node turned last at counts there c t n f l =
 
 -- the state at the beginning of all
 pub first_state : (setup : SetupView) (w : ℕ) (counts : Counts) → w < length (workers_in setup.job) → counts ≡ empty → IsStateAt setup (at_first setup) w (record {
-      turned = 0;
-      state = record { func = Own; counts = counts; last = 0; ended = 0 };
-    })
+  turned = 0;
+  state = record { func = Own; counts = counts; last = 0; ended = 0 };
+})
 first_state setup w counts there none =
     let begun = get_mapped (λ (p : WorkerOf). empty) (workers_in setup.job) w (nth_worker setup.job w) (get-nth_worker setup.job w there) ∙ ap Some (sym none) in
     state_at setup (at_first setup) w (nth_worker setup.job w).node 0 0 Own counts there begun refl refl (λ func own. own) refl

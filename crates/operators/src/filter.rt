@@ -26,7 +26,7 @@ pub fn filter(
     requires { ports.now ≡ out_ports (job_view job.now).edges visit.node }
     ensures ok { let job = job_view job.now in
         OnOk result (out.new ≡ out.old
-            ++ filtered job.columns job.edges visit conds.now tuple.now) }
+        ++ filtered job.columns job.edges visit conds.now tuple.now) }
     ensures err { OnErr result (out.new ≡ out.old) }
 {
     if passes(job.columns.as_slice(), conds, tuple.fields.as_slice()) {

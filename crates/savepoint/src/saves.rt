@@ -18,7 +18,7 @@ use tuple_trace::Rows;
 pub fn savepoints_are_read_again(setup: &Setup)
     ensures { (rows : ℕ) (begin : Begin) → CanSave (setup_view setup.now) rows begin →
         save_of (setup_view setup.now) rows (save_text (setup_view setup.now).job begin)
-            ≡ Ok begin }
+        ≡ Ok begin }
 {}
 
 /// The end of a first part can be saved.

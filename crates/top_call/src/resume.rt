@@ -76,7 +76,7 @@ where
     requires { IsSize files.now.run.size }
     ensures run { IfOk result (λ resumed.
         IsResumedRun (resume_asked files.now)
-            (S.state shelf.old).files resumed.start resumed.done) }
+        (S.state shelf.old).files resumed.start resumed.done) }
     ensures workers { IfOk result (λ resumed. HasWorkers resumed.done) }
     ensures kept { OnOk result (S.state shelf.new ≡ S.state shelf.old) }
     ensures files { (S.state shelf.new).files ≡ (S.state shelf.old).files }

@@ -17,12 +17,7 @@ struct Said {
 }
 
 // Calls the program over these files with the words of `run` or of `verify`.
-fn say<R>(
-    rt: &R,
-    alloc: Global,
-    words: &[&str],
-    shelf: &mut MemoryShelf,
-) -> Result<Said, NoMemory>
+fn say<R>(rt: &R, alloc: Global, words: &[&str], shelf: &mut MemoryShelf) -> Result<Said, NoMemory>
 where
     R: Threads + Wait + Copy + Send + Sync + 'static,
 {
@@ -107,7 +102,15 @@ ended,alerts,0,1,,
 fn verify_empty(rt: HostRuntime) {
     let lines = "verified\nrows 0 alerts 0 requests 0 refused 0\n";
     assert!(rt; says(&rt, rt.alloc(), NONE, AUDIT_OF_NONE, (0, lines)));
-    assert!(rt; says(&rt, rt.alloc(), NONE, AUDIT_CUT, (11, "fault 11 V4 worker 0\n")));
+    assert!(rt;
+        says(
+            &rt,
+            rt.alloc(),
+            NONE,
+            AUDIT_CUT,
+            (11, "fault 11 V4 worker 0\n")
+        )
+    );
 }
 
 const FOUR: &str = "source,amount\ncard,99.99\ncard,100.00\ncard,150.00\ncard,50.00\n";
@@ -123,7 +126,11 @@ const DAMAGES: [(&str, &str, &str); 4] = [
     ("met,alerts,0,1,2,\n", "", "fault 11 V5 lane 1\n"),
     ("fed,,,,2,\n", "fed,,,,3,\n", "fault 11 V3 record 2\n"),
     ("entry,", "x,", "fault 11 V1 record 0\n"),
-    ("stopped", "refused,,,,1,Q4\nstopped", "fault 11 V1 record 5\n"),
+    (
+        "stopped",
+        "refused,,,,1,Q4\nstopped",
+        "fault 11 V1 record 5\n",
+    ),
 ];
 
 fn is_found<R>(rt: &R, alloc: Global, damage: (&str, &str, &str)) -> bool
@@ -168,10 +175,12 @@ where
     let lines = "verified\nrows 10 alerts 4 requests 3 refused 1\n";
     let name = word(alloc, AUDIT)?;
     let audit = bytes_of(shelf.get(&name));
-    Ok(has_run
-        && said.status == 8
-        && said.out.written() == lines.as_bytes()
-        && is_miscounted(rt, alloc, audit))
+    Ok(
+        has_run
+            && said.status == 8
+            && said.out.written() == lines.as_bytes()
+            && is_miscounted(rt, alloc, audit),
+    )
 }
 
 fn is_miscounted<R>(rt: &R, alloc: Global, audit: &[u8]) -> bool
@@ -188,7 +197,10 @@ where
         return false;
     };
     let wanted = (11, "fault 11 V6 worker 4\n");
-    matches!(is_said(rt, alloc, ON_FOUR, other.as_str(), wanted), Ok(true))
+    matches!(
+        is_said(rt, alloc, ON_FOUR, other.as_str(), wanted),
+        Ok(true)
+    )
 }
 
 #[test]

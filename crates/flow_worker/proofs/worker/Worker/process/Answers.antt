@@ -81,7 +81,7 @@ in_view setup who at state func known is unended =
     let (number, worker) = worker_with setup.job who.number who is.there in
     let node : at.node ≡ who.node = ap (λ (a : WorkerAt). a.node) is.at_is in
     let same = known who worker.def (ap (slice_get setup.job.nodes) node ∙ worker.node_is) (sym node)
-        worker.func_is in
+    worker.func_is in
     ap {B = StateView} (λ (f : Func).
     record { func = f; counts = state.counts; last = state.last; ended = state.ended }) (sym same)
     ∙ ap {B = StateView} (λ (n : ℕ).
