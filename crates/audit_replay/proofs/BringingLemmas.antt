@@ -1,52 +1,30 @@
 -- What entries take from lanes, and what lanes bring.
-use Rattle.std.proofs.Common.{◌≡◌, ◌≢◌, ◌∙◌, ◌<◌, ◌≤◌, ◌+◌, ◌==◌, ◌++◌, ◌⊎◌, ℕ, zero, suc, List, [], ◌∷◌, inl, inr, refl, sym, ap, ap₂, subst, arith, true, false, Bool, cond, filter, length, map, take, Option, Some, None, slice_get}
-use Rattle.std.specs.Prelude.{slice_set, ⊤}
+use Rattle.std.proofs.Common.{◌≡◌, ◌∙◌, ◌==◌, ◌++◌, ℕ, List, [], ◌∷◌, refl, ap, ap₂, subst, true, false, Bool, cond, filter, Option, Some, None, slice_get}
+use Rattle.std.specs.Prelude.{slice_set}
 use Rattle.std.specs.FinMap.{empty}
-use Rattle.std.proofs.lemmas.Bool.{cases_lt, eq-eqb, eqb-true}
-use Rattle.std.proofs.lemmas.List.{length-set}
-use Rattle.std.proofs.lemmas.Option.{same_Some, slice_get_within}
-use Rattle.flow_dag.specs.Dag.{DagView}
-use Rattle.flow_dag.specs.Order.{place_of}
-use Rattle.jobs.specs.JobView.{JobView}
+use Rattle.std.proofs.lemmas.Bool.{eqb-true}
 use Rattle.keyed_state.specs.Counts.{Counts}
 use Rattle.sink_journal.specs.declared.journal.Entry.{Entry}
 use Rattle.sink_journal.specs.declared.journal.Entry.TheVariants as entry
 use Rattle.tuple_trace.specs.declared.row.Row.{Row}
 use Rattle.tuple_trace.specs.declared.tuple.Item.{Item}
-use Rattle.flow_model.specs.Begin.{at_first, view_at}
-use Rattle.flow_model.specs.Lanes.{lanes, lanes_in}
+use Rattle.flow_model.specs.Begin.{at_first}
+use Rattle.flow_model.specs.Lanes.{lanes}
 use Rattle.flow_model.specs.declared.topology.Lane.{Lane}
 use Rattle.flow_model.specs.SetupView.{SetupView, Worker}
 use Rattle.flow_model.specs.Replay.{sent}
-use Rattle.flow_model.specs.Run.{final_counts, put_by, ran_as, sent_by}
-use Rattle.flow_model.specs.Duties.{duties}
-use Rattle.flow_model.specs.Law.{initial}
-use Rattle.flow_model.specs.Workers.{nth_worker, workers_in}
-use Rattle.flow_model.proofs.ElementLemmas.{IsIn, in_filter}
-use Rattle.flow_model.proofs.JobLemmas.{IsWired}
-use Rattle.flow_model.proofs.LaneLemmas.{LaneIn, in_lanes_that, lane_into, lanes_that_in}
-use Rattle.flow_model.proofs.WorkerLemmas.{worker_with}
-use Rattle.flow_model.proofs.WorkerPlaces.{get-nth_worker, nth_worker-get}
+use Rattle.flow_model.specs.Run.{put_by, ran_as, sent_by}
+use Rattle.flow_model.specs.Workers.{workers_in}
+use Rattle.flow_model.proofs.ElementLemmas.{IsIn}
 use Rattle.flow_replay.specs.Sent.{first_view}
 use Rattle.audit_laws.specs.declared.audit.AuditEntry.{AuditEntry}
 use Rattle.audit_laws.specs.declared.audit.AuditEntry.TheVariants as kept
-use Rattle.audit_laws.specs.declared.fault.AuditFault.{AuditFault}
-use Rattle.audit_laws.specs.declared.fault.AuditFault.TheVariants as fault
 use Rattle.audit_laws.specs.Brought.{brought, feed_of}
-use Rattle.audit_laws.specs.Checked.{IsFinishedDraft, ShowsBrought}
-use Rattle.audit_laws.specs.Faults.{AreFinished, AreItems, ComesBefore, HasBadLane, IsRestored, comes_by}
-use Rattle.audit_laws.specs.Restoring.{LanesAgree, brought_by, brought_on, items_of, later_items, restored, taken_from, took_next}
-use Rattle.audit_laws.specs.Trimmed.{trimmed}
-use Rattle.audit_laws.proofs.FaultLemmas.{order_forward}
+use Rattle.audit_laws.specs.Faults.{comes_by}
+use Rattle.audit_laws.specs.Restoring.{later_items, restored, taken_from, took_next}
 use Rattle.audit_laws.proofs.OneRunLemmas.{none_counted}
 use Rattle.audit_laws.proofs.RestoringLemmas.{ComeBy}
-use Rattle.audit_laws.proofs.TiedLemmas.{sender_stands}
-use Rattle.audit_laws.proofs.WorkerLemmas.{come_by, worker_restored}
-use Rattle.audit_check.proofs.TellingLemmas.{set_elsewhere, set_here}
-use Rattle.audit_replay.specs.Restored.{AgreeBelow, AllRestored, AreCounted, AreRestored, IsBadLane, IsDone, IsFaultOfLanes, IsLaneFault, IsOrder, IsReady, IsTaken}
-use Rattle.audit_replay.specs.Standing.{HoldsFeed, left_on, taken_all}
-use Rattle.audit_replay.specs.declared.restore.Restored.{Restored}
-use Rattle.audit_replay.proofs.TakingLemmas.{untouched}
+use Rattle.audit_check.proofs.TellingLemmas.{set_elsewhere}
 
 -- ---- what entries take
 

@@ -1,33 +1,28 @@
 -- The first fault of the passes over the workers, and the run that passes them.
-use Rattle.std.proofs.Common.{◌≡◌, ◌≢◌, ◌∙◌, ◌<◌, ◌≤◌, ◌+◌, ◌==◌, ◌++◌, ◌^◌, ℕ, ℤ, zero, suc, List, [], ◌∷◌, inl, inr, refl, sym, ap, ap₂, subst, arith, All, length, map, take, Option, Some, None, slice_get, option_map}
-use Rattle.std.specs.Prelude.{⊤}
+use Rattle.std.proofs.Common.{◌≡◌, ◌≢◌, ◌∙◌, ◌<◌, ◌≤◌, ◌+◌, ◌^◌, ℕ, zero, suc, List, [], ◌∷◌, refl, sym, ap, ap₂, subst, arith, All, length, map, take, Some, slice_get, option_map}
 use Rattle.std.specs.FinMap.{empty, entries}
-use Rattle.std.proofs.lemmas.Bool.{cases_lt}
 use Rattle.std.proofs.lemmas.List.{length-map}
 use Rattle.std.proofs.lemmas.Option.{same_Some, slice_get-map, slice_get_within}
 use Rattle.keyed_state.specs.Counts.{Counts}
-use Rattle.sink_journal.specs.Audit.{audit_header}
 use Rattle.sink_journal.specs.declared.audit.Noted.{Noted}
 use Rattle.sink_journal.specs.declared.journal.Entry.{Entry}
 use Rattle.sink_journal.specs.declared.journal.Feed.{Feed}
 use Rattle.tuple_trace.specs.declared.row.Row.{Row}
 use Rattle.jobs.specs.JobView.{JobView}
 use Rattle.flow_model.specs.Begin.{at_first}
-use Rattle.flow_model.specs.Duties.{numbers_from}
 use Rattle.flow_model.specs.SetupView.{SetupView, Worker}
 use Rattle.flow_model.specs.Replay.{shown}
 use Rattle.flow_model.specs.Run.{final_counts, ran_as}
 use Rattle.flow_model.specs.Workers.{nth_worker, workers_in}
-use Rattle.flow_model.proofs.WorkerLemmas.{item_at}
-use Rattle.flow_model.proofs.WorkerPlaces.{get-nth_worker, nth_worker-get}
+use Rattle.flow_model.proofs.WorkerPlaces.{get-nth_worker}
 use Rattle.audit_laws.specs.declared.audit.AuditEntry.{AuditEntry}
 use Rattle.audit_laws.specs.declared.audit.Line.{Line}
 use Rattle.audit_laws.specs.declared.fault.AuditFault.{AuditFault}
 use Rattle.audit_laws.specs.declared.fault.AuditFault.TheVariants as fault
 use Rattle.audit_laws.specs.Brought.{brought, feed_of}
-use Rattle.audit_laws.specs.Checked.{IsChecked, IsFinishedDraft}
-use Rattle.audit_laws.specs.Faults.{AreFinished, HasBadState, IsFaultOfWorkers, IsRestored, Listed}
-use Rattle.audit_laws.specs.Fits.{kept_lines, records_of}
+use Rattle.audit_laws.specs.Checked.{IsChecked}
+use Rattle.audit_laws.specs.Faults.{AreFinished, HasBadState, IsFaultOfWorkers, Listed}
+use Rattle.audit_laws.specs.Fits.{kept_lines}
 use Rattle.audit_laws.specs.Lines.{counts_in, feeds_in, journal_in, lines_of, refusals_in}
 use Rattle.audit_laws.specs.declared.audit.Line.TheVariants as line
 use Rattle.audit_laws.specs.Lines.{IsLine, IsNoted, group_of}
@@ -39,7 +34,7 @@ use Rattle.versions.specs.declared.fault.QFault.{QFault}
 use Rattle.versions.specs.declared.fault.QFault.TheVariants as why
 use Rattle.versions.specs.declared.in_order.Refused.{Refused}
 use Rattle.audit_replay.proofs.LinesLemmas.{Within, are_told}
-use Rattle.audit_laws.specs.Verdict.{AreInShape, IsFaultOf, by_worker, fields_of}
+use Rattle.audit_laws.specs.Verdict.{AreInShape, IsFaultOf, by_worker}
 use Rattle.audit_laws.proofs.OneRunLemmas.{same_list}
 use Rattle.audit_laws.proofs.ShapeLemmas.{mapped_numbers}
 use Rattle.journal_law.specs.Course.{IsFaultOfLaw}

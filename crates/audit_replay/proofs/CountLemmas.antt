@@ -1,5 +1,5 @@
 -- The counts of workers, as an audit tells them.
-use Rattle.std.proofs.Common.{◌≡◌, ◌≢◌, ◌∙◌, ◌<◌, ◌≤◌, ◌+◌, ◌++◌, ℕ, ℤ, zero, suc, List, [], ◌∷◌, inl, inr, refl, sym, ap, subst, arith, get_or, length, map, take, Option, Some, None, slice_get}
+use Rattle.std.proofs.Common.{◌≡◌, ◌≢◌, ◌∙◌, ◌<◌, ◌≤◌, ◌+◌, ◌++◌, ℕ, zero, suc, List, [], ◌∷◌, inl, inr, refl, sym, ap, subst, arith, get_or, length, map, take, Some, slice_get}
 use Rattle.std.proofs.lemmas.List.{append-nil, append_assoc, length-map, length-take, take_all, take_more}
 use Rattle.std.proofs.lemmas.Option.{get_or_from_slice_get, same_Some, slice_get-get_or, slice_get_within}
 use Rattle.std.specs.Prelude.{All}

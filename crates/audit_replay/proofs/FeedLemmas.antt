@@ -1,6 +1,6 @@
 -- What the feeder puts on its lanes.
-use Rattle.std.proofs.Common.{◌≡◌, ◌≢◌, ◌∙◌, ◌<◌, ◌≤◌, ◌+◌, ◌==◌, ◌++◌, ℕ, zero, suc, List, [], ◌∷◌, inl, inr, refl, sym, ap, ap₂, subst, arith, true, false, Bool, cond, drop, get_or, length, replicate, append_assoc, Option, Some, None, slice_get}
-use Rattle.std.specs.Prelude.{slice_set, All}
+use Rattle.std.proofs.Common.{◌≡◌, ◌≢◌, ◌∙◌, ◌<◌, ◌≤◌, ◌+◌, ◌==◌, ◌++◌, ℕ, zero, suc, List, [], ◌∷◌, inl, inr, refl, sym, ap, subst, arith, true, false, Bool, cond, drop, get_or, length, replicate, append_assoc, Option, Some, None, slice_get}
+use Rattle.std.specs.Prelude.{slice_set}
 use Rattle.std.proofs.lemmas.Bool.{cases_lt, eq-eqb, eqb-true}
 use Rattle.std.proofs.lemmas.List.{append-nil, drop_all, drop_more, length-set}
 use Rattle.std.proofs.lemmas.List.Elements.{filter_map-append}
@@ -12,7 +12,7 @@ use Rattle.tuple_trace.specs.declared.row.Row.{Row}
 use Rattle.tuple_trace.specs.declared.tuple.Item.{Item}
 use Rattle.tuple_trace.specs.declared.tuple.Item.TheVariants as item
 use Rattle.flow_model.specs.declared.topology.Lane.{Lane}
-use Rattle.flow_model.specs.Feeding.{fed, fed_put, fed_puts, row_at}
+use Rattle.flow_model.specs.Feeding.{fed_put, fed_puts, row_at}
 use Rattle.flow_model.specs.Lanes.{is_same_lane, lanes}
 use Rattle.flow_model.specs.Replay.{Put, item_on, items_on}
 use Rattle.flow_model.proofs.LaneLemmas.{lane_self, same_lane, same_number}

@@ -1,16 +1,15 @@
 -- Lines in order are those of what they tell.
-use Rattle.std.proofs.Common.{◌≡◌, ◌≢◌, ◌∙◌, ◌<◌, ◌≤◌, ◌+◌, ◌*◌, ◌==◌, ◌++◌, ℕ, ℤ, zero, suc, List, [], ◌∷◌, inl, inr, refl, sym, ap, ap₂, subst, arith, All, AllPairs, true, false, Bool, cond, filter_map, length, map, Option, Some, None}
+use Rattle.std.proofs.Common.{◌≡◌, ◌≢◌, ◌∙◌, ◌<◌, ◌≤◌, ◌+◌, ◌*◌, ◌++◌, ℕ, ℤ, zero, suc, List, [], ◌∷◌, inl, inr, refl, sym, ap, ap₂, subst, arith, map}
 use Rattle.std.proofs.lemmas.Bool.{cases_lt, eq-eqb, ne_eqb}
 use Rattle.sink_journal.specs.declared.audit.Noted.{Noted}
 use Rattle.sink_journal.specs.declared.journal.Feed.{Feed}
-use Rattle.jobs.specs.JobView.{JobView}
 use Rattle.flow_model.specs.Duties.{numbers_from}
-use Rattle.flow_model.proofs.ElementLemmas.{IsIn, Before, all_of_pairs, at_of_all, all_of_at, pair_of_all}
+use Rattle.flow_model.proofs.ElementLemmas.{IsIn, Before}
 use Rattle.audit_laws.specs.declared.audit.AuditEntry.{AuditEntry}
 use Rattle.audit_laws.specs.declared.audit.Line.{Line}
 use Rattle.audit_laws.specs.declared.audit.Line.TheVariants as line
 use Rattle.audit_laws.specs.Faults.{Listed}
-use Rattle.audit_laws.specs.Lines.{StandInOrder, count_in, counts_in, entry_in, feeds_in, group_of, journal_in, lines_from, lines_of, refusal_in, refusals_in, step_in, worker_lines}
+use Rattle.audit_laws.specs.Lines.{counts_in, feeds_in, group_of, journal_in, lines_from, lines_of, refusals_in, worker_lines}
 
 -- ---- what later groups tell
 

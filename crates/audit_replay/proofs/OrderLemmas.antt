@@ -1,17 +1,16 @@
 -- The workers in the order of their nodes.
-use Rattle.std.proofs.Common.{◌≡◌, ◌≢◌, ◌∙◌, ◌<◌, ◌≤◌, ◌+◌, ◌==◌, ◌++◌, ℕ, zero, suc, List, [], ◌∷◌, inl, inr, refl, sym, ap, ap₂, subst, arith, true, false, Bool, cond, filter, get_or, length, take, append_assoc, Option, Some, None, slice_get}
+use Rattle.std.proofs.Common.{◌≡◌, ◌≢◌, ◌∙◌, ◌<◌, ◌≤◌, ◌+◌, ◌==◌, ◌++◌, ℕ, zero, suc, List, [], ◌∷◌, inl, inr, refl, sym, ap, arith, true, false, Bool, cond, filter, get_or, length, take, append_assoc, Some, slice_get}
 use Rattle.std.specs.List.{flat_map}
 use Rattle.std.proofs.lemmas.Bool.{cases_lt, eq-eqb, eqb-true}
-use Rattle.std.proofs.lemmas.List.{append-nil, take_all, take_more}
+use Rattle.std.proofs.lemmas.List.{append-nil, take_more}
 use Rattle.std.proofs.lemmas.List.Elements.{filter-append}
-use Rattle.std.proofs.lemmas.Option.{same_Some, slice_get-get_or, slice_get_within}
+use Rattle.std.proofs.lemmas.Option.{same_Some, slice_get-get_or}
 use Rattle.flow_dag.specs.Order.{place_of}
 use Rattle.jobs.specs.JobView.{JobView}
 use Rattle.flow_model.specs.Duties.{numbers_from}
-use Rattle.flow_model.specs.SetupView.{Worker}
 use Rattle.flow_model.specs.Workers.{nth_worker, workers_in}
 use Rattle.flow_model.proofs.ElementLemmas.{Before, IsIn, flat_map_before, flat_map_in, in_filter, filter_in, in_flat_map, place_of_in, in_of_place}
-use Rattle.flow_model.proofs.WorkerPlaces.{get-nth_worker, worker_at}
+use Rattle.flow_model.proofs.WorkerPlaces.{worker_at}
 use Rattle.audit_laws.specs.Faults.{ComesBefore}
 use Rattle.audit_replay.specs.Restored.{IsOrder, numbers_at}
 use Rattle.flow_dag.specs.Dag.{DagView}

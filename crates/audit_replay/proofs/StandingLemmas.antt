@@ -1,11 +1,10 @@
 -- What stands on the lanes, as code keeps it.
-use Rattle.std.proofs.Common.{◌≡◌, ◌≢◌, ◌∙◌, ◌<◌, ◌≤◌, ◌+◌, ◌++◌, ◌==◌, ℕ, zero, suc, List, [], ◌∷◌, inl, inr, refl, sym, ap, ap₂, subst, arith, true, false, Bool, cond, drop, length, map, get_or, replicate, option_to_list, Option, Some, None, slice_get}
+use Rattle.std.proofs.Common.{◌≡◌, ◌≢◌, ◌∙◌, ◌<◌, ◌≤◌, ◌+◌, ◌++◌, ◌==◌, ℕ, zero, suc, List, [], ◌∷◌, refl, sym, ap, ap₂, subst, arith, true, false, Bool, cond, drop, length, map, get_or, replicate, option_to_list, Option, Some, None}
 use Rattle.std.specs.Prelude.{MatchOption, slice_set}
 use Rattle.std.proofs.lemmas.Bool.{eq-eqb, eqb-true}
 use Rattle.std.proofs.lemmas.List.{length-map, length-set}
-use Rattle.std.proofs.lemmas.Option.{slice_get-get_or}
 use Rattle.tuple_trace.specs.declared.tuple.Item.{Item}
-use Rattle.audit_laws.specs.Restoring.{items_of, later_items, taken_from}
+use Rattle.audit_laws.specs.Restoring.{items_of, later_items}
 use Rattle.audit_check.proofs.TellingLemmas.{set_elsewhere, set_here}
 use Rattle.audit_replay.specs.Standing.{HasTaken, left_on}
 

@@ -1,6 +1,5 @@
 -- Entries that take the next items of their lanes, one after the other.
-use Rattle.std.proofs.Common.{◌≡◌, ◌∙◌, ◌==◌, ◌++◌, ℕ, List, [], ◌∷◌, refl, sym, ap, ap₂, subst, true, false, Bool, cond, filter, append_assoc, option_to_list, Option, Some, None}
-use Rattle.std.specs.Prelude.{MatchOption}
+use Rattle.std.proofs.Common.{◌≡◌, ◌∙◌, ◌==◌, ◌++◌, ℕ, List, [], ◌∷◌, refl, sym, ap, ap₂, true, false, Bool, cond, filter, append_assoc, option_to_list, Option}
 use Rattle.std.proofs.lemmas.List.{append-nil}
 use Rattle.sink_journal.specs.declared.journal.Entry.{Entry}
 use Rattle.sink_journal.specs.declared.journal.Entry.TheVariants as entry
@@ -9,7 +8,7 @@ use Rattle.audit_laws.specs.declared.audit.AuditEntry.{AuditEntry}
 use Rattle.audit_laws.specs.declared.audit.AuditEntry.TheVariants as kept
 use Rattle.audit_laws.specs.Faults.{comes_by}
 use Rattle.audit_laws.specs.Restoring.{later_items, restored, taken_from, took, took_next}
-use Rattle.audit_replay.specs.Standing.{HasTaken, HasTakenAll, left_on, taken_all}
+use Rattle.audit_replay.specs.Standing.{HasTakenAll, left_on, taken_all}
 
 restored-append : (left : ℕ → List Item) (xs ys : List AuditEntry) → restored left (xs ++ ys) ≡ restored left xs ++ restored (taken_all xs left) ys
 restored-append left [] ys = refl

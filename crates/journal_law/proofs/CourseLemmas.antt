@@ -1,5 +1,5 @@
 -- Which entries may come next, by what is kept of the journal so far.
-use Rattle.std.proofs.Common.{◌≡◌, ◌<◌, ℕ, List, [], ◌∷◌, Option, Some, None, length, subst}
+use Rattle.std.proofs.Common.{◌≡◌, ◌<◌, ℕ, List, [], Option, Some, None, length, subst}
 use Rattle.std.specs.Prelude.{◌↔◌, All, Contains}
 use Rattle.sink_journal.specs.declared.journal.Feed.{Feed}
 use Rattle.flow_model.specs.Duties.{duties}

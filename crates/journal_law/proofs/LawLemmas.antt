@@ -1,8 +1,7 @@
 -- How far a trimmed journal has come.
-use Rattle.std.proofs.Common.{◌≡◌, ◌∙◌, ◌++◌, ℕ, List, [], ◌∷◌, Some, refl, sym, ap, subst, slice_get}
-use Rattle.std.specs.Prelude.{◌↔◌, All, Contains, map}
-use Rattle.std.proofs.lemmas.List.{append_assoc, map-append}
-use Rattle.std.proofs.lemmas.Option.{same_Some}
+use Rattle.std.proofs.Common.{◌≡◌, ◌∙◌, ◌++◌, List, [], ◌∷◌, refl, sym, ap, subst}
+use Rattle.std.specs.Prelude.{◌↔◌, All, Contains}
+use Rattle.std.proofs.lemmas.List.{map-append}
 use Rattle.sink_journal.specs.declared.journal.Entry.{Entry}
 use Rattle.sink_journal.specs.declared.journal.Feed.{Feed}
 use Rattle.flow_model.specs.Law.{Duties, IsEnabled, IsExecution, IsFinished, Progress, after_entry, initial, progress_after}

@@ -1,4 +1,4 @@
-use Rattle.std.proofs.Common.{◌≡◌, ◌∙◌, ◌<◌, ap, arith, length, sym}
+use Rattle.std.proofs.Common.{◌≡◌, ◌∙◌, ap, arith, length, sym}
 use Rattle.std.specs.Borrow.{Bor}
 use Rattle.audit_laws.specs.declared.audit.AuditEntry.{AuditEntry}
 use Rattle.audit_laws.specs.Faults.{seen}

@@ -1,4 +1,4 @@
-use Rattle.std.proofs.Common.{rules, ◌≡◌, ◌∙◌, ◌∷◌, ◌<◌, ◌^◌, List, ap, map, subst, sym}
+use Rattle.std.proofs.Common.{rules, ◌∙◌, ◌∷◌, ◌<◌, ◌^◌, List, ap, map, subst, sym}
 use Rattle.std.specs.Prelude.{All}
 use Rattle.sink_journal.specs.Audit.{audit_header}
 use Rattle.sink_journal.specs.declared.audit.Noted.{Noted}
@@ -6,8 +6,7 @@ use Rattle.sink_journal.specs.declared.journal.Feed.{Feed}
 use Rattle.flow_model.specs.Run.{IsRun, ran_as}
 use Rattle.flow_model.specs.Setup.{setup_view}
 use Rattle.audit_laws.specs.declared.audit.Line.{Line}
-use Rattle.audit_laws.specs.Fits.{Fits, records_of}
-use Rattle.audit_laws.specs.Lines.{IsNoted}
+use Rattle.audit_laws.specs.Fits.{records_of}
 use Rattle.audit_laws.specs.Verdict.{IsFaultOf, fields_of}
 use Rattle.report.specs.Lines.{noted}
 use Rattle.audit_replay.proofs.CheckLemmas.{all_noted, is_checked, lines_kept, only_memory, text_fault}

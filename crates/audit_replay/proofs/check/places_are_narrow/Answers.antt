@@ -1,4 +1,4 @@
-use Rattle.std.proofs.Common.{◌<◌, ◌^◌, ◌+◌, All, subst}
+use Rattle.std.proofs.Common.{◌<◌, ◌^◌, subst}
 use Rattle.sink_journal.specs.declared.audit.Noted.{Noted}
 use Rattle.audit_replay.proofs.CountLemmas.{all_more, all_there}
 use Rattle.audit_replay.proofs.check.places_are_narrow.Goals as goal

@@ -1,4 +1,4 @@
-use Rattle.std.proofs.Common.{rules, ◌≡◌, ◌∙◌, List, refl, subst, sym}
+use Rattle.std.proofs.Common.{rules, List, subst}
 use Rattle.keyed_state.specs.Counts.{Counts}
 use Rattle.flow_model.specs.Setup.{setup_view}
 use Rattle.audit_laws.specs.declared.audit.AuditEntry.{AuditEntry}

@@ -1,4 +1,4 @@
-use Rattle.std.proofs.Common.{rules, ◌≡◌, ℤ, Some, ap, refl, slice_get, subst, sym}
+use Rattle.std.proofs.Common.{rules, ◌≡◌, ℤ, Some, refl, slice_get, subst, sym}
 use Rattle.std.specs.FinMap.{entries}
 use Rattle.std.specs.Int.{w64}
 use mir.Val.{SFits, of_z, to_z}

@@ -1,4 +1,4 @@
-use Rattle.std.proofs.Common.{◌≡◌, ◌∙◌, ap, arith, refl, sym}
+use Rattle.std.proofs.Common.{◌∙◌, ap, arith, refl, sym}
 use Rattle.std.specs.FinMap.{entries}
 use Rattle.audit_replay.proofs.CountLemmas.{same_more}
 use Rattle.audit_replay.proofs.counts.check_counts.Goals as goal

@@ -1,4 +1,4 @@
-use Rattle.std.proofs.Common.{◌≡◌, ◌∙◌, ◌<◌, ap, arith, get_or, length, map, refl, sym}
+use Rattle.std.proofs.Common.{◌∙◌, ap, arith, get_or, map, refl, sym}
 use Rattle.flow_model.specs.Setup.{setup_view}
 use Rattle.audit_laws.specs.Faults.{seen}
 use Rattle.audit_replay.proofs.LaneLemmas.{agree_all, agree_next, bad_lane, lane_within}

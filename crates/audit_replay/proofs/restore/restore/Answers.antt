@@ -1,9 +1,7 @@
-use Rattle.std.proofs.Common.{rules, ◌≡◌, ◌∙◌, ◌<◌, ◌+◌, List, Some, ap, arith, get_or, length, refl, slice_get, subst, sym}
+use Rattle.std.proofs.Common.{rules, ◌∙◌, List, Some, ap, arith, get_or, refl, subst, sym}
 use Rattle.std.proofs.lemmas.Option.{slice_get-get_or}
 use Rattle.sink_journal.specs.declared.journal.Feed.{Feed}
-use Rattle.flow_model.specs.Lanes.{lanes}
 use Rattle.flow_model.specs.Setup.{setup_view}
-use Rattle.flow_model.specs.Workers.{workers_in}
 use Rattle.flow_model.proofs.JobLemmas.{wired}
 use Rattle.audit_replay.specs.Restored.{IsOrder}
 use Rattle.audit_replay.specs.Standing.{HoldsFeed}

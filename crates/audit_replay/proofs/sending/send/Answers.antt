@@ -1,4 +1,4 @@
-use Rattle.std.proofs.Common.{◌≡◌, ◌∙◌, ◌+◌, ◌<◌, [], List, ap, arith, get_or, length, subst, sym, take}
+use Rattle.std.proofs.Common.{◌∙◌, ◌+◌, ◌<◌, [], List, ap, arith, get_or, length, subst, sym, take}
 use Rattle.std.proofs.lemmas.List.{length-set}
 use Rattle.jobs.specs.Job.{job_view}
 use Rattle.tuple_trace.specs.declared.tuple.Item.{Item}

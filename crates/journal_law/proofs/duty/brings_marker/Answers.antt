@@ -1,4 +1,4 @@
-use Rattle.std.proofs.Common.{◌∙◌, sym, ap}
+use Rattle.std.proofs.Common.{◌∙◌, sym}
 use Rattle.flow_model.specs.Setup.{setup_view}
 use Rattle.journal_law.proofs.LaneLemmas.{in_marked, marked_lane, same_covers}
 use Rattle.journal_law.proofs.duty.brings_marker.Goals as goal

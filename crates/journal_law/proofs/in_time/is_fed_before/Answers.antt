@@ -1,4 +1,4 @@
-use Rattle.std.proofs.Common.{◌≡◌, ◌∙◌, ◌+◌, ◌-◌, ◌<◌, ◌≤◌, inl, inr, refl, arith}
+use Rattle.std.proofs.Common.{◌-◌, inl, inr, refl, arith}
 use Rattle.std.proofs.lemmas.Bool.{le-leb, leb-true}
 use Rattle.journal_law.proofs.FedLemmas.{by_row, too_many}
 use Rattle.journal_law.proofs.in_time.is_fed_before.Goals as goal

@@ -1,4 +1,4 @@
-use Rattle.std.proofs.Common.{◌≡◌, ◌∙◌, ◌++◌, ◌∷◌, [], List, ap, arith, map}
+use Rattle.std.proofs.Common.{◌∙◌, ◌∷◌, [], ap, arith}
 use Rattle.std.specs.Borrow.{Bor}
 use Rattle.std.proofs.lemmas.List.{map-append}
 use Rattle.audit_laws.specs.declared.audit.AuditEntry.{AuditEntry}

@@ -1,7 +1,6 @@
-use Rattle.std.proofs.Common.{◌≡◌, ◌∙◌, List, ap, map, sym}
+use Rattle.std.proofs.Common.{◌∙◌, List, ap, map}
 use Rattle.std.specs.Prelude.{slice_set}
 use Rattle.std.specs.FinMap.{empty}
-use Rattle.keyed_state.specs.Counts.{Counts}
 use Rattle.sink_journal.specs.declared.journal.Entry.{Entry}
 use Rattle.tuple_trace.specs.declared.tuple.Item.{Item}
 use Rattle.flow_model.specs.Begin.{at_first}

@@ -1,4 +1,3 @@
-use Rattle.std.proofs.Common.{◌∙◌}
 use Rattle.audit_replay.proofs.StandingLemmas.{put_seen, seen_length}
 use Rattle.audit_replay.proofs.standing.Standing.put.Goals as goal
 

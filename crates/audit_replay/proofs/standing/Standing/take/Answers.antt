@@ -1,5 +1,5 @@
-use Rattle.std.proofs.Common.{◌∙◌, arith}
-use Rattle.audit_replay.proofs.StandingLemmas.{popped, popped_item, seen_length}
+use Rattle.std.proofs.Common.{arith}
+use Rattle.audit_replay.proofs.StandingLemmas.{popped, popped_item}
 use Rattle.audit_replay.proofs.standing.Standing.take.Goals as goal
 
 pub returns-clause-item : goal.returns-clause-item
