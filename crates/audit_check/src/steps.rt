@@ -36,7 +36,8 @@ fn push_due(
     rows: u64,
 ) -> Result<usize, NoMemory>
     requires { AreIssuedBefore (afters (setup_view setup.now).requests) rows row issued }
-    ensures waits { IfOk result (λ now. AreIssuedBefore (afters (setup_view setup.now).requests) rows
+    ensures waits { IfOk result
+        (λ now. AreIssuedBefore (afters (setup_view setup.now).requests) rows
         (row + 1) now) }
     ensures feeds { OnOk result (feeds.new ≡ feeds.old
         ++ issues (setup_view setup.now) rows row issued) }

@@ -1,5 +1,6 @@
 // What the feeder puts on its lanes.
-ghost use Rattle.std.specs.Prelude.{◌≡◌, ◌<◌, ◌↔◌, ◌++◌, IfOk, IsTrue, List, None, OnOk, Some, length};
+ghost use Rattle.std.specs.Prelude.{◌≡◌, ◌<◌, ◌↔◌, ◌++◌, IfOk, IsTrue, List, None, OnOk, Some};
+ghost use Rattle.std.specs.Prelude.{length};
 ghost use Rattle.std.specs.Prelude.{option_copied, slice_get};
 ghost use Rattle.jobs.specs.Nodes.{AreFromSources, IsSourceOf};
 ghost use Rattle.flow_model.specs.Feeding.{fed_put, row_at as row_of};

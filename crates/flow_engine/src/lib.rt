@@ -3,8 +3,8 @@
 //! Workers and the feeder of a setup are made over lanes of some form. The workers move between
 //! threads until all are done, and the lanes are settled. [`run_flow`] returns the setup, the feed
 //! and what each worker left; [`Flown::record`] makes the record of them. [`run_from`] does the
-//! same from a beginning on, as from a savepoint. [`run_with`] takes another form of feeder, as a live
-//! one.
+//! same from a beginning on, as from a savepoint. [`run_with`] takes another form of feeder, as a
+//! live one.
 //!
 //! ```
 //! let flown = run_flow(&rt, alloc, &RingLanes, setup, &rows, 4, 16, &OpenGate)?;

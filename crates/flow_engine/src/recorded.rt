@@ -66,7 +66,8 @@ fn issue_rows(alloc: Global, feeds: &Feeds) -> Result<Vec<u64>, NoMemory>
 fn note(feed: Feed, fed: u64, waits: &mut Vec<u64>) -> Result<u64, NoMemory>
     requires { fed < 18446744073709551615 }
     ensures fed { IfOk result (λ now. now ≡ fed + fed_in (feed ∷ [])) }
-    ensures waits { OnOk result (waits.new.items ≡ waits.old.items ++ issue_rows_of fed (feed ∷ [])) }
+    ensures waits { OnOk result (waits.new.items ≡ waits.old.items
+        ++ issue_rows_of fed (feed ∷ [])) }
 {
     match feed {
         Feed::Fed(_) => Ok(fed + 1),

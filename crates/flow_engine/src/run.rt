@@ -79,8 +79,9 @@ where
 /// feeder leaves.
 ///
 /// If the feeder is live, the setup of what it returns has, for each request, the number of rows
-/// that were fed before the request was issued. That is no fewer than the request asks for, of those
-/// that there are. The record is a run of this setup and the rows. The one error is out of memory.
+/// that were fed before the request was issued. That is no fewer than the request asks for, of
+/// those that there are. The record is a run of this setup and the rows. The one error is out of
+/// memory.
 pub fn run_with<R, L: Lanes + Sync, G: Gate + Sync, F: Feeding<L> + Drop>(
     rt: &R,
     alloc: Global,

@@ -63,7 +63,8 @@ pub(crate) fn brings_marker(setup: &Setup, worker: u32, lane: u32, request: u64)
 
 // The lane with this number, if it is one into the worker.
 fn lane_into(setup: &Setup, worker: u32, lane: u32) -> Option<Lane>
-    ensures some { IfSome result (λ found. IsLaneInto (setup_view setup.now).job worker lane found) }
+    ensures some { IfSome result
+        (λ found. IsLaneInto (setup_view setup.now).job worker lane found) }
     ensures edge { IfSome result (λ found. found.edge < 128) }
     ensures none { IfNone result ((found : LaneIs) →
         ¬ IsLaneInto (setup_view setup.now).job worker lane found) }

@@ -1,5 +1,6 @@
 ghost use Rattle.std.specs.Prelude.{◌≡◌};
-ghost use Rattle.report.specs.Faults.{audit_fault, job_fault, payments_fault, requests_fault, save_fault};
+ghost use Rattle.report.specs.Faults.{audit_fault, job_fault, payments_fault, requests_fault};
+ghost use Rattle.report.specs.Faults.{save_fault};
 ghost use Rattle.report.specs.Faults.{status_of as status_of_fault};
 ghost use Rattle.report.specs.Faults.{limit_of};
 ghost use Rattle.report.specs.declared.fault.Fault.TheVariants.{NoMemory as OutOfMemory};
