@@ -19,7 +19,7 @@ use Rattle.top_call.specs.Verify.{AnswersVerify, FollowsVerify}
 use Rattle.call_steps.specs.declared.answer.Answer.{Answer}
 use Rattle.report.specs.declared.fault.Fault.{Fault}
 use Rattle.report.specs.declared.fault.Fault.TheVariants as fault
-use Rattle.top_call.specs.declared.top.Outcome.{Outcome}
+use Rattle.top_call.specs.declared.outcome.Outcome.{Outcome}
 
 -- what a call came to, but for its status
 abbrev pub outcome_view : Outcome → Answer

@@ -14,6 +14,7 @@ mod first;
 mod laws;
 mod live;
 mod make;
+mod outcome;
 mod plan;
 mod resume;
 mod run;
@@ -22,4 +23,5 @@ mod top;
 mod verify;
 
 pub use laws::sure_calls_end_well;
-pub use top::{Outcome, fries};
+pub use outcome::Outcome;
+pub use top::fries;

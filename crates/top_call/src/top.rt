@@ -23,6 +23,7 @@ use crate::check::check_command;
 use crate::first::first_command;
 use crate::live::answer_live;
 use crate::make::make_command;
+use crate::outcome::Outcome;
 use crate::plan::plan_command;
 use crate::resume::resume_command;
 use crate::run::run_command;
@@ -33,7 +34,6 @@ use command_line::{
     Command, First, Make, PlanFiles, ResumeFiles, RunFiles, SaveFiles, WordsFault, command_of,
     help_text, version_text,
 };
-use flow_model::{RunRecord, Start};
 use job_file::{faulty_is_no_job, files_have_one_fault};
 use live_control::Asks;
 use payments::{Shelf, Sink};
@@ -43,23 +43,6 @@ use std::sync::Wait;
 use std::thread::Threads;
 use tuple_trace::{Gate, Word};
 use versions::Refusals;
-
-/// What a call of the program came to.
-#[derive(Drop)]
-pub struct Outcome {
-    /// The status that the program ends with: that of the fault; without one 0, and 8 where a
-    /// request was refused.
-    pub status: u8,
-    /// What ended the call early, if anything did.
-    pub fault: Option<Fault>,
-    /// The requests that judging refused, in the order of their file; none where the call came to
-    /// no judging.
-    pub refused: Refusals,
-    /// What the run did, if one was completed.
-    pub ran: Option<RunRecord>,
-    /// Where the run began, if the call read a savepoint and completed a run from there.
-    pub start: Option<Start>,
-}
 
 /// Does what the words ask for, and answers what it came to.
 ///
