@@ -1,12 +1,12 @@
 use crate::tests::{call, live_words, shelf_of, text_in};
 use live_control::MemoryAsks;
-use payments::{Calls, MemorySink};
+use payments::{Calls, MemoryShelf, MemorySink};
 use std::alloc::Global;
 use std::str;
 use std::sync::Wait;
 use std::thread::Threads;
 use top_call::Outcome;
-use tuple_trace::{Bytes, NoMemory, OpenGate};
+use tuple_trace::{Bytes, NoMemory, OpenGate, Word};
 
 const FOUR_PAYMENTS: &str = "source,amount
 card,99.99
@@ -39,36 +39,81 @@ struct Case {
 
 const SUMMARY: &str = "rows 4 alerts 2 requests 1 refused 0\n";
 
+/// What a call over the four payments left.
+#[derive(Drop)]
+struct Left {
+    outcome: Outcome,
+    shelf: MemoryShelf,
+    out: MemorySink,
+    asks: MemoryAsks,
+}
+
 // Whether the call leaves what it is to leave.
 fn leaves<R>(rt: &R, alloc: Global, case: Case) -> bool
 where
     R: Threads + Wait + Copy + Send + Sync + 'static,
 {
-    matches!(left_by(rt, alloc, case), Ok(true))
+    matches!(is_left(rt, alloc, case), Ok(true))
 }
 
-fn left_by<R>(rt: &R, alloc: Global, case: Case) -> Result<bool, NoMemory>
+fn is_left<R>(rt: &R, alloc: Global, case: Case) -> Result<bool, NoMemory>
+where
+    R: Threads + Wait + Copy + Send + Sync + 'static,
+{
+    let left = called(rt, alloc, case)?;
+    Ok(is_told(&left, case) && are_files(alloc, &left.shelf, case))
+}
+
+fn called<R>(rt: &R, alloc: Global, case: Case) -> Result<Left, NoMemory>
 where
     R: Threads + Wait + Copy + Send + Sync + 'static,
 {
     let words = live_words(alloc, "1", "16")?;
-    let mut shelf = shelf_of(alloc, FOUR_PAYMENTS)?;
-    let mut out = MemorySink::new(alloc, Calls::new(alloc));
+    let asks = asks_of(alloc, case)?;
+    let shelf = shelf_of(alloc, FOUR_PAYMENTS)?;
+    Ok(answered(rt, alloc, &words, shelf, asks))
+}
+
+fn asks_of(alloc: Global, case: Case) -> Result<MemoryAsks, NoMemory> {
     let bytes = Bytes::from_slice(alloc, case.input.as_bytes())?;
-    let mut asks = MemoryAsks::new(bytes, Calls::from_slice(alloc, case.failing)?);
-    let outcome = call(
-        rt, alloc, &words, &mut shelf, &mut out, &mut asks, &OpenGate,
-    );
-    let audit = text_in(alloc, &shelf, "audit.csv")?;
-    let alerts = text_in(alloc, &shelf, "alerts.csv")?;
-    Ok(
-        outcome.status == case.status
-            && out.written() == case.printed.as_bytes()
-            && alerts == ALERTS.as_bytes()
-            && has_part(audit, case.feed)
-            && asks.left().len() == case.left
-            && first_after(&outcome) == Some(case.after),
-    )
+    let failing = Calls::from_slice(alloc, case.failing)?;
+    Ok(MemoryAsks::new(bytes, failing))
+}
+
+fn answered<R>(rt: &R, alloc: Global, words: &[Word], shelf: MemoryShelf, asks: MemoryAsks) -> Left
+where
+    R: Threads + Wait + Copy + Send + Sync + 'static,
+{
+    let (mut shelf, mut asks) = (shelf, asks);
+    let mut out = MemorySink::new(alloc, Calls::new(alloc));
+    let outcome = call(rt, alloc, words, &mut shelf, &mut out, &mut asks, &OpenGate);
+    Left {
+        outcome,
+        shelf,
+        out,
+        asks,
+    }
+}
+
+fn is_told(left: &Left, case: Case) -> bool {
+    left.outcome.status == case.status
+        && left.out.written() == case.printed.as_bytes()
+        && left.asks.left().len() == case.left
+        && first_after(&left.outcome) == Some(case.after)
+}
+
+fn are_files(alloc: Global, shelf: &MemoryShelf, case: Case) -> bool {
+    match text_in(alloc, shelf, "alerts.csv") {
+        Ok(alerts) => alerts == ALERTS.as_bytes() && is_fed(alloc, shelf, case),
+        Err(_) => false,
+    }
+}
+
+fn is_fed(alloc: Global, shelf: &MemoryShelf, case: Case) -> bool {
+    match text_in(alloc, shelf, "audit.csv") {
+        Ok(audit) => has_part(audit, case.feed),
+        Err(_) => false,
+    }
 }
 
 fn has_part(text: &[u8], part: &str) -> bool {
