@@ -5,7 +5,7 @@ ghost use Rattle.csv.specs.Records.{fields_of};
 ghost use Rattle.sink_journal.specs.Audit.{feed_fields};
 ghost use Rattle.sink_journal.specs.declared.journal.Feed.{Feed as FeedIs};
 ghost use Rattle.flow_model.specs.Setup.{setup_view};
-ghost use Rattle.audit_laws.specs.Brought.{feed_of};
+ghost use Rattle.audit_laws.specs.Delivered.{feed_of};
 ghost use Rattle.audit_laws.specs.declared.audit.Line.{Line as LineIs};
 ghost use Rattle.audit_laws.specs.Fits.{records_of};
 ghost use Rattle.audit_laws.specs.Lines.{IsStep, feeds_in, refusals_in};

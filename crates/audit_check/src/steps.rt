@@ -3,7 +3,7 @@ ghost use Rattle.std.specs.Prelude.{◌≡◌, ◌+◌, ◌++◌, IfOk, OnOk};
 ghost use Rattle.flow_model.specs.Requests.{afters};
 ghost use Rattle.flow_model.specs.Setup.{setup_view};
 ghost use Rattle.flow_replay.specs.inner.SoFar.{AreIssuedBefore, issues};
-ghost use Rattle.audit_laws.specs.Brought.{feed_of};
+ghost use Rattle.audit_laws.specs.Delivered.{feed_of};
 
 use flow_model::Setup;
 use sink_journal::{Feed, Feeds};

@@ -16,18 +16,18 @@ use Rattle.flow_model.specs.Run.{IsRunFrom, IsWorked, final_counts, ran_as}
 use Rattle.flow_model.specs.Duties.{duties}
 use Rattle.flow_model.specs.Workers.{workers_in}
 use Rattle.flow_model.proofs.ElementLemmas.{map_in}
-use Rattle.flow_model.proofs.JobLemmas.{IsWired}
+use Rattle.flow_model.proofs.JobLemmas.{IsConnected}
 use Rattle.flow_model.proofs.MarkerLemmas.{met_on_lane}
 use Rattle.flow_model.proofs.WorkerLemmas.{item_at, worker_with}
 use Rattle.audit_laws.specs.declared.audit.AuditEntry.{AuditEntry}
-use Rattle.audit_laws.specs.Brought.{feed_of}
+use Rattle.audit_laws.specs.Delivered.{feed_of}
 use Rattle.audit_laws.specs.Checked.{IsChecked, IsFinishedDraft}
 use Rattle.audit_laws.specs.Drafted.{draft, drafted}
 use Rattle.audit_laws.specs.Trimmed.{trim, trimmed}
 use Rattle.audit_laws.proofs.DraftLemmas.{IssuedRight, draft_finished, finished_draft}
 use Rattle.audit_laws.proofs.IssuedLemmas.{issued_right}
-use Rattle.audit_laws.proofs.OneRunLemmas.{Left, left_of, length_trimmed, none_counted, put_by-states, tied_by_run}
-use Rattle.audit_laws.proofs.TiedLemmas.{IsTied}
+use Rattle.audit_laws.proofs.OneRunLemmas.{Left, left_of, length_trimmed, none_counted, put_by-states, conserved_by_run}
+use Rattle.audit_laws.proofs.ConservedLemmas.{IsConserved}
 use Rattle.audit_laws.proofs.TrimLemmas.{MetOn}
 
 -- tuples come by lanes in, as the law of the draft says
@@ -36,7 +36,7 @@ met_by_draft setup rows who journal law l t i =
     met_on_lane (duties setup 0 who) (initial (duties setup 0 who)) (drafted (feed_of setup rows) (trimmed journal)) l _ law.lawful.execution
     (map_in (draft (feed_of setup rows)) (trim (entry.Met l t)) (trimmed journal) (map_in trim (entry.Met l t) journal i))
 
-module _ (setup : SetupView) (wired : IsWired setup.job) (rows : List Row) (are : AreRows rows) (audit : List (List AuditEntry)) (journals : List (List Entry)) (states : List Counts)
+module _ (setup : SetupView) (connected : IsConnected setup.job) (rows : List Row) (are : AreRows rows) (audit : List (List AuditEntry)) (journals : List (List Entry)) (states : List Counts)
     (is : IsChecked setup rows audit journals states)
   where
     audit_there : (w : ℕ) (journal : List Entry) → slice_get journals w ≡ Some journal → slice_get audit w ≡ Some (trimmed journal)
@@ -45,8 +45,8 @@ module _ (setup : SetupView) (wired : IsWired setup.job) (rows : List Row) (are 
     as_many : length journals ≡ length (workers_in setup.job)
     as_many = sym (length_trimmed journals) ∙ (ap length is.restored ∙ is.one_journal_each)
 
-    pub tied_by_check : (w : ℕ) (who : Worker) → slice_get (workers_in setup.job) w ≡ Some who → IsTied setup rows journals w
-    tied_by_check w who p =
+    pub conserved_by_check : (w : ℕ) (who : Worker) → slice_get (workers_in setup.job) w ≡ Some who → IsConserved setup rows journals w
+    conserved_by_check w who p =
         let lt : w < length (workers_in setup.job) = slice_get_within (workers_in setup.job) w who p in
         let j = item_at journals w (omega (arith, lt, as_many)) in
         let number : who.number ≡ w = (worker_with setup.job w who p).0 in
@@ -54,7 +54,7 @@ module _ (setup : SetupView) (wired : IsWired setup.job) (rows : List Row) (are 
           journal = j.0;
           there = j.1;
           met = subst (λ v. MetOn (lanes_in setup.job v) j.0) number (met_by_draft setup rows who j.0 (is.finished w who (trimmed j.0) p (audit_there w j.0 j.1)));
-          tied = is.brought_is_shown w j.0 j.1;
+          conserved = is.delivered_is_shown w j.0 j.1;
         }
 
     pub checked_run : IsRunFrom (at_first setup) rows (ran_as setup (feed_of setup rows) journals states)
@@ -64,7 +64,7 @@ module _ (setup : SetupView) (wired : IsWired setup.job) (rows : List Row) (are 
       one_journal_each = as_many;
       one_state_each = is.one_state_each;
       worked = worked;
-      tied = λ n lane journal g j. put_by-states setup rows journals states lane lane.sender ∙ is.brought_is_shown lane.receiver journal j n lane g refl;
+      conserved = λ n lane journal g j. put_by-states setup rows journals states lane lane.sender ∙ is.delivered_is_shown lane.receiver journal j n lane g refl;
     }
       where
         worked : (w : ℕ) (who : Worker) (counts : Counts) (journal : List Entry) (state : Counts) → slice_get (workers_in setup.job) w ≡ Some who
@@ -72,7 +72,7 @@ module _ (setup : SetupView) (wired : IsWired setup.job) (rows : List Row) (are 
             → IsWorked setup (at_first setup) who counts journal state
         worked w who counts journal state p c j s =
             let none : empty ≡ counts = same_Some empty counts (sym (none_counted setup w who p) ∙ c) in
-            let right : IssuedRight (feed_of setup rows) journal = issued_right setup wired rows are journals tied_by_check w who journal p j in
+            let right : IssuedRight (feed_of setup rows) journal = issued_right setup connected rows are journals conserved_by_check w who journal p j in
             record {
               finished = finished_draft (duties setup 0 who) (feed_of setup rows) journal right (is.finished w who (trimmed journal) p (audit_there w journal j));
               state_is =
@@ -80,7 +80,7 @@ module _ (setup : SetupView) (wired : IsWired setup.job) (rows : List Row) (are 
                   ∙ ap (λ (c : Counts). final_counts setup (at_first setup) who c journal) none;
             }
 
-module _ (setup : SetupView) (wired : IsWired setup.job) (rows : List Row) (are : AreRows rows) (journals : List (List Entry)) (states : List Counts)
+module _ (setup : SetupView) (connected : IsConnected setup.job) (rows : List Row) (are : AreRows rows) (journals : List (List Entry)) (states : List Counts)
     (run : IsRunFrom (at_first setup) rows (ran_as setup (feed_of setup rows) journals states))
   where
     journal_at : (w : ℕ) (who : Worker) (journal : List Entry) → slice_get (workers_in setup.job) w ≡ Some who → slice_get journals w ≡ Some journal
@@ -95,8 +95,8 @@ module _ (setup : SetupView) (wired : IsWired setup.job) (rows : List Row) (are 
       one_state_each = run.one_state_each;
       restored = refl;
       finished = finished;
-      brought_is_shown = λ w journal j n lane g r.
-          sym (put_by-states setup rows journals states lane lane.sender) ∙ run.tied n lane journal g (subst (λ v. slice_get journals v ≡ Some journal) (sym r) j);
+      delivered_is_shown = λ w journal j n lane g r.
+          sym (put_by-states setup rows journals states lane lane.sender) ∙ run.conserved n lane journal g (subst (λ v. slice_get journals v ≡ Some journal) (sym r) j);
       states_are = λ w who journal p j.
           let l = journal_at w who journal p j in
           l.0.state_there ∙ ap Some (l.0.worked.state_is ∙ ap (final_counts setup (at_first setup) who empty) l.1);
@@ -110,4 +110,4 @@ module _ (setup : SetupView) (wired : IsWired setup.job) (rows : List Row) (are 
             same_Some (trimmed l.journal) kept (sym (slice_get-map trimmed journals w ∙ ap (option_map trimmed) l.journal_there) ∙ k) in
             subst (IsFinishedDraft setup rows who) e
             (draft_finished (duties setup 0 who) (feed_of setup rows) l.journal
-            (issued_right setup wired rows are journals (tied_by_run setup rows journals states run) w who l.journal p l.journal_there) l.worked.finished)
+            (issued_right setup connected rows are journals (conserved_by_run setup rows journals states run) w who l.journal p l.journal_there) l.worked.finished)

@@ -18,12 +18,12 @@ use Rattle.flow_model.specs.Run.{put_by, ran_as}
 use Rattle.flow_model.specs.Workers.{workers_in}
 use Rattle.flow_model.proofs.AgreementLemmas.{met_shown}
 use Rattle.flow_model.proofs.ElementLemmas.{IsIn, flat_map_in, in_cases}
-use Rattle.flow_model.proofs.JobLemmas.{IsWired}
+use Rattle.flow_model.proofs.JobLemmas.{IsConnected}
 use Rattle.flow_model.proofs.LaneLemmas.{LaneIn, in_lanes_that, lane_into}
 use Rattle.flow_model.proofs.WorkerLemmas.{worker_with}
-use Rattle.audit_laws.specs.Brought.{feed_of}
+use Rattle.audit_laws.specs.Delivered.{feed_of}
 use Rattle.audit_laws.proofs.OneRunLemmas.{none_counted}
-use Rattle.audit_laws.proofs.TiedLemmas.{IsTied, sender_stands}
+use Rattle.audit_laws.proofs.ConservedLemmas.{IsConserved, sender_stands}
 
 -- every tuple of a journal has the property
 abbrev pub HasEach : (Tuple → Type 0) → List Entry → Type 0
@@ -34,13 +34,13 @@ abbrev pub SendsEach : SetupView → (Tuple → Type 0) → Worker → List Entr
 SendsEach setup P who journal =
     HasEach P journal → (lane : Lane) (t : Tuple) → IsIn (item.Carry t) (sent setup who (view_at setup 0 who empty) lane journal) → P t
 
-module _ (setup : SetupView) (wired : IsWired setup.job) (rows : List Row) (journals : List (List Entry))
-    (tied : (w : ℕ) (who : Worker) → slice_get (workers_in setup.job) w ≡ Some who → IsTied setup rows journals w) (P : Tuple → Type 0)
+module _ (setup : SetupView) (connected : IsConnected setup.job) (rows : List Row) (journals : List (List Entry))
+    (conserved : (w : ℕ) (who : Worker) → slice_get (workers_in setup.job) w ≡ Some who → IsConserved setup rows journals w) (P : Tuple → Type 0)
     (feeds_each : (lane : Lane) (t : Tuple) → IsIn (item.Carry t) (fed setup.job rows 0 lane (feed_of setup rows)) → P t)
     (sends_each : (w : ℕ) (who : Worker) (journal : List Entry) → slice_get (workers_in setup.job) w ≡ Some who → slice_get journals w ≡ Some journal → SendsEach setup P who journal)
   where
     abbrev Before : ℕ → Type 0
-    Before bound = (s : ℕ) (sender : Worker) (journal : List Entry) → slice_get (workers_in setup.job) s ≡ Some sender → wired.rank sender.node < bound → slice_get journals s ≡ Some journal
+    Before bound = (s : ℕ) (sender : Worker) (journal : List Entry) → slice_get (workers_in setup.job) s ≡ Some sender → connected.rank sender.node < bound → slice_get journals s ≡ Some journal
         → HasEach P journal
 
     has_fed : (lane : Lane) (t : Tuple) → IsIn (item.Carry t) (fed setup.job rows 0 lane (feed_of setup rows) ++ item.Last ∷ []) → P t
@@ -53,20 +53,20 @@ module _ (setup : SetupView) (wired : IsWired setup.job) (rows : List Row) (jour
 
     by_sender : (bound from : ℕ) (lane : Lane) (items : List Item) (t : Tuple) (o : Option ℕ) → Before bound
         → (o ≡ None) ⊎ ((who : Worker) × (o ≡ Some who.number) × (slice_get (workers_in setup.job) who.number ≡ Some who) × (who.node ≡ from))
-        → put_by (at_first setup) rows (ran_as setup (feed_of setup rows) journals []) lane o ≡ Some items → wired.rank from < bound → IsIn (item.Carry t) items → P t
+        → put_by (at_first setup) rows (ran_as setup (feed_of setup rows) journals []) lane o ≡ Some items → connected.rank from < bound → IsIn (item.Carry t) items → P t
     by_sender bound from lane items t o h (inl none) e lt i =
         let f : Some (fed setup.job rows 0 lane (feed_of setup rows) ++ item.Last ∷ []) ≡ Some items =
         subst (λ o. put_by (at_first setup) rows (ran_as setup (feed_of setup rows) journals []) lane o ≡ Some items) none e in
         has_fed lane t (subst (λ (l : List Item). IsIn (item.Carry t) l) (sym (same_Some (fed setup.job rows 0 lane (feed_of setup rows) ++ item.Last ∷ []) items f)) i)
     by_sender bound from lane items t o h (inr (q, is, there, node)) e lt i =
-        let y : IsTied setup rows journals q.number = tied q.number q there in
+        let y : IsConserved setup rows journals q.number = conserved q.number q there in
         let f : put_by (at_first setup) rows (ran_as setup (feed_of setup rows) journals []) lane (Some q.number) ≡ Some items =
         subst (λ o. put_by (at_first setup) rows (ran_as setup (feed_of setup rows) journals []) lane o ≡ Some items) is e in
         let g : Some (sent setup q (view_at setup 0 q empty) lane y.journal) ≡ Some items = rw (there, none_counted setup q.number q there, y.there) at f in
-        sends_each q.number q y.journal there y.there (h q.number q y.journal there (subst (λ v. wired.rank v < bound) (sym node) lt) y.there) lane t
+        sends_each q.number q y.journal there y.there (h q.number q y.journal there (subst (λ v. connected.rank v < bound) (sym node) lt) y.there) lane t
         (subst (λ (l : List Item). IsIn (item.Carry t) l) (sym (same_Some (sent setup q (view_at setup 0 q empty) lane y.journal) items g)) i)
 
-    has_here : (bound w : ℕ) (who : Worker) (x : IsTied setup rows journals w) → slice_get (workers_in setup.job) w ≡ Some who → wired.rank who.node < suc bound → Before bound
+    has_here : (bound w : ℕ) (who : Worker) (x : IsConserved setup rows journals w) → slice_get (workers_in setup.job) w ≡ Some who → connected.rank who.node < suc bound → Before bound
         → HasEach P x.journal
     has_here bound w who x p lt h l t i =
         let k = in_lanes_that (λ (lane : Lane). lane.receiver == w) setup.job l (x.met l t i) in
@@ -74,19 +74,19 @@ module _ (setup : SetupView) (wired : IsWired setup.job) (rows : List Row) (jour
         let here = worker_with setup.job w who p in
         let n : LaneIn setup.job who l = lane_into setup.job who l k.0 here.1 k.1 (r ∙ sym here.0) in
         let one : k.0 ≡ n.lane = same_Some k.0 n.lane (sym k.1 ∙ n.numbered) in
-        let up : wired.rank n.edge.from < wired.rank n.edge.to = wired.forward n.lane.edge n.edge n.edge_is in
-        let to : wired.rank n.edge.to ≡ wired.rank who.node = ap wired.rank n.to in
+        let up : connected.rank n.edge.from < connected.rank n.edge.to = connected.forward n.lane.edge n.edge n.edge_is in
+        let to : connected.rank n.edge.to ≡ connected.rank who.node = ap connected.rank n.to in
         by_sender bound n.edge.from k.0 (shown setup l x.journal) t k.0.sender h
         (subst (λ o. (o ≡ None) ⊎ ((who : Worker) × (o ≡ Some who.number) × (slice_get (workers_in setup.job) who.number ≡ Some who) × (who.node ≡ n.edge.from))) (sym (ap (λ (l : Lane). l.sender) one))
         (sender_stands setup.job n.edge.from n.lane.sender n.sends))
-        (x.tied l k.0 k.1 r) (omega arith)
+        (x.conserved l k.0 k.1 r) (omega arith)
         (flat_map_in (came_in setup l) (entry.Met l t) (item.Carry t) x.journal i (met_shown setup l t))
 
     below : (bound : ℕ) → Before bound
     below zero w who journal p lt j = absurd (omega arith)
     below (suc bound) w who journal p lt j =
-        let x : IsTied setup rows journals w = tied w who p in
+        let x : IsConserved setup rows journals w = conserved w who p in
         subst (HasEach P) (same_Some x.journal journal (sym x.there ∙ j)) (has_here bound w who x p lt (below bound))
 
     pub each_tuple : (w : ℕ) (who : Worker) (journal : List Entry) → slice_get (workers_in setup.job) w ≡ Some who → slice_get journals w ≡ Some journal → HasEach P journal
-    each_tuple w who journal p j = below (suc (wired.rank who.node)) w who journal p (omega arith) j
+    each_tuple w who journal p j = below (suc (connected.rank who.node)) w who journal p (omega arith) j

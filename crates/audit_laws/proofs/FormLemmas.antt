@@ -21,12 +21,12 @@ use Rattle.flow_model.specs.Run.{IsRunFrom, final_counts, ran_as}
 use Rattle.flow_model.specs.Duties.{duties}
 use Rattle.flow_model.specs.Workers.{workers_in}
 use Rattle.flow_model.proofs.ElementLemmas.{IsIn, all_of_at, at_of_all, in_cases, in_map}
-use Rattle.flow_model.proofs.JobLemmas.{IsWired}
+use Rattle.flow_model.proofs.JobLemmas.{IsConnected}
 use Rattle.flow_model.proofs.WorkerLemmas.{item_at, worker_with}
 use Rattle.audit_laws.specs.declared.audit.AuditEntry.{AuditEntry}
 use Rattle.audit_laws.specs.declared.audit.Line.{Line}
 use Rattle.audit_laws.specs.declared.audit.Line.TheVariants as line
-use Rattle.audit_laws.specs.Brought.{feed_of}
+use Rattle.audit_laws.specs.Delivered.{feed_of}
 use Rattle.audit_laws.specs.Faults.{Listed}
 use Rattle.audit_laws.specs.Lines.{IsEntryAt, IsLine, IsNoted, IsStep, lines_from, lines_of, worker_lines}
 use Rattle.audit_laws.specs.Names.{named_workers}
@@ -35,7 +35,7 @@ use Rattle.audit_laws.proofs.EachTupleLemmas.{HasEach}
 use Rattle.audit_laws.proofs.FedLemmas.{IsAmong, feed_among}
 use Rattle.audit_laws.proofs.LawfulLemmas.{Names, law_names}
 use Rattle.audit_laws.proofs.NarrowLemmas.{IsNarrow, each_narrow}
-use Rattle.audit_laws.proofs.OneRunLemmas.{Left, left_of, tied_by_run}
+use Rattle.audit_laws.proofs.OneRunLemmas.{Left, left_of, conserved_by_run}
 use Rattle.audit_laws.proofs.RangeLemmas.{AreInRange, all_range, empty_range}
 use Rattle.audit_laws.proofs.TextLemmas.{length-named}
 
@@ -62,7 +62,7 @@ of_image f xs k y g =
     let x = item_at xs k (omega (arith, lt, length-map xs f)) in
     (x.0, x.1, same_Some y (f x.0) (sym g ∙ (slice_get-map f xs k ∙ ap (option_map f) x.1)))
 
-module _ (setup : SetupView) (law : IsLawful setup.job) (wired : IsWired setup.job) (kinds : KeepKinds setup.job setup.requests)
+module _ (setup : SetupView) (law : IsLawful setup.job) (connected : IsConnected setup.job) (kinds : KeepKinds setup.job setup.requests)
     (few_plans : length setup.plans < 2 ^ 64) (few_requests : length setup.requests < 2 ^ 64) (rows : List Row) (are : AreRows rows) (few_rows : length rows < 2 ^ 64)
     (journals : List (List Entry)) (states : List Counts) (run : IsRunFrom (at_first setup) rows (ran_as setup (feed_of setup rows) journals states))
   where
@@ -98,7 +98,7 @@ module _ (setup : SetupView) (law : IsLawful setup.job) (wired : IsWired setup.j
               subst (λ v. Names setup v x.0) number
               (law_names setup p.0 (initial (duties setup 0 p.0)) here.journal x.0 law here.worked.finished.lawful.execution (λ r k. k) (subst (λ (l : List Entry). IsIn x.0 l) (sym one) x.1)) in
               let narrow : HasEach (IsNarrow (length rows)) journal =
-              each_narrow setup law wired kinds rows are journals (tied_by_run setup rows journals states run) w p.0 journal p.1 j in
+              each_narrow setup law connected kinds rows are journals (conserved_by_run setup rows journals states run) w p.0 journal p.1 j in
               let form : IsEntryAt setup.job w e.0 = subst (IsEntryAt setup.job w) (sym x.2) (entry_form w journal x.0 names narrow x.1) in
               subst (IsLine setup.job) (sym e.2) (named, form)
           | inr b ↦

@@ -22,15 +22,15 @@ use Rattle.flow_model.specs.Replay.{StateView, Put, after, items_on, put_out, pu
 use Rattle.flow_model.specs.Requests.{afters}
 use Rattle.flow_model.specs.Workers.{workers_in}
 use Rattle.flow_model.proofs.ElementLemmas.{IsIn, in_cases, in_map, place_of_in}
-use Rattle.flow_model.proofs.JobLemmas.{IsWired}
+use Rattle.flow_model.proofs.JobLemmas.{IsConnected}
 use Rattle.flow_model.proofs.RootLemmas.{FeedsRise, feed_rises}
 use Rattle.flow_model.proofs.RunLemmas.{row_is}
 use Rattle.flow_model.proofs.SendingLemmas.{in_items, puts_come}
-use Rattle.audit_laws.specs.Brought.{feed_of}
+use Rattle.audit_laws.specs.Delivered.{feed_of}
 use Rattle.audit_laws.specs.Drafted.{issued_before}
 use Rattle.audit_laws.proofs.DraftLemmas.{IssuedRight}
 use Rattle.audit_laws.proofs.EachTupleLemmas.{SendsEach, each_tuple}
-use Rattle.audit_laws.proofs.TiedLemmas.{IsTied}
+use Rattle.audit_laws.proofs.ConservedLemmas.{IsConserved}
 
 -- ---- what the feeder puts
 
@@ -108,8 +108,8 @@ carried_sent setup who view lane (x ∷ xs) t i =
 
 -- ---- all workers
 
-module _ (setup : SetupView) (wired : IsWired setup.job) (rows : List Row) (are : AreRows rows) (journals : List (List Entry))
-    (tied : (w : ℕ) (who : Worker) → slice_get (workers_in setup.job) w ≡ Some who → IsTied setup rows journals w)
+module _ (setup : SetupView) (connected : IsConnected setup.job) (rows : List Row) (are : AreRows rows) (journals : List (List Entry))
+    (conserved : (w : ℕ) (who : Worker) → slice_get (workers_in setup.job) w ≡ Some who → IsConserved setup rows journals w)
   where
     abbrev IsRight : Tuple → Type 0
     IsRight t = t.issued ≡ issued_before t.row 0 (feed_of setup rows)
@@ -125,4 +125,4 @@ module _ (setup : SetupView) (wired : IsWired setup.job) (rows : List Row) (are 
         k.issued ∙ (h k.lane k.tuple k.met ∙ ap (λ n. issued_before n 0 (feed_of setup rows)) (sym k.row))
 
     pub issued_right : (w : ℕ) (who : Worker) (journal : List Entry) → slice_get (workers_in setup.job) w ≡ Some who → slice_get journals w ≡ Some journal → IssuedRight (feed_of setup rows) journal
-    issued_right = each_tuple setup wired rows journals tied IsRight right_fed (λ w who journal p j. right_sent who journal)
+    issued_right = each_tuple setup connected rows journals conserved IsRight right_fed (λ w who journal p j. right_sent who journal)

@@ -27,16 +27,16 @@ use Rattle.flow_model.specs.SetupView.{SetupView, Worker}
 use Rattle.flow_model.specs.Replay.{StateView, Put, put_out, puts, visit_at}
 use Rattle.flow_model.specs.Workers.{workers_in}
 use Rattle.flow_model.proofs.ElementLemmas.{IsIn, all_of_at, in_flat_map, in_map, place_of_in}
-use Rattle.flow_model.proofs.JobLemmas.{IsWired}
+use Rattle.flow_model.proofs.JobLemmas.{IsConnected}
 use Rattle.flow_model.proofs.KindLemmas.{AreAlike, IsGiven, alike_given, given_roof, given_then}
 use Rattle.flow_model.proofs.RunLemmas.{in_fed_puts, row_is}
 use Rattle.flow_model.proofs.SendingLemmas.{in_items, puts_come}
 use Rattle.flow_model.proofs.StoryLemmas.{entry_in, put_then, sent-story, story}
 use Rattle.flow_model.proofs.WorkerLemmas.{IsWorker, worker_with}
-use Rattle.audit_laws.specs.Brought.{feed_of}
+use Rattle.audit_laws.specs.Delivered.{feed_of}
 use Rattle.audit_laws.proofs.EachTupleLemmas.{HasEach, SendsEach, each_tuple}
 use Rattle.audit_laws.proofs.SmallLemmas.{AreNarrow, births_narrow}
-use Rattle.audit_laws.proofs.TiedLemmas.{IsTied}
+use Rattle.audit_laws.proofs.ConservedLemmas.{IsConserved}
 
 -- the tuple is of one of so many rows, and its births are in range
 abbrev pub IsNarrow : ℕ → Tuple → Type 0
@@ -100,14 +100,14 @@ narrow_put rows setup who view (entry.Marked l r) p t fits h i e = absurd i
 narrow_put rows setup who view (entry.Turned r) p t fits h i e = let m = (puts_come setup who view (entry.Turned r) p i).2 in absurd (cc)
 narrow_put rows setup who view (entry.Ended l) p t fits h i e = let m = puts_come setup who view (entry.Ended l) p i in absurd (cc)
 
-module _ (setup : SetupView) (law : IsLawful setup.job) (wired : IsWired setup.job) (kinds : KeepKinds setup.job setup.requests) where
+module _ (setup : SetupView) (law : IsLawful setup.job) (connected : IsConnected setup.job) (kinds : KeepKinds setup.job setup.requests) where
   fits_given : (node : ℕ) (def : NodeDef) (f : Func) → slice_get setup.job.nodes node ≡ Some def → IsGiven setup node def.func f → Fits setup node f
   fits_given node def f there given =
       let roof = given_roof setup node def f law kinds there given in
       let most = (roof_of_node setup.job node def law there).1 in
       let few = few_pieces def.func (out_count setup.job.edges node) in
       let alike : AreAlike setup.job.edges node def.func f = alike_given setup node def f kinds there given in
-      record { pieces = omega arith; ports = alike.ports (wired.ports node def there) }
+      record { pieces = omega arith; ports = alike.ports (connected.ports node def there) }
 
   narrow_sent : (rows : ℕ) (w : ℕ) (who : Worker) (journal : List Entry) → slice_get (workers_in setup.job) w ≡ Some who → SendsEach setup (IsNarrow rows) who journal
   narrow_sent rows w who journal p h lane t i =
@@ -124,7 +124,7 @@ module _ (setup : SetupView) (law : IsLawful setup.job) (wired : IsWired setup.j
 
   -- in journals that are tied to their senders every tuple is of one of the rows, and its births are in range
   pub each_narrow : (rows : List Row) → AreRows rows → (journals : List (List Entry))
-      → ((w : ℕ) (who : Worker) → slice_get (workers_in setup.job) w ≡ Some who → IsTied setup rows journals w)
+      → ((w : ℕ) (who : Worker) → slice_get (workers_in setup.job) w ≡ Some who → IsConserved setup rows journals w)
       → (w : ℕ) (who : Worker) (journal : List Entry) → slice_get (workers_in setup.job) w ≡ Some who → slice_get journals w ≡ Some journal → HasEach (IsNarrow (length rows)) journal
-  each_narrow rows are journals tied =
-      each_tuple setup wired rows journals tied (IsNarrow (length rows)) (narrow_fed setup rows are) (λ w who journal p j. narrow_sent (length rows) w who journal p)
+  each_narrow rows are journals conserved =
+      each_tuple setup connected rows journals conserved (IsNarrow (length rows)) (narrow_fed setup rows are) (λ w who journal p j. narrow_sent (length rows) w who journal p)

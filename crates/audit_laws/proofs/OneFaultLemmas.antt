@@ -16,20 +16,20 @@ use Rattle.flow_model.specs.Replay.{shown}
 use Rattle.flow_model.specs.Duties.{duties}
 use Rattle.flow_model.specs.Workers.{workers_in}
 use Rattle.flow_model.proofs.ElementLemmas.{map_in}
-use Rattle.flow_model.proofs.JobLemmas.{IsWired}
+use Rattle.flow_model.proofs.JobLemmas.{IsConnected}
 use Rattle.flow_model.proofs.PlannedLemmas.{due_covers}
 use Rattle.flow_model.proofs.WorkerLemmas.{worker_with}
 use Rattle.audit_laws.specs.declared.audit.AuditEntry.{AuditEntry}
 use Rattle.audit_laws.specs.declared.fault.AuditFault.{AuditFault}
 use Rattle.audit_laws.specs.declared.fault.AuditFault.TheVariants as fault
-use Rattle.audit_laws.specs.Brought.{brought, feed_of}
+use Rattle.audit_laws.specs.Delivered.{delivered, feed_of}
 use Rattle.audit_laws.specs.Drafted.{draft, drafted}
 use Rattle.audit_laws.specs.Faults.{AreFinished, AreItems, ComesBefore, HasBadLane, HasBadLaw, HasBadState, IsFaultOfWorkers, IsRestored, Listed}
 use Rattle.audit_laws.specs.Trimmed.{trim, trimmed}
 use Rattle.audit_laws.proofs.CheckedLemmas.{met_by_draft}
 use Rattle.audit_laws.proofs.FaultLemmas.{brings_same, in_order, order_below, order_forward}
 use Rattle.audit_laws.proofs.SeenLemmas.{MarksPlans, marked_is_due, plan_there, seen_shown}
-use Rattle.audit_laws.proofs.TiedLemmas.{IsClosed, IsTied, same_journals}
+use Rattle.audit_laws.proofs.ConservedLemmas.{IsClosed, IsConserved, same_journals}
 use Rattle.audit_laws.proofs.TrimLemmas.{MetOn}
 
 -- ---- the order of workers
@@ -40,16 +40,16 @@ before_trans order a b c (inl x) (inr (node, y)) = inl (subst (λ v. place_of or
 before_trans order a b c (inr (node, x)) (inl y) = inl (subst (λ v. place_of order v < place_of order c.node) (sym node) y)
 before_trans order a b c (inr (node, x)) (inr (other, y)) = inr (node ∙ other, omega arith)
 
-module _ (setup : SetupView) (order : List ℕ) (wired : IsWired setup.job) (up : (a b : ℕ) → wired.rank a < wired.rank b → place_of order a < place_of order b)
+module _ (setup : SetupView) (order : List ℕ) (connected : IsConnected setup.job) (up : (a b : ℕ) → connected.rank a < connected.rank b → place_of order a < place_of order b)
     (one_place : (a b : Worker) (v w : ℕ) → slice_get (workers_in setup.job) v ≡ Some a → slice_get (workers_in setup.job) w ≡ Some b → place_of order a.node ≡ place_of order b.node → a.node ≡ b.node)
     (rows : List Row) (audit : List (List AuditEntry)) (finished : AreFinished setup rows audit)
   where
-    tied : (journals : List (List Entry)) (w : ℕ) (who : Worker) → slice_get (workers_in setup.job) w ≡ Some who → IsRestored setup rows audit journals w → IsTied setup rows journals w
-    tied journals w who p r = record {
+    conserved : (journals : List (List Entry)) (w : ℕ) (who : Worker) → slice_get (workers_in setup.job) w ≡ Some who → IsRestored setup rows audit journals w → IsConserved setup rows journals w
+    conserved journals w who p r = record {
       journal = r.journal;
       there = r.there;
       met = subst (λ v. MetOn (lanes_in setup.job v) r.journal) (worker_with setup.job w who p).0 (met_by_draft setup rows who r.journal (finished w who (trimmed r.journal) p r.kept_there));
-      tied = r.shows;
+      conserved = r.shows;
     }
 
     marks_plans : (journals : List (List Entry)) (w : ℕ) (who : Worker) → slice_get (workers_in setup.job) w ≡ Some who → (r : IsRestored setup rows audit journals w) → MarksPlans setup r.journal
@@ -60,14 +60,14 @@ module _ (setup : SetupView) (order : List ℕ) (wired : IsWired setup.job) (up 
         (map_in (draft (feed_of setup rows)) (trim (entry.Marked n q)) (trimmed r.journal) (map_in trim (entry.Marked n q) r.journal i))))
 
     -- two restored journals are the same
-    same : (A B : List (List Entry)) (Done : ℕ → Type 0) → IsClosed setup wired Done
+    same : (A B : List (List Entry)) (Done : ℕ → Type 0) → IsClosed setup connected Done
         → ((w : ℕ) → Done w → ((who : Worker) × (slice_get (workers_in setup.job) w ≡ Some who)) × IsRestored setup rows audit A w × IsRestored setup rows audit B w)
         → (w : ℕ) → Done w → slice_get A w ≡ slice_get B w
     same A B Done closed h w d =
         let here = h w d in
-        same_journals setup wired rows A B Done closed
-        (λ v e. let q = h v e in tied A v q.0.0 q.0.1 q.1)
-        (λ v e. let q = h v e in tied B v q.0.0 q.0.1 q.2)
+        same_journals setup connected rows A B Done closed
+        (λ v e. let q = h v e in conserved A v q.0.0 q.0.1 q.1)
+        (λ v e. let q = h v e in conserved B v q.0.0 q.0.1 q.2)
         (λ v e. let q = h v e in ap (option_map trimmed) q.1.there ∙ (sym q.1.kept_there ∙ (q.2.kept_there ∙ sym (ap (option_map trimmed) q.2.there))))
         w here.0.0 here.0.1 d
 
@@ -75,7 +75,7 @@ module _ (setup : SetupView) (order : List ℕ) (wired : IsWired setup.job) (up 
     abbrev EarlierThan : Worker → ℕ → Type 0
     EarlierThan who v = (q : Worker) × (slice_get (workers_in setup.job) v ≡ Some q) × ComesBefore order q who
 
-    earlier_closed : (who : Worker) → IsClosed setup wired (EarlierThan who)
+    earlier_closed : (who : Worker) → IsClosed setup connected (EarlierThan who)
     earlier_closed who w s here sender p q lt (one, there, before) =
         let e : here ≡ one = same_Some here one (sym p ∙ there) in
         (sender, q, before_trans order sender one who (inl (subst (λ (x : Worker). place_of order sender.node < place_of order x.node) e (up sender.node here.node lt))) before)
@@ -83,9 +83,9 @@ module _ (setup : SetupView) (order : List ℕ) (wired : IsWired setup.job) (up 
     -- the journals that are restored before a bad lane bring it what any others do
     same_brings : (n : ℕ) (h : HasBadLane setup order rows audit n) (B : List (List Entry))
         → ((w : ℕ) (p : Worker) → slice_get (workers_in setup.job) w ≡ Some p → ComesBefore order p h.who → IsRestored setup rows audit B w)
-        → brought setup rows h.journals h.lane ≡ brought setup rows B h.lane
+        → delivered setup rows h.journals h.lane ≡ delivered setup rows B h.lane
     same_brings n h B others =
-        brings_same setup wired rows h.journals B n h.lane h.who h.lane_is h.receives
+        brings_same setup connected rows h.journals B n h.lane h.who h.lane_is h.receives
         (λ s sender p lt. same h.journals B (EarlierThan h.who) (earlier_closed h.who) (λ v d. ((d.0, d.1), h.restored v d.0 d.1 d.2, others v d.0 d.1 d.2)) s
         (sender, p, inl (up sender.node h.who.node lt)))
 
@@ -103,7 +103,7 @@ module _ (setup : SetupView) (order : List ℕ) (wired : IsWired setup.job) (up 
     not_first : (n m : ℕ) (h : HasBadLane setup order rows audit n) (k : HasBadLane setup order rows audit m) → h.lane.receiver ≡ k.lane.receiver → n < m → ⊥
     not_first n m h k e lt =
         let one : h.who ≡ k.who = same_Some h.who k.who (sym h.receives ∙ subst (λ v. slice_get (workers_in setup.job) v ≡ Some k.who) (sym e) k.receives) in
-        let brings : brought setup rows k.journals h.lane ≡ Some h.items =
+        let brings : delivered setup rows k.journals h.lane ≡ Some h.items =
         sym (same_brings n h k.journals (λ w p g before. k.restored w p g (subst (ComesBefore order p) one before))) ∙ h.brings in
         h.differ (k.least n h.lane lt h.lane_is e h.items h.journal brings h.there)
 
@@ -182,12 +182,12 @@ one_place_of setup dag nodes a b v w p q e =
     sym (get_or-place_of (HasEdge dag.edges) dag.nodes dag.order dag.lawful.ordered a.node (omega arith))
     ∙ (ap (λ k. get_or dag.order k 0) e ∙ get_or-place_of (HasEdge dag.edges) dag.nodes dag.order dag.lawful.ordered b.node (omega arith))
 
-module _ (setup : SetupView) (dag : DagView) (wired : IsWired setup.job) (edges : dag.edges ≡ setup.job.edges) (nodes : dag.nodes ≡ length setup.job.nodes) (rows : List Row)
+module _ (setup : SetupView) (dag : DagView) (connected : IsConnected setup.job) (edges : dag.edges ≡ setup.job.edges) (nodes : dag.nodes ≡ length setup.job.nodes) (rows : List Row)
     (audit : List (List AuditEntry)) (states : List Listed)
   where
     -- the job, its nodes ranked by their places
-    abbrev by_order : IsWired setup.job
-    by_order = in_order setup.job wired dag.order (order_below setup.job dag nodes) (order_forward setup.job dag wired edges nodes)
+    abbrev by_order : IsConnected setup.job
+    by_order = in_order setup.job connected dag.order (order_below setup.job dag nodes) (order_forward setup.job dag connected edges nodes)
 
     abbrev IsFault : AuditFault → Type 0
     IsFault f = IsFaultOfWorkers setup dag.order rows audit states f

@@ -14,14 +14,14 @@ use Rattle.flow_model.specs.declared.topology.Lane.{Lane}
 use Rattle.flow_model.specs.Run.{IsRun, IsRunFrom, IsWorked, Ran, final_counts, put_by, ran_as}
 use Rattle.flow_model.specs.Duties.{duties}
 use Rattle.flow_model.specs.Workers.{workers_in}
-use Rattle.flow_model.proofs.JobLemmas.{IsWired}
+use Rattle.flow_model.proofs.JobLemmas.{IsConnected}
 use Rattle.flow_model.proofs.MarkerLemmas.{met_on_lane}
 use Rattle.flow_model.proofs.WorkerLemmas.{item_at, worker_with}
 use Rattle.audit_laws.specs.declared.audit.AuditEntry.{AuditEntry}
-use Rattle.audit_laws.specs.Brought.{feed_of}
+use Rattle.audit_laws.specs.Delivered.{feed_of}
 use Rattle.audit_laws.specs.Trimmed.{trimmed}
 use Rattle.audit_laws.proofs.TrimLemmas.{MetOn}
-use Rattle.audit_laws.proofs.TiedLemmas.{IsTied, same_journals}
+use Rattle.audit_laws.proofs.ConservedLemmas.{IsConserved, same_journals}
 
 -- two lists are the same whose items are, place by place
 pub same_list : {A : Type 0} (xs ys : List A) → length xs ≡ length ys → ((k : ℕ) → k < length xs → slice_get xs k ≡ slice_get ys k) → xs ≡ ys
@@ -66,8 +66,8 @@ module _ (setup : SetupView) (rows : List Row) (journals : List (List Entry)) (s
           worked = run.worked w who empty j.0 s.0 p (none_counted setup w who p) j.1 s.1;
         }
 
-    pub tied_by_run : (w : ℕ) (who : Worker) → slice_get (workers_in setup.job) w ≡ Some who → IsTied setup rows journals w
-    tied_by_run w who p =
+    pub conserved_by_run : (w : ℕ) (who : Worker) → slice_get (workers_in setup.job) w ≡ Some who → IsConserved setup rows journals w
+    conserved_by_run w who p =
         let l : Left w who = left_of w who p in
         let number : who.number ≡ w = (worker_with setup.job w who p).0 in
         record {
@@ -75,9 +75,9 @@ module _ (setup : SetupView) (rows : List Row) (journals : List (List Entry)) (s
           there = l.journal_there;
           met = subst (λ v. MetOn (lanes_in setup.job v) l.journal) number
               (λ n t i. met_on_lane (duties setup 0 who) (initial (duties setup 0 who)) l.journal n t l.worked.finished.lawful.execution i);
-          tied = λ n lane g r.
+          conserved = λ n lane g r.
               sym (put_by-states setup rows journals states lane lane.sender)
-              ∙ run.tied n lane l.journal g (subst (λ v. slice_get journals v ≡ Some l.journal) (sym r) l.journal_there);
+              ∙ run.conserved n lane l.journal g (subst (λ v. slice_get journals v ≡ Some l.journal) (sym r) l.journal_there);
         }
 
 -- a worker's trimmed journal, by its number
@@ -88,7 +88,7 @@ pub length_trimmed : (A : List (List Entry)) → length (map trimmed A) ≡ leng
 length_trimmed [] = refl
 length_trimmed (j ∷ A) = ap suc (length_trimmed A)
 
-module _ (setup : SetupView) (wired : IsWired setup.job) (rows : List Row) (A B : List (List Entry)) (S T : List Counts)
+module _ (setup : SetupView) (connected : IsConnected setup.job) (rows : List Row) (A B : List (List Entry)) (S T : List Counts)
     (a : IsRunFrom (at_first setup) rows (ran_as setup (feed_of setup rows) A S)) (b : IsRunFrom (at_first setup) rows (ran_as setup (feed_of setup rows) B T)) (same : map trimmed A ≡ map trimmed B)
   where
     abbrev IsThere : ℕ → Type 0
@@ -96,8 +96,8 @@ module _ (setup : SetupView) (wired : IsWired setup.job) (rows : List Row) (A B 
 
     by_worker : (w : ℕ) (who : Worker) → slice_get (workers_in setup.job) w ≡ Some who → slice_get A w ≡ slice_get B w
     by_worker w who p =
-        same_journals setup wired rows A B IsThere (λ w s who sender p there lt d. (sender, there))
-        (λ w d. tied_by_run setup rows A S a w d.0 d.1) (λ w d. tied_by_run setup rows B T b w d.0 d.1)
+        same_journals setup connected rows A B IsThere (λ w s who sender p there lt d. (sender, there))
+        (λ w d. conserved_by_run setup rows A S a w d.0 d.1) (λ w d. conserved_by_run setup rows B T b w d.0 d.1)
         (λ w d. trimmed_there A B w same) w who p (who, p)
 
     one_journals : A ≡ B
@@ -128,10 +128,10 @@ by_parts setup rows ran is =
     ap (λ (feeds : List Feed). ran_as setup feeds ran.journals ran.states) r.feed in
     (e ∙ f, subst (IsRunFrom (at_first setup) rows) f r)
 
-pub one_run : (setup : SetupView) → IsWired setup.job → (rows : List Row) (a b : Ran) → IsRun setup rows a → IsRun setup rows b → map trimmed a.journals ≡ map trimmed b.journals → a ≡ b
-one_run setup wired rows a b x y same =
+pub one_run : (setup : SetupView) → IsConnected setup.job → (rows : List Row) (a b : Ran) → IsRun setup rows a → IsRun setup rows b → map trimmed a.journals ≡ map trimmed b.journals → a ≡ b
+one_run setup connected rows a b x y same =
     let p = by_parts setup rows a x in
     let q = by_parts setup rows b y in
-    let j : a.journals ≡ b.journals = one_journals setup wired rows a.journals b.journals a.states b.states p.1 q.1 same in
-    let s : a.states ≡ b.states = one_states setup wired rows a.journals b.journals a.states b.states p.1 q.1 same in
+    let j : a.journals ≡ b.journals = one_journals setup connected rows a.journals b.journals a.states b.states p.1 q.1 same in
+    let s : a.states ≡ b.states = one_states setup connected rows a.journals b.journals a.states b.states p.1 q.1 same in
     p.0 ∙ (ap₂ (λ (journals : List (List Entry)) (states : List Counts). ran_as setup (feed_of setup rows) journals states) j s ∙ sym q.0)

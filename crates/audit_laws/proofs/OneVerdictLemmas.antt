@@ -10,11 +10,11 @@ use Rattle.sink_journal.specs.declared.journal.Feed.{Feed}
 use Rattle.tuple_trace.specs.declared.row.Row.{Row}
 use Rattle.flow_model.specs.SetupView.{SetupView}
 use Rattle.flow_model.proofs.ElementLemmas.{all_of_at, at_of_all, before_both, in_left, in_right, pair_of_all}
-use Rattle.flow_model.proofs.JobLemmas.{IsWired}
+use Rattle.flow_model.proofs.JobLemmas.{IsConnected}
 use Rattle.audit_laws.specs.declared.audit.Line.{Line}
 use Rattle.audit_laws.specs.declared.fault.AuditFault.{AuditFault}
 use Rattle.audit_laws.specs.declared.fault.AuditFault.TheVariants as fault
-use Rattle.audit_laws.specs.Brought.{feed_of}
+use Rattle.audit_laws.specs.Delivered.{feed_of}
 use Rattle.audit_laws.specs.Faults.{IsFaultOfWorkers}
 use Rattle.audit_laws.specs.Lines.{IsLine, StandInOrder, counts_in, feeds_in, group_of, journal_in, line_fields, refusals_in}
 use Rattle.audit_laws.specs.Names.{named_workers}
@@ -82,7 +82,7 @@ one_shape job told records i j a b =
 
 -- ---- the six codes
 
-module _ (setup : SetupView) (dag : DagView) (wired : IsWired setup.job) (lawful : IsLawful setup.job) (edges : dag.edges ≡ setup.job.edges) (nodes : dag.nodes ≡ length setup.job.nodes)
+module _ (setup : SetupView) (dag : DagView) (connected : IsConnected setup.job) (lawful : IsLawful setup.job) (edges : dag.edges ≡ setup.job.edges) (nodes : dag.nodes ≡ length setup.job.nodes)
     (rows : List Row) (refused : List Noted) (records : List (List (List ℕ)))
   where
     -- the fault is one of the shape, of the refused requests, of the feed, or of the workers
@@ -149,7 +149,7 @@ module _ (setup : SetupView) (dag : DagView) (wired : IsWired setup.job) (lawful
     workers : (f g : AuditFault) → (f ≡ fault.NoMemory → ⊥) → (g ≡ fault.NoMemory → ⊥) → OfWorkers f → OfWorkers g → f ≡ g
     workers f g a b h k =
         let e : h.0 ≡ k.0 = one_reading setup.job told records h.0 k.0 h.1 k.1 in
-        one_fault setup dag wired edges nodes rows (by_worker setup (journal_in k.0)) (by_worker setup (counts_in k.0)) f g a b
+        one_fault setup dag connected edges nodes rows (by_worker setup (journal_in k.0)) (by_worker setup (counts_in k.0)) f g a b
         (subst (λ (ls : List Line). IsFaultOfWorkers setup dag.order rows (by_worker setup (journal_in ls)) (by_worker setup (counts_in ls)) f) e h.4) k.4
 
     both : (f g : AuditFault) → (f ≡ fault.NoMemory → ⊥) → (g ≡ fault.NoMemory → ⊥) → Sorted f → Sorted g → f ≡ g

@@ -15,13 +15,13 @@ use Rattle.flow_model.specs.Begin.{at_first}
 use Rattle.flow_model.specs.SetupView.{SetupView}
 use Rattle.flow_model.specs.Run.{IsRun, IsRunFrom, Ran, ran_as}
 use Rattle.flow_model.specs.Workers.{workers_in}
-use Rattle.flow_model.proofs.JobLemmas.{IsWired}
+use Rattle.flow_model.proofs.JobLemmas.{IsConnected}
 use Rattle.flow_model.proofs.WorkerLemmas.{item_at}
 use Rattle.audit_laws.specs.declared.audit.AuditEntry.{AuditEntry}
 use Rattle.audit_laws.specs.declared.audit.Line.{Line}
 use Rattle.audit_laws.specs.declared.fault.AuditFault.{AuditFault}
 use Rattle.audit_laws.specs.declared.fault.AuditFault.TheVariants as fault
-use Rattle.audit_laws.specs.Brought.{feed_of}
+use Rattle.audit_laws.specs.Delivered.{feed_of}
 use Rattle.audit_laws.specs.Faults.{IsFaultOfWorkers, Listed}
 use Rattle.audit_laws.specs.Fits.{Fits, HasForm, kept_lines, records_of}
 use Rattle.audit_laws.specs.Lines.{IsLine, line_fields, counts_in, feeds_in, journal_in, lines_of, refusals_in}
@@ -63,7 +63,7 @@ module _ (setup : SetupView) (refusals : List Noted) (feeds : List Feed) (journa
         let z : w ≡ 0 + w = omega arith in
         h.1.1 ∙ ap Some (sym (counts_told refusals feeds (map trimmed journals) (map entries states) w h.0.0 h.1.0 h.0.1 h.1.1) ∙ ap (counts_in the_lines) z))
 
-module _ (setup : SetupView) (dag : DagView) (wired : IsWired setup.job) (lawful : IsLawful setup.job) (edges : dag.edges ≡ setup.job.edges) (nodes : dag.nodes ≡ length setup.job.nodes)
+module _ (setup : SetupView) (dag : DagView) (connected : IsConnected setup.job) (lawful : IsLawful setup.job) (edges : dag.edges ≡ setup.job.edges) (nodes : dag.nodes ≡ length setup.job.nodes)
     (rows : List Row) (are : AreRows rows) (refused : List Noted) (records : List (List (List ℕ))) (journals : List (List Entry)) (states : List Counts)
     (run : IsRunFrom (at_first setup) rows (ran_as setup (feed_of setup rows) journals states))
     (shape : AreInShape setup.job records (lines_of refused (feed_of setup rows) (map trimmed journals) (map entries states)))
@@ -82,7 +82,7 @@ module _ (setup : SetupView) (dag : DagView) (wired : IsWired setup.job) (lawful
         ap (λ (ls : List Line). by_worker setup (journal_in ls)) e ∙ journals_told setup refused (feed_of setup rows) journals states run.one_journal_each run.one_state_each in
         let c : by_worker setup (counts_in others) ≡ map entries states =
         ap (λ (ls : List Line). by_worker setup (counts_in ls)) e ∙ states_told setup refused (feed_of setup rows) journals states run.one_journal_each run.one_state_each in
-        no_fault setup dag wired edges nodes rows are journals states run f some (
+        no_fault setup dag connected edges nodes rows are journals states run f some (
         subst (λ (x : List (List AuditEntry)). IsFaultOfWorkers setup dag.order rows x (map entries states) f) j (
         subst (λ (x : List Listed). IsFaultOfWorkers setup dag.order rows (by_worker setup (journal_in others)) x f) c h))
 

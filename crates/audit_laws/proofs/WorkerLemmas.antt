@@ -28,11 +28,11 @@ use Rattle.flow_model.proofs.SendingLemmas.{comes_of, in_items}
 use Rattle.flow_model.proofs.WorkerLemmas.{worker_with}
 use Rattle.audit_laws.specs.declared.audit.AuditEntry.{AuditEntry}
 use Rattle.audit_laws.specs.declared.audit.AuditEntry.TheVariants as kept
-use Rattle.audit_laws.specs.Brought.{brought, feed_of}
-use Rattle.audit_laws.specs.Checked.{IsFinishedDraft, ShowsBrought}
+use Rattle.audit_laws.specs.Delivered.{delivered, feed_of}
+use Rattle.audit_laws.specs.Checked.{IsFinishedDraft, ShowsDelivered}
 use Rattle.audit_laws.specs.Drafted.{drafted}
 use Rattle.audit_laws.specs.Faults.{AreItems}
-use Rattle.audit_laws.specs.Restoring.{LanesAgree, brought_by, brought_on, items_of, restored}
+use Rattle.audit_laws.specs.Restoring.{LanesAgree, delivered_by, delivered_on, items_of, restored}
 use Rattle.audit_laws.specs.Trimmed.{trimmed}
 use Rattle.audit_laws.proofs.RestoringLemmas.{ComeBy, IsRightMark, restored_sought}
 
@@ -93,9 +93,9 @@ right_fed setup rows feeds lane (item.Mark r c) i =
       | inr (inr n) ↦ absurd n
     ]
 
-pub right_brought : (setup : SetupView) (rows : List Row) (journals : List (List Entry)) (lane : Lane) (items : List Item) (y : Item) → brought setup rows journals lane ≡ Some items → IsIn y items
+pub right_delivered : (setup : SetupView) (rows : List Row) (journals : List (List Entry)) (lane : Lane) (items : List Item) (y : Item) → delivered setup rows journals lane ≡ Some items → IsIn y items
     → IsRightMark setup y
-right_brought setup rows journals lane items y e i = by_sender lane.sender e
+right_delivered setup rows journals lane items y e i = by_sender lane.sender e
   where
     by_parts : (a : Option Worker) (b : Option Counts) (c : Option (List Entry)) → sent_by setup (at_first setup) lane a b c ≡ Some items → IsRightMark setup y
     by_parts None b c e = absurd (cc)
@@ -115,26 +115,26 @@ right_brought setup rows journals lane items y e i = by_sender lane.sender e
 
 pub worker_restored : (setup : SetupView) (rows : List Row) (journals : List (List Entry)) (w : ℕ) (who : Worker) (journal : List AuditEntry) → slice_get (workers_in setup.job) w ≡ Some who
     → IsFinishedDraft setup rows who journal → LanesAgree setup rows journals w journal
-    → (trimmed (restored (brought_on setup rows journals) journal) ≡ journal) × ShowsBrought setup rows journals w (restored (brought_on setup rows journals) journal)
+    → (trimmed (restored (delivered_on setup rows journals) journal) ≡ journal) × ShowsDelivered setup rows journals w (restored (delivered_on setup rows journals) journal)
 worker_restored setup rows journals w who journal p law agree =
     let number : who.number ≡ w = (worker_with setup.job w who p).0 in
     let come : ComeBy (lanes_in setup.job w) journal =
     subst (λ v. ComeBy (lanes_in setup.job v) journal) number (come_by setup (feed_of setup rows) who (initial (duties setup 0 who)) journal law.lawful.execution) in
-    let sought = restored_sought setup (lanes_in setup.job w) (brought_on setup rows journals) journal come (λ n i. (on n i).3)
-    (λ n x i j. let o = on n i in right_brought setup rows journals o.0 o.1 x o.2 (subst (λ (l : List Item). IsIn x l) o.4 j)) in (
+    let sought = restored_sought setup (lanes_in setup.job w) (delivered_on setup rows journals) journal come (λ n i. (on n i).3)
+    (λ n x i j. let o = on n i in right_delivered setup rows journals o.0 o.1 x o.2 (subst (λ (l : List Item). IsIn x l) o.4 j)) in (
       sought.0,
       λ n lane g r.
           let a = agree n lane g r in
           a.1 ∙ ap Some (sym (sought.1 n (lanes_that_in (λ (lane : Lane). lane.receiver == w) setup.job n lane g (eq-eqb lane.receiver w r)) ∙ at n lane a.0 g a.1)),
     )
   where
-    at : (n : ℕ) (lane : Lane) (items : List Item) → slice_get (lanes setup.job) n ≡ Some lane → brought setup rows journals lane ≡ Some items → brought_on setup rows journals n ≡ items
-    at n lane items g e = ap (brought_by setup rows journals) g ∙ ap items_of e
+    at : (n : ℕ) (lane : Lane) (items : List Item) → slice_get (lanes setup.job) n ≡ Some lane → delivered setup rows journals lane ≡ Some items → delivered_on setup rows journals n ≡ items
+    at n lane items g e = ap (delivered_by setup rows journals) g ∙ ap items_of e
 
     on : (n : ℕ) → IsIn n (lanes_in setup.job w)
-        → (lane : Lane) × (items : List Item) × (brought setup rows journals lane ≡ Some items) × AreItems n (brought_on setup rows journals n) journal × (brought_on setup rows journals n ≡ items)
+        → (lane : Lane) × (items : List Item) × (delivered setup rows journals lane ≡ Some items) × AreItems n (delivered_on setup rows journals n) journal × (delivered_on setup rows journals n ≡ items)
     on n i =
         let l = in_lanes_that (λ (lane : Lane). lane.receiver == w) setup.job n i in
         let a = agree n l.0 l.1 (eqb-true l.0.receiver w l.2) in
-        let e : brought_on setup rows journals n ≡ a.0 = at n l.0 a.0 l.1 a.1 in
+        let e : delivered_on setup rows journals n ≡ a.0 = at n l.0 a.0 l.1 a.1 in
         (l.0, a.0, a.1, subst (λ x. AreItems n x journal) (sym e) a.2, e)

@@ -14,7 +14,7 @@ use Rattle.flow_model.specs.Run.{final_counts}
 use Rattle.flow_model.specs.Duties.{duties}
 use Rattle.flow_model.specs.Workers.{workers_in}
 use Rattle.audit_laws.specs.declared.audit.AuditEntry.{AuditEntry}
-use Rattle.audit_laws.specs.Brought.{brought, feed_of}
+use Rattle.audit_laws.specs.Delivered.{delivered, feed_of}
 use Rattle.audit_laws.specs.Drafted.{drafted}
 use Rattle.audit_laws.specs.Trimmed.{trimmed}
 
@@ -24,10 +24,10 @@ IsFinishedDraft setup rows who journal =
     IsFinished (duties setup 0 who) (drafted (feed_of setup rows) journal)
 
 -- Each lane into the worker shows, in order, what it brings.
-abbrev pub ShowsBrought : SetupView → List Row → List (List Entry) → ℕ → List Entry → Type 0
-ShowsBrought setup rows journals w journal =
+abbrev pub ShowsDelivered : SetupView → List Row → List (List Entry) → ℕ → List Entry → Type 0
+ShowsDelivered setup rows journals w journal =
     (n : ℕ) (lane : Lane) → slice_get (lanes setup.job) n ≡ Some lane → lane.receiver ≡ w →
-    brought setup rows journals lane ≡ Some (shown setup n journal)
+    delivered setup rows journals lane ≡ Some (shown setup n journal)
 
 -- These journals are restored from the trimmed ones. The law holds of the trimmed journals, and the
 -- counts are those of the replays.
@@ -40,9 +40,9 @@ pub record IsChecked (setup : SetupView) (rows : List Row) (audit : List (List A
       (w : ℕ) (who : Worker) (journal : List AuditEntry) →
       slice_get (workers_in setup.job) w ≡ Some who → slice_get audit w ≡ Some journal →
       IsFinishedDraft setup rows who journal
-  pub brought_is_shown :
+  pub delivered_is_shown :
       (w : ℕ) (journal : List Entry) → slice_get journals w ≡ Some journal →
-      ShowsBrought setup rows journals w journal
+      ShowsDelivered setup rows journals w journal
   pub states_are :
       (w : ℕ) (who : Worker) (journal : List Entry) →
       slice_get (workers_in setup.job) w ≡ Some who → slice_get journals w ≡ Some journal →

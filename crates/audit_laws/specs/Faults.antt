@@ -17,8 +17,8 @@ use Rattle.audit_laws.specs.declared.audit.AuditEntry.{AuditEntry}
 use Rattle.audit_laws.specs.declared.audit.AuditEntry.TheVariants as kept
 use Rattle.audit_laws.specs.declared.fault.AuditFault.{AuditFault}
 use Rattle.audit_laws.specs.declared.fault.AuditFault.TheVariants as fault
-use Rattle.audit_laws.specs.Brought.{brought}
-use Rattle.audit_laws.specs.Checked.{IsFinishedDraft, ShowsBrought}
+use Rattle.audit_laws.specs.Delivered.{delivered}
+use Rattle.audit_laws.specs.Checked.{IsFinishedDraft, ShowsDelivered}
 use Rattle.audit_laws.specs.Trimmed.{trimmed}
 
 -- ---- the law
@@ -66,7 +66,7 @@ abbrev pub LaneAgrees :
     SetupView → List Row → List (List AuditEntry) → List (List Entry) → ℕ → Lane → Type 0
 LaneAgrees setup rows audit journals n lane =
     (items : List Item) (journal : List AuditEntry) →
-    brought setup rows journals lane ≡ Some items → slice_get audit lane.receiver ≡ Some journal →
+    delivered setup rows journals lane ≡ Some items → slice_get audit lane.receiver ≡ Some journal →
     AreItems n items journal
 
 -- The journal of a worker is restored: its trimmed form is the audit's, and its lanes show what
@@ -76,7 +76,7 @@ pub record IsRestored (setup : SetupView) (rows : List Row) (audit : List (List 
   pub journal : List Entry
   pub there : slice_get journals w ≡ Some journal
   pub kept_there : slice_get audit w ≡ Some (trimmed journal)
-  pub shows : ShowsBrought setup rows journals w journal
+  pub shows : ShowsDelivered setup rows journals w journal
 
 -- A worker comes before another if its node stands earlier in the order of the nodes. At one node
 -- it comes before if its number is less.
@@ -97,7 +97,7 @@ pub record HasBadLane (setup : SetupView) (order : List ℕ) (rows : List Row)
       (w : ℕ) (p : Worker) → slice_get (workers_in setup.job) w ≡ Some p → ComesBefore order p who →
       IsRestored setup rows audit journals w
   pub items : List Item
-  pub brings : brought setup rows journals lane ≡ Some items
+  pub brings : delivered setup rows journals lane ≡ Some items
   pub journal : List AuditEntry
   pub there : slice_get audit lane.receiver ≡ Some journal
   pub differ : ¬ AreItems n items journal

@@ -1,6 +1,6 @@
 pub mod Trimmed
 pub mod Drafted
-pub mod Brought
+pub mod Delivered
 pub mod Checked
 pub mod Faults
 pub mod Restoring

@@ -11,7 +11,7 @@ use Rattle.flow_model.specs.Lanes.{lanes}
 use Rattle.flow_model.specs.SetupView.{SetupView}
 use Rattle.audit_laws.specs.declared.audit.AuditEntry.{AuditEntry}
 use Rattle.audit_laws.specs.declared.audit.AuditEntry.TheVariants as kept
-use Rattle.audit_laws.specs.Brought.{brought}
+use Rattle.audit_laws.specs.Delivered.{delivered}
 use Rattle.audit_laws.specs.Faults.{AreItems}
 
 -- The entry that takes an item of a lane.
@@ -48,21 +48,21 @@ abbrev pub items_of : Option (List Item) → List Item
 items_of None = []
 items_of (Some items) = items
 
-abbrev pub brought_by : SetupView → List Row → List (List Entry) → Option Lane → List Item
-brought_by setup rows journals None = []
-brought_by setup rows journals (Some lane) = items_of (brought setup rows journals lane)
+abbrev pub delivered_by : SetupView → List Row → List (List Entry) → Option Lane → List Item
+delivered_by setup rows journals None = []
+delivered_by setup rows journals (Some lane) = items_of (delivered setup rows journals lane)
 
 -- What each lane brings if the workers have these journals.
-abbrev pub brought_on : SetupView → List Row → List (List Entry) → ℕ → List Item
-brought_on setup rows journals n = brought_by setup rows journals (slice_get (lanes setup.job) n)
+abbrev pub delivered_on : SetupView → List Row → List (List Entry) → ℕ → List Item
+delivered_on setup rows journals n = delivered_by setup rows journals (slice_get (lanes setup.job) n)
 
 -- Each lane into the worker brings items if the workers have these journals. They are the lane's
 -- entries of the trimmed journal.
 abbrev pub LanesAgree : SetupView → List Row → List (List Entry) → ℕ → List AuditEntry → Type 0
 LanesAgree setup rows journals w journal =
     (n : ℕ) (lane : Lane) → slice_get (lanes setup.job) n ≡ Some lane → lane.receiver ≡ w →
-    (items : List Item) × (brought setup rows journals lane ≡ Some items) × AreItems n items journal
+    (items : List Item) × (delivered setup rows journals lane ≡ Some items) × AreItems n items journal
 
 -- The journal of a worker, restored from the trimmed one and from what its lanes bring.
 abbrev pub restored_by : SetupView → List Row → List (List Entry) → List AuditEntry → List Entry
-restored_by setup rows journals journal = restored (brought_on setup rows journals) journal
+restored_by setup rows journals journal = restored (delivered_on setup rows journals) journal

@@ -11,7 +11,7 @@ use Rattle.flow_model.specs.Workers.{workers_in}
 use Rattle.audit_laws.specs.declared.audit.Line.{Line}
 use Rattle.audit_laws.specs.declared.fault.AuditFault.{AuditFault}
 use Rattle.audit_laws.specs.declared.fault.AuditFault.TheVariants as fault
-use Rattle.audit_laws.specs.Brought.{feed_of}
+use Rattle.audit_laws.specs.Delivered.{feed_of}
 use Rattle.audit_laws.specs.Faults.{IsFaultOfWorkers}
 use Rattle.audit_laws.specs.Lines.{IsLine, StandInOrder, counts_in, feeds_in, group_of}
 use Rattle.audit_laws.specs.Lines.{journal_in, line_fields, refusals_in}

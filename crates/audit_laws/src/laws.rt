@@ -13,8 +13,8 @@ ghost use Rattle.flow_model.specs.Workers.{workers_in};
 ghost use Rattle.audit_laws.specs.declared.audit.AuditEntry.{AuditEntry as KeptIs};
 ghost use Rattle.audit_laws.specs.declared.fault.AuditFault.{AuditFault as FaultIs};
 ghost use Rattle.audit_laws.specs.declared.fault.AuditFault.TheVariants as TheFault;
-ghost use Rattle.audit_laws.specs.Brought.{feed_of};
-ghost use Rattle.audit_laws.specs.Checked.{IsChecked, IsFinishedDraft, ShowsBrought};
+ghost use Rattle.audit_laws.specs.Delivered.{feed_of};
+ghost use Rattle.audit_laws.specs.Checked.{IsChecked, IsFinishedDraft, ShowsDelivered};
 ghost use Rattle.audit_laws.specs.Faults.{IsFaultOfWorkers, Listed};
 ghost use Rattle.audit_laws.specs.Fits.{Fits, HasForm, kept_lines, records_of};
 ghost use Rattle.audit_laws.specs.Lines.{IsNoted};
@@ -65,7 +65,7 @@ pub fn journals_are_restored(setup: &Setup)
         IsFinishedDraft (setup_view setup.now) rows who journal →
         LanesAgree (setup_view setup.now) rows journals w journal →
         (trimmed (restored_by (setup_view setup.now) rows journals journal) ≡ journal)
-        × ShowsBrought (setup_view setup.now) rows journals w
+        × ShowsDelivered (setup_view setup.now) rows journals w
         (restored_by (setup_view setup.now) rows journals journal) }
 {}
 

@@ -19,7 +19,7 @@ use Rattle.flow_model.proofs.ElementLemmas.{IsIn}
 use Rattle.flow_replay.specs.Sent.{first_view}
 use Rattle.audit_laws.specs.declared.audit.AuditEntry.{AuditEntry}
 use Rattle.audit_laws.specs.declared.audit.AuditEntry.TheVariants as kept
-use Rattle.audit_laws.specs.Brought.{brought, feed_of}
+use Rattle.audit_laws.specs.Delivered.{delivered, feed_of}
 use Rattle.audit_laws.specs.Faults.{comes_by}
 use Rattle.audit_laws.specs.Restoring.{later_items, restored, taken_from, took_next}
 use Rattle.audit_laws.proofs.OneRunLemmas.{none_counted}
@@ -65,9 +65,9 @@ by_others lanes (kept.Ended lane ∷ more) n come out = go (lane == n) refl (by_
 -- ---- what lanes bring
 
 -- a journal that is set changes what its worker's lanes bring, and no other
-pub brought_elsewhere : (setup : SetupView) (rows : List Row) (journals : List (List Entry)) (w : ℕ) (journal : List Entry) (lane : Lane) → (lane.sender ≡ Some w → ⊥)
-    → brought setup rows (slice_set journals w journal) lane ≡ brought setup rows journals lane
-brought_elsewhere setup rows journals w journal lane apart = go lane.sender apart
+pub delivered_elsewhere : (setup : SetupView) (rows : List Row) (journals : List (List Entry)) (w : ℕ) (journal : List Entry) (lane : Lane) → (lane.sender ≡ Some w → ⊥)
+    → delivered setup rows (slice_set journals w journal) lane ≡ delivered setup rows journals lane
+delivered_elsewhere setup rows journals w journal lane apart = go lane.sender apart
   where
     go : (o : Option ℕ) → (o ≡ Some w → ⊥)
         → put_by (at_first setup) rows (ran_as setup (feed_of setup rows) (slice_set journals w journal) []) lane o ≡ put_by (at_first setup) rows (ran_as setup (feed_of setup rows) journals []) lane o
@@ -77,9 +77,9 @@ brought_elsewhere setup rows journals w journal lane apart = go lane.sender apar
         (set_elsewhere journals s w journal (λ e. other (ap Some e)))
 
 -- its own lanes bring what its replay sends
-pub brought_here : (setup : SetupView) (rows : List Row) (journals : List (List Entry)) (w : ℕ) (who : Worker) (journal : List Entry) (lane : Lane) → slice_get (workers_in setup.job) w ≡ Some who
-    → slice_get journals w ≡ Some journal → lane.sender ≡ Some w → brought setup rows journals lane ≡ Some (sent setup who (first_view setup who) lane journal)
-brought_here setup rows journals w who journal lane p j e =
+pub delivered_here : (setup : SetupView) (rows : List Row) (journals : List (List Entry)) (w : ℕ) (who : Worker) (journal : List Entry) (lane : Lane) → slice_get (workers_in setup.job) w ≡ Some who
+    → slice_get journals w ≡ Some journal → lane.sender ≡ Some w → delivered setup rows journals lane ≡ Some (sent setup who (first_view setup who) lane journal)
+delivered_here setup rows journals w who journal lane p j e =
     ap (put_by (at_first setup) rows (ran_as setup (feed_of setup rows) journals []) lane) e
     ∙ (ap (λ (x : Option Worker). sent_by setup (at_first setup) lane x (slice_get (at_first setup).states w) (slice_get journals w)) p
     ∙ (ap (λ (x : Option Counts). sent_by setup (at_first setup) lane (Some who) x (slice_get journals w)) (none_counted setup w who p)

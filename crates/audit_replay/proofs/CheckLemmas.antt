@@ -19,7 +19,7 @@ use Rattle.audit_laws.specs.declared.audit.AuditEntry.{AuditEntry}
 use Rattle.audit_laws.specs.declared.audit.Line.{Line}
 use Rattle.audit_laws.specs.declared.fault.AuditFault.{AuditFault}
 use Rattle.audit_laws.specs.declared.fault.AuditFault.TheVariants as fault
-use Rattle.audit_laws.specs.Brought.{brought, feed_of}
+use Rattle.audit_laws.specs.Delivered.{delivered, feed_of}
 use Rattle.audit_laws.specs.Checked.{IsChecked}
 use Rattle.audit_laws.specs.Faults.{AreFinished, HasBadState, IsFaultOfWorkers, Listed}
 use Rattle.audit_laws.specs.Fits.{kept_lines}
@@ -153,12 +153,12 @@ is_checked setup rows audit journals states law long all = record {
       let r = all.restored w within in
       slice_get-map trimmed journals w ∙ (ap (option_map trimmed) r.there ∙ sym r.kept_there));
   finished = λ w who journal p j. law w who journal p j;
-  brought_is_shown = λ w journal j n lane g e.
+  delivered_is_shown = λ w journal j n lane g e.
       let lt = slice_get_within journals w journal j in
       let within : w < length (workers_in setup.job) = let k = all.journals_long in omega (arith, lt, k) in
       let r = all.restored w within in
       let same : r.journal ≡ journal = same_Some r.journal journal (sym r.there ∙ j) in
-      subst (λ (x : List Entry). brought setup rows journals lane ≡ Some (shown setup n x)) same (r.shows n lane g e);
+      subst (λ (x : List Entry). delivered setup rows journals lane ≡ Some (shown setup n x)) same (r.shows n lane g e);
   states_are = λ w who journal p j. all.counted w who journal (slice_get_within (workers_in setup.job) w who p) p j;
 }
 

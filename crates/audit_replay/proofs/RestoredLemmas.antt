@@ -19,28 +19,28 @@ use Rattle.flow_model.specs.Duties.{duties}
 use Rattle.flow_model.specs.Law.{initial}
 use Rattle.flow_model.specs.Workers.{nth_worker, workers_in}
 use Rattle.flow_model.proofs.ElementLemmas.{IsIn}
-use Rattle.flow_model.proofs.JobLemmas.{IsWired}
+use Rattle.flow_model.proofs.JobLemmas.{IsConnected}
 use Rattle.flow_model.proofs.LaneLemmas.{LaneIn, in_lanes_that, lane_into}
 use Rattle.flow_model.proofs.WorkerLemmas.{worker_with}
 use Rattle.flow_model.proofs.WorkerPlaces.{get-nth_worker, nth_worker-get}
 use Rattle.audit_laws.specs.declared.audit.AuditEntry.{AuditEntry}
 use Rattle.audit_laws.specs.declared.fault.AuditFault.{AuditFault}
 use Rattle.audit_laws.specs.declared.fault.AuditFault.TheVariants as fault
-use Rattle.audit_laws.specs.Brought.{brought, feed_of}
-use Rattle.audit_laws.specs.Checked.{IsFinishedDraft, ShowsBrought}
+use Rattle.audit_laws.specs.Delivered.{delivered, feed_of}
+use Rattle.audit_laws.specs.Checked.{IsFinishedDraft, ShowsDelivered}
 use Rattle.audit_laws.specs.Faults.{AreFinished, AreItems, ComesBefore, HasBadLane, IsRestored}
-use Rattle.audit_laws.specs.Restoring.{LanesAgree, brought_by, brought_on, items_of, restored}
+use Rattle.audit_laws.specs.Restoring.{LanesAgree, delivered_by, delivered_on, items_of, restored}
 use Rattle.audit_laws.specs.Trimmed.{trimmed}
 use Rattle.audit_laws.proofs.FaultLemmas.{order_forward}
 use Rattle.audit_laws.proofs.RestoringLemmas.{ComeBy}
-use Rattle.audit_laws.proofs.TiedLemmas.{sender_stands}
+use Rattle.audit_laws.proofs.ConservedLemmas.{sender_stands}
 use Rattle.audit_laws.proofs.WorkerLemmas.{come_by, worker_restored}
 use Rattle.audit_check.proofs.TellingLemmas.{set_elsewhere, set_here}
 use Rattle.audit_replay.specs.Restored.{AgreeBelow, AllRestored, AreCounted, AreRestored, IsBadLane, IsDone, IsFaultOfLanes, IsLaneFault, IsOrder, IsReady, IsTaken}
 use Rattle.audit_replay.specs.Standing.{HoldsFeed, left_on}
 use Rattle.audit_replay.specs.declared.restore.Restored.{Restored}
 use Rattle.audit_replay.proofs.TakingLemmas.{untouched}
-use Rattle.audit_replay.proofs.BringingLemmas.{brought_elsewhere, brought_here, by_others, restored_same}
+use Rattle.audit_replay.proofs.BringingLemmas.{delivered_elsewhere, delivered_here, by_others, restored_same}
 
 -- ---- who comes before whom
 
@@ -50,7 +50,7 @@ not_before order a b (inl x) (inr (node, y)) = absurd (omega (arith, x, ap (plac
 not_before order a b (inr (node, x)) (inl y) = absurd (omega (arith, y, ap (place_of order) node))
 not_before order a b (inr (node, x)) (inr (other, y)) = absurd (omega (arith, x, y))
 
-module _ (setup : SetupView) (dag : DagView) (wired : IsWired setup.job) (edges : dag.edges ≡ setup.job.edges) (nodes : dag.nodes ≡ length setup.job.nodes) (workers : List ℕ) (is : IsOrder setup.job dag.order workers)
+module _ (setup : SetupView) (dag : DagView) (connected : IsConnected setup.job) (edges : dag.edges ≡ setup.job.edges) (nodes : dag.nodes ≡ length setup.job.nodes) (workers : List ℕ) (is : IsOrder setup.job dag.order workers)
   where
     -- those that come before one are done before it
     done_before : (k w v : ℕ) → slice_get workers k ≡ Some w → v < length (workers_in setup.job) → ComesBefore dag.order (nth_worker setup.job v) (nth_worker setup.job w) → IsDone workers k v
@@ -83,7 +83,7 @@ module _ (setup : SetupView) (dag : DagView) (wired : IsWired setup.job) (edges 
         let here = worker_with setup.job w who p in
         let k : LaneIn setup.job who n = lane_into setup.job who n lane here.1 g (r ∙ sym here.0) in
         let one : k.lane ≡ lane = same_Some k.lane lane (sym k.numbered ∙ g) in
-        let up = order_forward setup.job dag wired edges nodes k.lane.edge k.edge k.edge_is in
+        let up = order_forward setup.job dag connected edges nodes k.lane.edge k.edge k.edge_is in
         elim (sender_stands setup.job k.edge.from k.lane.sender k.sends) [
           | inl none ↦ inl (ap (λ (l : Lane). l.sender) (sym one) ∙ none)
           | inr (q, number, there, node) ↦
@@ -136,23 +136,23 @@ module _ (setup : SetupView) (dag : DagView) (wired : IsWired setup.job) (edges 
             subst (λ v. ComeBy (lanes_in setup.job v) t) (worker_with setup.job w (nth_worker setup.job w) works).0
             (come_by setup (feed_of setup rows) (nth_worker setup.job w) (initial (duties setup 0 (nth_worker setup.job w))) t law.lawful.execution)
 
-        brings : (n : ℕ) (lane : Lane) → slice_get (lanes setup.job) n ≡ Some lane → lane.receiver ≡ w → brought setup rows old.journals lane ≡ Some (left_on before n)
+        brings : (n : ℕ) (lane : Lane) → slice_get (lanes setup.job) n ≡ Some lane → lane.receiver ≡ w → delivered setup rows old.journals lane ≡ Some (left_on before n)
         brings n lane g r = far.brings n lane g (sender_ready k n lane w at g r within) (λ done. not_done k w at (subst (IsDone workers k) r done))
 
         agrees : LanesAgree setup rows old.journals w t
         agrees n lane g r = (left_on before n, brings n lane g r, agree n lane (slice_get_within (lanes setup.job) n lane g) g r)
 
-        same : restored (left_on before) t ≡ restored (brought_on setup rows old.journals) t
-        same = restored_same (lanes_in setup.job w) (left_on before) (brought_on setup rows old.journals) t come (λ n i. go n i)
+        same : restored (left_on before) t ≡ restored (delivered_on setup rows old.journals) t
+        same = restored_same (lanes_in setup.job w) (left_on before) (delivered_on setup rows old.journals) t come (λ n i. go n i)
           where
-            go : (n : ℕ) → IsIn n (lanes_in setup.job w) → left_on before n ≡ brought_on setup rows old.journals n
+            go : (n : ℕ) → IsIn n (lanes_in setup.job w) → left_on before n ≡ delivered_on setup rows old.journals n
             go n i =
                 let l = in_lanes_that (λ (lane : Lane). lane.receiver == w) setup.job n i in
-                sym (ap (brought_by setup rows old.journals) l.1 ∙ ap items_of (brings n l.0 l.1 (eqb-true l.0.receiver w l.2)))
+                sym (ap (delivered_by setup rows old.journals) l.1 ∙ ap items_of (brings n l.0 l.1 (eqb-true l.0.receiver w l.2)))
 
-        whole : (trimmed (restored (left_on before) t) ≡ t) × ShowsBrought setup rows old.journals w (restored (left_on before) t)
+        whole : (trimmed (restored (left_on before) t) ≡ t) × ShowsDelivered setup rows old.journals w (restored (left_on before) t)
         whole =
-            subst (λ (x : List Entry). (trimmed x ≡ t) × ShowsBrought setup rows old.journals w x) (sym same)
+            subst (λ (x : List Entry). (trimmed x ≡ t) × ShowsDelivered setup rows old.journals w x) (sym same)
             (worker_restored setup rows old.journals w (nth_worker setup.job w) t works law agrees)
 
         -- what is done now was done before, or is this worker
@@ -178,9 +178,9 @@ module _ (setup : SetupView) (dag : DagView) (wired : IsWired setup.job) (edges 
                 ap (λ (l : List (List Entry)). slice_get l w) taken.journals
                 ∙ set_here old.journals w (restored (left_on before) t) (let long = far.journals_long in let lt = within in omega (arith, long, lt))
 
-            brings_same : (lane : Lane) → (lane.sender ≡ Some w → ⊥) → brought setup rows new.journals lane ≡ brought setup rows old.journals lane
+            brings_same : (lane : Lane) → (lane.sender ≡ Some w → ⊥) → delivered setup rows new.journals lane ≡ delivered setup rows old.journals lane
             brings_same lane ne =
-                ap (λ (l : List (List Entry)). brought setup rows l lane) taken.journals ∙ brought_elsewhere setup rows old.journals w (restored (left_on before) t) lane ne
+                ap (λ (l : List (List Entry)). delivered setup rows l lane) taken.journals ∙ delivered_elsewhere setup rows old.journals w (restored (left_on before) t) lane ne
 
             restored_now : (v : ℕ) → IsDone workers (k + 1) v → IsRestored setup rows audit new.journals v
             restored_now v done = go (done_cases v done)
@@ -223,7 +223,7 @@ module _ (setup : SetupView) (dag : DagView) (wired : IsWired setup.job) (edges 
                     ∙ ap₂ (λ (x : Worker) (l : List Entry). Some (final_counts setup (at_first setup) x empty l)) p_is j_is))
 
             brings_now : (n : ℕ) (lane : Lane) → slice_get (lanes setup.job) n ≡ Some lane → IsReady workers (k + 1) lane.sender → (IsDone workers (k + 1) lane.receiver → ⊥)
-                → brought setup rows new.journals lane ≡ Some (left_on after n)
+                → delivered setup rows new.journals lane ≡ Some (left_on after n)
             brings_now n lane g ready waits = by_sender lane.sender refl ready
               where
                 elsewhere : lane.receiver ≢ w
@@ -237,18 +237,18 @@ module _ (setup : SetupView) (dag : DagView) (wired : IsWired setup.job) (edges 
                 untaken : (lane.sender ≡ Some w → ⊥) → left_on after n ≡ left_on before n
                 untaken ne = taken.others n lane g ne ∙ untouched (left_on before) t n (by_others (lanes_in setup.job w) t n come no_lane_in)
 
-                was : IsReady workers k lane.sender → (lane.sender ≡ Some w → ⊥) → brought setup rows new.journals lane ≡ Some (left_on after n)
+                was : IsReady workers k lane.sender → (lane.sender ≡ Some w → ⊥) → delivered setup rows new.journals lane ≡ Some (left_on after n)
                 was ready ne =
                     brings_same lane ne ∙ (far.brings n lane g ready (λ done. waits (still_done lane.receiver done)) ∙ ap Some (sym (untaken ne)))
 
-                by_sender : (o : Option ℕ) → lane.sender ≡ o → IsReady workers (k + 1) o → brought setup rows new.journals lane ≡ Some (left_on after n)
+                by_sender : (o : Option ℕ) → lane.sender ≡ o → IsReady workers (k + 1) o → delivered setup rows new.journals lane ≡ Some (left_on after n)
                 by_sender None e ready = was (subst (IsReady workers k) (sym e) tt) (λ s. let f = sym e ∙ s in absurd (cc))
                 by_sender (Some s) e done = elim (done_cases s done) [
                   | inl early ↦ was (subst (IsReady workers k) (sym e) early) (λ q.
                       let f : s ≡ w = same_Some s w (sym e ∙ q) in not_done k w at (subst (IsDone workers k) f early))
                   | inr here ↦
                       let sends : lane.sender ≡ Some w = e ∙ ap Some here in
-                      brought_here setup rows new.journals w (nth_worker setup.job w) (restored (left_on before) t) lane works journal_here sends ∙ ap Some (sym (taken.out n lane g sends))
+                      delivered_here setup rows new.journals w (nth_worker setup.job w) (restored (left_on before) t) lane works journal_here sends ∙ ap Some (sym (taken.out n lane g sends))
                 ]
 
             pub one_more : AreRestored setup rows audit workers (k + 1) new.journals new.states after
@@ -291,7 +291,7 @@ module _ (setup : SetupView) (dag : DagView) (wired : IsWired setup.job) (edges 
               subst (λ (x : List Item). AreItems j x journal) items_are (subst (AreItems j (left_on standing j)) journal_is (bad.least j other less g receives));
         }
       where
-        brings : (n : ℕ) (lane : Lane) → slice_get (lanes setup.job) n ≡ Some lane → lane.receiver ≡ w → w < length (workers_in setup.job) → brought setup rows journals lane ≡ Some (left_on standing n)
+        brings : (n : ℕ) (lane : Lane) → slice_get (lanes setup.job) n ≡ Some lane → lane.receiver ≡ w → w < length (workers_in setup.job) → delivered setup rows journals lane ≡ Some (left_on standing n)
         brings n lane g r within = far.brings n lane g (sender_ready k n lane w at g r within) (λ done. not_done k w at (subst (IsDone workers k) r done))
 
     pub lane_fault : (rows : List Row) (audit : List (List AuditEntry)) (k w : ℕ) → slice_get workers k ≡ Some w → (t : List AuditEntry) → slice_get audit w ≡ Some t
@@ -319,7 +319,7 @@ module _ (setup : SetupView) (dag : DagView) (wired : IsWired setup.job) (edges 
       brings = λ n lane g ready waits. by_sender n lane g lane.sender refl ready;
     }
       where
-        by_sender : (n : ℕ) (lane : Lane) → slice_get (lanes setup.job) n ≡ Some lane → (o : Option ℕ) → lane.sender ≡ o → IsReady workers 0 o → brought setup rows journals lane ≡ Some (left_on standing n)
+        by_sender : (n : ℕ) (lane : Lane) → slice_get (lanes setup.job) n ≡ Some lane → (o : Option ℕ) → lane.sender ≡ o → IsReady workers 0 o → delivered setup rows journals lane ≡ Some (left_on standing n)
         by_sender n lane g None e ready =
             ap (put_by (at_first setup) rows (ran_as setup (feed_of setup rows) journals []) lane) e ∙ ap Some (sym (holds.each n lane g e))
         by_sender n lane g (Some s) e done = let lt = done.1 in absurd (omega (arith, lt))

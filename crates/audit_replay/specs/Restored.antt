@@ -16,7 +16,7 @@ use Rattle.jobs.specs.JobView.{JobView}
 use Rattle.audit_laws.specs.declared.audit.AuditEntry.{AuditEntry}
 use Rattle.audit_laws.specs.declared.fault.AuditFault.{AuditFault}
 use Rattle.audit_laws.specs.declared.fault.AuditFault.TheVariants as fault
-use Rattle.audit_laws.specs.Brought.{brought}
+use Rattle.audit_laws.specs.Delivered.{delivered}
 use Rattle.audit_laws.specs.Faults.{AreItems, ComesBefore, HasBadLane, HasBadState, IsRestored, Listed}
 use Rattle.audit_laws.specs.Restoring.{restored}
 use Rattle.flow_model.specs.Replay.{sent}
@@ -62,7 +62,7 @@ pub record AreRestored (setup : SetupView) (rows : List Row) (audit : List (List
   pub brings :
       (n : ℕ) (lane : Lane) → slice_get (lanes setup.job) n ≡ Some lane →
       IsReady workers k lane.sender → (IsDone workers k lane.receiver → ⊥) →
-      brought setup rows journals lane ≡ Some (left_on standing n)
+      delivered setup rows journals lane ≡ Some (left_on standing n)
 
 -- The journals of all workers are restored.
 pub record AllRestored (setup : SetupView) (rows : List Row) (audit : List (List AuditEntry))

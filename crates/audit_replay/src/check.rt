@@ -6,7 +6,7 @@ ghost use Rattle.flow_model.specs.Record.{record_view};
 ghost use Rattle.flow_model.specs.Run.{IsRun, Ran};
 ghost use Rattle.flow_model.specs.Setup.{setup_view};
 ghost use Rattle.flow_model.specs.Workers.{workers_in};
-ghost use Rattle.audit_laws.specs.Brought.{feed_of};
+ghost use Rattle.audit_laws.specs.Delivered.{feed_of};
 ghost use Rattle.audit_laws.specs.Faults.{AreFinished, IsFaultOfWorkers};
 ghost use Rattle.audit_laws.specs.declared.fault.AuditFault.TheVariants.{NoMemory as OutOfMemory};
 ghost use Rattle.audit_laws.specs.Fits.{Fits, records_of};

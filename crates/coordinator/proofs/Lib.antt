@@ -12,5 +12,5 @@ pub mod Telling
 pub mod LiveLemmas
 pub mod Living
 pub mod Meaning
-pub mod Tying
+pub mod Conserving
 pub mod Recording

@@ -8,4 +8,4 @@ pub mod Live
 pub mod Steps
 pub mod Starts
 pub mod Meaning
-pub mod Tie
+pub mod Conservation

@@ -12,16 +12,16 @@
 #![tactic(auto)]
 
 mod boxes;
+mod conservation;
 mod feeder;
 mod feeding;
 mod laws;
 mod outs;
 mod place;
 mod state;
-mod tie;
 
+pub use conservation::finished_lanes_are_conserved;
 pub use feeder::Feeder;
 pub use feeding::{FeedParts, FeedTurn, Feeding};
 pub use laws::feeders_follow_the_feed;
 pub use state::FeederState;
-pub use tie::finished_lanes_are_tied;

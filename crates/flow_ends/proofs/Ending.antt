@@ -23,10 +23,10 @@ use Rattle.flow_worker.specs.Parts.{EndpointIs, WorkedIs, endpoint_in, endpoint_
 use Rattle.flow_worker.specs.Turning.{IsDone}
 use Rattle.flow_worker.specs.Worker.{IsWorker, Sends, ShowsTaken, WorkerIs}
 use Rattle.flow_worker.proofs.Pairs.{get_map, get_mapped, length_mapped}
-use Rattle.coordinator.specs.Tie.{AreFinished}
+use Rattle.coordinator.specs.Conservation.{AreFinished}
 use Rattle.coordinator.specs.Views.{OutIs}
 use Rattle.coordinator.proofs.Meaning.{puts}
-use Rattle.coordinator.proofs.Tying.{lane_ties}
+use Rattle.coordinator.proofs.Conserving.{lane_conserved}
 use Rattle.flow_ends.specs.Ended.{IsOver, fed_end, record_of, worked_of}
 use Rattle.flow_ends.specs.Sides.{AreSettled, ins_at, IsAmong, IsSettled, outs_at, side_ins, side_outs, SideIs, worker_side}
 use Rattle.flow_ends.proofs.Sorting.{each_got, lane_sender}
@@ -166,8 +166,8 @@ module _ (setup : SetupView) (begin : Begin) (rows : List Row) (workers : List W
             let (worker, there) = item_at workers w (omega (arith, many, lt)) in
             ap (put_by begin rows ran lane) e ∙ put_by_worker w worker there among
 
-    tied : (journal : List Entry) → slice_get ran.journals lane.receiver ≡ Some journal → put_by begin rows ran lane lane.sender ≡ Some (shown setup n journal)
-    tied journal g = (lane_ties begin rows ran n lane all_finished at journal s.tx.items s.rx.items s.left g put (taken journal g) s.settled).tied
+    conserved : (journal : List Entry) → slice_get ran.journals lane.receiver ≡ Some journal → put_by begin rows ran lane lane.sender ≡ Some (shown setup n journal)
+    conserved journal g = (lane_conserved begin rows ran n lane all_finished at journal s.tx.items s.rx.items s.left g put (taken journal g) s.settled).conserved
 
   pub is_run : AreSettled setup.job (map worker_side workers) (map fed_end outs) → IsRunSince begin setup rows ran
   is_run settled = record {
@@ -178,7 +178,7 @@ module _ (setup : SetupView) (begin : Begin) (rows : List Row) (workers : List W
       one_journal_each = length_mapped (λ (x : WorkedIs). x.journal) (map worked_of workers) ∙ (length_mapped worked_of workers ∙ over.crew.many);
       one_state_each = length_mapped (λ (x : WorkedIs). x.state) (map worked_of workers) ∙ (length_mapped worked_of workers ∙ over.crew.many);
       worked = all_worked;
-      tied = λ n lane journal at g. tied n lane at (settled n lane at) journal g;
+      conserved = λ n lane journal at g. conserved n lane at (settled n lane at) journal g;
     };
   }
 

@@ -66,17 +66,17 @@ abbrev pub Worked : SetupView → Worker → Counts → List Entry → Counts �
 Worked setup who counts journal state = IsWorked setup (at_first setup) who counts journal state
 
 -- what the lane shows is what was put on it
-abbrev pub Tied : List Row → Ran → ℕ → Lane → Type 0
-Tied rows ran n lane = option_map (shown ran.setup n) (slice_get ran.journals lane.receiver) ≡ put_by (at_first ran.setup) rows ran lane lane.sender
+abbrev pub Conserved : List Row → Ran → ℕ → Lane → Type 0
+Conserved rows ran n lane = option_map (shown ran.setup n) (slice_get ran.journals lane.receiver) ≡ put_by (at_first ran.setup) rows ran lane lane.sender
 
 -- a record is a run where its feed is the one of its requests, each worker has worked, and each lane is tied
 pub run-by_parts : (rows : List Row) (ran : Ran)
     → ran.feeds ≡ feed_from 0 0 (afters ran.setup.requests) (length rows)
     → length ran.journals ≡ length (workers_in ran.setup.job) → length ran.states ≡ length (workers_in ran.setup.job)
     → OfEach (Worked ran.setup) (workers_in ran.setup.job) (at_first ran.setup).states ran.journals ran.states
-    → OfEachLane (Tied rows ran) 0 (lanes ran.setup.job)
+    → OfEachLane (Conserved rows ran) 0 (lanes ran.setup.job)
     → IsRun ran.setup rows ran
-run-by_parts rows ran feed journals states worked tied = record {
+run-by_parts rows ran feed journals states worked conserved = record {
   setup_is = refl;
   run = record {
     feed = feed;
@@ -84,6 +84,6 @@ run-by_parts rows ran feed journals states worked tied = record {
     one_journal_each = journals;
     one_state_each = states;
     worked = of_each-gets (Worked ran.setup) (workers_in ran.setup.job) (at_first ran.setup).states ran.journals ran.states worked;
-    tied = λ n lane journal at in_place. sym (of_each_lane-gets (Tied rows ran) (lanes ran.setup.job) tied n lane at) ∙ ap (option_map (shown ran.setup n)) in_place;
+    conserved = λ n lane journal at in_place. sym (of_each_lane-gets (Conserved rows ran) (lanes ran.setup.job) conserved n lane at) ∙ ap (option_map (shown ran.setup n)) in_place;
   };
 }

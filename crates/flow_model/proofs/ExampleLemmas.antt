@@ -12,7 +12,7 @@ use Rattle.flow_model.specs.Law.{IsFinished}
 use Rattle.flow_model.specs.Run.{IsRun}
 use Rattle.flow_model.specs.TwoLanes.{joined, joining}
 use Rattle.flow_model.specs.Workers.{workers_in}
-use Rattle.flow_model.proofs.EachLemmas.{OfEach, OfEachLane, Tied, Worked, run-by_parts}
+use Rattle.flow_model.proofs.EachLemmas.{OfEach, OfEachLane, Conserved, Worked, run-by_parts}
 use Rattle.flow_model.proofs.LawChecks.{finished-by_check}
 
 all_worked : OfEach (Worked four_setup) (workers_in chain) (at_first four_setup).states four_ran.journals four_ran.states
@@ -21,11 +21,11 @@ all_worked = (
   (record { finished = finished-by_check _ alerts refl; state_is = refl }, tt),
 )
 
-all_tied : OfEachLane (Tied four_payments four_ran) 0 (lanes chain)
-all_tied = (refl, (refl, tt))
+all_conserved : OfEachLane (Conserved four_payments four_ran) 0 (lanes chain)
+all_conserved = (refl, (refl, tt))
 
 pub four-run : IsRun four_setup four_payments four_ran
-four-run = run-by_parts four_payments four_ran refl refl refl all_worked all_tied
+four-run = run-by_parts four_payments four_ran refl refl refl all_worked all_conserved
 
 abbrev into_alerts : Lane
 into_alerts = record { edge = 1; sender = Some 0; receiver = 1 }
@@ -37,7 +37,7 @@ item_count (Some items) = length items
 pub missed-no_run : IsRun four_setup four_payments short_ran → ⊥
 missed-no_run h =
     let short : List Entry = alerts_meets 2 (pos 10000) 0 ∷ alerts_meets 4 (pos 12000) 1 ∷ entry.Ended 1 ∷ [] in
-    let e = h.run.tied 1 into_alerts short refl refl in
+    let e = h.run.conserved 1 into_alerts short refl refl in
     let f : ◌≡◌ {A = ℕ} 4 3 = ap item_count e in
     absurd (omega (arith, f))
 

@@ -17,7 +17,7 @@ use Rattle.flow_model.specs.declared.topology.Lane.{Lane}
 use Rattle.flow_model.specs.SetupView.{Worker}
 use Rattle.flow_model.specs.Workers.{workers_at_node}
 use Rattle.flow_model.proofs.ElementLemmas.{IsIn, in_of_place}
-use Rattle.flow_model.proofs.JobLemmas.{IsWired, ports_by_kind}
+use Rattle.flow_model.proofs.JobLemmas.{IsConnected, ports_by_kind}
 use Rattle.flow_model.proofs.LaneLemmas.{lane_of_edge}
 use Rattle.flow_model.proofs.WorkerListLemmas.{length-workers_at_node}
 use Rattle.flow_model.proofs.WorkerLemmas.{all_workers, item_at, source_is}
@@ -74,16 +74,16 @@ some_in : {A : Type 0} (xs : List A) (x : A) → IsIn x xs → 0 < length xs
 some_in [] x i = absurd i
 some_in (y ∷ ys) x i = omega arith
 
-pub receiver_there : (job : JobView) (wired : IsWired job) (i : ℕ) (edge : Edge) (t : Tuple) → slice_get job.edges i ≡ Some edge
+pub receiver_there : (job : JobView) (connected : IsConnected job) (i : ℕ) (edge : Edge) (t : Tuple) → slice_get job.edges i ≡ Some edge
     → (who : Worker) × (receiver_of job edge t ≡ Some who) × IsIn who (workers_at_node job edge.to)
-receiver_there job wired i edge t g =
-    let to = item_at job.nodes edge.to (wired.ends i edge g).1 in
+receiver_there job connected i edge t g =
+    let to = item_at job.nodes edge.to (connected.ends i edge g).1 in
     let def : NodeDef = to.0 in
-    let into : is_source_node (slice_get job.nodes edge.to) ≡ false = wired.into i edge g in
+    let into : is_source_node (slice_get job.nodes edge.to) ≡ false = connected.into i edge g in
     let no_source : is_source def.func ≡ false = rw to.1 at into in
     let count : length (workers_at_node job edge.to) ≡ workers_of def = length-workers_at_node job edge.to def to.1 in
     let workers : workers_of def ≡ def.workers = all_workers def no_source in
-    let m = wired.manned edge.to def to.1 no_source in
+    let m = connected.manned edge.to def to.1 no_source in
     let some : 0 < length (workers_at_node job edge.to) = some_in (workers_at_node job edge.to) m.0 m.1 in
     let within : worker_among job.columns def.func def.workers t < def.workers = among_within job def.func def.workers t (omega (arith, count, workers, some)) in
     let p = item_at (workers_at_node job edge.to) (worker_among job.columns def.func def.workers t) (omega (arith, count, workers, within)) in
@@ -105,12 +105,12 @@ pub record GoesOn (job : JobView) (sender : Option ℕ) (node port : ℕ) (t : T
   pub edge_number : lane.edge ≡ number
   pub from : edge.from ≡ node
 
-pub goes_on : (job : JobView) (wired : IsWired job) (sender : Option ℕ) (node port : ℕ) (t : Tuple) → has_port job.edges node port ≡ true → IsIn sender (senders job node) → GoesOn job sender node port t
-goes_on job wired sender node port t h s =
+pub goes_on : (job : JobView) (connected : IsConnected job) (sender : Option ℕ) (node port : ℕ) (t : Tuple) → has_port job.edges node port ≡ true → IsIn sender (senders job node) → GoesOn job sender node port t
+goes_on job connected sender node port t h s =
     let p : HasPortEdge job.edges node port 0 = port_edge job.edges node port 0 h in
     let at : p.at ≡ p.number = omega (arith, p.number_is) in
     let edge_is : slice_get job.edges p.number ≡ Some p.edge = subst (λ k. slice_get job.edges k ≡ Some p.edge) at p.edge_is in
-    let r = receiver_there job wired p.number p.edge t edge_is in
+    let r = receiver_there job connected p.number p.edge t edge_is in
     let l = lane_of_edge job p.number p.edge sender r.0 edge_is (subst (λ v. IsIn sender (senders job v)) (sym p.from) s) r.2 in
     record {
       lane = record { edge = p.number; sender = sender; receiver = r.0.number };

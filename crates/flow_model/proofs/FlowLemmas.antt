@@ -28,7 +28,7 @@ use Rattle.flow_model.proofs.LaneLemmas.{LaneIn, LaneIs, enumerate_distinct, enu
 use Rattle.flow_model.proofs.MarkerLemmas.{met_on_lane}
 use Rattle.flow_model.proofs.StoryLemmas.{Moment, story}
 use Rattle.flow_model.proofs.RunLemmas.{HasWorker, Running, execution, fed_there, sender_of, sent_there, start_of, duties_of}
-use Rattle.flow_model.proofs.KinLemmas.{puts_of, story_of}
+use Rattle.flow_model.proofs.LineageLemmas.{puts_of, story_of}
 use Rattle.flow_model.proofs.SumLemmas.{exchange, if_none, if_sum, of_some, sum_add, sum_append, sum_filter_map, sum_flat_map, sum_none, sum_only, sum_over, sum_same}
 
 -- ---- weights
@@ -83,8 +83,8 @@ module _ (V : ℕ → Tuple → ℕ) (setup : SetupView) (who : Worker) (is : Is
   if_zero true xs h = h
   if_zero false xs h = refl
 
-  none_brought : (x : Entry) → ((n : ℕ) → total V who.node (came_in setup n x) ≡ 0) → sum_over (brings x) (numbered setup.job) ≡ 0
-  none_brought x h = sum_none (brings x) (numbered setup.job) (λ p i. ap (λ n. cond (p.1.receiver == who.number) n 0) (h p.0) ∙ if_none (p.1.receiver == who.number))
+  none_delivered : (x : Entry) → ((n : ℕ) → total V who.node (came_in setup n x) ≡ 0) → sum_over (brings x) (numbered setup.job) ≡ 0
+  none_delivered x h = sum_none (brings x) (numbered setup.job) (λ p i. ap (λ n. cond (p.1.receiver == who.number) n 0) (h p.0) ∙ if_none (p.1.receiver == who.number))
 
   -- an entry came by one lane
   one_brings : (x : Entry) → ((l : ℕ) (t : Tuple) → x ≡ entry.Met l t → IsIn l (lanes_in setup.job who.number)) → sum_over (brings x) (numbered setup.job) ≡ entry_weight V who.node x
@@ -109,9 +109,9 @@ module _ (V : ℕ → Tuple → ℕ) (setup : SetupView) (who : Worker) (is : Is
               let lane : p.1 ≡ k.lane = cc in
               absurd (d (same_pair p (l, k.lane) (sym same) lane))
           go false e = rw e (if_none (p.1.receiver == who.number))
-  one_brings (entry.Marked l r) h = none_brought (entry.Marked l r) (λ n. if_zero (l == n) (marker setup r) (marker_weighs r))
-  one_brings (entry.Turned r) h = none_brought (entry.Turned r) (λ n. refl)
-  one_brings (entry.Ended l) h = none_brought (entry.Ended l) (λ n. if_zero (l == n) (item.Last ∷ []) refl)
+  one_brings (entry.Marked l r) h = none_delivered (entry.Marked l r) (λ n. if_zero (l == n) (marker setup r) (marker_weighs r))
+  one_brings (entry.Turned r) h = none_delivered (entry.Turned r) (λ n. refl)
+  one_brings (entry.Ended l) h = none_delivered (entry.Ended l) (λ n. if_zero (l == n) (item.Last ∷ []) refl)
 
   by_entries : (n r : ℕ) (journal : List Entry) → cond (r == who.number) (total V who.node (shown setup n journal)) 0
       ≡ sum_over (λ (x : Entry). cond (r == who.number) (total V who.node (came_in setup n x)) 0) journal

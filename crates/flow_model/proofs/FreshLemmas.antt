@@ -32,7 +32,7 @@ use Rattle.flow_model.proofs.PlannedLemmas.{HasCovers, due_covers, dues_rise}
 use Rattle.flow_model.proofs.StoryLemmas.{IsRising, rising_from}
 use Rattle.flow_model.proofs.MarkerLemmas.{turned_is_due}
 use Rattle.flow_model.proofs.RunLemmas.{HasWorker, Running, execution, row_is, start_of, duties_of}
-use Rattle.flow_model.proofs.KinLemmas.{Address, Passed, passed}
+use Rattle.flow_model.proofs.LineageLemmas.{Address, Passed, passed}
 use Rattle.flow_model.proofs.RootLemmas.{Root, Rooted, rooted}
 use Rattle.flow_model.proofs.TurnLemmas.{met_is, rest_has}
 use Rattle.flow_model.proofs.WholeLemmas.{covered_turns}

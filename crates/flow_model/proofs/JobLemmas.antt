@@ -27,7 +27,7 @@ use Rattle.flow_model.proofs.LaneLemmas.{lane_of_edge, lanes_that_in}
 
 -- What the laws of runs use of a job: its edges lead from lower ranks to higher ones, none into a source; every other node has a worker, each
 -- worker has a lane in, and the edges of each node are those of its kind.
-pub record IsWired (job : JobView) : Type 0 where
+pub record IsConnected (job : JobView) : Type 0 where
   pub rank : ℕ → ℕ
   pub below : (node : ℕ) → node < length job.nodes → rank node < length job.nodes
   pub forward : (i : ℕ) (edge : Edge) → slice_get job.edges i ≡ Some edge → rank edge.from < rank edge.to
@@ -141,9 +141,9 @@ unentered job is i edge g =
     go def true e may = let none = source_unentered def.func (is_entered job.edges edge.to) e may in let some = edge_enters job.edges i edge g in absurd (cc)
     go def false e may = e
 
-pub wired_by_rank : (job : JobView) (rank : ℕ → ℕ) → IsLawful job → ((node : ℕ) → node < length job.nodes → rank node < length job.nodes)
-    → ((i : ℕ) (edge : Edge) → slice_get job.edges i ≡ Some edge → rank edge.from < rank edge.to) → IsWired job
-wired_by_rank job rank is below forward = record {
+pub connected_by_rank : (job : JobView) (rank : ℕ → ℕ) → IsLawful job → ((node : ℕ) → node < length job.nodes → rank node < length job.nodes)
+    → ((i : ℕ) (edge : Edge) → slice_get job.edges i ≡ Some edge → rank edge.from < rank edge.to) → IsConnected job
+connected_by_rank job rank is below forward = record {
   rank = rank;
   below = below;
   forward = forward;
@@ -155,9 +155,9 @@ wired_by_rank job rank is below forward = record {
 }
 
 -- the places in an order of the nodes are ranks
-pub wired : (job : JobView) (dag : DagView) → IsLawful job → dag.edges ≡ job.edges → dag.nodes ≡ length job.nodes → IsWired job
-wired job dag is edges nodes =
-    wired_by_rank job (place_of dag.order) is (λ node lt. let k = place_of-below (HasEdge dag.edges) dag.nodes dag.order dag.lawful.ordered node (omega arith) in omega (arith, k))
+pub connected : (job : JobView) (dag : DagView) → IsLawful job → dag.edges ≡ job.edges → dag.nodes ≡ length job.nodes → IsConnected job
+connected job dag is edges nodes =
+    connected_by_rank job (place_of dag.order) is (λ node lt. let k = place_of-below (HasEdge dag.edges) dag.nodes dag.order dag.lawful.ordered node (omega arith) in omega (arith, k))
     (λ i edge g.
     let inside : IsInside (length job.nodes) edge = inside_edge job is i edge g in
     place_of-forward (HasEdge dag.edges) dag.nodes dag.order dag.lawful.ordered edge.from edge.to (omega (arith, inside.0)) (omega (arith, inside.1)) (

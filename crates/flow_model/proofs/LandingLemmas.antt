@@ -28,7 +28,7 @@ use Rattle.flow_model.proofs.WorkerLemmas.{item_at, journal_of, worker_no}
 use Rattle.flow_model.proofs.FitLemmas.{HasPortEdge, port_edge}
 use Rattle.flow_model.proofs.KindLemmas.{AreAlike}
 use Rattle.flow_model.proofs.RunLemmas.{HasWorker, Running}
-use Rattle.flow_model.proofs.KinLemmas.{story_of}
+use Rattle.flow_model.proofs.LineageLemmas.{story_of}
 use Rattle.flow_model.proofs.StoryLemmas.{Moment}
 use Rattle.flow_model.proofs.SumLemmas.{sum_over}
 
@@ -125,7 +125,7 @@ module _ (rows : List Row) (ran : Ran) (g : Running rows ran) (none : HasNoCount
         func = f;
         func_is = is;
         alike = alike;
-        ports = alike.ports (g.wired.ports node d.0 d.1);
+        ports = alike.ports (g.connected.ports node d.0 d.1);
         no_count = alike.count ∙ at_of_all (λ (def : NodeDef). is_count def.func ≡ false) d.0 ran.setup.job.nodes none (in_of_place d.0 ran.setup.job.nodes node d.1);
       }
 
@@ -137,11 +137,11 @@ module _ (rows : List Row) (ran : Ran) (g : Running rows ran) (none : HasNoCount
       port_edge ran.setup.job.edges visit.node o.port 0 (outputs_leave ran.setup.job visit f counts t ports k.0 o k.1)
 
   -- what an edge leads to is a node of higher rank
-  pub edge_up : (node port : ℕ) (e : HasPortEdge ran.setup.job.edges node port 0) → (g.wired.rank node < g.wired.rank e.edge.to) × (e.edge.to < length ran.setup.job.nodes)
+  pub edge_up : (node port : ℕ) (e : HasPortEdge ran.setup.job.edges node port 0) → (g.connected.rank node < g.connected.rank e.edge.to) × (e.edge.to < length ran.setup.job.nodes)
   edge_up node port e =
-      let lt : g.wired.rank e.edge.from < g.wired.rank e.edge.to = g.wired.forward e.at e.edge e.edge_is in
-      let a : g.wired.rank e.edge.from ≡ g.wired.rank node = ap g.wired.rank e.from in
-      (omega arith, (g.wired.ends e.at e.edge e.edge_is).1)
+      let lt : g.connected.rank e.edge.from < g.connected.rank e.edge.to = g.connected.forward e.at e.edge e.edge_is in
+      let a : g.connected.rank e.edge.from ≡ g.connected.rank node = ap g.connected.rank e.from in
+      (omega arith, (g.connected.ends e.at e.edge e.edge_is).1)
 
   -- ---- the same landings
 
@@ -151,15 +151,15 @@ module _ (rows : List Row) (ran : Ran) (g : Running rows ran) (none : HasNoCount
       let fields : t.fields ≡ u.fields = ap (λ (x : Tuple). x.fields) a in
       λ i. record { sink = node; row = row i; fields = fields i }
 
-  pub lands_same : (row k n node : ℕ) (t u : Tuple) → bare_tuple t ≡ bare_tuple u → node < length ran.setup.job.nodes → length ran.setup.job.nodes ≤ k + g.wired.rank node
-      → length ran.setup.job.nodes ≤ n + g.wired.rank node → lands ran.setup.job (T row) k node t ≡ lands ran.setup.job (T row) n node u
-  lands_same row zero n node t u a lt p q = let l = g.wired.below node lt in absurd (omega arith)
-  lands_same row (suc k) zero node t u a lt p q = let l = g.wired.below node lt in absurd (omega arith)
+  pub lands_same : (row k n node : ℕ) (t u : Tuple) → bare_tuple t ≡ bare_tuple u → node < length ran.setup.job.nodes → length ran.setup.job.nodes ≤ k + g.connected.rank node
+      → length ran.setup.job.nodes ≤ n + g.connected.rank node → lands ran.setup.job (T row) k node t ≡ lands ran.setup.job (T row) n node u
+  lands_same row zero n node t u a lt p q = let l = g.connected.below node lt in absurd (omega arith)
+  lands_same row (suc k) zero node t u a lt p q = let l = g.connected.below node lt in absurd (omega arith)
   lands_same row (suc k) (suc n) node t u a lt p q =
       go (has_func row node lt) (λ e o p' up lt' same. lands_same row k n e o p' same lt' (omega arith) (omega arith))
     where
       go : HasFunc ran T row node
-          → ((to : ℕ) (o p : Tuple) → g.wired.rank node < g.wired.rank to → to < length ran.setup.job.nodes → bare_tuple o ≡ bare_tuple p
+          → ((to : ℕ) (o p : Tuple) → g.connected.rank node < g.connected.rank to → to < length ran.setup.job.nodes → bare_tuple o ≡ bare_tuple p
           → lands ran.setup.job (T row) k to o ≡ lands ran.setup.job (T row) n to p)
           → lands ran.setup.job (T row) (suc k) node t ≡ lands ran.setup.job (T row) (suc n) node u
       go h later = by_kind (is_sink h.func) refl

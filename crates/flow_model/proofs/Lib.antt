@@ -36,7 +36,7 @@ pub mod WorkerLawLemmas
 pub mod RunLemmas
 pub mod KindLemmas
 pub mod PlaceLemmas
-pub mod KinLemmas
+pub mod LineageLemmas
 pub mod RootLemmas
 pub mod TurnLemmas
 pub mod WholeLemmas

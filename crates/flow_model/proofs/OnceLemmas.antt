@@ -17,24 +17,24 @@ use Rattle.flow_model.proofs.PlaceLemmas.{IsKeptFrom, filter_map_place, map_plac
 use Rattle.flow_model.proofs.StoryLemmas.{story_at}
 use Rattle.flow_model.proofs.KindLemmas.{ArePieces, pieces_stay_apart}
 use Rattle.flow_model.proofs.RunLemmas.{Running}
-use Rattle.flow_model.proofs.KinLemmas.{Address, AreKin, Child, IsChain, Parted, Passed, parted, passed}
+use Rattle.flow_model.proofs.LineageLemmas.{Address, ShareRoot, Child, IsChain, Parted, Passed, parted, passed}
 use Rattle.flow_model.proofs.TurnLemmas.{met_is}
-use Rattle.flow_model.proofs.WholeLemmas.{HasParted, Meeting, has_parted, kin_of_row}
+use Rattle.flow_model.proofs.WholeLemmas.{HasParted, Meeting, has_parted, share_root_of_row}
 
 -- ---- ranks rise down a chain
 
-child_rises : (rows : List Row) (ran : Ran) (g : Running rows ran) (p c : Address) → Child ran p c → g.wired.rank (worker_no ran.setup p.worker).node < g.wired.rank (worker_no ran.setup c.worker).node
+child_rises : (rows : List Row) (ran : Ran) (g : Running rows ran) (p c : Address) → Child ran p c → g.connected.rank (worker_no ran.setup p.worker).node < g.connected.rank (worker_no ran.setup c.worker).node
 child_rises rows ran g p c k =
     let (i, edge, lt, at, (from, to)) = k.edge in
-    let up : g.wired.rank edge.from < g.wired.rank edge.to = g.wired.forward i edge (slice_get-get_or ran.setup.job.edges i edge lt ∙ ap Some at) in
-    let a : g.wired.rank edge.from ≡ g.wired.rank (worker_no ran.setup p.worker).node = ap g.wired.rank from in
-    let b : g.wired.rank edge.to ≡ g.wired.rank (worker_no ran.setup c.worker).node = ap g.wired.rank to in
+    let up : g.connected.rank edge.from < g.connected.rank edge.to = g.connected.forward i edge (slice_get-get_or ran.setup.job.edges i edge lt ∙ ap Some at) in
+    let a : g.connected.rank edge.from ≡ g.connected.rank (worker_no ran.setup p.worker).node = ap g.connected.rank from in
+    let b : g.connected.rank edge.to ≡ g.connected.rank (worker_no ran.setup c.worker).node = ap g.connected.rank to in
     omega arith
 
 chain_rises : (rows : List Row) (ran : Ran) (g : Running rows ran) (p c : Address) (chain : List Address) → IsChain ran p chain c
-    → g.wired.rank (worker_no ran.setup p.worker).node ≤ g.wired.rank (worker_no ran.setup c.worker).node
+    → g.connected.rank (worker_no ran.setup p.worker).node ≤ g.connected.rank (worker_no ran.setup c.worker).node
 chain_rises rows ran g p c [] h =
-    let e : g.wired.rank (worker_no ran.setup p.worker).node ≡ g.wired.rank (worker_no ran.setup c.worker).node = ap (λ (x : Address). g.wired.rank (worker_no ran.setup x.worker).node) h in omega arith
+    let e : g.connected.rank (worker_no ran.setup p.worker).node ≡ g.connected.rank (worker_no ran.setup c.worker).node = ap (λ (x : Address). g.connected.rank (worker_no ran.setup x.worker).node) h in omega arith
 chain_rises rows ran g p c (a ∷ chain) h =
     let lt = child_rises rows ran g p a h.0 in
     let le = chain_rises rows ran g a c chain h.1 in
@@ -46,7 +46,7 @@ stays rows ran g p c [] e h = h
 stays rows ran g p c (a ∷ chain) e h =
     let lt = child_rises rows ran g p a h.0 in
     let le = chain_rises rows ran g a c chain h.1 in
-    let q : g.wired.rank (worker_no ran.setup p.worker).node ≡ g.wired.rank (worker_no ran.setup c.worker).node = ap g.wired.rank e in
+    let q : g.connected.rank (worker_no ran.setup p.worker).node ≡ g.connected.rank (worker_no ran.setup c.worker).node = ap g.connected.rank e in
     absurd (omega (arith, lt, le))
 
 -- ---- two entries with one identity at one node are one
@@ -65,13 +65,13 @@ module _ (rows : List Row) (ran : Ran) (g : Running rows ran) (row : ℕ) (c d :
         let bd : n.tuple.birth ≡ (h.tuple.birth ++ q.other ∷ []) ++ pd.pieces = pd.birth ∙ ap (λ (xs : List ℕ). xs ++ pd.pieces) q.second_is in
         q.differ (pieces_stay_apart h.tuple.birth q.one q.other m.tuple.birth n.tuple.birth pc.pieces pd.pieces bc bd birth)
 
-    by_kin : AreKin ran c d → c ≡ d
+    by_kin : ShareRoot ran c d → c ≡ d
     by_kin (inl h) = stays rows ran g c d h.0 node h.1
     by_kin (inr (inl h)) = sym (stays rows ran g d c h.0 (sym node) h.1)
     by_kin (inr (inr h)) = absurd (between h.0 h.1 h.2 h.3 h.4 h.5 h.6.0 h.7.0 h.6.1 h.7.1)
 
     pub one_entry : c ≡ d
-    one_entry = by_kin (kin_of_row rows ran g row c d m n)
+    one_entry = by_kin (share_root_of_row rows ran g row c d m n)
 
 -- ---- the list of identities
 

@@ -42,7 +42,7 @@ use Rattle.flow_model.proofs.StoryLemmas.{Moment, story, story_get}
 use Rattle.flow_model.proofs.SendingLemmas.{ComesOf, made, puts_come}
 use Rattle.flow_model.proofs.KindLemmas.{AreAlike, alike_self, alike_then, changed_alike}
 use Rattle.flow_model.proofs.RunLemmas.{HasWorker, Running, in_fed_puts, journal_here}
-use Rattle.flow_model.proofs.KinLemmas.{puts_of, story_of}
+use Rattle.flow_model.proofs.LineageLemmas.{puts_of, story_of}
 use Rattle.flow_model.proofs.FreshLemmas.{past_issued}
 use Rattle.flow_model.proofs.SumLemmas.{count_append, count_flat_map, count_one, count_sum, if_none, of_some, sum_add, sum_append, sum_filter_map, sum_flat_map, sum_map, sum_none, sum_over, sum_same}
 use Rattle.flow_model.proofs.FitLemmas.{GoesOn, goes_on, source_port}
@@ -73,14 +73,14 @@ weight_on V job sender node port t u k =
 module _ (rows : List Row) (ran : Ran) (g : Running rows ran) (none : HasNoCounts ran.setup.job) (sources : AreFromSources ran.setup.job rows) (T : ℕ → ℕ → Option Func) (tables : AreTables ran T) (test : Landing → Bool) where
   -- how many nodes a way from this one on has at most
   abbrev left_at : ℕ → ℕ
-  left_at node = length ran.setup.job.nodes - g.wired.rank node
+  left_at node = length ran.setup.job.nodes - g.connected.rank node
 
   -- how many landings of a tuple at a node pass the test
   abbrev V : ℕ → Tuple → ℕ
   V node t = count_by test (lands ran.setup.job (T t.row) (left_at node) node t)
 
   -- as many as an alike tuple makes, over no fewer nodes
-  V_is : (row n node : ℕ) (t u : Tuple) → t.row ≡ row → bare_tuple t ≡ bare_tuple u → node < length ran.setup.job.nodes → length ran.setup.job.nodes ≤ n + g.wired.rank node
+  V_is : (row n node : ℕ) (t u : Tuple) → t.row ≡ row → bare_tuple t ≡ bare_tuple u → node < length ran.setup.job.nodes → length ran.setup.job.nodes ≤ n + g.connected.rank node
       → V node t ≡ count_by test (lands ran.setup.job (T row) n node u)
   V_is row n node t u e a lt le =
       ap (λ r. count_by test (lands ran.setup.job (T r) (left_at node) node t)) e
@@ -111,7 +111,7 @@ module _ (rows : List Row) (ran : Ran) (g : Running rows ran) (none : HasNoCount
         i = i.0;
         there = i.1;
         alike = subst (λ (f : Func). AreAlike ran.setup.job.edges (worker_no ran.setup w).node f m.view.func) (sym is.func_is) alike;
-        ports = alike.ports (g.wired.ports (worker_no ran.setup w).node is.def is.node_is);
+        ports = alike.ports (g.connected.ports (worker_no ran.setup w).node is.def is.node_is);
       }
 
   sends : (w : ℕ) → IsWorker ran.setup.job (worker_no ran.setup w) → IsIn (Some (worker_no ran.setup w).number) (senders ran.setup.job (worker_no ran.setup w).node)
@@ -125,7 +125,7 @@ module _ (rows : List Row) (ran : Ran) (g : Running rows ran) (none : HasNoCount
       → GoesOn ran.setup.job (Some (worker_no ran.setup w).number) (worker_no ran.setup w).node o.port o.tuple
   out_goes w m u o a i =
       let k = place_of_in o (made ran.setup (worker_no ran.setup w) m.view u) i in
-      goes_on ran.setup.job g.wired (Some (worker_no ran.setup w).number) (worker_no ran.setup w).node o.port o.tuple
+      goes_on ran.setup.job g.connected (Some (worker_no ran.setup w).number) (worker_no ran.setup w).node o.port o.tuple
       (outputs_leave ran.setup.job (visit_at (worker_no ran.setup w) m.view) m.view.func m.view.counts u a.ports k.0 o k.1) (sends w a.is)
 
   -- ---- what is put fits
@@ -169,7 +169,7 @@ module _ (rows : List Row) (ran : Ran) (g : Running rows ran) (none : HasNoCount
       go None there s = absurd (cc)
       go (Some def) there s =
           let all : is_source_node (slice_get ran.setup.job.nodes row.source) ≡ true = ap is_source_node there ∙ s in
-          goes_on ran.setup.job g.wired None row.source 0 row.tuple (source_port ran.setup.job.edges row.source def.func s (g.wired.ports row.source def there)) (rw all (inl refl))
+          goes_on ran.setup.job g.connected None row.source 0 row.tuple (source_port ran.setup.job.edges row.source def.func s (g.connected.ports row.source def there)) (rw all (inl refl))
 
   feeder_fits : PutsFit ran.setup.job (λ (lane : Lane). is_none lane.sender) (fed_puts ran.setup.job rows 0 ran.feeds)
   feeder_fits p t h c =
@@ -191,7 +191,7 @@ module _ (rows : List Row) (ran : Ran) (g : Running rows ran) (none : HasNoCount
       go p i (Some lane) = h p i (lane_to ran.setup.job lane)
 
   -- an output weighs what becomes of it
-  out_weighs : (w l : ℕ) (m : Moment) (u : Tuple) (n : ℕ) (o p : Output) → AtWork w m → length ran.setup.job.nodes ≤ suc n + g.wired.rank (worker_no ran.setup w).node
+  out_weighs : (w l : ℕ) (m : Moment) (u : Tuple) (n : ℕ) (o p : Output) → AtWork w m → length ran.setup.job.nodes ≤ suc n + g.connected.rank (worker_no ran.setup w).node
       → IsIn o (made ran.setup (worker_no ran.setup w) m.view u) → bare o ≡ bare p
       → put_weight V ran.setup.job (put_out ran.setup.job (worker_no ran.setup w) o) ≡ count_by test (behind ran.setup.job (T u.row) n (worker_no ran.setup w).node p)
   out_weighs w l m u n o p a le i b =
@@ -199,13 +199,13 @@ module _ (rows : List Row) (ran : Ran) (g : Running rows ran) (none : HasNoCount
       let k = place_of_in o (made ran.setup (worker_no ran.setup w) m.view u) i in
       let of : IsMadeOf ran.setup.job.edges (visit_at (worker_no ran.setup w) m.view) m.view.func u k.0 o =
       outputs_made ran.setup.job (visit_at (worker_no ran.setup w) m.view) m.view.func m.view.counts u k.0 o k.1 in
-      let up : g.wired.rank on.edge.from < g.wired.rank on.edge.to = g.wired.forward on.number on.edge on.edge_is in
-      let from : g.wired.rank on.edge.from ≡ g.wired.rank (worker_no ran.setup w).node = ap g.wired.rank on.from in
+      let up : g.connected.rank on.edge.from < g.connected.rank on.edge.to = g.connected.forward on.number on.edge on.edge_is in
+      let from : g.connected.rank on.edge.from ≡ g.connected.rank (worker_no ran.setup w).node = ap g.connected.rank on.from in
       let port : o.port ≡ p.port = ap (λ (x : Output). x.port) b in
       let found : first_on (worker_no ran.setup w).node p.port (enumerate_from 0 ran.setup.job.edges) ≡ Some (on.number, on.edge) =
       ap (λ x. first_on (worker_no ran.setup w).node x (enumerate_from 0 ran.setup.job.edges)) (sym port) ∙ on.found in
       weight_on V ran.setup.job (Some (worker_no ran.setup w).number) (worker_no ran.setup w).node o.port o.tuple o.tuple on
-      ∙ (V_is u.row n on.edge.to o.tuple p.tuple of.row (ap (λ (x : Output). x.tuple) b) (g.wired.ends on.number on.edge on.edge_is).1 (omega arith)
+      ∙ (V_is u.row n on.edge.to o.tuple p.tuple of.row (ap (λ (x : Output). x.tuple) b) (g.connected.ends on.number on.edge on.edge_is).1 (omega arith)
       ∙ ap (λ f. count_by test (onward (lands ran.setup.job (T u.row) n) f p.tuple)) (sym found))
 
   met_keeps : (w l : ℕ) (m : Moment) (u : Tuple) → AtWork w m → m.entry ≡ entry.Met l u
@@ -234,15 +234,15 @@ module _ (rows : List Row) (ran : Ran) (g : Running rows ran) (none : HasNoCount
           ≡ cond b 0 (V (worker_no ran.setup w).node u)
       by_kind true s n d =
           ap (sum_over (λ (o : Output). put_weight V ran.setup.job (put_out ran.setup.job (worker_no ran.setup w) o))) (sinks_make_none ran.setup.job (worker_no ran.setup w) m.view u (a.alike.sink ∙ s))
-      by_kind false s zero d = let low = g.wired.below (worker_no ran.setup w).node inside in absurd (omega arith)
+      by_kind false s zero d = let low = g.connected.below (worker_no ran.setup w).node inside in absurd (omega arith)
       by_kind false s (suc n) d =
           let f : Func = has.func in
           let no_sink : is_sink f ≡ false = ap is_sink (sym table_func) ∙ (a.alike.sink ∙ s) in
           let these : map bare (made ran.setup (worker_no ran.setup w) m.view u) ≡ map bare (step ran.setup.job (bare_visit (worker_no ran.setup w).node) f empty u).1 =
           subst (λ (h : Func). map bare (step ran.setup.job (visit_at (worker_no ran.setup w) m.view) h m.view.counts u).1 ≡ map bare (step ran.setup.job (bare_visit (worker_no ran.setup w).node) f empty u).1) (sym table_func)
           (outputs_alike ran.setup.job (visit_at (worker_no ran.setup w) m.view) (worker_no ran.setup w).node f m.view.counts u u refl has.no_count refl) in
-          let below = g.wired.below (worker_no ran.setup w).node inside in
-          let enough : length ran.setup.job.nodes ≤ suc n + g.wired.rank (worker_no ran.setup w).node = omega arith in
+          let below = g.connected.below (worker_no ran.setup w).node inside in
+          let enough : length ran.setup.job.nodes ≤ suc n + g.connected.rank (worker_no ran.setup w).node = omega arith in
           sum_alike (λ (o : Output). put_weight V ran.setup.job (put_out ran.setup.job (worker_no ran.setup w) o))
           (λ (p : Output). count_by test (behind ran.setup.job (T u.row) n (worker_no ran.setup w).node p))
           (made ran.setup (worker_no ran.setup w) m.view u) (step ran.setup.job (bare_visit (worker_no ran.setup w).node) f empty u).1 these
@@ -302,7 +302,7 @@ module _ (rows : List Row) (ran : Ran) (g : Running rows ran) (none : HasNoCount
       let on : GoesOn ran.setup.job None row.source 0 row.tuple = row_goes number row e in
       let a : put_weight V ran.setup.job (record { lane = lane_of ran.setup.job None row.source 0 row.tuple; item = item.Carry (fed_tuple issued row) }) ≡ row_weight row =
       weight_on V ran.setup.job None row.source 0 row.tuple (fed_tuple issued row) on
-      ∙ (V_is row.tuple.row (length ran.setup.job.nodes) on.edge.to (fed_tuple issued row) row.tuple refl refl (g.wired.ends on.number on.edge on.edge_is).1 (omega arith)
+      ∙ (V_is row.tuple.row (length ran.setup.job.nodes) on.edge.to (fed_tuple issued row) row.tuple refl refl (g.connected.ends on.number on.edge on.edge_is).1 (omega arith)
       ∙ ap (λ f. count_by test (onward (lands ran.setup.job (T row.tuple.row) (length ran.setup.job.nodes)) f row.tuple)) (sym on.found)) in
       omega arith
 
@@ -361,7 +361,7 @@ module _ (rows : List Row) (ran : Ran) (g : Running rows ran) (none : HasNoCount
       inside = slice_get_within ran.setup.job.nodes who.node is.def is.node_is
 
       go : HasFunc ran T t.row who.node → (n : ℕ) → left_at who.node ≡ n → count_by test (lands ran.setup.job (T t.row) (left_at who.node) who.node t) ≡ cond (test (landing who.node t)) 1 0
-      go h zero e = let low = g.wired.below who.node inside in absurd (omega arith)
+      go h zero e = let low = g.connected.below who.node inside in absurd (omega arith)
       go h (suc n) e =
           let x = h.node_is in
           let y = is.node_is in

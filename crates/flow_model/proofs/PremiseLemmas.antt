@@ -33,7 +33,7 @@ use Rattle.flow_model.specs.FourPayments.{chain, falls_after, filter_alone, four
 use Rattle.flow_model.specs.OneTable.{HasNoCounts}
 use Rattle.flow_model.specs.Planned.{IsPlanFor, IsPlanned, copies_at, is_made_split, splits_at}
 use Rattle.flow_model.proofs.ExampleLemmas.{four-run}
-use Rattle.flow_model.proofs.JobLemmas.{wired_by_rank}
+use Rattle.flow_model.proofs.JobLemmas.{connected_by_rank}
 use Rattle.flow_model.proofs.PlannedLemmas.{has_covers}
 use Rattle.flow_model.proofs.RunLemmas.{Running}
 
@@ -231,7 +231,7 @@ four-planned = record { splits = no_splits; one_each = refl; plans = plans; no_s
 
 pub four-running : Running four_payments four_ran
 four-running = record {
-  wired = wired_by_rank chain (λ node. node) four-lawful (λ node lt. lt) each_edge;
+  connected = connected_by_rank chain (λ node. node) four-lawful (λ node lt. lt) each_edge;
   kept = has_covers four_setup ∣ four-planned ∣₁;
   kinds = accepted-kept chain four_setup.requests four-accepted;
   order = accepted-order chain four_setup.requests four-accepted;

@@ -28,7 +28,7 @@ use Rattle.flow_model.proofs.StoryLemmas.{put_then, sent-story}
 use Rattle.flow_model.proofs.WorkerLemmas.{Stands, begun, get_append, journal_of, worker_no, worker_is}
 use Rattle.flow_model.proofs.PlaceLemmas.{IsFrom, IsKeptFrom, filter_map_place, flat_map_get, flat_map_place, flat_map_same}
 use Rattle.flow_model.proofs.RunLemmas.{HasWorker, Running, execution, fed_there, row_is, sender_of, sent_there, start_of, duties_of}
-use Rattle.flow_model.proofs.KinLemmas.{Address, Born, Child, IsChain, Meets, born, brought_before, chain_push, came_in_some, put_before, puts_of, same_address, sent_before, story_of}
+use Rattle.flow_model.proofs.LineageLemmas.{Address, Born, Child, IsChain, Meets, born, delivered_before, chain_push, came_in_some, put_before, puts_of, same_address, sent_before, story_of}
 
 -- ---- the feeder puts each row once
 
@@ -129,7 +129,7 @@ pub record Root (rows : List Row) (ran : Ran) (a : Address) : Type 0 where
   pub put_is : slice_get (fed_puts ran.setup.job rows 0 ran.feeds) k ≡ Some put
   pub on : put.lane ≡ Some lane
   pub carries : item.Carry tuple ≡ put.item
-  pub place : brought_before ran n a ≡ put_before lane k (fed_puts ran.setup.job rows 0 ran.feeds)
+  pub place : delivered_before ran n a ≡ put_before lane k (fed_puts ran.setup.job rows 0 ran.feeds)
 
 pub one_root : (rows : List Row) (ran : Ran) (a b : Address) → Running rows ran → (p : Root rows ran a) (q : Root rows ran b) → p.tuple.row ≡ q.tuple.row → a ≡ b
 one_root rows ran a b g p q same =
@@ -142,11 +142,11 @@ one_root rows ran a b g p q same =
     let lane : p.lane ≡ q.lane = cc in
     let number : p.n ≡ q.n = same_number ran.setup.job p.lane q.lane p.n q.n p.numbered q.numbered lane in
     let worker : a.worker ≡ b.worker = sym p.receiver ∙ (ap (λ (l : Lane). l.receiver) lane ∙ q.receiver) in
-    let place : brought_before ran p.n a ≡ brought_before ran q.n b =
+    let place : delivered_before ran p.n a ≡ delivered_before ran q.n b =
     p.place
     ∙ (ap (λ (l : Lane). put_before l p.k (fed_puts ran.setup.job rows 0 ran.feeds)) lane ∙ (ap (λ k. put_before q.lane k (fed_puts ran.setup.job rows 0 ran.feeds)) k ∙ sym q.place)) in
-    let here : brought_before ran p.n a ≡ length (shown ran.setup p.n (take b.entry (journal_of ran a.worker))) =
-    place ∙ (ap (λ n. brought_before ran n b) (sym number) ∙ ap (λ w. length (shown ran.setup p.n (take b.entry (journal_of ran w)))) (sym worker)) in
+    let here : delivered_before ran p.n a ≡ length (shown ran.setup p.n (take b.entry (journal_of ran a.worker))) =
+    place ∙ (ap (λ n. delivered_before ran n b) (sym number) ∙ ap (λ w. length (shown ran.setup p.n (take b.entry (journal_of ran w)))) (sym worker)) in
     let met : slice_get (journal_of ran a.worker) b.entry ≡ Some (entry.Met p.n q.tuple) =
     subst (λ w. slice_get (journal_of ran w) b.entry ≡ Some (entry.Met p.n q.tuple)) (sym worker)
     (subst (λ n. slice_get (journal_of ran b.worker) b.entry ≡ Some (entry.Met n q.tuple)) (sym number) q.met) in
@@ -174,12 +174,12 @@ module _ (rows : List Row) (ran : Ran) (g : Running rows ran) where
   from_feeder : (c : Address) (n : ℕ) (t : Tuple) → HasWorker ran c.worker → slice_get (journal_of ran c.worker) c.entry ≡ Some (entry.Met n t)
       → (k : LaneIn ran.setup.job (worker_no ran.setup c.worker) n) → k.lane.sender ≡ None → Root rows ran c
   from_feeder c n t lt met k none =
-      let h : slice_get (fed ran.setup.job rows 0 k.lane ran.feeds ++ item.Last ∷ []) (brought_before ran n c) ≡ Some (item.Carry t) =
-      subst (λ (xs : List Item). slice_get xs (brought_before ran n c) ≡ Some (item.Carry t)) (fed_there rows ran g n c.worker lt k none) (met_there ran.setup n c.entry t (journal_of ran c.worker) met) in
-      elim (get_append (fed ran.setup.job rows 0 k.lane ran.feeds) (item.Last ∷ []) (brought_before ran n c) (item.Carry t) h) [
+      let h : slice_get (fed ran.setup.job rows 0 k.lane ran.feeds ++ item.Last ∷ []) (delivered_before ran n c) ≡ Some (item.Carry t) =
+      subst (λ (xs : List Item). slice_get xs (delivered_before ran n c) ≡ Some (item.Carry t)) (fed_there rows ran g n c.worker lt k none) (met_there ran.setup n c.entry t (journal_of ran c.worker) met) in
+      elim (get_append (fed ran.setup.job rows 0 k.lane ran.feeds) (item.Last ∷ []) (delivered_before ran n c) (item.Carry t) h) [
         | inl a ↦
-            let r : IsKeptFrom (item_on k.lane) (fed_puts ran.setup.job rows 0 ran.feeds) (brought_before ran n c) (item.Carry t) =
-            filter_map_place (item_on k.lane) (fed_puts ran.setup.job rows 0 ran.feeds) (brought_before ran n c) (item.Carry t) a in
+            let r : IsKeptFrom (item_on k.lane) (fed_puts ran.setup.job rows 0 ran.feeds) (delivered_before ran n c) (item.Carry t) =
+            filter_map_place (item_on k.lane) (fed_puts ran.setup.job rows 0 ran.feeds) (delivered_before ran n c) (item.Carry t) a in
             let o = on_lane k.lane r.x (item.Carry t) r.is in
             record {
               n = n;
@@ -207,16 +207,16 @@ module _ (rows : List Row) (ran : Ran) (g : Running rows ran) where
   from_worker c n t lt met k s some there =
       let same : shown ran.setup n (journal_of ran c.worker) ≡ flat_map (put_then ran.setup (worker_no ran.setup s) k.lane) (story_of ran s) =
       sent_there rows ran g n c.worker s lt there.within k some ∙ sent-story ran.setup (worker_no ran.setup s) (begun ran.setup s) k.lane (journal_of ran s) in
-      let f : IsFrom (put_then ran.setup (worker_no ran.setup s) k.lane) (story_of ran s) (brought_before ran n c) (item.Carry t) =
-      flat_map_place (put_then ran.setup (worker_no ran.setup s) k.lane) (story_of ran s) (brought_before ran n c) (item.Carry t)
-      (subst (λ (xs : List Item). slice_get xs (brought_before ran n c) ≡ Some (item.Carry t)) same (met_there ran.setup n c.entry t (journal_of ran c.worker) met)) in
+      let f : IsFrom (put_then ran.setup (worker_no ran.setup s) k.lane) (story_of ran s) (delivered_before ran n c) (item.Carry t) =
+      flat_map_place (put_then ran.setup (worker_no ran.setup s) k.lane) (story_of ran s) (delivered_before ran n c) (item.Carry t)
+      (subst (λ (xs : List Item). slice_get xs (delivered_before ran n c) ≡ Some (item.Carry t)) same (met_there ran.setup n c.entry t (journal_of ran c.worker) met)) in
       let r : IsKeptFrom (item_on k.lane) (puts_of ran s f.x) f.within (item.Carry t) = filter_map_place (item_on k.lane) (puts_of ran s f.x) f.within (item.Carry t) f.is in
       let o = on_lane k.lane r.x (item.Carry t) r.is in
       let edge : HasEdge ran.setup.job.edges (worker_no ran.setup s).node (worker_no ran.setup c.worker).node =
       subst (λ v. HasEdge ran.setup.job.edges v (worker_no ran.setup c.worker).node) (sym there.node_is)
       (subst (λ v. HasEdge ran.setup.job.edges k.edge.from v) k.to (HasEdge-at ran.setup.job.edges k.lane.edge k.edge k.edge_is)) in
       let sent : ℕ = sent_before ran k.lane (record { worker = s; entry = f.i }) in
-      let place : brought_before ran n c ≡ sent + put_before k.lane r.i (puts_of ran s f.x) = omega (arith, f.place, r.place) in
+      let place : delivered_before ran n c ≡ sent + put_before k.lane r.i (puts_of ran s f.x) = omega (arith, f.place, r.place) in
       record {
         parent = record { worker = s; entry = f.i };
         child = record {
@@ -265,21 +265,21 @@ pub record Rooted (rows : List Row) (ran : Ran) (c : Address) : Type 0 where
   pub chain : List Address
   pub down : IsChain ran at chain c
 
-rooted_below : (rows : List Row) (ran : Ran) (g : Running rows ran) (bound : ℕ) (c : Address) (t : Tuple) → HasWorker ran c.worker → g.wired.rank (worker_no ran.setup c.worker).node < bound
+rooted_below : (rows : List Row) (ran : Ran) (g : Running rows ran) (bound : ℕ) (c : Address) (t : Tuple) → HasWorker ran c.worker → g.connected.rank (worker_no ran.setup c.worker).node < bound
     → Meets ran c t → Rooted rows ran c
 rooted_below rows ran g zero c t l lt m = absurd (omega arith)
 rooted_below rows ran g (suc bound) c t l lt m =
     let k : LaneIn ran.setup.job (worker_no ran.setup c.worker) m.0 = lane_of_met rows ran g c t l m in
-    let up : g.wired.rank k.edge.from < g.wired.rank k.edge.to = g.wired.forward k.lane.edge k.edge k.edge_is in
-    let here : g.wired.rank k.edge.to ≡ g.wired.rank (worker_no ran.setup c.worker).node = ap g.wired.rank k.to in
+    let up : g.connected.rank k.edge.from < g.connected.rank k.edge.to = g.connected.forward k.lane.edge k.edge k.edge_is in
+    let here : g.connected.rank k.edge.to ≡ g.connected.rank (worker_no ran.setup c.worker).node = ap g.connected.rank k.to in
     elim (came_from rows ran g c t l m) [
       | inl r ↦ record { at = c; root = r; chain = []; down = refl }
       | inr q ↦
-          let e : g.wired.rank (worker_no ran.setup q.parent.worker).node ≡ g.wired.rank k.edge.from = ap g.wired.rank q.stands.node_is in
+          let e : g.connected.rank (worker_no ran.setup q.parent.worker).node ≡ g.connected.rank k.edge.from = ap g.connected.rank q.stands.node_is in
           let b : Born ran q.parent c q.child = born ran q.parent c q.child in
           let r : Rooted rows ran q.parent = rooted_below rows ran g bound q.parent b.tuple q.stands.within (omega arith) b.meets in
           record { at = r.at; root = r.root; chain = r.chain ++ c ∷ []; down = chain_push ran r.at q.parent c r.chain r.down q.child }
     ]
 
 pub rooted : (rows : List Row) (ran : Ran) (g : Running rows ran) (c : Address) (t : Tuple) → HasWorker ran c.worker → Meets ran c t → Rooted rows ran c
-rooted rows ran g c t l m = rooted_below rows ran g (suc (g.wired.rank (worker_no ran.setup c.worker).node)) c t l (omega arith) m
+rooted rows ran g c t l m = rooted_below rows ran g (suc (g.connected.rank (worker_no ran.setup c.worker).node)) c t l (omega arith) m

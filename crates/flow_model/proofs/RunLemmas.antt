@@ -26,7 +26,7 @@ use Rattle.flow_model.specs.Run.{IsRunFrom, Ran, put_by}
 use Rattle.flow_model.specs.Duties.{duties}
 use Rattle.flow_model.specs.Workers.{workers_in, workers_at_node}
 use Rattle.flow_model.proofs.ElementLemmas.{IsIn, all_of_at, before_first, before_second, in_cases, in_map, place_of_in}
-use Rattle.flow_model.proofs.JobLemmas.{IsWired}
+use Rattle.flow_model.proofs.JobLemmas.{IsConnected}
 use Rattle.flow_model.proofs.LaneLemmas.{LaneIn}
 use Rattle.flow_model.proofs.PlannedLemmas.{HasCovers, dues_rise}
 use Rattle.flow_model.proofs.AgreementLemmas.{BringSteadily, ComesAlong, HasAgreed, IsSteadyList, agreed, agreement_of, nodes_of}
@@ -36,7 +36,7 @@ use Rattle.flow_model.proofs.WorkerLemmas.{IsWorker, Stands, begun, item_at, jou
 -- What the laws use of a run: its job is wired, its plans cover as they have to, its requests keep kinds and stand in order, its rows are
 -- numbered and were nowhere yet, and it is a run.
 pub record Running (rows : List Row) (ran : Ran) : Type 0 where
-  pub wired : IsWired ran.setup.job
+  pub connected : IsConnected ran.setup.job
   pub kept : HasCovers ran.setup
   pub kinds : KeepKinds ran.setup.job ran.setup.requests
   pub order : AreInOrder 0 ran.setup.requests
@@ -90,7 +90,7 @@ module _ (rows : List Row) (ran : Ran) (g : Running rows ran) where
   put_on : (n w : ℕ) → HasWorker ran w → (k : LaneIn ran.setup.job (worker_no ran.setup w) n) → put_by (at_first ran.setup) rows ran k.lane k.lane.sender ≡ Some (shown ran.setup n (journal_of ran w))
   put_on n w lt k =
       let receiver : k.lane.receiver ≡ w = k.receiver ∙ (worker_is ran.setup w lt).0 in
-      g.run.tied n k.lane (journal_of ran w) k.numbered (subst (λ v. slice_get ran.journals v ≡ Some (journal_of ran w)) (sym receiver) (journal_here w lt))
+      g.run.conserved n k.lane (journal_of ran w) k.numbered (subst (λ v. slice_get ran.journals v ≡ Some (journal_of ran w)) (sym receiver) (journal_here w lt))
 
   -- the feeder's rows and then the end
   pub fed_there : (n w : ℕ) → HasWorker ran w → (k : LaneIn ran.setup.job (worker_no ran.setup w) n) → k.lane.sender ≡ None
@@ -159,9 +159,9 @@ in_fed job rows issued lane feeds x are h =
       | inr (inr n) ↦ absurd n
     ]
 
-fed_steady : (job : JobView) (rows : List Row) (lane : Lane) (feeds : List Feed) (node : ℕ) → IsWired job → AreRows rows → is_source_node (slice_get job.nodes node) ≡ true
+fed_steady : (job : JobView) (rows : List Row) (lane : Lane) (feeds : List Feed) (node : ℕ) → IsConnected job → AreRows rows → is_source_node (slice_get job.nodes node) ≡ true
     → IsSteadyList (HasEdge job.edges) node (fed job rows 0 lane feeds ++ item.Last ∷ [])
-fed_steady job rows lane feeds node wired are source = record {
+fed_steady job rows lane feeds node connected are source = record {
   come = λ t i. along (nodes_of t) (ap (λ (vs : List Visit). map (λ (v : Visit). v.node) vs) (in_fed job rows 0 lane feeds (item.Carry t) are i));
   agree = λ x y b.
       fed_agree x y (in_fed job rows 0 lane feeds x are (before_first x y (fed job rows 0 lane feeds ++ item.Last ∷ []) b))
@@ -171,7 +171,7 @@ fed_steady job rows lane feeds node wired are source = record {
     none : (a : ℕ) → ¬ HasEdge job.edges a node
     none a (i, edge, lt, at, (from, to)) =
         let g : slice_get job.edges i ≡ Some edge = slice_get-get_or job.edges i edge lt ∙ ap Some at in
-        let k : is_source_node (slice_get job.nodes node) ≡ false = subst (λ v. is_source_node (slice_get job.nodes v) ≡ false) to (wired.into i edge g) in
+        let k : is_source_node (slice_get job.nodes node) ≡ false = subst (λ v. is_source_node (slice_get job.nodes v) ≡ false) to (connected.into i edge g) in
         cc
 
     along : (nodes : List ℕ) → nodes ≡ [] → ComesAlong (HasEdge job.edges) node nodes
@@ -181,12 +181,12 @@ fed_steady job rows lane feeds node wired are source = record {
 
 module _ (rows : List Row) (ran : Ran) (g : Running rows ran) where
   -- what is brought is steady, worker after worker in the order of their nodes
-  steady_below : (bound w : ℕ) → HasWorker ran w → g.wired.rank (worker_no ran.setup w).node < bound → BringSteadily ran.setup (worker_no ran.setup w) (journal_of ran w)
+  steady_below : (bound w : ℕ) → HasWorker ran w → g.connected.rank (worker_no ran.setup w).node < bound → BringSteadily ran.setup (worker_no ran.setup w) (journal_of ran w)
   steady_below zero w l lt n k = absurd (omega arith)
   steady_below (suc bound) w l lt n k =
-      let up : g.wired.rank k.edge.from < g.wired.rank k.edge.to = g.wired.forward k.lane.edge k.edge k.edge_is in
-      let here : g.wired.rank k.edge.to ≡ g.wired.rank (worker_no ran.setup w).node = ap g.wired.rank k.to in
-      by_sender k (λ v lv nv. steady_below bound v lv (let e : g.wired.rank (worker_no ran.setup v).node ≡ g.wired.rank k.edge.from = ap g.wired.rank nv in omega arith))
+      let up : g.connected.rank k.edge.from < g.connected.rank k.edge.to = g.connected.forward k.lane.edge k.edge k.edge_is in
+      let here : g.connected.rank k.edge.to ≡ g.connected.rank (worker_no ran.setup w).node = ap g.connected.rank k.to in
+      by_sender k (λ v lv nv. steady_below bound v lv (let e : g.connected.rank (worker_no ran.setup v).node ≡ g.connected.rank k.edge.from = ap g.connected.rank nv in omega arith))
       (sender_of rows ran g k.edge.from k.lane.sender k.sends)
     where
       by_sender : (k : LaneIn ran.setup.job (worker_no ran.setup w) n)
@@ -195,22 +195,22 @@ module _ (rows : List Row) (ran : Ran) (g : Running rows ran) where
           → IsSteadyList (HasEdge ran.setup.job.edges) k.edge.from (shown ran.setup n (journal_of ran w))
       by_sender k earlier (inl fed) =
           subst (IsSteadyList (HasEdge ran.setup.job.edges) k.edge.from) (sym (fed_there rows ran g n w l k fed.0))
-          (fed_steady ran.setup.job rows k.lane ran.feeds k.edge.from g.wired g.rows_are fed.1)
+          (fed_steady ran.setup.job rows k.lane ran.feeds k.edge.from g.connected g.rows_are fed.1)
       by_sender k earlier (inr sender) =
           let s : ℕ = sender.0 in
           let there : Stands ran.setup k.edge.from s = sender.2 in
           let is : IsWorker ran.setup.job (worker_no ran.setup s) = (worker_is ran.setup s there.within).1 in
           let law = execution rows ran g s there.within in
-          let brought : BringSteadily ran.setup (worker_no ran.setup s) (journal_of ran s) = earlier s there.within there.node_is in
+          let delivered : BringSteadily ran.setup (worker_no ran.setup s) (journal_of ran s) = earlier s there.within there.node_is in
           let sends : IsSteadyList (HasEdge ran.setup.job.edges) (worker_no ran.setup s).node (sent ran.setup (worker_no ran.setup s) (begun ran.setup s) k.lane (journal_of ran s)) =
-          sends_steadily ran.setup 0 (worker_no ran.setup s) is (begun ran.setup s) (journal_of ran s) law (dues_rise ran.setup 0 (worker_no ran.setup s).node 0 (omega arith)) brought
-          (agreed ran.setup g.kept 0 (worker_no ran.setup s) is (journal_of ran s) law brought) k.lane in
+          sends_steadily ran.setup 0 (worker_no ran.setup s) is (begun ran.setup s) (journal_of ran s) law (dues_rise ran.setup 0 (worker_no ran.setup s).node 0 (omega arith)) delivered
+          (agreed ran.setup g.kept 0 (worker_no ran.setup s) is (journal_of ran s) law delivered) k.lane in
           subst (IsSteadyList (HasEdge ran.setup.job.edges) k.edge.from) (sym (sent_there rows ran g n w s l there.within k sender.1))
           (subst (λ v. IsSteadyList (HasEdge ran.setup.job.edges) v (sent ran.setup (worker_no ran.setup s) (begun ran.setup s) k.lane (journal_of ran s))) there.node_is sends)
 
   -- every lane is steady
   pub all_steady : (w : ℕ) → HasWorker ran w → BringSteadily ran.setup (worker_no ran.setup w) (journal_of ran w)
-  all_steady w l = steady_below (suc (g.wired.rank (worker_no ran.setup w).node)) w l (omega arith)
+  all_steady w l = steady_below (suc (g.connected.rank (worker_no ran.setup w).node)) w l (omega arith)
 
   -- each worker's tuples agree with its turns
   pub all_agree : (w : ℕ) → HasWorker ran w → HasAgreed ran.setup (journal_of ran w)

@@ -26,7 +26,7 @@ use Rattle.flow_model.proofs.PlannedLemmas.{dues_rise}
 use Rattle.flow_model.proofs.KindLemmas.{AreAlike, alike_self, changed_alike}
 use Rattle.flow_model.proofs.StoryLemmas.{Moment}
 use Rattle.flow_model.proofs.RunLemmas.{HasWorker, Running, execution, start_of, duties_of}
-use Rattle.flow_model.proofs.KinLemmas.{story_of}
+use Rattle.flow_model.proofs.LineageLemmas.{story_of}
 use Rattle.flow_model.proofs.TurnLemmas.{Early}
 use Rattle.flow_model.proofs.WholeLemmas.{changed_asked, early_of, fewer_pass, one_sided}
 use Rattle.flow_model.proofs.LandingLemmas.{AreTables}

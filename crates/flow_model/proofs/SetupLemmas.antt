@@ -10,20 +10,20 @@ use Rattle.flow_model.specs.Begin.{at_first}
 use Rattle.flow_model.specs.Run.{IsRun, IsRunFrom, Ran}
 use Rattle.flow_model.specs.Setup.{setup_view}
 use Rattle.flow_model.specs.declared.setup.Setup.{Setup}
-use Rattle.flow_model.proofs.JobLemmas.{IsWired, wired}
+use Rattle.flow_model.proofs.JobLemmas.{IsConnected, connected}
 use Rattle.flow_model.proofs.PlannedLemmas.{HasCovers, has_covers}
 use Rattle.flow_model.proofs.RunLemmas.{Running}
 
 -- what is kept of an outline
 record SetupKeeps (setup : SetupView) : Type 0 where
-  wired_job : IsWired setup.job
+  connected_job : IsConnected setup.job
   covers : HasCovers setup
   kinds : KeepKinds setup.job setup.requests
   order : AreInOrder 0 setup.requests
 
 kept_view : (setup : Setup) → SetupKeeps (setup_view setup)
 kept_view setup = record {
-  wired_job = wired (job_view setup.job) setup.job.dag setup.job.lawful refl setup.job.drawn;
+  connected_job = connected (job_view setup.job) setup.job.dag setup.job.lawful refl setup.job.drawn;
   covers = has_covers (setup_view setup) setup.planned;
   kinds = accepted-kept (job_view setup.job) setup.judged.accepted setup.accepted;
   order = accepted-order (job_view setup.job) setup.judged.accepted setup.accepted;
@@ -33,4 +33,4 @@ pub running : (setup : Setup) (rows : List Row) (ran : Ran) → AreRows rows →
 running setup rows ran are is =
     let kept : SetupKeeps ran.setup = subst SetupKeeps (sym is.setup_is) (kept_view setup) in
     let run : IsRunFrom (at_first ran.setup) rows ran = subst (λ (s : SetupView). IsRunFrom (at_first s) rows ran) (sym is.setup_is) is.run in
-    record { wired = kept.wired_job; kept = kept.covers; kinds = kept.kinds; order = kept.order; rows_are = are; run = run }
+    record { connected = kept.connected_job; kept = kept.covers; kinds = kept.kinds; order = kept.order; rows_are = are; run = run }

@@ -26,7 +26,7 @@ use Rattle.flow_model.proofs.WorkerLemmas.{IsWorker, begun, journal_of, worker_n
 use Rattle.flow_model.proofs.PlannedLemmas.{HasCovers, due_of_cover, dues_rise}
 use Rattle.flow_model.proofs.StoryLemmas.{IsRising, Moment, last_rises, rising_in, rising_next, story, turned_above}
 use Rattle.flow_model.proofs.RunLemmas.{HasWorker, Running, execution, journal_here, start_of, duties_of}
-use Rattle.flow_model.proofs.KinLemmas.{story_of}
+use Rattle.flow_model.proofs.LineageLemmas.{story_of}
 use Rattle.flow_model.proofs.TurnLemmas.{rest_has, turn_is}
 use Rattle.flow_model.proofs.WholeLemmas.{covered_turns, whole}
 

@@ -30,7 +30,7 @@ use Rattle.flow_model.proofs.StoryLemmas.{Moment}
 use Rattle.flow_model.proofs.AgreementLemmas.{HasAgreed, IsNew, IsOld}
 use Rattle.flow_model.proofs.KindLemmas.{AreAlike, ArePieces, IsGiven, alike_given, copies_given, copies_part, emits_cases, given_then, pieces_of, splits_given}
 use Rattle.flow_model.proofs.RunLemmas.{HasWorker, Running, all_agree, execution, finished, start_of, duties_of}
-use Rattle.flow_model.proofs.KinLemmas.{Address, AreKin, Born, Child, IsChain, Meets, Parted, Passed, born, kin, meets_one, parted, passed, story_of, visit_of}
+use Rattle.flow_model.proofs.LineageLemmas.{Address, ShareRoot, Born, Child, IsChain, Meets, Parted, Passed, born, kin, meets_one, parted, passed, story_of, visit_of}
 use Rattle.flow_model.proofs.RootLemmas.{Rooted, one_root, rooted}
 use Rattle.flow_model.proofs.TurnLemmas.{Early, Late, found_early, found_late, turns}
 use Rattle.std.proofs.lemmas.Option.{same_Some, slice_get_within}
@@ -101,7 +101,7 @@ has_parted rows ran g p a b k =
     let given : IsGiven setup who.node is.def.func m.view.func =
     given_then setup who is.def.func (begun setup p.worker) (journal_of ran p.worker) p.entry m (inl (sym is.func_is)) k.first.there in
     let alike : AreAlike setup.job.edges who.node is.def.func m.view.func = alike_given setup who.node is.def m.view.func g.kinds is.node_is given in
-    let ports : are_ports setup.job.edges who.node m.view.func ≡ true = alike.ports (g.wired.ports who.node is.def is.node_is) in
+    let ports : are_ports setup.job.edges who.node m.view.func ≡ true = alike.ports (g.connected.ports who.node is.def is.node_is) in
     let second : slice_get (made setup who m.view x.tuple) k.second.k ≡ Some y.out =
     subst (λ (n : Moment). slice_get (made setup who n.view x.tuple) k.second.k ≡ Some y.out) (sym k.same_moment)
     (subst (λ (t : Tuple). slice_get (made setup who k.second.moment.view t) k.second.k ≡ Some y.out) same y.made_so) in
@@ -125,8 +125,8 @@ has_parted rows ran g p a b k =
 
 -- ---- two entries of a row at asked nodes
 
-pub kin_of_row : (rows : List Row) (ran : Ran) (g : Running rows ran) (row : ℕ) (c d : Address) → Meeting ran row c → Meeting ran row d → AreKin ran c d
-kin_of_row rows ran g row c d m n =
+pub share_root_of_row : (rows : List Row) (ran : Ran) (g : Running rows ran) (row : ℕ) (c d : Address) → Meeting ran row c → Meeting ran row d → ShareRoot ran c d
+share_root_of_row rows ran g row c d m n =
     let p : Rooted rows ran c = rooted rows ran g c m.tuple m.within m.meets in
     let q : Rooted rows ran d = rooted rows ran g d n.tuple n.within n.meets in
     let a : Passed p.root.tuple m.tuple = passed ran p.at c p.chain p.root.tuple m.tuple p.down (p.root.n, p.root.met) m.meets in
@@ -179,7 +179,7 @@ module _ (rows : List Row) (ran : Ran) (g : Running rows ran) (row r : ℕ) (c d
         let last : k.first.moment.view.last ≡ k.second.moment.view.last = ap (λ (m : Moment). m.view.last) k.same_moment in
         absurd (omega arith)
 
-    torn : AreKin ran c d → ⊥
+    torn : ShareRoot ran c d → ⊥
     torn (inl h) = down h.0 h.1
       where
         down : (chain : List Address) → IsChain ran c chain d → ⊥
@@ -194,7 +194,7 @@ module _ (rows : List Row) (ran : Ran) (g : Running rows ran) (row r : ℕ) (c d
 
     -- one stands after its turn and the other before its turn: that can't be
     pub never_torn : ⊥
-    never_torn = torn (kin_of_row rows ran g row c d m n)
+    never_torn = torn (share_root_of_row rows ran g row c d m n)
 
 -- ---- the theorem
 
@@ -221,7 +221,7 @@ asked_journal ran r journal h =
 -- a covering request is turned by every worker
 pub covered_turns : (rows : List Row) (ran : Ran) (g : Running rows ran) (w r : ℕ) → HasWorker ran w → covers ran.setup r (worker_no ran.setup w).node ≡ true → IsIn (entry.Turned r) (journal_of ran w)
 covered_turns rows ran g w r lt c =
-    let lane = g.wired.reached (worker_no ran.setup w) (worker_is ran.setup w lt).1 in
+    let lane = g.connected.reached (worker_no ran.setup w) (worker_is ran.setup w lt).1 in
     turns (duties_of ran w) (journal_of ran w) lane.0 r (finished rows ran g w lt) lane.1 (due_of_cover ran.setup (worker_no ran.setup w).node r c)
 
 pub late_of : (rows : List Row) (ran : Ran) (g : Running rows ran) (w row r : ℕ) → HasWorker ran w → meets_row row (after_turn r (journal_of ran w)) ≡ true

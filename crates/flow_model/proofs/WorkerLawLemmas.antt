@@ -75,12 +75,12 @@ module _ (setup : SetupView) (kept : HasCovers setup) (graph : Graph) (same : Is
     is : IsWorker setup.job who
     is = (worker_with setup.job who.number who works.works).1
 
-    brought : BringSteadily setup who journal
-    brought n k =
+    delivered : BringSteadily setup who journal
+    delivered n k =
         steady_list (record { graph = graph; from = k.edge.from }) (HasEdge setup.job.edges) (shown setup n journal) same (works.steady n k.lane k.edge k.numbered k.receiver k.edge_is)
 
     has_agreed : HasAgreed setup journal
-    has_agreed = agreed setup kept begin.turned who is journal works.lawful.execution brought
+    has_agreed = agreed setup kept begin.turned who is journal works.lawful.execution delivered
 
     pub worker_agrees : Agreement setup journal
     worker_agrees = agreement_of setup journal has_agreed
@@ -89,7 +89,7 @@ module _ (setup : SetupView) (kept : HasCovers setup) (graph : Graph) (same : Is
     worker_sends counts lane =
         list_steady (record { graph = graph; from = who.node }) (HasEdge setup.job.edges) (sent setup who (view_at setup begin.turned who counts) lane journal) same
         (sends_steadily setup begin.turned who is (view_at setup begin.turned who counts) journal works.lawful.execution
-        (dues_rise setup begin.turned who.node (last_after setup who.node begin.turned) (last_within setup who.node begin.turned)) brought has_agreed lane)
+        (dues_rise setup begin.turned who.node (last_after setup who.node begin.turned) (last_within setup who.node begin.turned)) delivered has_agreed lane)
 
 -- ---- in a run
 
@@ -101,7 +101,7 @@ run_works rows ran g graph same w who journal p j =
     let at : worker_no ran.setup w ≡ who = who_is ran.setup w who p in
     let there : journal_of ran w ≡ journal = journal_is ran w journal j in
     let is : IsWorker ran.setup.job who = (worker_with ran.setup.job w who p).1 in
-    let brought : BringSteadily ran.setup who journal =
+    let delivered : BringSteadily ran.setup who journal =
     subst (λ (x : Worker). BringSteadily ran.setup x journal) at (subst (λ (x : List Entry). BringSteadily ran.setup (worker_no ran.setup w) x) there (all_steady rows ran g w lt)) in
     record {
       works = is.there;
@@ -114,5 +114,5 @@ run_works rows ran g graph same w who journal p j =
           let y : slice_get ran.setup.job.edges lane.edge ≡ Some k.edge = subst (λ (l : Lane). slice_get ran.setup.job.edges l.edge ≡ Some k.edge) lane_is k.edge_is in
           let edge_is : k.edge ≡ edge = cc in
           subst (λ (v : Edge). IsSteady (record { graph = graph; from = v.from }) (shown ran.setup n journal)) edge_is
-          (list_steady (record { graph = graph; from = k.edge.from }) (HasEdge ran.setup.job.edges) (shown ran.setup n journal) same (brought n k));
+          (list_steady (record { graph = graph; from = k.edge.from }) (HasEdge ran.setup.job.edges) (shown ran.setup n journal) same (delivered n k));
     }

@@ -70,7 +70,7 @@ pub record IsRunFrom (begin : Begin) (rows : List Row) (ran : Ran) : Type 0 wher
       slice_get ran.journals w ≡ Some journal → slice_get ran.states w ≡ Some state →
       IsWorked ran.setup begin who counts journal state
   -- each lane shows, in order, what was put on it
-  pub tied :
+  pub conserved :
       (n : ℕ) (lane : Lane) (journal : List Entry) → slice_get (lanes ran.setup.job) n ≡ Some lane →
       slice_get ran.journals lane.receiver ≡ Some journal → put_by begin rows ran lane lane.sender ≡ Some (shown ran.setup n journal)
 

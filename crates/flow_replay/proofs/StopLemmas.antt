@@ -92,7 +92,7 @@ stop_step setup rows feeds old new covering far gain fed_is = record {
         ∙ far.quiescent.long);
     worked = λ w who counts journal state ep ec ej es. worked w who counts journal state ep ec ej
         es;
-    tied = λ n l journal g ej. tie n l journal g ej l.sender refl;
+    conserved = λ n l journal g ej. tie n l journal g ej l.sender refl;
   };
 }
   where

@@ -46,11 +46,11 @@ second_worked = (
   (record { finished = finished-by_check _ _ refl; state_is = refl }, tt),
 )
 
-abbrev SecondTied : ℕ → Lane → Type 0
-SecondTied n lane = option_map (shown tally_setup n) (slice_get second_half.journals lane.receiver) ≡ put_by begin two_rows second_half lane lane.sender
+abbrev SecondConserved : ℕ → Lane → Type 0
+SecondConserved n lane = option_map (shown tally_setup n) (slice_get second_half.journals lane.receiver) ≡ put_by begin two_rows second_half lane lane.sender
 
-second_tied : OfEachLane SecondTied 0 (lanes tallied)
-second_tied = (refl, (rw one_yet refl, tt))
+second_conserved : OfEachLane SecondConserved 0 (lanes tallied)
+second_conserved = (refl, (rw one_yet refl, tt))
 
 second_run : IsRunFrom begin two_rows second_half
 second_run = record {
@@ -59,7 +59,7 @@ second_run = record {
   one_journal_each = refl;
   one_state_each = refl;
   worked = of_each-gets (IsWorked tally_setup begin) (workers_in tallied) begin.states second_half.journals second_half.states second_worked;
-  tied = λ n lane journal at there. sym (of_each_lane-gets SecondTied (lanes tallied) second_tied n lane at) ∙ ap (option_map (shown tally_setup n)) there;
+  conserved = λ n lane journal at there. sym (of_each_lane-gets SecondConserved (lanes tallied) second_conserved n lane at) ∙ ap (option_map (shown tally_setup n)) there;
 }
 
 pub halves-parts : AreParts tally_setup two_rows 1 first_half second_half
@@ -79,7 +79,7 @@ first_seen _ = 0
 pub forgotten-no_part : AreParts tally_setup two_rows 1 first_half (second_to (pos 10)) → ⊥
 forgotten-no_part h =
     let lane : Lane = record { edge = 1; sender = Some 0; receiver = 1 } in
-    let tied = h.goes_on.run.tied 1 lane (entry.Met 1 (tallied_row 2 (pos 10) 1) ∷ entry.Ended 1 ∷ []) refl refl in
-    let counts : first_seen (put_by begin two_rows (second_to (pos 10)) lane (Some 0)) ≡ 10 = ap first_seen tied in
+    let conserved = h.goes_on.run.conserved 1 lane (entry.Met 1 (tallied_row 2 (pos 10) 1) ∷ entry.Ended 1 ∷ []) refl refl in
+    let counts : first_seen (put_by begin two_rows (second_to (pos 10)) lane (Some 0)) ≡ 10 = ap first_seen conserved in
     let wrong : ◌≡◌ {A = ℕ} 11 10 = rw one_yet at counts in
     absurd (omega (arith, wrong))

@@ -28,7 +28,7 @@ use Rattle.flow_model.specs.Run.{IsRunFrom, IsWorked, Ran, put_by, ran_as, sent_
 use Rattle.flow_model.specs.Duties.{dues_after, duties}
 use Rattle.flow_model.specs.Workers.{workers_in}
 use Rattle.flow_model.proofs.ElementLemmas.{IsIn, at_of_all, in_of_contains}
-use Rattle.flow_model.proofs.JobLemmas.{IsWired}
+use Rattle.flow_model.proofs.JobLemmas.{IsConnected}
 use Rattle.flow_model.proofs.JournalLemmas.{IsExecution-append, after_all-append, dues_turned, progress_after-append, sent-append, shown-append}
 use Rattle.flow_model.proofs.PlannedLemmas.{HasCovers, covers_within, due_covers, dues_rise}
 use Rattle.flow_model.proofs.RunLemmas.{Running}
@@ -65,7 +65,7 @@ same_view a b f c l e =
 
 -- what the parts take of a setup
 pub record Kept (setup : SetupView) : Type 0 where
-  pub wired : IsWired setup.job
+  pub connected : IsConnected setup.job
   pub covers : HasCovers setup
   pub one_each : length setup.plans ≡ length setup.requests
 
@@ -100,7 +100,7 @@ module _ (setup : SetupView) (kept : Kept setup) (m : ℕ) (le : m ≤ length se
 
     none_due : (progress_after (initial old) x).dues ≡ []
     none_due =
-        let lane = kept.wired.reached who is in
+        let lane = kept.connected.reached who is in
         ended_undue old (initial old) x lane.0 law (λ k j. absurd j)
         (in_of_contains lane.0 (progress_after (initial old) x).ended (at_of_all (Contains (progress_after (initial old) x).ended) lane.0 old.lanes a.finished.ended lane.1))
 
@@ -338,14 +338,14 @@ module _ (setup : SetupView) (rows : List Row) (n m : ℕ) (kept : Kept setup) (
           let i : journal ≡ endless h.x ++ h.y = same_Some journal (endless h.x ++ h.y) (sym j ∙ get_joined ja jb w h.x h.y h.x_is h.y_is) in
           let k : state ≡ h.s' = same_Some state h.s' (sym s ∙ h.s'_is) in
           rw (e, f, i, k) (worked_here w lt h);
-      tied = λ k lane journal at j.
+      conserved = λ k lane journal at j.
           let l : lane.receiver < length (map joined_journal (zip ja jb)) = slice_get_within (map joined_journal (zip ja jb)) lane.receiver journal j in
           let lt : lane.receiver < length (workers_in setup.job) =
           omega (arith, l, length-map (zip ja jb) joined_journal, length-zip ja jb, g.run.one_journal_each) in
           let h : Both setup m begin ja sa jb sb lane.receiver = both lane.receiver lt in
           let i : journal ≡ endless h.x ++ h.y = same_Some journal (endless h.x ++ h.y) (sym j ∙ get_joined ja jb lane.receiver h.x h.y h.x_is h.y_is) in
           rw i
-          (put_both lane lane.sender (shown cut k h.x) (shown setup k h.y) (g.run.tied k lane h.x at h.x_is) (b.tied k lane h.y at h.y_is)
+          (put_both lane lane.sender (shown cut k h.x) (shown setup k h.y) (g.run.conserved k lane h.x at h.x_is) (b.conserved k lane h.y at h.y_is)
           ∙ ap Some
           (ap (λ (items : List Item). items ++ shown setup k h.y) (shown_first setup m k h.x (names_here lane.receiver lt h)) ∙ sym (shown-append setup k (endless h.x) h.y)));
     }

@@ -15,7 +15,7 @@ use Rattle.flow_model.specs.Requests.{afters}
 use Rattle.flow_model.specs.Run.{IsRun, IsRunFrom, Ran, ran_as}
 use Rattle.flow_model.specs.Setup.{setup_view}
 use Rattle.flow_model.specs.declared.setup.Setup.{Setup}
-use Rattle.flow_model.proofs.JobLemmas.{wired}
+use Rattle.flow_model.proofs.JobLemmas.{connected}
 use Rattle.flow_model.proofs.PlannedLemmas.{has_covers}
 use Rattle.flow_model.proofs.RunLemmas.{Running}
 use Rattle.savepoint.specs.Parts.{AreParts, first_of, issued_up_to, joined}
@@ -40,7 +40,7 @@ first_running setup rows row m first are is =
     let s : SetupView = setup_view setup in
     let job : JobView = job_view setup.job in
     record {
-      wired = wired job setup.job.dag setup.job.lawful refl setup.job.drawn;
+      connected = connected job setup.job.dag setup.job.lawful refl setup.job.drawn;
       kept = has_covers (first_of s m) (∥∥₁_map setup.planned (IsPlanned-first_of s m));
       kinds = accepted-kept job (take m s.requests) (AreAccepted-take job m s.requests setup.accepted);
       order = accepted-order job (take m s.requests) (AreAccepted-take job m s.requests setup.accepted);
@@ -54,7 +54,7 @@ parts_run setup rows row first second are parts =
     let m : ℕ = issued_up_to row (length rows) (afters s.requests) in
     let le : m ≤ length s.requests = counted_le row (length rows) s.requests in
     let job : JobView = job_view setup.job in
-    let kept : Kept s = record { wired = wired job setup.job.dag setup.job.lawful refl setup.job.drawn; covers = has_covers s setup.planned; one_each = (has_covers s setup.planned).one_each } in
+    let kept : Kept s = record { connected = connected job setup.job.dag setup.job.lawful refl setup.job.drawn; covers = has_covers s setup.planned; one_each = (has_covers s setup.planned).one_each } in
     let running : Running (take row rows) (first_part s m first) = first_running setup rows row m first are parts.begins in
     let turned : length first.setup.requests ≡ m = ap (λ (o : SetupView). length o.requests) parts.begins.setup_is ∙ length-take-le m s.requests le in
     let later : IsRunFrom (record { row = row; turned = m; states = first.states }) rows (ran_as s second.feeds second.journals second.states) =

@@ -218,15 +218,15 @@ short_func setup who view (x ∷ more) m h e (inr i) = short_func setup who (aft
 
 module _ (rows : List Row) (ran : Ran) (g : Running rows ran) (limits : HasLimits ran.setup.job) (requests : HaveLimits ran.setup.requests) (short : (row : Row) → IsIn row rows → AreShort row.tuple.fields) where
   -- what is met is short, worker after worker in the order of their nodes
-  short_below : (bound w l : ℕ) (t : Tuple) → HasWorker ran w → g.wired.rank (worker_no ran.setup w).node < bound → IsIn (entry.Met l t) (journal_of ran w) → AreShort t.fields
+  short_below : (bound w l : ℕ) (t : Tuple) → HasWorker ran w → g.connected.rank (worker_no ran.setup w).node < bound → IsIn (entry.Met l t) (journal_of ran w) → AreShort t.fields
   short_below zero w l t lt b i = absurd (omega arith)
   short_below (suc bound) w l t lt b i =
       let is : IsWorker ran.setup.job (worker_no ran.setup w) = (worker_is ran.setup w lt).1 in
       let k : LaneIn ran.setup.job (worker_no ran.setup w) l = lane_in ran.setup.job (worker_no ran.setup w) l is (met_on_lane (duties_of ran w) (start_of ran w) (journal_of ran w) l t (execution rows ran g w lt) i) in
-      let up : g.wired.rank k.edge.from < g.wired.rank k.edge.to = g.wired.forward k.lane.edge k.edge k.edge_is in
-      let here : g.wired.rank k.edge.to ≡ g.wired.rank (worker_no ran.setup w).node = ap g.wired.rank k.to in
+      let up : g.connected.rank k.edge.from < g.connected.rank k.edge.to = g.connected.forward k.lane.edge k.edge k.edge_is in
+      let here : g.connected.rank k.edge.to ≡ g.connected.rank (worker_no ran.setup w).node = ap g.connected.rank k.to in
       by_sender k (flat_map_in (came_in ran.setup l) (entry.Met l t) (item.Carry t) (journal_of ran w) i (met_shown ran.setup l t))
-      (λ v n u lv nv j. short_below bound v n u lv (let e : g.wired.rank (worker_no ran.setup v).node ≡ g.wired.rank k.edge.from = ap g.wired.rank nv in omega arith) j)
+      (λ v n u lv nv j. short_below bound v n u lv (let e : g.connected.rank (worker_no ran.setup v).node ≡ g.connected.rank k.edge.from = ap g.connected.rank nv in omega arith) j)
       (sender_of rows ran g k.edge.from k.lane.sender k.sends)
     where
       fed_short : (lane : Lane) → IsIn (item.Carry t) (fed ran.setup.job rows 0 lane ran.feeds ++ item.Last ∷ []) → AreShort t.fields
@@ -283,4 +283,4 @@ module _ (rows : List Row) (ran : Ran) (g : Running rows ran) (limits : HasLimit
 
   -- every tuple that is met has short texts
   pub all_short : (w l : ℕ) (t : Tuple) → HasWorker ran w → IsIn (entry.Met l t) (journal_of ran w) → HasShortTexts t
-  all_short w l t lt i = short_tuple t (short_below (suc (g.wired.rank (worker_no ran.setup w).node)) w l t lt (omega arith) i)
+  all_short w l t lt i = short_tuple t (short_below (suc (g.connected.rank (worker_no ran.setup w).node)) w l t lt (omega arith) i)

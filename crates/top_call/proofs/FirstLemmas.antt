@@ -199,7 +199,7 @@ turns least after next rows are sources plans splits ordered feeds journals stat
     let setup = setup_view_of job (first_request after next ∷ []) plans splits ordered in
     let total : ℕ = length rows in
     let turned = order 0 (record { number = 0; node = 1; place = 0; func = at_least least }) journal refl at 1 covered in
-    let shows : fed job rows 0 into_big feeds ++ item.Last ∷ [] ≡ shown setup 0 journal = (let tie = run.tied 0 into_big journal refl at in cc) in
+    let shows : fed job rows 0 into_big feeds ++ item.Last ∷ [] ≡ shown setup 0 journal = (let tie = run.conserved 0 into_big journal refl at in cc) in
     let come : (row : ℕ) → 0 < row → row ≤ total → comes row (fed job rows 0 into_big feeds) ≡ true =
     λ row some within. subst (λ (f : List Feed). comes row (fed job rows 0 into_big f) ≡ true) (sym run.feed)
     (past_issued least rows are sources after total row (nat_le (min after total) 0) (feed_after (after ∷ []) 1 0 total (total - 0))

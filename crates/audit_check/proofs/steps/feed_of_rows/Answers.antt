@@ -1,6 +1,6 @@
 use Rattle.std.proofs.Common.{◌≡◌, ◌+◌, arith, length}
 use Rattle.flow_model.specs.Setup.{setup_view}
-use Rattle.audit_laws.specs.Brought.{feed_of}
+use Rattle.audit_laws.specs.Delivered.{feed_of}
 use Rattle.flow_replay.proofs.IssueLemmas.{feed_next}
 use Rattle.audit_check.proofs.steps.feed_of_rows.Goals as goal
 

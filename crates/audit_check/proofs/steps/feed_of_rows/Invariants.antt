@@ -3,7 +3,7 @@ use Rattle.flow_model.specs.Feeding.{feed_after}
 use Rattle.flow_model.specs.Requests.{afters}
 use Rattle.flow_model.specs.Setup.{setup_view}
 use Rattle.flow_replay.specs.inner.SoFar.{AreIssuedBefore}
-use Rattle.audit_laws.specs.Brought.{feed_of}
+use Rattle.audit_laws.specs.Delivered.{feed_of}
 use Rattle.audit_check.proofs.steps.feed_of_rows.Given as goal
 
 abbrev pub invariant-loop-row : goal.invariant-loop-row

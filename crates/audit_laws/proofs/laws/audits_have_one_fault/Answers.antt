@@ -1,11 +1,11 @@
 use Rattle.std.proofs.Common.{refl}
 use Rattle.jobs.specs.Job.{job_view}
 use Rattle.flow_model.specs.Setup.{setup_view}
-use Rattle.flow_model.proofs.JobLemmas.{wired}
+use Rattle.flow_model.proofs.JobLemmas.{connected}
 use Rattle.audit_laws.proofs.OneFaultLemmas.{one_fault}
 use Rattle.audit_laws.proofs.laws.audits_have_one_fault.Goals as goal
 
 pub returns : goal.returns
 returns c rows audit states f g a b h k =
     let job = c.args.setup.now.job in
-    one_fault (setup_view c.args.setup.now) job.dag (wired (job_view job) job.dag job.lawful refl job.drawn) refl job.drawn rows audit states f g a b h k
+    one_fault (setup_view c.args.setup.now) job.dag (connected (job_view job) job.dag job.lawful refl job.drawn) refl job.drawn rows audit states f g a b h k

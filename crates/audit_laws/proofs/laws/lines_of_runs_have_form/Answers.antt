@@ -3,7 +3,7 @@ use Rattle.jobs.specs.Job.{job_view}
 use Rattle.tuple_trace.specs.Rows.{AreRows}
 use Rattle.versions.proofs.KeptLemmas.{accepted-kept}
 use Rattle.flow_model.specs.Setup.{setup_view}
-use Rattle.flow_model.proofs.JobLemmas.{wired}
+use Rattle.flow_model.proofs.JobLemmas.{connected}
 use Rattle.audit_laws.specs.Fits.{HasForm}
 use Rattle.audit_laws.proofs.FormLemmas.{run_form}
 use Rattle.audit_laws.proofs.OneRunLemmas.{by_parts}
@@ -18,6 +18,6 @@ returns c refused ran noted is =
     let plans : length s.plans < 2 ^ 64 = subst (λ n. n < 2 ^ 64) c.len-plan_count.ensures c.len-plan_count.type_inv in
     let requests : length s.judged.accepted < 2 ^ 64 = subst (λ n. n < 2 ^ 64) c.requests-request_count.ensures c.requests-request_count.type_inv in
     let p = by_parts (setup_view s) rows ran is in
-    let form = run_form (setup_view s) s.job.lawful (wired (job_view s.job) s.job.dag s.job.lawful refl s.job.drawn) (accepted-kept (job_view s.job) s.judged.accepted s.accepted)
+    let form = run_form (setup_view s) s.job.lawful (connected (job_view s.job) s.job.dag s.job.lawful refl s.job.drawn) (accepted-kept (job_view s.job) s.judged.accepted s.accepted)
     plans requests rows are few ran.journals ran.states p.1 refused noted in
     subst (HasForm refused) (sym p.0) form

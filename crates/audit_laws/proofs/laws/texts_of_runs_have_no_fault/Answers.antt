@@ -5,8 +5,8 @@ use Rattle.sink_journal.specs.declared.journal.Feed.{Feed}
 use Rattle.tuple_trace.specs.Rows.{AreRows}
 use Rattle.flow_model.specs.SetupView.{SetupView}
 use Rattle.flow_model.specs.Setup.{setup_view}
-use Rattle.flow_model.proofs.JobLemmas.{wired}
-use Rattle.audit_laws.specs.Brought.{feed_of}
+use Rattle.flow_model.proofs.JobLemmas.{connected}
+use Rattle.audit_laws.specs.Delivered.{feed_of}
 use Rattle.audit_laws.specs.Fits.{records_of}
 use Rattle.audit_laws.specs.Lines.{lines_of}
 use Rattle.audit_laws.specs.Trimmed.{trimmed}
@@ -25,4 +25,4 @@ returns c refused text ran fault noted is fits some stands =
     let shaped : AreInShape (setup_view c.args.setup.now).job (records_of text) (lines_of refused (feed_of (setup_view c.args.setup.now) rows) (map trimmed ran.journals) (map entries ran.states)) =
     subst (λ (feeds : List Feed). AreInShape (setup_view c.args.setup.now).job (records_of text) (lines_of refused feeds (map trimmed ran.journals) (map entries ran.states)))
     (is.run.feed ∙ ap (λ (s : SetupView). feed_of s rows) is.setup_is) (in_shape (setup_view c.args.setup.now) rows refused text ran is fits form) in
-    no_text_fault (setup_view c.args.setup.now) job.dag (wired (job_view job) job.dag job.lawful refl job.drawn) job.lawful refl job.drawn rows are refused (records_of text) ran.journals ran.states p.1 shaped fault some stands
+    no_text_fault (setup_view c.args.setup.now) job.dag (connected (job_view job) job.dag job.lawful refl job.drawn) job.lawful refl job.drawn rows are refused (records_of text) ran.journals ran.states p.1 shaped fault some stands

@@ -3,7 +3,7 @@ use Rattle.jobs.specs.Job.{job_view}
 use Rattle.flow_model.specs.SetupView.{SetupView}
 use Rattle.flow_model.specs.Setup.{setup_view}
 use Rattle.flow_model.specs.Workers.{workers_in}
-use Rattle.flow_model.proofs.JobLemmas.{wired}
+use Rattle.flow_model.proofs.JobLemmas.{connected}
 use Rattle.audit_laws.specs.Fits.{records_of}
 use Rattle.audit_laws.proofs.OneRunLemmas.{one_run}
 use Rattle.audit_laws.proofs.VerdictLemmas.{in_shape, same_trims}
@@ -16,7 +16,7 @@ returns c refused text a b noted x y p q =
     let w = c.lines_of_runs_have_form.ensures refused b noted y in
     let job = c.args.setup.now.job in
     let here : SetupView = setup_view c.args.setup.now in
-    one_run here (wired (job_view job) job.dag job.lawful refl job.drawn) rows a b x y (
+    one_run here (connected (job_view job) job.dag job.lawful refl job.drawn) rows a b x y (
     same_trims here job.lawful refused (records_of text) a.feeds b.feeds a.journals b.journals a.states b.states
     (x.run.one_journal_each ∙ ap (λ (s : SetupView). length (workers_in s.job)) x.setup_is) (x.run.one_state_each ∙ ap (λ (s : SetupView). length (workers_in s.job)) x.setup_is)
     (y.run.one_journal_each ∙ ap (λ (s : SetupView). length (workers_in s.job)) y.setup_is) (y.run.one_state_each ∙ ap (λ (s : SetupView). length (workers_in s.job)) y.setup_is) (in_shape here rows refused text a x p v) (in_shape here rows refused text b y q w))

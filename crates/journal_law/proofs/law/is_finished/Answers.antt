@@ -8,7 +8,7 @@ use Rattle.flow_model.specs.Requests.{afters}
 use Rattle.flow_model.specs.Setup.{setup_view}
 use Rattle.flow_model.specs.Workers.{nth_worker}
 use Rattle.audit_laws.specs.declared.audit.AuditEntry.{AuditEntry}
-use Rattle.audit_laws.specs.Brought.{feed_of}
+use Rattle.audit_laws.specs.Delivered.{feed_of}
 use Rattle.audit_laws.specs.Drafted.{draft}
 use Rattle.journal_law.specs.Course.{progress_of}
 use Rattle.journal_law.proofs.CourseLemmas.{done_lanes}

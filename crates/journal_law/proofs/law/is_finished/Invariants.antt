@@ -2,7 +2,7 @@ use Rattle.std.proofs.Common.{take}
 use Rattle.flow_model.specs.Duties.{duties}
 use Rattle.flow_model.specs.Setup.{setup_view}
 use Rattle.flow_model.specs.Workers.{nth_worker}
-use Rattle.audit_laws.specs.Brought.{feed_of}
+use Rattle.audit_laws.specs.Delivered.{feed_of}
 use Rattle.journal_law.specs.Course.{progress_of}
 use Rattle.journal_law.proofs.LawLemmas.{HasCome}
 use Rattle.journal_law.proofs.law.is_finished.Given as goal

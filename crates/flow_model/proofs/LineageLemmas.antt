@@ -53,8 +53,8 @@ abbrev pub puts_of : Ran → ℕ → Moment → List Put
 puts_of ran w m = puts ran.setup (worker_no ran.setup w) m.view m.entry
 
 -- how many items a lane has brought before an entry, and how many a worker has put on it before an entry, and before one of its puts
-abbrev pub brought_before : Ran → ℕ → Address → ℕ
-brought_before ran n c = length (shown ran.setup n (take c.entry (journal_of ran c.worker)))
+abbrev pub delivered_before : Ran → ℕ → Address → ℕ
+delivered_before ran n c = length (shown ran.setup n (take c.entry (journal_of ran c.worker)))
 
 abbrev pub sent_before : Ran → Lane → Address → ℕ
 sent_before ran lane p = length (flat_map (put_then ran.setup (worker_no ran.setup p.worker) lane) (take p.entry (story_of ran p.worker)))
@@ -81,7 +81,7 @@ pub record Child (ran : Ran) (p c : Address) : Type 0 where
   pub put_is : slice_get (puts_of ran p.worker moment) k ≡ Some put
   pub on : put.lane ≡ Some lane
   pub carries : item.Carry tuple ≡ put.item
-  pub place : brought_before ran n c ≡ sent_before ran lane p + put_before lane k (puts_of ran p.worker moment)
+  pub place : delivered_before ran n c ≡ sent_before ran lane p + put_before lane k (puts_of ran p.worker moment)
 
 -- the entry at this address meets this tuple
 abbrev pub Meets : Ran → Address → Tuple → Type 0
@@ -164,14 +164,14 @@ parted ran p a b c d differ = record { first = c; second = d; same_moment = one;
         let lane : c.lane ≡ d.lane = same_lane e in
         let number : c.n ≡ d.n = same_number ran.setup.job c.lane d.lane c.n d.n c.numbered d.numbered lane in
         let worker : a.worker ≡ b.worker = sym c.receiver ∙ (ap (λ (l : Lane). l.receiver) lane ∙ d.receiver) in
-        let place : brought_before ran c.n a ≡ brought_before ran d.n b =
+        let place : delivered_before ran c.n a ≡ delivered_before ran d.n b =
         c.place
         ∙ (ap (λ (l : Lane). sent_before ran l p + put_before l c.k (puts_of ran p.worker c.moment)) lane
         ∙ (ap (λ k. sent_before ran d.lane p + put_before d.lane k (puts_of ran p.worker c.moment)) e
         ∙ (ap (λ (m : Moment). sent_before ran d.lane p + put_before d.lane d.k (puts_of ran p.worker m)) one ∙ sym d.place))) in
-        let here : brought_before ran c.n a ≡ length (shown ran.setup c.n (take b.entry (journal_of ran a.worker))) =
+        let here : delivered_before ran c.n a ≡ length (shown ran.setup c.n (take b.entry (journal_of ran a.worker))) =
         place
-        ∙ (ap (λ n. brought_before ran n b) (sym number) ∙ ap (λ w. length (shown ran.setup c.n (take b.entry (journal_of ran w)))) (sym worker)) in
+        ∙ (ap (λ n. delivered_before ran n b) (sym number) ∙ ap (λ w. length (shown ran.setup c.n (take b.entry (journal_of ran w)))) (sym worker)) in
         let met : slice_get (journal_of ran a.worker) b.entry ≡ Some (entry.Met c.n d.tuple) =
         subst (λ w. slice_get (journal_of ran w) b.entry ≡ Some (entry.Met c.n d.tuple)) (sym worker) (subst (λ n. slice_get (journal_of ran b.worker) b.entry ≡ Some (entry.Met n d.tuple)) (sym number) d.met) in
         same_address a b worker
@@ -251,14 +251,14 @@ visit_of ran p a c chain u k h n =
 -- ---- kin
 
 -- of two entries that come of one, one comes of the other, or they parted at an entry between
-abbrev pub AreKin : Ran → Address → Address → Type 0
-AreKin ran c d =
+abbrev pub ShareRoot : Ran → Address → Address → Type 0
+ShareRoot ran c d =
     ((chain : List Address) × IsChain ran c chain d)
     ⊎ (((chain : List Address) × IsChain ran d chain c)
     ⊎ ((p : Address) × (a : Address) × (b : Address) × Child ran p a × Child ran p b × (a ≢ b)
     × ((chain : List Address) × IsChain ran a chain c) × ((chain : List Address) × IsChain ran b chain d)))
 
-pub kin : (ran : Ran) (root c d : Address) (first second : List Address) → IsChain ran root first c → IsChain ran root second d → AreKin ran c d
+pub kin : (ran : Ran) (root c d : Address) (first second : List Address) → IsChain ran root first c → IsChain ran root second d → ShareRoot ran c d
 kin ran root c d [] second h k = inl (second, subst (λ a. IsChain ran a second d) h k)
 kin ran root c d (a ∷ first) [] h k = inr (inl (a ∷ first, subst (λ x. IsChain ran x (a ∷ first) c) k h))
 kin ran root c d (a ∷ first) (b ∷ second) h k =

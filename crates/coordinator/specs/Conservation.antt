@@ -17,7 +17,7 @@ AreFinished begin ran =
     → slice_get ran.journals w ≡ Some journal → IsFinishedFrom ran.setup begin post journal
 
 -- a lane that was settled: nothing is left on it, and it shows what was put on it
-pub record IsTied (begin : Begin) (rows : List Row) (ran : Ran) (n : ℕ) (lane : Lane) (journal :
+pub record IsConserved (begin : Begin) (rows : List Row) (ran : Ran) (n : ℕ) (lane : Lane) (journal :
     List Entry) (left : List Item) : Type 0 where
   pub none_left : left ≡ []
-  pub tied : put_by begin rows ran lane lane.sender ≡ Some (shown ran.setup n journal)
+  pub conserved : put_by begin rows ran lane lane.sender ≡ Some (shown ran.setup n journal)

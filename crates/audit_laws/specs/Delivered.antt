@@ -17,6 +17,6 @@ feed_of setup rows = feed_from 0 0 (afters setup.requests) (length rows)
 
 -- What a lane brings if the workers have these journals: the rows that are fed, or what the replay
 -- of its sender's journal sends.
-abbrev pub brought : SetupView → List Row → List (List Entry) → Lane → Option (List Item)
-brought setup rows journals lane =
+abbrev pub delivered : SetupView → List Row → List (List Entry) → Lane → Option (List Item)
+delivered setup rows journals lane =
     put_by (at_first setup) rows (ran_as setup (feed_of setup rows) journals []) lane lane.sender
