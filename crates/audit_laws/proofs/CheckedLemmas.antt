@@ -27,7 +27,7 @@ use Rattle.audit_laws.specs.Trimmed.{trim, trimmed}
 use Rattle.audit_laws.proofs.DraftLemmas.{IssuedRight, draft_finished, finished_draft}
 use Rattle.audit_laws.proofs.IssuedLemmas.{issued_right}
 use Rattle.audit_laws.proofs.OneRunLemmas.{Left, left_of, length_trimmed, none_counted, put_by-states, conserved_by_run}
-use Rattle.audit_laws.proofs.ConservedLemmas.{IsConserved}
+use Rattle.audit_laws.proofs.ConservedLemmas.{IsConservedAt}
 use Rattle.audit_laws.proofs.TrimLemmas.{MetOn}
 
 -- tuples come by lanes in, as the law of the draft says
@@ -45,7 +45,7 @@ module _ (setup : SetupView) (connected : IsConnected setup.job) (rows : List Ro
     as_many : length journals ≡ length (workers_in setup.job)
     as_many = sym (length_trimmed journals) ∙ (ap length is.restored ∙ is.one_journal_each)
 
-    pub conserved_by_check : (w : ℕ) (who : Worker) → slice_get (workers_in setup.job) w ≡ Some who → IsConserved setup rows journals w
+    pub conserved_by_check : (w : ℕ) (who : Worker) → slice_get (workers_in setup.job) w ≡ Some who → IsConservedAt setup rows journals w
     conserved_by_check w who p =
         let lt : w < length (workers_in setup.job) = slice_get_within (workers_in setup.job) w who p in
         let j = item_at journals w (omega (arith, lt, as_many)) in

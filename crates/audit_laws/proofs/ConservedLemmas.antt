@@ -23,7 +23,7 @@ use Rattle.audit_laws.specs.Trimmed.{trimmed}
 use Rattle.audit_laws.proofs.TrimLemmas.{MetOn, ShowSame, same_journal}
 
 -- the journal of a worker shows what its lanes bring
-pub record IsConserved (setup : SetupView) (rows : List Row) (journals : List (List Entry)) (w : ℕ) : Type 0 where
+pub record IsConservedAt (setup : SetupView) (rows : List Row) (journals : List (List Entry)) (w : ℕ) : Type 0 where
   pub journal : List Entry
   pub there : slice_get journals w ≡ Some journal
   pub met : MetOn (lanes_in setup.job w) journal
@@ -51,7 +51,7 @@ IsClosed setup connected Done =
     → Done w → Done s
 
 module _ (setup : SetupView) (connected : IsConnected setup.job) (rows : List Row) (A B : List (List Entry)) (Done : ℕ → Type 0) (closed : IsClosed setup connected Done)
-    (a : (w : ℕ) → Done w → IsConserved setup rows A w) (b : (w : ℕ) → Done w → IsConserved setup rows B w)
+    (a : (w : ℕ) → Done w → IsConservedAt setup rows A w) (b : (w : ℕ) → Done w → IsConservedAt setup rows B w)
     (same : (w : ℕ) → Done w → option_map trimmed (slice_get A w) ≡ option_map trimmed (slice_get B w))
   where
     -- a lane brings the same, where its sender's journal is the same
@@ -86,7 +86,7 @@ module _ (setup : SetupView) (connected : IsConnected setup.job) (rows : List Ro
         by_sender bound k.edge.from s k.lane.sender h (sender_stands setup.job k.edge.from k.lane.sender k.sends) (sym (ap (λ (l : Lane). l.sender) one) ∙ e)
         (λ sender there node. closed w s who sender p there (let same : connected.rank sender.node ≡ connected.rank k.edge.from = ap connected.rank node in omega arith) d) (omega arith)
 
-    shows : (w : ℕ) (x : IsConserved setup rows A w) (y : IsConserved setup rows B w)
+    shows : (w : ℕ) (x : IsConservedAt setup rows A w) (y : IsConservedAt setup rows B w)
         → ((n : ℕ) (lane : Lane) → slice_get (lanes setup.job) n ≡ Some lane → lane.receiver ≡ w → (s : ℕ) → lane.sender ≡ Some s → slice_get A s ≡ slice_get B s)
         → ShowSame setup (lanes_in setup.job w) x.journal y.journal
     shows w x y senders n i =
@@ -99,8 +99,8 @@ module _ (setup : SetupView) (connected : IsConnected setup.job) (rows : List Ro
     below : (bound w : ℕ) (who : Worker) → slice_get (workers_in setup.job) w ≡ Some who → Done w → connected.rank who.node < bound → slice_get A w ≡ slice_get B w
     below zero w who p d lt = absurd (omega arith)
     below (suc bound) w who p d lt =
-        let x : IsConserved setup rows A w = a w d in
-        let y : IsConserved setup rows B w = b w d in
+        let x : IsConservedAt setup rows A w = a w d in
+        let y : IsConservedAt setup rows B w = b w d in
         let e : Some (trimmed x.journal) ≡ Some (trimmed y.journal) = sym (ap (option_map trimmed) x.there) ∙ (same w d ∙ ap (option_map trimmed) y.there) in
         let t : trimmed x.journal ≡ trimmed y.journal = same_Some (trimmed x.journal) (trimmed y.journal) e in
         let s : ShowSame setup (lanes_in setup.job w) x.journal y.journal = shows w x y (earlier bound w who p d lt (λ s q. below bound s q)) in

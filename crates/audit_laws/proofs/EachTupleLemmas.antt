@@ -23,7 +23,7 @@ use Rattle.flow_model.proofs.LaneLemmas.{LaneIn, in_lanes_that, lane_into}
 use Rattle.flow_model.proofs.WorkerLemmas.{worker_with}
 use Rattle.audit_laws.specs.Delivered.{feed_of}
 use Rattle.audit_laws.proofs.OneRunLemmas.{none_counted}
-use Rattle.audit_laws.proofs.ConservedLemmas.{IsConserved, sender_stands}
+use Rattle.audit_laws.proofs.ConservedLemmas.{IsConservedAt, sender_stands}
 
 -- every tuple of a journal has the property
 abbrev pub HasEach : (Tuple → Type 0) → List Entry → Type 0
@@ -35,7 +35,7 @@ SendsEach setup P who journal =
     HasEach P journal → (lane : Lane) (t : Tuple) → IsIn (item.Carry t) (sent setup who (view_at setup 0 who empty) lane journal) → P t
 
 module _ (setup : SetupView) (connected : IsConnected setup.job) (rows : List Row) (journals : List (List Entry))
-    (conserved : (w : ℕ) (who : Worker) → slice_get (workers_in setup.job) w ≡ Some who → IsConserved setup rows journals w) (P : Tuple → Type 0)
+    (conserved : (w : ℕ) (who : Worker) → slice_get (workers_in setup.job) w ≡ Some who → IsConservedAt setup rows journals w) (P : Tuple → Type 0)
     (feeds_each : (lane : Lane) (t : Tuple) → IsIn (item.Carry t) (fed setup.job rows 0 lane (feed_of setup rows)) → P t)
     (sends_each : (w : ℕ) (who : Worker) (journal : List Entry) → slice_get (workers_in setup.job) w ≡ Some who → slice_get journals w ≡ Some journal → SendsEach setup P who journal)
   where
@@ -59,14 +59,14 @@ module _ (setup : SetupView) (connected : IsConnected setup.job) (rows : List Ro
         subst (λ o. put_by (at_first setup) rows (ran_as setup (feed_of setup rows) journals []) lane o ≡ Some items) none e in
         has_fed lane t (subst (λ (l : List Item). IsIn (item.Carry t) l) (sym (same_Some (fed setup.job rows 0 lane (feed_of setup rows) ++ item.Last ∷ []) items f)) i)
     by_sender bound from lane items t o h (inr (q, is, there, node)) e lt i =
-        let y : IsConserved setup rows journals q.number = conserved q.number q there in
+        let y : IsConservedAt setup rows journals q.number = conserved q.number q there in
         let f : put_by (at_first setup) rows (ran_as setup (feed_of setup rows) journals []) lane (Some q.number) ≡ Some items =
         subst (λ o. put_by (at_first setup) rows (ran_as setup (feed_of setup rows) journals []) lane o ≡ Some items) is e in
         let g : Some (sent setup q (view_at setup 0 q empty) lane y.journal) ≡ Some items = rw (there, none_counted setup q.number q there, y.there) at f in
         sends_each q.number q y.journal there y.there (h q.number q y.journal there (subst (λ v. connected.rank v < bound) (sym node) lt) y.there) lane t
         (subst (λ (l : List Item). IsIn (item.Carry t) l) (sym (same_Some (sent setup q (view_at setup 0 q empty) lane y.journal) items g)) i)
 
-    has_here : (bound w : ℕ) (who : Worker) (x : IsConserved setup rows journals w) → slice_get (workers_in setup.job) w ≡ Some who → connected.rank who.node < suc bound → Before bound
+    has_here : (bound w : ℕ) (who : Worker) (x : IsConservedAt setup rows journals w) → slice_get (workers_in setup.job) w ≡ Some who → connected.rank who.node < suc bound → Before bound
         → HasEach P x.journal
     has_here bound w who x p lt h l t i =
         let k = in_lanes_that (λ (lane : Lane). lane.receiver == w) setup.job l (x.met l t i) in
@@ -85,7 +85,7 @@ module _ (setup : SetupView) (connected : IsConnected setup.job) (rows : List Ro
     below : (bound : ℕ) → Before bound
     below zero w who journal p lt j = absurd (omega arith)
     below (suc bound) w who journal p lt j =
-        let x : IsConserved setup rows journals w = conserved w who p in
+        let x : IsConservedAt setup rows journals w = conserved w who p in
         subst (HasEach P) (same_Some x.journal journal (sym x.there ∙ j)) (has_here bound w who x p lt (below bound))
 
     pub each_tuple : (w : ℕ) (who : Worker) (journal : List Entry) → slice_get (workers_in setup.job) w ≡ Some who → slice_get journals w ≡ Some journal → HasEach P journal

@@ -35,7 +35,7 @@ use Rattle.audit_laws.specs.Trimmed.{trimmed}
 use Rattle.audit_laws.proofs.CheckedLemmas.{met_by_draft, run_checked}
 use Rattle.audit_laws.proofs.OneRunLemmas.{Left, left_of, conserved_by_run}
 use Rattle.audit_laws.proofs.SeenLemmas.{MarksPlans, marked_is_due, plan_there, seen_shown}
-use Rattle.audit_laws.proofs.ConservedLemmas.{IsClosed, IsConserved, same_journals, sender_stands}
+use Rattle.audit_laws.proofs.ConservedLemmas.{IsClosed, IsConservedAt, same_journals, sender_stands}
 use Rattle.audit_laws.proofs.TrimLemmas.{MetOn}
 
 -- ---- ranks by the order of the nodes
@@ -86,7 +86,7 @@ module _ (setup : SetupView) (connected : IsConnected setup.job) (rows : List Ro
 
     -- a restored journal is tied to those of its senders
     conserved_by_restored : (other : List (List Entry)) (w : ℕ) (who : Worker) → slice_get (workers_in setup.job) w ≡ Some who → IsRestored setup rows (map trimmed journals) other w
-        → IsConserved setup rows other w
+        → IsConservedAt setup rows other w
     conserved_by_restored other w who p r = record {
       journal = r.journal;
       there = r.there;
@@ -131,7 +131,7 @@ module _ (setup : SetupView) (connected : IsConnected setup.job) (rows : List Ro
         let brings : delivered setup rows h.journals h.lane ≡ delivered setup rows journals h.lane =
         brings_same setup connected rows h.journals journals n h.lane h.who h.lane_is h.receives (λ s sender p lt. same s sender p (inl (up sender.node h.who.node lt))) in
         let l : Left setup rows journals states run h.lane.receiver h.who = left_of setup rows journals states run h.lane.receiver h.who h.receives in
-        let t : IsConserved setup rows journals h.lane.receiver = conserved_by_run setup rows journals states run h.lane.receiver h.who h.receives in
+        let t : IsConservedAt setup rows journals h.lane.receiver = conserved_by_run setup rows journals states run h.lane.receiver h.who h.receives in
         let j : t.journal ≡ l.journal = same_Some t.journal l.journal (sym t.there ∙ l.journal_there) in
         let items : h.items ≡ shown setup n l.journal =
         same_Some h.items (shown setup n l.journal) (sym h.brings ∙ (brings ∙ (t.conserved n h.lane h.lane_is refl ∙ ap (λ x. Some (shown setup n x)) j))) in

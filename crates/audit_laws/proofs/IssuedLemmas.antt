@@ -30,7 +30,7 @@ use Rattle.audit_laws.specs.Delivered.{feed_of}
 use Rattle.audit_laws.specs.Drafted.{issued_before}
 use Rattle.audit_laws.proofs.DraftLemmas.{IssuedRight}
 use Rattle.audit_laws.proofs.EachTupleLemmas.{SendsEach, each_tuple}
-use Rattle.audit_laws.proofs.ConservedLemmas.{IsConserved}
+use Rattle.audit_laws.proofs.ConservedLemmas.{IsConservedAt}
 
 -- ---- what the feeder puts
 
@@ -109,7 +109,7 @@ carried_sent setup who view lane (x ∷ xs) t i =
 -- ---- all workers
 
 module _ (setup : SetupView) (connected : IsConnected setup.job) (rows : List Row) (are : AreRows rows) (journals : List (List Entry))
-    (conserved : (w : ℕ) (who : Worker) → slice_get (workers_in setup.job) w ≡ Some who → IsConserved setup rows journals w)
+    (conserved : (w : ℕ) (who : Worker) → slice_get (workers_in setup.job) w ≡ Some who → IsConservedAt setup rows journals w)
   where
     abbrev IsRight : Tuple → Type 0
     IsRight t = t.issued ≡ issued_before t.row 0 (feed_of setup rows)

@@ -36,7 +36,7 @@ use Rattle.flow_model.proofs.WorkerLemmas.{IsWorker, worker_with}
 use Rattle.audit_laws.specs.Delivered.{feed_of}
 use Rattle.audit_laws.proofs.EachTupleLemmas.{HasEach, SendsEach, each_tuple}
 use Rattle.audit_laws.proofs.SmallLemmas.{AreNarrow, births_narrow}
-use Rattle.audit_laws.proofs.ConservedLemmas.{IsConserved}
+use Rattle.audit_laws.proofs.ConservedLemmas.{IsConservedAt}
 
 -- the tuple is of one of so many rows, and its births are in range
 abbrev pub IsNarrow : ℕ → Tuple → Type 0
@@ -124,7 +124,7 @@ module _ (setup : SetupView) (law : IsLawful setup.job) (connected : IsConnected
 
   -- in journals that are tied to their senders every tuple is of one of the rows, and its births are in range
   pub each_narrow : (rows : List Row) → AreRows rows → (journals : List (List Entry))
-      → ((w : ℕ) (who : Worker) → slice_get (workers_in setup.job) w ≡ Some who → IsConserved setup rows journals w)
+      → ((w : ℕ) (who : Worker) → slice_get (workers_in setup.job) w ≡ Some who → IsConservedAt setup rows journals w)
       → (w : ℕ) (who : Worker) (journal : List Entry) → slice_get (workers_in setup.job) w ≡ Some who → slice_get journals w ≡ Some journal → HasEach (IsNarrow (length rows)) journal
   each_narrow rows are journals conserved =
       each_tuple setup connected rows journals conserved (IsNarrow (length rows)) (narrow_fed setup rows are) (λ w who journal p j. narrow_sent (length rows) w who journal p)

@@ -29,7 +29,7 @@ use Rattle.audit_laws.specs.Trimmed.{trim, trimmed}
 use Rattle.audit_laws.proofs.CheckedLemmas.{met_by_draft}
 use Rattle.audit_laws.proofs.FaultLemmas.{brings_same, in_order, order_below, order_forward}
 use Rattle.audit_laws.proofs.SeenLemmas.{MarksPlans, marked_is_due, plan_there, seen_shown}
-use Rattle.audit_laws.proofs.ConservedLemmas.{IsClosed, IsConserved, same_journals}
+use Rattle.audit_laws.proofs.ConservedLemmas.{IsClosed, IsConservedAt, same_journals}
 use Rattle.audit_laws.proofs.TrimLemmas.{MetOn}
 
 -- ---- the order of workers
@@ -44,7 +44,7 @@ module _ (setup : SetupView) (order : List ℕ) (connected : IsConnected setup.j
     (one_place : (a b : Worker) (v w : ℕ) → slice_get (workers_in setup.job) v ≡ Some a → slice_get (workers_in setup.job) w ≡ Some b → place_of order a.node ≡ place_of order b.node → a.node ≡ b.node)
     (rows : List Row) (audit : List (List AuditEntry)) (finished : AreFinished setup rows audit)
   where
-    conserved : (journals : List (List Entry)) (w : ℕ) (who : Worker) → slice_get (workers_in setup.job) w ≡ Some who → IsRestored setup rows audit journals w → IsConserved setup rows journals w
+    conserved : (journals : List (List Entry)) (w : ℕ) (who : Worker) → slice_get (workers_in setup.job) w ≡ Some who → IsRestored setup rows audit journals w → IsConservedAt setup rows journals w
     conserved journals w who p r = record {
       journal = r.journal;
       there = r.there;

@@ -21,7 +21,7 @@ use Rattle.audit_laws.specs.declared.audit.AuditEntry.{AuditEntry}
 use Rattle.audit_laws.specs.Delivered.{feed_of}
 use Rattle.audit_laws.specs.Trimmed.{trimmed}
 use Rattle.audit_laws.proofs.TrimLemmas.{MetOn}
-use Rattle.audit_laws.proofs.ConservedLemmas.{IsConserved, same_journals}
+use Rattle.audit_laws.proofs.ConservedLemmas.{IsConservedAt, same_journals}
 
 -- two lists are the same whose items are, place by place
 pub same_list : {A : Type 0} (xs ys : List A) → length xs ≡ length ys → ((k : ℕ) → k < length xs → slice_get xs k ≡ slice_get ys k) → xs ≡ ys
@@ -66,7 +66,7 @@ module _ (setup : SetupView) (rows : List Row) (journals : List (List Entry)) (s
           worked = run.worked w who empty j.0 s.0 p (none_counted setup w who p) j.1 s.1;
         }
 
-    pub conserved_by_run : (w : ℕ) (who : Worker) → slice_get (workers_in setup.job) w ≡ Some who → IsConserved setup rows journals w
+    pub conserved_by_run : (w : ℕ) (who : Worker) → slice_get (workers_in setup.job) w ≡ Some who → IsConservedAt setup rows journals w
     conserved_by_run w who p =
         let l : Left w who = left_of w who p in
         let number : who.number ≡ w = (worker_with setup.job w who p).0 in

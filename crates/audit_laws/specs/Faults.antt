@@ -32,13 +32,15 @@ pub record HasBadLaw (setup : SetupView) (rows : List Row) (audit : List (List A
   pub there : slice_get audit w ≡ Some journal
   pub unfinished : ¬ IsFinishedDraft setup rows who journal
   pub least :
-      (v : ℕ) (p : Worker) (j : List AuditEntry) → v < w → slice_get (workers_in setup.job) v ≡ Some p →
+      (v : ℕ) (p : Worker) (j : List AuditEntry) → v < w
+      → slice_get (workers_in setup.job) v ≡ Some p →
       slice_get audit v ≡ Some j → IsFinishedDraft setup rows p j
 
 -- The trimmed journal of each worker is finished.
 abbrev pub AreFinished : SetupView → List Row → List (List AuditEntry) → Type 0
 AreFinished setup rows audit =
-    (w : ℕ) (who : Worker) (journal : List AuditEntry) → slice_get (workers_in setup.job) w ≡ Some who →
+    (w : ℕ) (who : Worker) (journal : List AuditEntry)
+    → slice_get (workers_in setup.job) w ≡ Some who →
     slice_get audit w ≡ Some journal → IsFinishedDraft setup rows who journal
 
 -- ---- the lanes

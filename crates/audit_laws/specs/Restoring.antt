@@ -54,14 +54,16 @@ delivered_by setup rows journals (Some lane) = items_of (delivered setup rows jo
 
 -- What each lane brings if the workers have these journals.
 abbrev pub delivered_on : SetupView → List Row → List (List Entry) → ℕ → List Item
-delivered_on setup rows journals n = delivered_by setup rows journals (slice_get (lanes setup.job) n)
+delivered_on setup rows journals n = delivered_by setup rows journals
+    (slice_get (lanes setup.job) n)
 
 -- Each lane into the worker brings items if the workers have these journals. They are the lane's
 -- entries of the trimmed journal.
 abbrev pub LanesAgree : SetupView → List Row → List (List Entry) → ℕ → List AuditEntry → Type 0
 LanesAgree setup rows journals w journal =
     (n : ℕ) (lane : Lane) → slice_get (lanes setup.job) n ≡ Some lane → lane.receiver ≡ w →
-    (items : List Item) × (delivered setup rows journals lane ≡ Some items) × AreItems n items journal
+    (items : List Item) × (delivered setup rows journals lane ≡ Some items)
+    × AreItems n items journal
 
 -- The journal of a worker, restored from the trimmed one and from what its lanes bring.
 abbrev pub restored_by : SetupView → List Row → List (List Entry) → List AuditEntry → List Entry

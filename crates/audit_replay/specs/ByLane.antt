@@ -1,5 +1,6 @@
 -- The entries of a journal by their lanes.
-use Rattle.std.specs.Prelude.{◌≡◌, ◌<◌, ◌++◌, ◌∷◌, [], ℕ, List, Option, Some, None, filter, length, map, get_or, slice_set}
+use Rattle.std.specs.Prelude.{◌≡◌, ◌<◌, ◌++◌, ◌∷◌, [], ℕ, List, Option, Some, None, filter, length}
+use Rattle.std.specs.Prelude.{map, get_or, slice_set}
 use Rattle.std.specs.Borrow.{Bor}
 use Rattle.audit_laws.specs.declared.audit.AuditEntry.{AuditEntry}
 use Rattle.audit_laws.specs.declared.audit.AuditEntry.TheVariants as kept
@@ -20,7 +21,8 @@ added_to lists entry None = lists
 added_to lists entry (Some lane) = slice_set lists lane (get_or lists lane [] ++ entry ∷ [])
 
 -- These are the entries of each of so many lanes.
-pub record AreOnLanes (lanes : ℕ) (journal : List AuditEntry) (lists : List (List AuditEntry)) : Type 0
+pub record AreOnLanes (lanes : ℕ) (journal : List AuditEntry)
+    (lists : List (List AuditEntry)) : Type 0
   where
     pub long : length lists ≡ lanes
     pub each : (n : ℕ) → n < lanes → get_or lists n [] ≡ filter (comes_by n) journal

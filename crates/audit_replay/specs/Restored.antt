@@ -1,5 +1,6 @@
 -- How far journals are restored.
-use Rattle.std.specs.Prelude.{◌≡◌, ◌≢◌, ◌<◌, ◌==◌, ⊤, ℕ, List, filter, map, take, slice_set, Option, Some, None, length, slice_get}
+use Rattle.std.specs.Prelude.{◌≡◌, ◌≢◌, ◌<◌, ◌==◌, ⊤, ℕ, List, filter, map, take, slice_set, Option}
+use Rattle.std.specs.Prelude.{Some, None, length, slice_get}
 use Rattle.std.specs.FinMap.{empty, entries}
 use Rattle.keyed_state.specs.Counts.{Counts}
 use Rattle.sink_journal.specs.declared.journal.Entry.{Entry}
@@ -17,7 +18,8 @@ use Rattle.audit_laws.specs.declared.audit.AuditEntry.{AuditEntry}
 use Rattle.audit_laws.specs.declared.fault.AuditFault.{AuditFault}
 use Rattle.audit_laws.specs.declared.fault.AuditFault.TheVariants as fault
 use Rattle.audit_laws.specs.Delivered.{delivered}
-use Rattle.audit_laws.specs.Faults.{AreItems, ComesBefore, HasBadLane, HasBadState, IsRestored, Listed}
+use Rattle.audit_laws.specs.Faults.{AreItems, ComesBefore, HasBadLane, HasBadState, IsRestored}
+use Rattle.audit_laws.specs.Faults.{Listed}
 use Rattle.audit_laws.specs.Restoring.{restored}
 use Rattle.flow_model.specs.Replay.{sent}
 use Rattle.flow_replay.specs.Sent.{first_view}

@@ -14,7 +14,8 @@ abbrev pub stopped : Fault → Answer
 stopped why = record { fault = Some why; refused = []; ran = None; start = None }
 
 -- the call stopped for such a cause; it changed no file and printed nothing
-pub record Stops (Cause : Faults → Faults → Fault → Type 0) (old new : World) (answer : Answer) : Type 0 where
+pub record Stops (Cause : Faults → Faults → Fault → Type 0) (old new : World)
+    (answer : Answer) : Type 0 where
   pub why : Fault
   pub answer_is : answer ≡ stopped why
   pub cause : Cause old.shelf.faults new.shelf.faults why
@@ -41,7 +42,8 @@ pub record StopsStoring (text : FileText) (old new : World) (answer : Option Fau
 abbrev pub EndsStoring : List FileText → List ℕ → World → World → Option Fault → Type 0
 EndsStoring [] lines old new answer = PrintsLines lines old new answer
 EndsStoring (text ∷ later) lines old new answer =
-    StopsStoring text old new answer ⊎ ((stored : World) × StoresWhole text old stored × EndsStoring later lines stored new answer)
+    StopsStoring text old new answer ⊎ ((stored : World) × StoresWhole text old stored
+    × EndsStoring later lines stored new answer)
 
 -- memory ran out before anything was stored or printed
 pub record StopsUnstored (old new : World) (answer : Option Fault) : Type 0 where
@@ -50,4 +52,5 @@ pub record StopsUnstored (old new : World) (answer : Option Fault) : Type 0 wher
 
 -- how a run ends that leaves these texts and these lines
 abbrev pub EndsAfterRun : List FileText → List ℕ → World → World → Option Fault → Type 0
-EndsAfterRun texts lines old new answer = StopsUnstored old new answer ⊎ EndsStoring texts lines old new answer
+EndsAfterRun texts lines old new answer = StopsUnstored old new answer
+    ⊎ EndsStoring texts lines old new answer

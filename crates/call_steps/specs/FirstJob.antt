@@ -37,11 +37,15 @@ first_edges = (record { from = 0; port = 0; to = 1 }) ∷ (record { from = 1; po
 abbrev pub first_job : ℤ → JobView
 first_job least = record {
   columns = first_columns;
-  nodes = node_of (codes "card") func.Source ∷ node_of (codes "big") (at_least least) ∷ node_of (codes "alerts") (func.Sink (0 ∷ 1 ∷ 2 ∷ 3 ∷ [])) ∷ [];
+  nodes = node_of (codes "card") func.Source ∷ node_of (codes "big") (at_least least) ∷ node_of
+      (codes "alerts") (func.Sink (0 ∷ 1 ∷ 2 ∷ 3 ∷ [])) ∷ [];
   edges = first_edges;
   tables = [];
 }
 
 -- the request that the amounts of `big` begin at another one from a row on
 abbrev pub first_request : ℕ → ℤ → Request
-first_request after least = record { after = after; changes = record { node = 1; from = 0; func = at_least least; carry = carry.Keep } ∷ [] }
+first_request after least = record {
+  after = after;
+  changes = record { node = 1; from = 0; func = at_least least; carry = carry.Keep } ∷ [];
+}

@@ -12,7 +12,8 @@ use Rattle.report.specs.declared.fault.FileIs.TheVariants as file
 
 -- a fault was counted
 abbrev pub HasFailed : World → World → Type 0
-HasFailed old new = Rose old.shelf.faults.reads new.shelf.faults.reads ⊎ (Rose old.shelf.faults.writes new.shelf.faults.writes ⊎ Rose old.out.faults new.out.faults)
+HasFailed old new = Rose old.shelf.faults.reads new.shelf.faults.reads
+    ⊎ (Rose old.shelf.faults.writes new.shelf.faults.writes ⊎ Rose old.out.faults new.out.faults)
 
 -- nothing is promised of the answer: a fault was counted, or memory ran out
 abbrev pub IsExcused : World → World → Option Fault → Type 0
@@ -33,30 +34,38 @@ pub record StoresWhole (text : FileText) (old new : World) : Type 0 where
   pub target : new.shelf.target ≡ Some text.name
   pub out : new.out ≡ old.out
 
--- storing the text was broken off: if the file couldn't be made nothing changed, else it holds the first bytes of the text and not all of them
+-- storing the text was broken off: if the file couldn't be made nothing changed, else it holds the
+-- first bytes of the text and not all of them
 pub record StoresPart (text : FileText) (old new : World) : Type 0 where
   pub unmade : new.shelf.target ≡ None → new.shelf.files ≡ old.shelf.files
-  pub part : (new.shelf.target ≡ None) ⊎ HoldsProperPrefix old.shelf.files new.shelf.files text.name text.text
+  pub part : (new.shelf.target ≡ None)
+      ⊎ HoldsProperPrefix old.shelf.files new.shelf.files text.name text.text
 
 -- why the file wasn't stored
 abbrev pub StoresNot : FileIs → List ℕ → Faults → Faults → Fault → Type 0
-StoresNot is name old new why = ((why ≡ fault.Write is) × WriteFailed (Some name) old new) ⊎ ((why ≡ fault.NoMemory) × (new ≡ old))
+StoresNot is name old new why = ((why ≡ fault.Write is) × WriteFailed (Some name) old new)
+    ⊎ ((why ≡ fault.NoMemory) × (new ≡ old))
 
 -- ---- what is printed
 
--- What printing a text comes to: it is written whole, or what stopped it left a prefix of it, and not all of it. Want of memory may also come
--- before any of it is printed.
+-- What printing a text comes to: it is written whole, or what stopped it left a prefix of it, and
+-- not all of it. Want of memory may also come before any of it is printed.
 abbrev pub Prints : List ℕ → SinkState → SinkState → Option Fault → Type 0
-Prints text old new None = (new.written ≡ option_map (λ written. written ++ text) old.written) × (new.faults ≡ old.faults)
-Prints text old new (Some (fault.Write file.Out)) = GainsProperPrefix old.written new.written text × Rose old.faults new.faults
-Prints text old new (Some fault.NoMemory) = (GainsProperPrefix old.written new.written text ⊎ (new.written ≡ old.written)) × (new.faults ≡ old.faults)
+Prints text old new None = (new.written ≡ option_map (λ written. written ++ text) old.written)
+    × (new.faults ≡ old.faults)
+Prints text old new (Some (fault.Write file.Out)) = GainsProperPrefix old.written new.written text
+    × Rose old.faults new.faults
+Prints text old new (Some fault.NoMemory) = (GainsProperPrefix old.written new.written text
+    ⊎ (new.written ≡ old.written)) × (new.faults ≡ old.faults)
 Prints text old new (Some _) = ⊥
 
--- what is printed of a fault, and what it counts: its line, whole or cut, but nothing once the output has refused
+-- what is printed of a fault, and what it counts: its line, whole or cut, but nothing once the
+-- output has refused
 abbrev pub PrintsReport : Option Fault → SinkState → SinkState → Type 0
 PrintsReport None old new = new ≡ old
 PrintsReport (Some (fault.Write file.Out)) old new = new ≡ old
-PrintsReport (Some why) old new = GainsPrefix old.written new.written (fault_line why) × (old.faults ≤ new.faults)
+PrintsReport (Some why) old new = GainsPrefix old.written new.written (fault_line why)
+    × (old.faults ≤ new.faults)
 
 -- the line of the fault is printed, and nothing else changes
 pub record PrintsFault (answer : Option Fault) (old new : World) : Type 0 where

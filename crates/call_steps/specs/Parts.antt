@@ -20,20 +20,24 @@ pub record HasWorkers (done : Done) : Type 0 where
   pub journals : length done.ran.journals ≡ worker_count done.ran.setup.job.nodes
   pub states : length done.ran.states ≡ worker_count done.ran.setup.job.nodes
 
--- The rows up to `row` were run, with the requests that are issued up to there. The setup is that of the job and all its requests, without the later
--- requests and their plans. What the run leaves is consistent, and judging refused just these.
-pub record IsFirstPart (row : ℕ) (job : JobView) (requests : List Request) (rows : List Row) (done : Done) : Type 0 where
+-- The rows up to `row` were run, with the requests that are issued up to there. The setup is that
+-- of the job and all its requests, without the later requests and their plans. What the run leaves
+-- is consistent, and judging refused just these.
+pub record IsFirstPart (row : ℕ) (job : JobView) (requests : List Request) (rows : List Row)
+    (done : Done) : Type 0 where
   pub whole : Setup
   pub setup : IsSetupFor AreSame false job requests whole
   pub row_is : done.row ≡ row
-  pub cut : setup_view done.ran.setup ≡ first_of (setup_view whole) (issued_up_to row (length rows) (afters (setup_view whole).requests))
+  pub cut : setup_view done.ran.setup ≡ first_of (setup_view whole)
+      (issued_up_to row (length rows) (afters (setup_view whole).requests))
   pub run : IsRun (setup_view done.ran.setup) (take row rows) (record_view done.ran)
   pub consistent : IsConsistent (take row rows) (record_view done.ran)
   pub refused : done.refused ≡ whole.judged.refused
   pub count : done.requests ≡ length requests
 
 -- The rows were run by this setup from this beginning on.
-pub record IsRunFromStart (start : Begin) (setup : Setup) (requests : List Request) (rows : List Row) (done : Done) : Type 0 where
+pub record IsRunFromStart (start : Begin) (setup : Setup) (requests : List Request)
+    (rows : List Row) (done : Done) : Type 0 where
   pub setup_is : done.ran.setup ≡ setup
   pub run : IsRunSince start (setup_view setup) rows (record_view done.ran)
   pub refused : done.refused ≡ setup.judged.refused

@@ -1,5 +1,6 @@
 -- What a call runs, and what it writes of that.
-use Rattle.std.specs.Prelude.{◌≡◌, ◌++◌, ◌∷◌, ℕ, Bool, IsTrue, List, [], Option, None, Some, length, map, if◌then◌else◌}
+use Rattle.std.specs.Prelude.{◌≡◌, ◌++◌, ◌∷◌, ℕ, Bool, IsTrue, List, [], Option, None, Some, length}
+use Rattle.std.specs.Prelude.{map, if◌then◌else◌}
 use Rattle.jobs.specs.Job.{job_view}
 use Rattle.jobs.specs.JobView.{JobView}
 use Rattle.sink_journal.specs.Alerts.{alerts}
@@ -29,25 +30,29 @@ use Rattle.call_steps.specs.declared.running.Done.{Done}
 
 -- ---- the run
 
--- Rows and requests have one order: each row comes after the first requests up to its number, and before all later ones. If no node counts, the
--- sinks got what each row makes by itself with the functions after those requests.
+-- Rows and requests have one order: each row comes after the first requests up to its number, and
+-- before all later ones. If no node counts, the sinks got what each row makes by itself with the
+-- functions after those requests.
 pub record HaveOneOrder (rows : List Row) (ran : Ran) : Type 0 where
   pub prefix : (row : ℕ) → SeesPrefix ran row (serial ran row)
   pub alone : HasNoCounts ran.setup.job → IsSerial rows ran
 
--- What is kept of a run: its record, how many requests and rows there were, the requests that judging refused, and in ordered mode the number of
--- each row.
-pub record IsDoneOf (ran : RunRecord) (requests : List Request) (rows : List Row) (done : Done) : Type 0 where
+-- What is kept of a run: its record, how many requests and rows there were, the requests that
+-- judging refused, and in ordered mode the number of each row.
+pub record IsDoneOf (ran : RunRecord) (requests : List Request) (rows : List Row)
+    (done : Done) : Type 0 where
   pub ran_is : done.ran ≡ ran
   pub count : done.requests ≡ length requests
   pub row : done.row ≡ length rows
   pub refused : done.refused ≡ ran.setup.judged.refused
   pub numbers : IsTrue ran.setup.ordered → done.serial ≡ serials (record_view ran) rows
 
--- The rows were run by the setup of the job and its requests in this mode, and judging refused just these. What the run leaves is consistent. In
--- ordered mode rows and requests have one order, and each row has its number. How the requests of the record relate to those that judging accepts
--- is told by `Keeps`.
-pub record IsRunOf (Keeps : List Request → List Request → Type 0) (ordered : Bool) (job : JobView) (requests : List Request) (rows : List Row) (done : Done) : Type 0 where
+-- The rows were run by the setup of the job and its requests in this mode, and judging refused just
+-- these. What the run leaves is consistent. In ordered mode rows and requests have one order, and
+-- each row has its number. How the requests of the record relate to those that judging accepts is
+-- told by `Keeps`.
+pub record IsRunOf (Keeps : List Request → List Request → Type 0) (ordered : Bool) (job : JobView)
+    (requests : List Request) (rows : List Row) (done : Done) : Type 0 where
   pub setup : IsSetupFor Keeps ordered job requests done.ran.setup
   pub run : IsRun (setup_view done.ran.setup) rows (record_view done.ran)
   pub consistent : IsConsistent rows (record_view done.ran)
@@ -65,7 +70,8 @@ alerts_of done = alerts (job_view done.ran.setup.job) done.ran.journals
 -- the text of the audit
 abbrev pub audit_of : Done → List ℕ
 audit_of done =
-    audit (job_view done.ran.setup.job) (map noted done.refused) done.ran.feeds done.ran.journals done.ran.states
+    audit (job_view done.ran.setup.job)
+    (map noted done.refused) done.ran.feeds done.ran.journals done.ran.states
 
 -- the text of the savepoint: where a run goes on after this one
 abbrev pub saved_of : Done → List ℕ
@@ -83,7 +89,8 @@ save_files (Some name) text = record { is = file.Save; name = name; text = text 
 -- an audit file and the savepoint's, if there are names for them
 abbrev pub audit_files : Option (List ℕ) → Option (List ℕ) → Done → List FileText
 audit_files None save done = []
-audit_files (Some name) save done = record { is = file.Audit; name = name; text = audit_of done } ∷ save_files save (saved_of done)
+audit_files (Some name) save done = record { is = file.Audit; name = name; text = audit_of done }
+    ∷ save_files save (saved_of done)
 
 -- the files that are written of it, in their order
 abbrev pub files_of : List ℕ → Option (List ℕ) → Option (List ℕ) → Done → List FileText
@@ -99,14 +106,17 @@ summary_of done = record {
 
 -- in ordered mode, how many rows come after each number of requests
 abbrev pub serial_lines : Done → List ℕ
-serial_lines done = if done.ran.setup.ordered then serial_line (length done.ran.setup.judged.accepted) done.serial else []
+serial_lines done = if done.ran.setup.ordered then serial_line
+    (length done.ran.setup.judged.accepted) done.serial else []
 
--- what is printed: each refused request, then the numbers of rows in ordered mode, and then the summary
+-- what is printed: each refused request, then the numbers of rows in ordered mode, and then the
+-- summary
 abbrev pub run_lines : Done → List ℕ
 run_lines done = (refused_lines done.refused ++ serial_lines done) ++ summary_line (summary_of done)
 
 -- the call ran something that is so, and came to storing its files and printing the lines of that
-pub record Runs (IsSo : Done → Type 0) (alerts : List ℕ) (audit save : Option (List ℕ)) (from : Option Begin) (old new : World) (answer : Answer) : Type 0 where
+pub record Runs (IsSo : Done → Type 0) (alerts : List ℕ) (audit save : Option (List ℕ))
+    (from : Option Begin) (old new : World) (answer : Answer) : Type 0 where
   pub done : Done
   pub is_so : IsSo done
   pub ends : EndsAfterRun (files_of alerts audit save done) (run_lines done) old new answer.fault

@@ -13,9 +13,10 @@ use Rattle.flow_model.specs.declared.setup.Setup.{Setup}
 abbrev pub AreSame : List Request → List Request → Type 0
 AreSame accepted kept = kept ≡ accepted
 
--- the setup is that of a job and these requests: it keeps what judging accepts and has what it refuses, and exactly the planner's plans for this
--- mode, each of which is the least cover
-pub record IsSetupFor (Keeps : List Request → List Request → Type 0) (ordered : Bool) (job : JobView) (requests : List Request) (setup : Setup) : Type 0 where
+-- the setup is that of a job and these requests: it keeps what judging accepts and has what it
+-- refuses, and exactly the planner's plans for this mode, each of which is the least cover
+pub record IsSetupFor (Keeps : List Request → List Request → Type 0) (ordered : Bool)
+    (job : JobView) (requests : List Request) (setup : Setup) : Type 0 where
   pub job_is : job_view setup.job ≡ job
   pub accepted : Keeps (judged job requests).accepted setup.judged.accepted
   pub refused : setup.judged.refused ≡ (judged job requests).refused

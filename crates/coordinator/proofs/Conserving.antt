@@ -33,7 +33,7 @@ use Rattle.flow_model.proofs.LaneLemmas.{LaneIs, lane_is, lanes_that_in}
 use Rattle.flow_model.proofs.WorkerLemmas.{worker_with}
 use Rattle.flow_model.proofs.LaneNumbers.{receiver_there}
 use Rattle.flow_model.proofs.OutLanes.{goes_out, one_on, out_distinct}
-use Rattle.coordinator.specs.Conservation.{AreFinished, IsConserved}
+use Rattle.coordinator.specs.Conservation.{AreFinished, IsConservedLane}
 
 -- ---- lists in which nothing stands behind an end
 
@@ -201,7 +201,7 @@ module _ (begin : Begin) (rows : List Row) (ran : Ran) (n : ℕ) (lane : Lane) (
           (sent_last ran.setup post lane (duties ran.setup begin.turned post) (initial (duties ran.setup begin.turned post)) (view_at ran.setup begin.turned post counts) journal out f.lawful.execution)
 
   pub lane_conserved : (journal : List Entry) (items taken left : List Item) → slice_get ran.journals lane.receiver ≡ Some journal → put_by begin rows ran lane lane.sender ≡ Some items → taken ≡ shown ran.setup n journal → items ≡ taken ++ left
-      → IsConserved begin rows ran n lane journal left
+      → IsConservedLane begin rows ran n lane journal left
   lane_conserved journal items taken left there put took settled =
       let none : left ≡ [] = behind taken left (subst LastIsLast settled (put_last lane.sender items refl put)) (subst (IsIn Last) (sym took) (took_last journal there)) in
       let all : items ≡ shown ran.setup n journal = settled ∙ (ap (λ zs. taken ++ zs) none ∙ (append-nil taken ∙ took)) in

@@ -13,11 +13,12 @@ use Rattle.flow_model.specs.Workers.{workers_in}
 -- the journal of each worker is finished
 abbrev pub AreFinished : Begin → Ran → Type 0
 AreFinished begin ran =
-    (w : ℕ) (post : Worker) (journal : List Entry) → slice_get (workers_in ran.setup.job) w ≡ Some post
-    → slice_get ran.journals w ≡ Some journal → IsFinishedFrom ran.setup begin post journal
+    (w : ℕ) (who : Worker) (journal : List Entry)
+    → slice_get (workers_in ran.setup.job) w ≡ Some who
+    → slice_get ran.journals w ≡ Some journal → IsFinishedFrom ran.setup begin who journal
 
 -- a lane that was settled: nothing is left on it, and it shows what was put on it
-pub record IsConserved (begin : Begin) (rows : List Row) (ran : Ran) (n : ℕ) (lane : Lane) (journal :
-    List Entry) (left : List Item) : Type 0 where
+pub record IsConservedLane (begin : Begin) (rows : List Row) (ran : Ran) (n : ℕ) (lane : Lane)
+    (journal : List Entry) (left : List Item) : Type 0 where
   pub none_left : left ≡ []
   pub conserved : put_by begin rows ran lane lane.sender ≡ Some (shown ran.setup n journal)

@@ -1,5 +1,7 @@
 -- The law of the feeder.
-use Rattle.std.specs.Prelude.{◌≡◌, ℕ, suc, ◌+◌, ◌-◌, ◌<◌, ◌≤◌, ⊤, Bool, true, false, Contains, List, [], ◌∷◌, ◌++◌, filter, length, min, nat_lt, None, Some, replicate, slice_get, take, if◌then◌else◌}
+use Rattle.std.specs.Prelude.{◌≡◌, ℕ, suc, ◌+◌, ◌-◌, ◌<◌, ◌≤◌, ⊤, Bool, true, false, Contains, List}
+use Rattle.std.specs.Prelude.{[], ◌∷◌, ◌++◌, filter, length, min, nat_lt, None, Some, replicate}
+use Rattle.std.specs.Prelude.{slice_get, take, if◌then◌else◌}
 use Rattle.flow_dag.specs.declared.edge.Edge.{Edge}
 use Rattle.flow_dag.specs.declared.graph.Graph.{Graph}
 use Rattle.jobs.specs.JobView.{JobView}

@@ -1,5 +1,6 @@
 -- What a live feeder waits for, what it loads, and what it keeps from the beginning of a run on.
-use Rattle.std.specs.Prelude.{◌≡◌, ◌⊎◌, ℕ, zero, suc, ◌<◌, ◌≤◌, ⊤, All, Contains, false, List, [], ◌∷◌, ◌++◌}
+use Rattle.std.specs.Prelude.{◌≡◌, ◌⊎◌, ℕ, zero, suc, ◌<◌, ◌≤◌, ⊤, All, Contains, false, List, []}
+use Rattle.std.specs.Prelude.{◌∷◌, ◌++◌}
 use Rattle.sink_journal.specs.declared.journal.Feed.{Feed}
 use Rattle.sink_journal.specs.declared.journal.Feed.TheVariants as feed
 use Rattle.coordinator.specs.Boxes.{LastAtLeast}

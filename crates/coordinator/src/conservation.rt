@@ -8,7 +8,7 @@ ghost use Rattle.flow_model.specs.Lanes.{lanes};
 ghost use Rattle.flow_model.specs.declared.topology.Lane.{Lane};
 ghost use Rattle.flow_model.specs.Replay.{shown};
 ghost use Rattle.flow_model.specs.Run.{Ran, put_by};
-ghost use Rattle.coordinator.specs.Conservation.{AreFinished, IsConserved};
+ghost use Rattle.coordinator.specs.Conservation.{AreFinished, IsConservedLane};
 
 /// Where each worker is finished, a lane whose receiver took what its journal shows, and whose
 /// sender put what a run's sender puts there, is settled
@@ -20,5 +20,5 @@ pub fn finished_lanes_are_conserved()
         → slice_get ran.journals lane.receiver ≡ Some journal
         → put_by begin rows ran lane lane.sender ≡ Some sent
         → taken ≡ shown ran.setup n journal → sent ≡ taken ++ left
-        → IsConserved begin rows ran n lane journal left }
+        → IsConservedLane begin rows ran n lane journal left }
 {}

@@ -1,5 +1,6 @@
 -- The endpoints of the workers and of the feeder.
-use Rattle.std.specs.Prelude.{◌≡◌, ℕ, Bool, List, [], ◌++◌, length, map, Option, Some, None, slice_get}
+use Rattle.std.specs.Prelude.{◌≡◌, ℕ, Bool, List, [], ◌++◌, length, map, Option, Some, None}
+use Rattle.std.specs.Prelude.{slice_get}
 use Rattle.jobs.specs.JobView.{JobView}
 use Rattle.lane_core.specs.Lane.{LaneId}
 use Rattle.tuple_trace.specs.declared.tuple.Item.{Item}

@@ -1,5 +1,6 @@
 -- The endpoints of the first lanes, as lane after lane is made or settled.
-use Rattle.std.specs.Prelude.{◌≡◌, ◌==◌, ℕ, zero, suc, List, [], ◌∷◌, ◌++◌, Bool, length, map, filter, take, Option, Some, None, slice_get}
+use Rattle.std.specs.Prelude.{◌≡◌, ◌==◌, ℕ, zero, suc, List, [], ◌∷◌, ◌++◌, Bool, length, map}
+use Rattle.std.specs.Prelude.{filter, take, Option, Some, None, slice_get}
 use Rattle.std.specs.List.{enumerate_from}
 use Rattle.flow_dag.specs.declared.graph.Graph.{Graph}
 use Rattle.jobs.specs.JobView.{JobView}
@@ -76,5 +77,6 @@ IsMarked job graph marks end =
 abbrev pub AreMarked : JobView → Graph → ℕ → List LaneId → List SideIs → List EndpointIs → Type 0
 AreMarked job graph i marks sides fed =
     (length marks ≡ i)
-    × HaveFirstLanes job (λ sender. IsMarked job graph marks) (λ worker. IsMarked job graph marks) i i
+    × HaveFirstLanes job (λ sender. IsMarked job graph marks)
+    (λ worker. IsMarked job graph marks) i i
     sides fed

@@ -99,7 +99,7 @@ pub record IsSteadyList (E : ℕ → ℕ → Type 0) (from : ℕ) (items : List 
   pub come : (t : Tuple) → IsIn (item.Carry t) items → ComesAlong E from (nodes_of t)
   pub agree : (x y : Item) → Before x y items → Agrees x y
 
--- what each lane into a worker has brought is steady
+-- what each lane into a worker has delivered is steady
 abbrev pub BringSteadily : SetupView → Worker → List Entry → Type 0
 BringSteadily setup who journal = (n : ℕ) (k : LaneIn setup.job who n) → IsSteadyList (HasEdge setup.job.edges) k.edge.from (shown setup n journal)
 

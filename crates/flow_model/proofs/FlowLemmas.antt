@@ -119,7 +119,7 @@ module _ (V : ℕ → Tuple → ℕ) (setup : SetupView) (who : Worker) (is : Is
       ap (λ s. cond (r == who.number) s 0) (sum_flat_map (came_in setup n) (weigh V who.node) journal)
       ∙ if_sum (r == who.number) (λ (x : Entry). total V who.node (came_in setup n x)) journal
 
-  -- what a journal meets weighs what its lanes brought
+  -- what a journal meets weighs what its lanes delivered
   pub met_by_lanes : (journal : List Entry) → ((l : ℕ) (t : Tuple) → IsIn (entry.Met l t) journal → IsIn l (lanes_in setup.job who.number))
       → sum_over (entry_weight V who.node) journal
       ≡ sum_over (λ (p : ℕ × Lane). cond (p.1.receiver == who.number) (total V who.node (shown setup p.0 journal)) 0) (numbered setup.job)

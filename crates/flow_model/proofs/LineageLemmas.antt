@@ -52,7 +52,7 @@ story_of ran w = story ran.setup (worker_no ran.setup w) (begun ran.setup w) (jo
 abbrev pub puts_of : Ran → ℕ → Moment → List Put
 puts_of ran w m = puts ran.setup (worker_no ran.setup w) m.view m.entry
 
--- how many items a lane has brought before an entry, and how many a worker has put on it before an entry, and before one of its puts
+-- how many items a lane has delivered before an entry, and how many a worker has put on it before an entry, and before one of its puts
 abbrev pub delivered_before : Ran → ℕ → Address → ℕ
 delivered_before ran n c = length (shown ran.setup n (take c.entry (journal_of ran c.worker)))
 
@@ -64,7 +64,7 @@ put_before lane k ps = length (items_on lane (take k ps))
 
 -- ---- who came of whom
 
--- what is met at c was put at p, and was brought to c by this lane
+-- what is met at c was put at p, and was delivered to c by this lane
 pub record Child (ran : Ran) (p c : Address) : Type 0 where
   pub within : p.worker < length (workers_in ran.setup.job)
   pub n : ℕ

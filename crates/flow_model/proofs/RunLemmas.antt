@@ -180,7 +180,7 @@ fed_steady job rows lane feeds node connected are source = record {
 -- ---- all lanes
 
 module _ (rows : List Row) (ran : Ran) (g : Running rows ran) where
-  -- what is brought is steady, worker after worker in the order of their nodes
+  -- what is delivered is steady, worker after worker in the order of their nodes
   steady_below : (bound w : ℕ) → HasWorker ran w → g.connected.rank (worker_no ran.setup w).node < bound → BringSteadily ran.setup (worker_no ran.setup w) (journal_of ran w)
   steady_below zero w l lt n k = absurd (omega arith)
   steady_below (suc bound) w l lt n k =

@@ -93,7 +93,7 @@ module _ (setup : SetupView) (kept : HasCovers setup) (graph : Graph) (same : Is
 
 -- ---- in a run
 
--- in a run every worker's journal is lawful, and its lanes have brought it steady lists
+-- in a run every worker's journal is lawful, and its lanes have delivered steady lists
 pub run_works : (rows : List Row) (ran : Ran) (g : Running rows ran) (graph : Graph) → IsGraphOf ran.setup.job graph → (w : ℕ) (who : Worker) (journal : List Entry)
     → slice_get (workers_in ran.setup.job) w ≡ Some who → slice_get ran.journals w ≡ Some journal → WorksSteadily ran.setup graph (at_first ran.setup) who journal
 run_works rows ran g graph same w who journal p j =

@@ -1,5 +1,6 @@
 -- What one row makes by itself, and which functions it met.
-use Rattle.std.specs.Prelude.{ℕ, Bool, true, false, zero, suc, List, [], ◌∷◌, length, Option, Some, None, slice_get, if◌then◌else◌}
+use Rattle.std.specs.Prelude.{ℕ, Bool, true, false, zero, suc, List, [], ◌∷◌, length, Option, Some}
+use Rattle.std.specs.Prelude.{None, slice_get, if◌then◌else◌}
 use Rattle.std.specs.FinMap.{empty}
 use Rattle.std.specs.List.{enumerate_from, flat_map}
 use Rattle.flow_dag.specs.declared.edge.Edge.{Edge}
@@ -42,33 +43,42 @@ abbrev pub onward : (ℕ → Tuple → List Landing) → Option (ℕ × Edge) �
 onward lands None tuple = []
 onward lands (Some edge) tuple = lands edge.1.to tuple
 
--- what a tuple at a node with this function makes at the sinks, where `lands` tells it of the nodes behind
+-- what a tuple at a node with this function makes at the sinks, where `lands` tells it of the nodes
+-- behind
 abbrev pub lands_by : JobView → (ℕ → Tuple → List Landing) → ℕ → Option Func → Tuple → List Landing
 lands_by job lands node None tuple = []
 lands_by job lands node (Some (func.Sink listed)) tuple = landing node tuple ∷ []
 lands_by job lands node (Some func) tuple =
-    flat_map (λ (output : Output). onward lands (first_on node output.port (enumerate_from 0 job.edges)) output.tuple) (
+    flat_map (λ (output : Output). onward lands
+    (first_on node output.port (enumerate_from 0 job.edges)) output.tuple) (
     step job (bare_visit node) func empty tuple).1
 
--- what a tuple at a node makes at the sinks, over at most so many nodes, each with the function of the table
+-- what a tuple at a node makes at the sinks, over at most so many nodes, each with the function of
+-- the table
 abbrev pub lands : JobView → (ℕ → Option Func) → ℕ → ℕ → Tuple → List Landing
 lands job table zero node tuple = []
-lands job table (suc nodes) node tuple = lands_by job (lands job table nodes) node (table node) tuple
+lands job table (suc nodes) node tuple = lands_by job (lands job table nodes) node
+    (table node) tuple
 
--- one row sent through the job by itself, each node having the one function that the table gives it; no path has more nodes than the job
+-- one row sent through the job by itself, each node having the one function that the table gives
+-- it; no path has more nodes than the job
 abbrev pub alone : JobView → (ℕ → Option Func) → Row → List Landing
-alone job table row = onward (lands job table (length job.nodes)) (first_on row.source 0 (enumerate_from 0 job.edges)) row.tuple
+alone job table row = onward (lands job table (length job.nodes))
+    (first_on row.source 0 (enumerate_from 0 job.edges)) row.tuple
 
 -- the function of a node, given at first, after so many requests, of those at which the row is new
 abbrev pub func_for : Ran → ℕ → ℕ → Func → ℕ → Func
 func_for ran row node func zero = func
 func_for ran row node func (suc r) =
-    if is_new ran (suc r) row then func_with (change_of ran.setup (suc r) node) (func_for ran row node func r) else func_for ran row node func r
+    if is_new ran (suc r) row then func_with (change_of ran.setup (suc r) node)
+    (func_for ran row node func r) else func_for ran row node func r
 
 abbrev pub func_for_node : Ran → ℕ → ℕ → Option NodeDef → Option Func
 func_for_node ran row node None = None
-func_for_node ran row node (Some def) = Some (func_for ran row node def.func (length ran.setup.requests))
+func_for_node ran row node (Some def) = Some (func_for ran row node def.func
+    (length ran.setup.requests))
 
--- the functions that a row met: that of the latest request that changes the node and at which the row is new, and else the job's
+-- the functions that a row met: that of the latest request that changes the node and at which the
+-- row is new, and else the job's
 abbrev pub table : Ran → ℕ → ℕ → Option Func
 table ran row node = func_for_node ran row node (slice_get ran.setup.job.nodes node)

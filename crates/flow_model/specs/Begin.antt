@@ -8,7 +8,8 @@ use Rattle.flow_model.specs.Replay.{StateView}
 use Rattle.flow_model.specs.Requests.{func_after}
 use Rattle.flow_model.specs.Workers.{workers_in}
 
--- A beginning: how many rows were fed and how many requests were turned before, and the counts of each worker.
+-- A beginning: how many rows were fed and how many requests were turned before, and the counts of
+-- each worker.
 pub record Begin : Type 0 where
   pub row : ℕ
   pub turned : ℕ
@@ -16,7 +17,12 @@ pub record Begin : Type 0 where
 
 -- the beginning of all: nothing was fed, nothing turned, nothing counted
 abbrev pub at_first : SetupView → Begin
-at_first setup = record { row = 0; turned = 0; states = map (λ (who : Worker). empty) (workers_in setup.job) }
+at_first setup = record {
+  row = 0;
+  turned = 0;
+  states =
+      map (λ (who : Worker). empty) (workers_in setup.job);
+}
 
 -- the latest of the first requests that covers a node, 0 where none does
 abbrev pub last_after : SetupView → ℕ → ℕ → ℕ

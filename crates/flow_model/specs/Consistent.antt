@@ -6,8 +6,9 @@ use Rattle.flow_model.specs.OneTable.{HasNoCounts, IsOneTable}
 use Rattle.flow_model.specs.Run.{Ran}
 use Rattle.flow_model.specs.Whole.{IsMetOnce, IsWhole}
 
--- Each row, with all that is made of it, met old functions alone or new ones alone at the nodes of each request; no identity came to a node twice;
--- requests were in force in time at the heads of their covers; and where no node counts, the sinks got what each row makes by one table of
+-- Each row, with all that is made of it, met old functions alone or new ones alone at the nodes of
+-- each request; no identity came to a node twice; requests were in force in time at the heads of
+-- their covers; and where no node counts, the sinks got what each row makes by one table of
 -- functions.
 pub record IsConsistent (rows : List Row) (ran : Ran) : Type 0 where
   pub whole : (request row : ℕ) → IsWhole ran request row

@@ -1,5 +1,6 @@
 -- The dues of a worker: the requests that it has still to turn.
-use Rattle.std.specs.Prelude.{◌≡◌, ◌<◌, ◌==◌, ℕ, zero, suc, Bool, false, IfSome, List, [], ◌∷◌, filter, map, Option, Some, None, slice_get}
+use Rattle.std.specs.Prelude.{◌≡◌, ◌<◌, ◌==◌, ℕ, zero, suc, Bool, false, IfSome, List, [], ◌∷◌}
+use Rattle.std.specs.Prelude.{filter, map, Option, Some, None, slice_get}
 use Rattle.std.specs.List.{enumerate_from}
 use Rattle.flow_dag.specs.Masks.{has}
 use Rattle.jobs.specs.JobView.{JobView}
@@ -20,7 +21,8 @@ due_at setup turned node (suc place) = slice_get (dues_after setup turned node) 
 
 -- the edges of the lanes into a worker, by the numbers of these lanes
 abbrev pub edges_in : JobView → ℕ → List ℕ
-edges_in job worker = map (λ (p : ℕ × Lane). p.1.edge) (filter (λ (p : ℕ × Lane). p.1.receiver == worker) (enumerate_from 0 (lanes job)))
+edges_in job worker = map (λ (p : ℕ × Lane). p.1.edge)
+    (filter (λ (p : ℕ × Lane). p.1.receiver == worker) (enumerate_from 0 (lanes job)))
 
 -- these requests are still to be turned at a node, and the first of them is the due's
 abbrev pub AreDues : SetupView → ℕ → List ℕ → Option Due → Type 0
@@ -31,10 +33,12 @@ AreDues setup node dues (Some due) = dues ≡ due.request ∷ dues_after setup d
 pub record IsDueOf (setup : SetupView) (node : ℕ) (edges : List ℕ) (due : Due) : Type 0 where
   pub head : due.head ≡ is_head setup due.request node
   pub marker_is : marker setup due.request ≡ item.Mark due.request due.cover ∷ []
-  pub lanes : (place edge : ℕ) → slice_get edges place ≡ Some edge → has due.lanes place ≡ covers_edge setup due.request edge
+  pub lanes : (place edge : ℕ) → slice_get edges place ≡ Some edge
+      → has due.lanes place ≡ covers_edge setup due.request edge
 
 -- the next due after a request
-pub record IsDueAfter (setup : SetupView) (node : ℕ) (edges : List ℕ) (last : ℕ) (due : Option Due) : Type 0 where
+pub record IsDueAfter (setup : SetupView) (node : ℕ) (edges : List ℕ) (last : ℕ)
+    (due : Option Due) : Type 0 where
   pub dues : AreDues setup node (dues_after setup last node) due
   pub is_due : IfSome due (IsDueOf setup node edges)
   pub later : IfSome due (λ (d : Due). last < d.request)

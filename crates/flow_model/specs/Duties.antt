@@ -12,7 +12,8 @@ numbers_from first (suc count) = first ∷ numbers_from (first + 1) count
 
 -- the requests after the first ones that cover a node, in rising order
 abbrev pub dues_after : SetupView → ℕ → ℕ → List ℕ
-dues_after setup turned node = filter (λ r. covers setup r node) (numbers_from (turned + 1) (length setup.plans - turned))
+dues_after setup turned node = filter (λ r. covers setup r node)
+    (numbers_from (turned + 1) (length setup.plans - turned))
 
 -- a worker that has turned the first requests
 abbrev pub duties : SetupView → ℕ → Worker → Duties

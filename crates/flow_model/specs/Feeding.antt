@@ -1,5 +1,6 @@
 -- What the feeder of a run does.
-use Rattle.std.specs.Prelude.{◌+◌, ◌-◌, ◌==◌, ℕ, zero, suc, Bool, List, [], ◌∷◌, ◌++◌, drop, Option, Some, None, min, nat_le, slice_get, if◌then◌else◌}
+use Rattle.std.specs.Prelude.{◌+◌, ◌-◌, ◌==◌, ℕ, zero, suc, Bool, List, [], ◌∷◌, ◌++◌, drop, Option}
+use Rattle.std.specs.Prelude.{Some, None, min, nat_le, slice_get, if◌then◌else◌}
 use Rattle.jobs.specs.JobView.{JobView}
 use Rattle.sink_journal.specs.declared.journal.Feed.{Feed}
 use Rattle.sink_journal.specs.declared.journal.Feed.TheVariants as feed
@@ -11,10 +12,13 @@ use Rattle.flow_model.specs.declared.topology.Lane.{Lane}
 use Rattle.flow_model.specs.Lanes.{lane_of}
 use Rattle.flow_model.specs.Replay.{Put, items_on}
 
--- The requests, from r on, whose row passes the test; the list has the row that each waits for, which is the last one where there are fewer.
+-- The requests, from r on, whose row passes the test; the list has the row that each waits for,
+-- which is the last one where there are fewer.
 abbrev pub issued_where : (ℕ → Bool) → ℕ → ℕ → List ℕ → List Feed
 issued_where test rows r [] = []
-issued_where test rows r (after ∷ more) = if test (min after rows) then feed.Issued r ∷ issued_where test rows (r + 1) more else issued_where test rows (r + 1) more
+issued_where test rows r (after ∷ more) = if test (min after rows)
+    then feed.Issued r ∷ issued_where test rows (r + 1) more
+    else issued_where test rows (r + 1) more
 
 -- the requests that are issued directly after this row
 abbrev pub issued_after : ℕ → ℕ → ℕ → List ℕ → List Feed
@@ -27,13 +31,16 @@ issued_at_first row rows r afters = issued_where (λ after. nat_le after row) ro
 -- what the feeder does after this row, with so many rows left
 abbrev pub feed_after : List ℕ → ℕ → ℕ → ℕ → ℕ → List Feed
 feed_after afters r row rows zero = feed.Stopped ∷ []
-feed_after afters r row rows (suc left) = feed.Fed (row + 1) ∷ (issued_after (row + 1) rows r afters ++ feed_after afters r (row + 1) rows left)
+feed_after afters r row rows (suc left) = feed.Fed (row + 1) ∷
+    (issued_after (row + 1) rows r afters ++ feed_after afters r (row + 1) rows left)
 
--- the feed of so many rows, from the row on that follows this one, where so many requests were issued before: each row in order, each request
--- directly after the row that it waits for, or at the front where that was fed before, and then the end
+-- the feed of so many rows, from the row on that follows this one, where so many requests were
+-- issued before: each row in order, each request directly after the row that it waits for, or at
+-- the front where that was fed before, and then the end
 abbrev pub feed_from : ℕ → ℕ → List ℕ → ℕ → List Feed
 feed_from row issued afters rows =
-    issued_at_first row rows (issued + 1) (drop issued afters) ++ feed_after (drop issued afters) (issued + 1) row rows (rows - row)
+    issued_at_first row rows (issued + 1) (drop issued afters)
+    ++ feed_after (drop issued afters) (issued + 1) row rows (rows - row)
 
 -- the row with this number; they are counted from 1
 abbrev pub row_at : List Row → ℕ → Option Row
@@ -48,12 +55,16 @@ fed_tuple issued row = record row.tuple { issued = issued }
 abbrev pub fed_put : JobView → ℕ → Option Row → List Put
 fed_put job issued None = []
 fed_put job issued (Some row) =
-    record { lane = lane_of job None row.source 0 row.tuple; item = item.Carry (fed_tuple issued row) } ∷ []
+    record {
+      lane = lane_of job None row.source 0 row.tuple;
+      item = item.Carry (fed_tuple issued row);
+    } ∷ []
 
 -- what the feeder puts on its lanes, after so many requests were issued
 abbrev pub fed_puts : JobView → List Row → ℕ → List Feed → List Put
 fed_puts job rows issued [] = []
-fed_puts job rows issued (feed.Fed number ∷ more) = fed_put job issued (row_at rows number) ++ fed_puts job rows issued more
+fed_puts job rows issued (feed.Fed number ∷ more) =
+    fed_put job issued (row_at rows number) ++ fed_puts job rows issued more
 fed_puts job rows issued (feed.Issued request ∷ more) = fed_puts job rows (issued + 1) more
 fed_puts job rows issued (feed.Stopped ∷ more) = fed_puts job rows issued more
 

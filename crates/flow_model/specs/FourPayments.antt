@@ -33,17 +33,29 @@ at_least least = func.Filter (record { column = 0; test = test.Ge; literal = val
 abbrev pub chain : JobView
 chain = job_view_as
     (record { name = codes "amount"; kind = kind.Cents; own = false } ∷ [])
-    (node_of (codes "card") func.Source ∷ node_of (codes "big") (at_least (pos 10000)) ∷ node_of (codes "alerts") (func.Sink (0 ∷ [])) ∷ [])
+    (node_of (codes "card") func.Source ∷ node_of (codes "big") (at_least (pos 10000)) ∷ node_of
+    (codes "alerts") (func.Sink (0 ∷ [])) ∷ [])
     (record { from = 0; port = 0; to = 1 } ∷ record { from = 1; port = 0; to = 2 } ∷ [])
     []
 
 -- the threshold falls after a row
 abbrev pub falls_after : ℕ → Request
-falls_after row = record { after = row; changes = record { node = 1; from = 0; func = at_least (pos 5000); carry = carry.Keep } ∷ [] }
+falls_after row = record {
+  after = row;
+  changes =
+      record { node = 1; from = 0; func = at_least (pos 5000); carry = carry.Keep } ∷ [];
+}
 
 -- the filter alone is covered, and is its own head
 abbrev pub filter_alone : Plan
-filter_alone = record { asked = 2; members = 2; nodes = 2; edges = 0; heads = 2; part = 255 ∷ 0 ∷ replicate 62 255 }
+filter_alone = record {
+  asked = 2;
+  members = 2;
+  nodes = 2;
+  edges = 0;
+  heads = 2;
+  part = 255 ∷ 0 ∷ replicate 62 255;
+}
 
 abbrev pub four_setup : SetupView
 four_setup = setup_view_of chain (falls_after 2 ∷ []) (filter_alone ∷ []) 0 false
@@ -54,17 +66,25 @@ filter_worker = record { number = 0; node = 1; place = 0; func = at_least (pos 1
 
 -- a payment that was fed under so many requests, with this trace
 abbrev pub payment : ℕ → ℤ → ℕ → List Visit → Tuple
-payment row cents issued trace = record { row = row; birth = []; issued = issued; fields = value.Num cents ∷ []; trace = trace }
+payment row cents issued trace = record {
+  row = row;
+  birth = [];
+  issued = issued;
+  fields = value.Num cents ∷ [];
+  trace = trace;
+}
 
 abbrev pub row_of : ℕ → ℤ → Row
 row_of number cents = record { source = 0; tuple = payment number cents 0 [] }
 
 abbrev pub four_payments : List Row
-four_payments = row_of 1 (pos 9999) ∷ row_of 2 (pos 10000) ∷ row_of 3 (pos 5000) ∷ row_of 4 (pos 12000) ∷ []
+four_payments = row_of 1 (pos 9999) ∷ row_of 2 (pos 10000) ∷ row_of 3 (pos 5000) ∷ row_of 4
+    (pos 12000) ∷ []
 
 -- a payment that the filter has passed
 abbrev pub passed : ℕ → ℤ → ℕ → Tuple
-passed row cents request = payment row cents request (record { node = 1; worker = 0; last = request } ∷ [])
+passed row cents request = payment row cents request
+    (record { node = 1; worker = 0; last = request } ∷ [])
 
 -- the filter meets a payment, and the sink does
 abbrev pub big_meets : ℕ → ℤ → ℕ → Entry
@@ -79,7 +99,8 @@ big =
     ∷ big_meets 3 (pos 5000) 1 ∷ big_meets 4 (pos 12000) 1 ∷ entry.Ended 0 ∷ []
 
 abbrev pub alerts : List Entry
-alerts = alerts_meets 2 (pos 10000) 0 ∷ alerts_meets 3 (pos 5000) 1 ∷ alerts_meets 4 (pos 12000) 1 ∷ entry.Ended 1 ∷ []
+alerts = alerts_meets 2 (pos 10000) 0 ∷ alerts_meets 3 (pos 5000) 1 ∷ alerts_meets 4 (pos 12000) 1
+    ∷ entry.Ended 1 ∷ []
 
 abbrev pub four_ran : Ran
 four_ran = ran_as four_setup
@@ -95,4 +116,7 @@ late_big =
 
 -- the same run, but the sink never met the third payment
 abbrev pub short_ran : Ran
-short_ran = record four_ran { journals = big ∷ (alerts_meets 2 (pos 10000) 0 ∷ alerts_meets 4 (pos 12000) 1 ∷ entry.Ended 1 ∷ []) ∷ [] }
+short_ran = record four_ran {
+  journals = big ∷
+      (alerts_meets 2 (pos 10000) 0 ∷ alerts_meets 4 (pos 12000) 1 ∷ entry.Ended 1 ∷ []) ∷ [];
+}

@@ -17,7 +17,8 @@ change_at (Some request) place = slice_get request.changes place
 -- the function that stands there: the job's own of the node, or that of a change
 abbrev pub func_in : SetupView → ℕ → InForce → Option Func
 func_in setup node Own = option_map (λ (def : NodeDef). def.func) (slice_get setup.job.nodes node)
-func_in setup node (Changed request place) = option_map (λ (change : Change). change.func) (change_at (request_at setup request) place)
+func_in setup node (Changed request place) = option_map (λ (change : Change). change.func)
+    (change_at (request_at setup request) place)
 
 -- the counts that a change carries over, if there is one
 abbrev pub counts_with : Option Change → Counts → Counts

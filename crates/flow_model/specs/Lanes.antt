@@ -1,5 +1,6 @@
 -- The lanes of a job: the ways along which its feeder and its workers send.
-use Rattle.std.specs.Prelude.{ℕ, ◌==◌, Bool, false, true, ◌&&◌, List, [], ◌∷◌, map, filter, Option, Some, None, option_map, slice_get, slice_index_or, if◌then◌else◌}
+use Rattle.std.specs.Prelude.{ℕ, ◌==◌, Bool, false, true, ◌&&◌, List, [], ◌∷◌, map, filter, Option}
+use Rattle.std.specs.Prelude.{Some, None, option_map, slice_get, slice_index_or, if◌then◌else◌}
 use Rattle.std.specs.List.{enumerate_from, flat_map}
 use Rattle.flow_dag.specs.declared.edge.Edge.{Edge}
 use Rattle.jobs.specs.Nodes.{is_source_node}
@@ -14,21 +15,28 @@ use Rattle.flow_model.specs.Workers.{workers_at_node}
 -- who sends at a node: the feeder alone at a source, and its workers at any other
 abbrev pub senders : JobView → ℕ → List (Option ℕ)
 senders job node =
-    if is_source_node (slice_get job.nodes node) then None ∷ [] else map (λ (who : Worker). Some who.number) (workers_at_node job node)
+    if is_source_node (slice_get job.nodes node) then None ∷ []
+    else map (λ (who : Worker). Some who.number) (workers_at_node job node)
 
 -- the lanes of an edge: for each sender one to each receiver
 abbrev pub lanes_of : JobView → ℕ → Edge → List Lane
 lanes_of job number edge =
-    flat_map (λ (sender : Option ℕ). map (λ (who : Worker). record { edge = number; sender = sender; receiver = who.number }) (workers_at_node job edge.to)) (
+    flat_map (λ (sender : Option ℕ). map (λ (who : Worker). record {
+      edge = number;
+      sender = sender;
+      receiver = who.number;
+    }) (workers_at_node job edge.to)) (
     senders job edge.from)
 
--- all lanes, in the order of their numbers: edge after edge, then by their senders, then by their receivers
+-- all lanes, in the order of their numbers: edge after edge, then by their senders, then by their
+-- receivers
 abbrev pub lanes : JobView → List Lane
 lanes job = flat_map (λ (p : ℕ × Edge). lanes_of job p.0 p.1) (enumerate_from 0 job.edges)
 
 -- the numbers of the lanes that pass a test
 abbrev pub lanes_that : (Lane → Bool) → JobView → List ℕ
-lanes_that test job = map (λ (p : ℕ × Lane). p.0) (filter (λ (p : ℕ × Lane). test p.1) (enumerate_from 0 (lanes job)))
+lanes_that test job = map (λ (p : ℕ × Lane). p.0)
+    (filter (λ (p : ℕ × Lane). test p.1) (enumerate_from 0 (lanes job)))
 
 -- the numbers of the lanes into a worker
 abbrev pub lanes_in : JobView → ℕ → List ℕ
@@ -37,7 +45,8 @@ lanes_in job worker = lanes_that (λ (lane : Lane). lane.receiver == worker) job
 -- the numbers of the lanes into a worker that bring it the marker of a request
 abbrev pub marked_lanes : SetupView → ℕ → ℕ → List ℕ
 marked_lanes setup worker request =
-    lanes_that (λ (lane : Lane). (lane.receiver == worker) && covers_edge setup request lane.edge) setup.job
+    lanes_that (λ (lane : Lane). (lane.receiver == worker)
+    && covers_edge setup request lane.edge) setup.job
 
 abbrev pub is_sender : ℕ → Option ℕ → Bool
 is_sender worker None = false
@@ -66,22 +75,28 @@ is_same_sender (Some a) None = false
 
 abbrev pub is_same_lane : Option Lane → Lane → Bool
 is_same_lane None lane = false
-is_same_lane (Some found) lane = (found.edge == lane.edge) && is_same_sender found.sender lane.sender && (found.receiver == lane.receiver)
+is_same_lane (Some found) lane = (found.edge == lane.edge)
+    && is_same_sender found.sender lane.sender && (found.receiver == lane.receiver)
 
 -- the first of these edges that leaves the node on the port, with its number
 abbrev pub first_on : ℕ → ℕ → List (ℕ × Edge) → Option (ℕ × Edge)
 first_on node port [] = None
-first_on node port (edge ∷ more) = if (edge.1.from == node) && (edge.1.port == port) then Some edge else first_on node port more
+first_on node port (edge ∷ more) = if (edge.1.from == node) && (edge.1.port == port) then Some edge
+    else first_on node port more
 
 -- the worker that a tuple reaches along an edge
 abbrev pub receiver_of : JobView → Edge → Tuple → Option Worker
-receiver_of job edge tuple = slice_get (workers_at_node job edge.to) (worker_at job.columns (slice_get job.nodes edge.to) tuple)
+receiver_of job edge tuple = slice_get (workers_at_node job edge.to)
+    (worker_at job.columns (slice_get job.nodes edge.to) tuple)
 
 abbrev pub lane_along : JobView → Option ℕ → Option (ℕ × Edge) → Tuple → Option Lane
 lane_along job sender None tuple = None
 lane_along job sender (Some edge) tuple =
-    option_map (λ (who : Worker). record { edge = edge.0; sender = sender; receiver = who.number }) (receiver_of job edge.1 tuple)
+    option_map (λ (who : Worker). record { edge = edge.0; sender = sender; receiver = who.number })
+    (receiver_of job edge.1 tuple)
 
--- the lane of a tuple that a sender puts on a port of a node; there is none where no edge leaves on that port
+-- the lane of a tuple that a sender puts on a port of a node; there is none where no edge leaves on
+-- that port
 abbrev pub lane_of : JobView → Option ℕ → ℕ → ℕ → Tuple → Option Lane
-lane_of job sender node port tuple = lane_along job sender (first_on node port (enumerate_from 0 job.edges)) tuple
+lane_of job sender node port tuple = lane_along job sender
+    (first_on node port (enumerate_from 0 job.edges)) tuple

@@ -1,19 +1,20 @@
 -- The law of a journal: what may stand in it, and in which order.
-use Rattle.std.specs.Prelude.{◌≡◌, ◌<◌, ℕ, Bool, List, [], ◌∷◌, Option, Some, None, All, Contains, IsTrue, ⊤}
+use Rattle.std.specs.Prelude.{◌≡◌, ◌<◌, ℕ, Bool, List, [], ◌∷◌, Option, Some, None, All, Contains}
+use Rattle.std.specs.Prelude.{IsTrue, ⊤}
 use Rattle.sink_journal.specs.declared.journal.Entry.{Entry}
 use Rattle.sink_journal.specs.declared.journal.Entry.TheVariants as entry
 use Rattle.tuple_trace.specs.declared.tuple.Tuple.{Tuple}
 
--- What the law asks of a worker: its lanes in; the requests that cover it, in rising order; whether it heads the cover of a request; the
--- lanes in that bring it the marker of a request.
+-- What the law asks of a worker: its lanes in; the requests that cover it, in rising order; whether
+-- it heads the cover of a request; the lanes in that bring it the marker of a request.
 pub record Duties : Type 0 where
   pub lanes : List ℕ
   pub dues : List ℕ
   pub is_head : ℕ → Bool
   pub marked_lanes : ℕ → List ℕ
 
--- How far a journal has come: the covering requests that it hasn't turned; the lanes that showed the marker of the first of these; the
--- lanes that ended.
+-- How far a journal has come: the covering requests that it hasn't turned; the lanes that showed
+-- the marker of the first of these; the lanes that ended.
 pub record Progress : Type 0 where
   pub dues : List ℕ
   pub marked : List ℕ
@@ -36,21 +37,29 @@ IsInTime duties tuple (Some due) = IsTrue (duties.is_head due) → tuple.issued 
 abbrev pub IsEnabled : Duties → Progress → Entry → Type 0
 -- a tuple comes by a lane in, not between the markers of a request, and not after an end
 IsEnabled duties progress (entry.Met lane tuple) =
-    Contains duties.lanes lane × (progress.marked ≡ []) × (progress.ended ≡ []) × IsInTime duties tuple (next_due progress.dues)
+    Contains duties.lanes lane × (progress.marked ≡ []) × (progress.ended ≡ [])
+    × IsInTime duties tuple (next_due progress.dues)
 -- the marker of the next due comes once on each of its lanes
 IsEnabled duties progress (entry.Marked lane request) =
-    (next_due progress.dues ≡ Some request) × Contains (duties.marked_lanes request) lane × ¬ Contains progress.marked lane × (progress.ended ≡ [])
+    (next_due progress.dues ≡ Some request) × Contains (duties.marked_lanes request) lane
+    × ¬ Contains progress.marked lane × (progress.ended ≡ [])
 -- the next due is turned once its markers stand on all of its lanes
 IsEnabled duties progress (entry.Turned request) =
-    (next_due progress.dues ≡ Some request) × All (Contains progress.marked) (duties.marked_lanes request) × (progress.ended ≡ [])
+    (next_due progress.dues ≡ Some request) × All (Contains progress.marked)
+    (duties.marked_lanes request) × (progress.ended ≡ [])
 -- a lane ends once, after the last due was turned
 IsEnabled duties progress (entry.Ended lane) =
-    Contains duties.lanes lane × ¬ Contains progress.ended lane × (progress.dues ≡ []) × (progress.marked ≡ [])
+    Contains duties.lanes lane × ¬ Contains progress.ended lane × (progress.dues ≡ [])
+    × (progress.marked ≡ [])
 
 abbrev pub after_entry : Progress → Entry → Progress
 after_entry progress (entry.Met lane tuple) = progress
-after_entry progress (entry.Marked lane request) = record progress { marked = lane ∷ progress.marked }
-after_entry progress (entry.Turned request) = record progress { dues = later_dues progress.dues; marked = [] }
+after_entry progress (entry.Marked lane request) =
+    record progress { marked = lane ∷ progress.marked }
+after_entry progress (entry.Turned request) = record progress {
+  dues = later_dues progress.dues;
+  marked = [];
+}
 after_entry progress (entry.Ended lane) = record progress { ended = lane ∷ progress.ended }
 
 abbrev pub progress_after : Progress → List Entry → Progress
@@ -60,7 +69,8 @@ progress_after progress (entry ∷ more) = progress_after (after_entry progress 
 -- each entry may come after those before it
 abbrev pub IsExecution : Duties → Progress → List Entry → Type 0
 IsExecution duties progress [] = ⊤
-IsExecution duties progress (entry ∷ more) = IsEnabled duties progress entry × IsExecution duties (after_entry progress entry) more
+IsExecution duties progress (entry ∷ more) = IsEnabled duties progress entry
+    × IsExecution duties (after_entry progress entry) more
 
 abbrev pub initial : Duties → Progress
 initial duties = record { dues = duties.dues; marked = []; ended = [] }

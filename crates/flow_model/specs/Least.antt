@@ -15,4 +15,5 @@ pub record IsLeastCover (edges : List Edge) (plan : Plan) : Type 0 where
 -- the plan of each request is the least cover of its members
 abbrev pub ArePlansLeast : SetupView → Type 0
 ArePlansLeast setup =
-    (request : ℕ) (plan : Plan) → plan_of setup request ≡ Some plan → IsLeastCover setup.job.edges plan
+    (request : ℕ) (plan : Plan) → plan_of setup request ≡ Some plan
+    → IsLeastCover setup.job.edges plan

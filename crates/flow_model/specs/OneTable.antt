@@ -15,15 +15,18 @@ use Rattle.flow_model.specs.Workers.{workers_in}
 
 -- what a worker lands by its journal: a sink's what it met, and any other nothing
 abbrev pub landings_by : Worker → List Entry → List Landing
-landings_by who journal = if is_sink who.func then map (landing who.node) (met_tuples journal) else []
+landings_by who journal = if is_sink who.func then map (landing who.node) (met_tuples journal)
+    else []
 
 -- what came to the sinks of a run, worker by worker
 abbrev pub landings : Ran → List Landing
-landings ran = flat_map (λ (who : Worker). flat_map (landings_by who) (journals_at ran.journals (who ∷ []))) (workers_in ran.setup.job)
+landings ran = flat_map (λ (who : Worker). flat_map (landings_by who)
+    (journals_at ran.journals (who ∷ []))) (workers_in ran.setup.job)
 
 -- what these rows make by themselves, each with the functions that it met in the run
 abbrev pub landings_alone : Ran → List Row → List Landing
-landings_alone ran rows = flat_map (λ (row : Row). alone ran.setup.job (table ran row.tuple.row) row) rows
+landings_alone ran rows = flat_map (λ (row : Row). alone ran.setup.job
+    (table ran row.tuple.row) row) rows
 
 -- both lists have the same items equally often: of both as many pass any test
 abbrev pub AreSameItems : {A : Type 0} → List A → List A → Type 0

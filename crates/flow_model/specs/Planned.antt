@@ -1,5 +1,6 @@
 -- What the type of a setup keeps: its requests are accepted, and have the planner's plans.
-use Rattle.std.specs.Prelude.{◌≡◌, ◌↔◌, ◌≤◌, ◌+◌, ◌==◌, ◌&&◌, ◌||◌, ℕ, Bool, false, IsTrue, List, length, take, Option, Some, None, slice_get, if◌then◌else◌}
+use Rattle.std.specs.Prelude.{◌≡◌, ◌↔◌, ◌≤◌, ◌+◌, ◌==◌, ◌&&◌, ◌||◌, ℕ, Bool, false, IsTrue, List}
+use Rattle.std.specs.Prelude.{length, take, Option, Some, None, slice_get, if◌then◌else◌}
 use Rattle.std.specs.List.{list_any}
 use Rattle.cover_planner.specs.declared.cover.Plan.{Plan}
 use Rattle.cover_planner.specs.Plan.{IsPlan}
@@ -32,7 +33,8 @@ makes_split node change = change.node == node && is_split change.func
 
 -- some request makes the node a split
 abbrev pub is_made_split : List Request → ℕ → Bool
-is_made_split requests node = list_any (λ (request : Request). list_any (makes_split node) request.changes) requests
+is_made_split requests node = list_any (λ (request : Request). list_any
+    (makes_split node) request.changes) requests
 
 -- the function that the job, or some request, gives the node is a split
 abbrev pub splits_at : List NodeDef → List Request → ℕ → Bool
@@ -42,25 +44,32 @@ splits_at nodes requests node = is_split_node (slice_get nodes node) || is_made_
 
 -- the plan is the planner's for the nodes that it asks
 abbrev pub IsPlanBy : JobView → ℕ → Plan → Type 0
-IsPlanBy job splits plan = IsPlan job.edges (Has splits) (λ (node : ℕ). IsTrue (copies_at job.nodes node)) plan.asked plan
+IsPlanBy job splits plan = IsPlan job.edges (Has splits)
+    (λ (node : ℕ). IsTrue (copies_at job.nodes node)) plan.asked plan
 
 -- so it is, and it asks every node that the request changes
 pub record IsPlanFor (job : JobView) (splits : ℕ) (request : Request) (plan : Plan) : Type 0 where
   pub planned : IsPlanBy job splits plan
   pub asked : (node : ℕ) → IsTrue (is_named request.changes node) → Has plan.asked node
 
--- the mask holds every node that may make pieces of a tuple, each request has its plan, and no plan has a source for a member; where rows and
--- requests have one order, a plan asks every node that a request up to its own changes
+-- the mask holds every node that may make pieces of a tuple, each request has its plan, and no plan
+-- has a source for a member; where rows and requests have one order, a plan asks every node that a
+-- request up to its own changes
 pub record IsPlanned (setup : SetupView) : Type 0 where
-  pub splits : (node : ℕ) → IsTrue (splits_at setup.job.nodes setup.requests node) → Has (splits_of setup) node
+  pub splits : (node : ℕ) → IsTrue (splits_at setup.job.nodes setup.requests node)
+      → Has (splits_of setup) node
   pub one_each : length setup.plans ≡ length setup.requests
   pub plans :
-      (r : ℕ) (request : Request) (plan : Plan) → slice_get setup.requests r ≡ Some request → slice_get setup.plans r ≡ Some plan →
+      (r : ℕ) (request : Request) (plan : Plan) → slice_get setup.requests r ≡ Some request
+      → slice_get setup.plans r ≡ Some plan →
       IsPlanFor setup.job (splits_of setup) request plan
-  pub no_source : (r node : ℕ) (plan : Plan) → slice_get setup.plans r ≡ Some plan → IsSourceOf setup.job node → ¬ Has plan.members node
+  pub no_source : (r node : ℕ) (plan : Plan) → slice_get setup.plans r ≡ Some plan
+      → IsSourceOf setup.job node → ¬ Has plan.members node
   pub ordered :
-      IsTrue setup.ordered → (s r : ℕ) (request : Request) (plan : Plan) → s ≤ r → slice_get setup.requests s ≡ Some request →
-      slice_get setup.plans r ≡ Some plan → (node : ℕ) → IsTrue (is_named request.changes node) → Has plan.asked node
+      IsTrue setup.ordered → (s r : ℕ) (request : Request) (plan : Plan) → s ≤ r
+      → slice_get setup.requests s ≡ Some request →
+      slice_get setup.plans r ≡ Some plan → (node : ℕ) → IsTrue (is_named request.changes node)
+      → Has plan.asked node
 
 -- ---- nothing else
 
@@ -71,11 +80,12 @@ abbrev pub is_named_by : Option Request → ℕ → Bool
 is_named_by None node = false
 is_named_by (Some request) node = names_node node request
 
--- the set that is planned for the request at this place holds the node: the request changes it, or, where rows and requests have one order, some
--- request up to this one does
+-- the set that is planned for the request at this place holds the node: the request changes it, or,
+-- where rows and requests have one order, some request up to this one does
 abbrev pub is_planned : Bool → List Request → ℕ → ℕ → Bool
 is_planned ordered requests r node =
-    if ordered then list_any (names_node node) (take (r + 1) requests) else is_named_by (slice_get requests r) node
+    if ordered then list_any (names_node node) (take (r + 1) requests)
+    else is_named_by (slice_get requests r) node
 
 -- the plan is the planner's for exactly these nodes
 pub record IsPlanOf (job : JobView) (splits : ℕ) (planned : ℕ → Bool) (plan : Plan) : Type 0 where
@@ -83,11 +93,15 @@ pub record IsPlanOf (job : JobView) (splits : ℕ) (planned : ℕ → Bool) (pla
   pub asked : (node : ℕ) → Has plan.asked node ↔ IsTrue (planned node)
 
 -- each request has such a plan
-pub record ArePlansOf (job : JobView) (splits : ℕ) (ordered : Bool) (requests : List Request) (plans : List Plan) : Type 0 where
+pub record ArePlansOf (job : JobView) (splits : ℕ) (ordered : Bool) (requests : List Request)
+    (plans : List Plan) : Type 0 where
   pub one_each : length plans ≡ length requests
-  pub each : (r : ℕ) (plan : Plan) → slice_get plans r ≡ Some plan → IsPlanOf job splits (is_planned ordered requests r) plan
+  pub each : (r : ℕ) (plan : Plan) → slice_get plans r ≡ Some plan
+      → IsPlanOf job splits (is_planned ordered requests r) plan
 
--- the masks hold nothing else: the nodes that may make pieces of a tuple, and for each request the set that is planned
+-- the masks hold nothing else: the nodes that may make pieces of a tuple, and for each request the
+-- set that is planned
 pub record IsExact (setup : SetupView) : Type 0 where
-  pub splits : (node : ℕ) → Has (splits_of setup) node ↔ IsTrue (splits_at setup.job.nodes setup.requests node)
+  pub splits : (node : ℕ) → Has (splits_of setup) node
+      ↔ IsTrue (splits_at setup.job.nodes setup.requests node)
   pub plans : ArePlansOf setup.job (splits_of setup) setup.ordered setup.requests setup.plans

@@ -38,13 +38,15 @@ AreOtherEnds seen (entry.Turned request ∷ more) = ⊥
 -- behind an end stand only ends, of other lanes, and before it every request was turned
 abbrev pub EndsStandLast : Duties → List Entry → Type 0
 EndsStandLast duties journal =
-    (before : List Entry) (lane : ℕ) (later : List Entry) → journal ≡ before ++ entry.Ended lane ∷ later →
+    (before : List Entry) (lane : ℕ) (later : List Entry)
+    → journal ≡ before ++ entry.Ended lane ∷ later →
     AreOtherEnds (lane ∷ []) later × (duties.dues ≡ turned before)
 
 -- at a head, a tuple that is met before the turn of the next request was fed before that was issued
 abbrev pub HeadsAreInTime : Duties → List Entry → Type 0
 HeadsAreInTime duties journal =
-    (before : List Entry) (lane : ℕ) (tuple : Tuple) (later : List Entry) → journal ≡ before ++ entry.Met lane tuple ∷ later →
+    (before : List Entry) (lane : ℕ) (tuple : Tuple) (later : List Entry)
+    → journal ≡ before ++ entry.Met lane tuple ∷ later →
     (left : List ℕ) → duties.dues ≡ turned before ++ left → IsInTime duties tuple (next_due left)
 
 -- the markers of a request, of these lanes, the last one first
@@ -55,34 +57,42 @@ markers request (lane ∷ more) = markers request more ++ entry.Marked lane requ
 -- directly before a turn stand its markers, one for each lane that brings it
 abbrev pub TurnsFollowTheirMarkers : Duties → List Entry → Type 0
 TurnsFollowTheirMarkers duties journal =
-    (before : List Entry) (request : ℕ) (later : List Entry) → journal ≡ before ++ entry.Turned request ∷ later →
-    (earlier : List Entry) × (lanes : List ℕ) × (before ≡ earlier ++ markers request lanes) × All (Contains lanes) (duties.marked_lanes request)
+    (before : List Entry) (request : ℕ) (later : List Entry)
+    → journal ≡ before ++ entry.Turned request ∷ later →
+    (earlier : List Entry) × (lanes : List ℕ) × (before ≡ earlier ++ markers request lanes)
+    × All (Contains lanes) (duties.marked_lanes request)
 
 -- up to the turn of the request, only markers of it, on other lanes than these, none twice
 abbrev pub LeadsToTurn : List ℕ → ℕ → List Entry → Type 0
 LeadsToTurn seen request [] = ⊥
-LeadsToTurn seen request (entry.Marked lane marked ∷ more) = (marked ≡ request) × ¬ Contains seen lane × LeadsToTurn (lane ∷ seen) request more
+LeadsToTurn seen request (entry.Marked lane marked ∷ more) = (marked ≡ request)
+    × ¬ Contains seen lane × LeadsToTurn (lane ∷ seen) request more
 LeadsToTurn seen request (entry.Turned turned ∷ more) = turned ≡ request
 LeadsToTurn seen request (entry.Met lane tuple ∷ more) = ⊥
 LeadsToTurn seen request (entry.Ended lane ∷ more) = ⊥
 
--- a marker comes by a lane that brings it, and stands among those directly before the turn of its request
+-- a marker comes by a lane that brings it, and stands among those directly before the turn of its
+-- request
 abbrev pub MarkersLeadToTheirTurn : Duties → List Entry → Type 0
 MarkersLeadToTheirTurn duties journal =
-    (before : List Entry) (lane request : ℕ) (later : List Entry) → journal ≡ before ++ entry.Marked lane request ∷ later →
+    (before : List Entry) (lane request : ℕ) (later : List Entry)
+    → journal ≡ before ++ entry.Marked lane request ∷ later →
     Contains (duties.marked_lanes request) lane × LeadsToTurn (lane ∷ []) request later
 
 -- tuples and ends come by the worker's lanes
 abbrev pub TuplesComeByLanes : Duties → List Entry → Type 0
 TuplesComeByLanes duties journal =
-    (before : List Entry) (lane : ℕ) (tuple : Tuple) (later : List Entry) → journal ≡ before ++ entry.Met lane tuple ∷ later → Contains duties.lanes lane
+    (before : List Entry) (lane : ℕ) (tuple : Tuple) (later : List Entry)
+    → journal ≡ before ++ entry.Met lane tuple ∷ later → Contains duties.lanes lane
 
 abbrev pub EndsComeByLanes : Duties → List Entry → Type 0
 EndsComeByLanes duties journal =
-    (before : List Entry) (lane : ℕ) (later : List Entry) → journal ≡ before ++ entry.Ended lane ∷ later → Contains duties.lanes lane
+    (before : List Entry) (lane : ℕ) (later : List Entry)
+    → journal ≡ before ++ entry.Ended lane ∷ later → Contains duties.lanes lane
 
--- The law once more, without progress. Every lane that an entry names is the worker's; requests are turned in order; markers stand directly
--- before their turn, one for each lane that brings it, and nowhere else; heads are in time; the ends stand together at the end.
+-- The law once more, without progress. Every lane that an entry names is the worker's; requests are
+-- turned in order; markers stand directly before their turn, one for each lane that brings it, and
+-- nowhere else; heads are in time; the ends stand together at the end.
 pub record HasPoints (duties : Duties) (journal : List Entry) : Type 0 where
   pub tuple_lanes : TuplesComeByLanes duties journal
   pub end_lanes : EndsComeByLanes duties journal

@@ -1,5 +1,6 @@
 -- What a journal says of its worker: the counts at its end, and what it sends on each lane.
-use Rattle.std.specs.Prelude.{◌+◌, ◌==◌, ℕ, Bool, List, [], ◌∷◌, ◌++◌, length, map, filter, Option, Some, None, if◌then◌else◌}
+use Rattle.std.specs.Prelude.{◌+◌, ◌==◌, ℕ, Bool, List, [], ◌∷◌, ◌++◌, length, map, filter, Option}
+use Rattle.std.specs.Prelude.{Some, None, if◌then◌else◌}
 use Rattle.std.specs.List.{filter_map, flat_map}
 use Rattle.cover_planner.specs.declared.cover.Plan.{Plan}
 use Rattle.keyed_state.specs.Counts.{Counts, carried}
@@ -19,7 +20,8 @@ use Rattle.flow_model.specs.Covers.{covers_edge, plan_of}
 use Rattle.flow_model.specs.Lanes.{is_same_lane, lane_of, lanes_in, lanes_out}
 use Rattle.flow_model.specs.Requests.{change_of}
 
--- What is in force at a worker: its function and its counts, the latest request turned, and how many lanes have ended.
+-- What is in force at a worker: its function and its counts, the latest request turned, and how
+-- many lanes have ended.
 pub record StateView : Type 0 where
   pub func : Func
   pub counts : Counts
@@ -29,7 +31,10 @@ pub record StateView : Type 0 where
 -- what a change puts in force: its function, and the counts that it carries over
 abbrev pub with_change : Option Change → StateView → StateView
 with_change None view = view
-with_change (Some change) view = record view { func = change.func; counts = carried change.carry view.counts }
+with_change (Some change) view = record view {
+  func = change.func;
+  counts = carried change.carry view.counts;
+}
 
 -- the visit of a tuple to a worker
 abbrev pub visit_at : Worker → StateView → Visit
@@ -37,9 +42,13 @@ visit_at who view = record { node = who.node; worker = who.place; last = view.la
 
 -- what is in force after an entry
 abbrev pub after : SetupView → Worker → StateView → Entry → StateView
-after setup who view (entry.Met lane tuple) = record view { counts = (step setup.job (visit_at who view) view.func view.counts tuple).0 }
+after setup who view (entry.Met lane tuple) = record view {
+  counts =
+      (step setup.job (visit_at who view) view.func view.counts tuple).0;
+}
 after setup who view (entry.Marked lane request) = view
-after setup who view (entry.Turned request) = record (with_change (change_of setup request who.node) view) { last = request }
+after setup who view (entry.Turned request) = record
+    (with_change (change_of setup request who.node) view) { last = request }
 after setup who view (entry.Ended lane) = record view { ended = view.ended + 1 }
 
 -- what is in force after a journal
@@ -55,7 +64,10 @@ pub record Put : Type 0 where
 -- an output of a node goes on the lane of its port
 abbrev pub put_out : JobView → Worker → Output → Put
 put_out job who output =
-    record { lane = lane_of job (Some who.number) who.node output.port output.tuple; item = item.Carry output.tuple }
+    record {
+      lane = lane_of job (Some who.number) who.node output.port output.tuple;
+      item = item.Carry output.tuple;
+    }
 
 -- an item for each of these lanes
 abbrev pub put_on_each : Item → List Lane → List Put
@@ -73,16 +85,19 @@ marker setup request = marker_by request (plan_of setup request)
 abbrev pub is_last_end : SetupView → Worker → StateView → Bool
 is_last_end setup who view = view.ended + 1 == length (lanes_in setup.job who.number)
 
--- what a worker puts on its lanes at an entry: the outputs for a tuple; at a turn the marker, on each covered lane out; an end on each lane out
--- once the last lane in has ended
+-- what a worker puts on its lanes at an entry: the outputs for a tuple; at a turn the marker, on
+-- each covered lane out; an end on each lane out once the last lane in has ended
 abbrev pub puts : SetupView → Worker → StateView → Entry → List Put
 puts setup who view (entry.Met lane tuple) =
     map (put_out setup.job who) (step setup.job (visit_at who view) view.func view.counts tuple).1
 puts setup who view (entry.Marked lane request) = []
 puts setup who view (entry.Turned request) =
-    flat_map (λ mark. put_on_each mark (filter (λ (lane : Lane). covers_edge setup request lane.edge) (lanes_out setup.job who.number))) (marker setup request)
+    flat_map (λ mark. put_on_each mark (filter
+    (λ (lane : Lane). covers_edge setup request lane.edge) (lanes_out setup.job who.number)))
+    (marker setup request)
 puts setup who view (entry.Ended lane) =
-    if is_last_end setup who view then put_on_each item.Last (lanes_out setup.job who.number) else []
+    if is_last_end setup who view then put_on_each item.Last (lanes_out setup.job who.number)
+    else []
 
 abbrev pub item_on : Lane → Put → Option Item
 item_on lane put = if is_same_lane put.lane lane then Some put.item else None
@@ -94,7 +109,8 @@ items_on lane puts = filter_map (item_on lane) puts
 -- what the replay of a journal sends on a lane, from what is in force on
 abbrev pub sent : SetupView → Worker → StateView → Lane → List Entry → List Item
 sent setup who view lane [] = []
-sent setup who view lane (entry ∷ more) = items_on lane (puts setup who view entry) ++ sent setup who (after setup who view entry) lane more
+sent setup who view lane (entry ∷ more) = items_on lane (puts setup who view entry)
+    ++ sent setup who (after setup who view entry) lane more
 
 -- the items that came in by the lane with this number, at an entry
 abbrev pub came_in : SetupView → ℕ → Entry → List Item

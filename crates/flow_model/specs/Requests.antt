@@ -1,5 +1,6 @@
 -- What the requests of a setup change.
-use Rattle.std.specs.Prelude.{ℕ, zero, suc, ◌==◌, Bool, false, List, [], ◌∷◌, map, Option, Some, None, slice_get, if◌then◌else◌}
+use Rattle.std.specs.Prelude.{ℕ, zero, suc, ◌==◌, Bool, false, List, [], ◌∷◌, map, Option, Some}
+use Rattle.std.specs.Prelude.{None, slice_get, if◌then◌else◌}
 use Rattle.jobs.specs.declared.func.Func.{Func}
 use Rattle.versions.specs.Book.{is_named}
 use Rattle.versions.specs.declared.request.Change.{Change}
@@ -14,7 +15,8 @@ request_at setup (suc r) = slice_get setup.requests r
 -- the change of a node among these
 abbrev pub change_among : List Change → ℕ → Option Change
 change_among [] node = None
-change_among (change ∷ more) node = if change.node == node then Some change else change_among more node
+change_among (change ∷ more) node = if change.node == node then Some change
+    else change_among more node
 
 abbrev pub change_in : Option Request → ℕ → Option Change
 change_in None node = None
@@ -39,7 +41,8 @@ func_with (Some change) func = change.func
 -- the function of a node, given at first, after so many requests
 abbrev pub func_after : SetupView → ℕ → Func → ℕ → Func
 func_after setup node func zero = func
-func_after setup node func (suc r) = func_with (change_of setup (suc r) node) (func_after setup node func r)
+func_after setup node func (suc r) = func_with (change_of setup (suc r) node)
+    (func_after setup node func r)
 
 -- the rows that the requests wait for
 abbrev pub afters : List Request → List ℕ

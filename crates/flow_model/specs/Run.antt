@@ -17,7 +17,8 @@ use Rattle.flow_model.specs.Requests.{afters}
 use Rattle.flow_model.specs.Duties.{duties}
 use Rattle.flow_model.specs.Workers.{workers_in}
 
--- What a run leaves: its setup, what the feeder did, what each worker did, and the counts of each worker at the end.
+-- What a run leaves: its setup, what the feeder did, what each worker did, and the counts of each
+-- worker at the end.
 pub record Ran : Type 0 where
   pub setup : SetupView
   pub feeds : List Feed
@@ -26,7 +27,12 @@ pub record Ran : Type 0 where
 
 -- what a run with these parts leaves
 abbrev pub ran_as : SetupView → List Feed → List (List Entry) → List Counts → Ran
-ran_as setup feeds journals states = record { setup = setup; feeds = feeds; journals = journals; states = states }
+ran_as setup feeds journals states = record {
+  setup = setup;
+  feeds = feeds;
+  journals = journals;
+  states = states;
+}
 
 -- the journal of a worker is lawful so far, from this beginning on
 abbrev pub IsLawfulFrom : SetupView → Begin → Worker → List Entry → Type 0
@@ -38,21 +44,28 @@ IsFinishedFrom setup begin who journal = IsFinished (duties setup begin.turned w
 
 -- the counts at the end of a journal
 abbrev pub final_counts : SetupView → Begin → Worker → Counts → List Entry → Counts
-final_counts setup begin who counts journal = (after_all setup who (view_at setup begin.turned who counts) journal).counts
+final_counts setup begin who counts journal = (after_all setup who
+    (view_at setup begin.turned who counts) journal).counts
 
 -- what the journal of a worker sends on a lane
-abbrev pub sent_by : SetupView → Begin → Lane → Option Worker → Option Counts → Option (List Entry) → Option (List Item)
-sent_by setup begin lane (Some who) (Some counts) (Some journal) = Some (sent setup who (view_at setup begin.turned who counts) lane journal)
+abbrev pub sent_by : SetupView → Begin → Lane → Option Worker → Option Counts → Option (List Entry)
+    → Option (List Item)
+sent_by setup begin lane (Some who) (Some counts) (Some journal) =
+    Some (sent setup who (view_at setup begin.turned who counts) lane journal)
 sent_by setup begin lane _ _ _ = None
 
--- what a sender puts on a lane: the feeder its rows and then the end, and a worker what the replay of its journal sends
+-- what a sender puts on a lane: the feeder its rows and then the end, and a worker what the replay
+-- of its journal sends
 abbrev pub put_by : Begin → List Row → Ran → Lane → Option ℕ → Option (List Item)
-put_by begin rows ran lane None = Some (fed ran.setup.job rows begin.turned lane ran.feeds ++ item.Last ∷ [])
+put_by begin rows ran lane None = Some (fed ran.setup.job rows begin.turned lane ran.feeds
+    ++ item.Last ∷ [])
 put_by begin rows ran lane (Some worker) =
-    sent_by ran.setup begin lane (slice_get (workers_in ran.setup.job) worker) (slice_get begin.states worker) (slice_get ran.journals worker)
+    sent_by ran.setup begin lane (slice_get (workers_in ran.setup.job) worker)
+    (slice_get begin.states worker) (slice_get ran.journals worker)
 
 -- the journal of a worker is finished, and its counts are those of the journal's replay
-pub record IsWorked (setup : SetupView) (begin : Begin) (who : Worker) (counts : Counts) (journal : List Entry) (state : Counts) : Type 0 where
+pub record IsWorked (setup : SetupView) (begin : Begin) (who : Worker) (counts : Counts)
+    (journal : List Entry) (state : Counts) : Type 0 where
   pub finished : IsFinishedFrom setup begin who journal
   pub state_is : state ≡ final_counts setup begin who counts journal
 
@@ -72,10 +85,12 @@ pub record IsRunFrom (begin : Begin) (rows : List Row) (ran : Ran) : Type 0 wher
   -- each lane shows, in order, what was put on it
   pub conserved :
       (n : ℕ) (lane : Lane) (journal : List Entry) → slice_get (lanes ran.setup.job) n ≡ Some lane →
-      slice_get ran.journals lane.receiver ≡ Some journal → put_by begin rows ran lane lane.sender ≡ Some (shown ran.setup n journal)
+      slice_get ran.journals lane.receiver ≡ Some journal
+      → put_by begin rows ran lane lane.sender ≡ Some (shown ran.setup n journal)
 
 -- what was left is a run of this setup and these rows, from this beginning on
-pub record IsRunSince (begin : Begin) (setup : SetupView) (rows : List Row) (ran : Ran) : Type 0 where
+pub record IsRunSince (begin : Begin) (setup : SetupView) (rows : List Row)
+    (ran : Ran) : Type 0 where
   pub setup_is : ran.setup ≡ setup
   pub run : IsRunFrom begin rows ran
 

@@ -1,5 +1,6 @@
 -- One order of rows and requests.
-use Rattle.std.specs.Prelude.{◌≡◌, ◌<◌, ◌≤◌, ℕ, zero, suc, false, List, Option, Some, None, length, slice_get, if◌then◌else◌}
+use Rattle.std.specs.Prelude.{◌≡◌, ◌<◌, ◌≤◌, ℕ, zero, suc, false, List, Option, Some, None, length}
+use Rattle.std.specs.Prelude.{slice_get, if◌then◌else◌}
 use Rattle.std.specs.List.{flat_map}
 use Rattle.jobs.specs.declared.func.Func.{Func}
 use Rattle.jobs.specs.declared.func.NodeDef.{NodeDef}
@@ -12,7 +13,8 @@ use Rattle.flow_model.specs.Requests.{func_after}
 use Rattle.flow_model.specs.Run.{Ran}
 use Rattle.flow_model.specs.Whole.{is_new, is_old}
 
--- the row comes behind the first k requests and before all later ones: it is not old at the one, and not new at the other
+-- the row comes behind the first k requests and before all later ones: it is not old at the one,
+-- and not new at the other
 pub record SeesPrefix (ran : Ran) (row k : ℕ) : Type 0 where
   pub before : (r : ℕ) → r ≤ k → is_old ran r row ≡ false
   pub after : (r : ℕ) → k < r → is_new ran r row ≡ false
@@ -34,9 +36,11 @@ func_of_node setup k node (Some def) = Some (func_after setup node def.func k)
 abbrev pub table_at : SetupView → ℕ → ℕ → Option Func
 table_at setup k node = func_of_node setup k node (slice_get setup.job.nodes node)
 
--- what these rows make by themselves, each with the functions after the requests that it comes behind
+-- what these rows make by themselves, each with the functions after the requests that it comes
+-- behind
 abbrev pub landings_in_order : Ran → List Row → List Landing
-landings_in_order ran rows = flat_map (λ (row : Row). alone ran.setup.job (table_at ran.setup (serial ran row.tuple.row)) row) rows
+landings_in_order ran rows = flat_map (λ (row : Row). alone ran.setup.job
+    (table_at ran.setup (serial ran row.tuple.row)) row) rows
 
 -- what came to the sinks is what the rows make by themselves in the order of rows and requests
 abbrev pub IsSerial : List Row → Ran → Type 0

@@ -5,4 +5,5 @@ use Rattle.flow_model.specs.SetupView.{SetupView, setup_view_of}
 
 -- a setup, as the definitions see it
 abbrev pub setup_view : Setup → SetupView
-setup_view setup = setup_view_of (job_view setup.job) setup.judged.accepted setup.plans setup.splits setup.ordered
+setup_view setup =
+    setup_view_of (job_view setup.job) setup.judged.accepted setup.plans setup.splits setup.ordered

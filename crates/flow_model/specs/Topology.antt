@@ -1,5 +1,6 @@
 -- The workers and lanes of a job, as code has them.
-use Rattle.std.specs.Prelude.{◌≡◌, ◌==◌, ◌+◌, ℕ, List, [], ◌∷◌, length, map, filter, take, Option, Some, None, slice_get, if◌then◌else◌}
+use Rattle.std.specs.Prelude.{◌≡◌, ◌==◌, ◌+◌, ℕ, List, [], ◌∷◌, length, map, filter, take, Option}
+use Rattle.std.specs.Prelude.{Some, None, slice_get, if◌then◌else◌}
 use Rattle.std.specs.List.{enumerate_from, flat_map, range_with_len}
 use Rattle.flow_dag.specs.declared.edge.Edge.{Edge}
 use Rattle.jobs.specs.Nodes.{worker_count}
@@ -41,7 +42,8 @@ out_edge job edge = record {
 -- the edges out of a node, in their order
 abbrev pub out_edges : JobView → ℕ → List OutEdge
 out_edges job node =
-    map (out_edge job) (filter (λ (edge : ℕ × Edge). edge.1.from == node) (enumerate_from 0 job.edges))
+    map (out_edge job) (filter (λ (edge : ℕ × Edge). edge.1.from == node)
+    (enumerate_from 0 job.edges))
 
 -- the topology of a job: its workers and lanes by their numbers, the lanes into and out of each
 -- worker, and the edges out of each node with their ports
@@ -67,12 +69,15 @@ IsNumberOf job found number =
 
 -- the numbers of those of these lanes that end at a worker, and of those that begin there
 abbrev pub numbers_in : List Lane → ℕ → List ℕ
-numbers_in all worker = map (λ (p : ℕ × Lane). p.0) (filter (λ (p : ℕ × Lane). p.1.receiver == worker) (enumerate_from 0 all))
+numbers_in all worker = map (λ (p : ℕ × Lane). p.0)
+    (filter (λ (p : ℕ × Lane). p.1.receiver == worker) (enumerate_from 0 all))
 
 abbrev pub numbers_out : List Lane → ℕ → List ℕ
-numbers_out all worker = map (λ (p : ℕ × Lane). p.0) (filter (λ (p : ℕ × Lane). is_sender worker p.1.sender) (enumerate_from 0 all))
+numbers_out all worker = map (λ (p : ℕ × Lane). p.0)
+    (filter (λ (p : ℕ × Lane). is_sender worker p.1.sender) (enumerate_from 0 all))
 
 -- the lanes from one sender along an edge, to so many workers from the first one on
 abbrev pub lanes_to : ℕ → Option ℕ → ℕ → ℕ → List Lane
 lanes_to edge sender first workers =
-    map (λ (place : ℕ). record { edge = edge; sender = sender; receiver = first + place }) (range_with_len 0 workers)
+    map (λ (place : ℕ). record { edge = edge; sender = sender; receiver = first + place })
+    (range_with_len 0 workers)

@@ -1,4 +1,5 @@
--- A worked law: a worker with two lanes in, 0 and 1, both of which bring it the marker of request 1.
+-- A worked law: a worker with two lanes in, 0 and 1, both of which bring it the marker of request
+-- 1.
 use Rattle.std.specs.Prelude.{ℕ, pos, false, List, [], ◌∷◌}
 use Rattle.sink_journal.specs.declared.journal.Entry.{Entry}
 use Rattle.sink_journal.specs.declared.journal.Entry.TheVariants as entry
@@ -6,7 +7,12 @@ use Rattle.flow_model.specs.FourPayments.{payment}
 use Rattle.flow_model.specs.Law.{Duties}
 
 abbrev pub joining : Duties
-joining = record { lanes = 0 ∷ 1 ∷ []; dues = 1 ∷ []; is_head = λ request. false; marked_lanes = λ request. 0 ∷ 1 ∷ [] }
+joining = record {
+  lanes = 0 ∷ 1 ∷ [];
+  dues = 1 ∷ [];
+  is_head = λ request. false;
+  marked_lanes = λ request. 0 ∷ 1 ∷ [];
+}
 
 abbrev pub ends : List Entry
 ends = entry.Ended 0 ∷ entry.Ended 1 ∷ []

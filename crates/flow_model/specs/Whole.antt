@@ -1,5 +1,6 @@
 -- What a run means for one row.
-use Rattle.std.specs.Prelude.{◌≡◌, ◌==◌, ◌⊎◌, ℕ, Bool, false, not, ◌&&◌, List, [], ◌∷◌, AllPairs, filter, map, slice_get, if◌then◌else◌}
+use Rattle.std.specs.Prelude.{◌≡◌, ◌==◌, ◌⊎◌, ℕ, Bool, false, not, ◌&&◌, List, [], ◌∷◌, AllPairs}
+use Rattle.std.specs.Prelude.{filter, map, slice_get, if◌then◌else◌}
 use Rattle.std.specs.List.{filter_map, flat_map, list_any}
 use Rattle.sink_journal.specs.Alerts.{met}
 use Rattle.sink_journal.specs.declared.journal.Entry.{Entry}
@@ -32,7 +33,8 @@ is_turn request (entry.Ended lane) = false
 -- what stands before the turn of a request, and what stands after it
 abbrev pub before_turn : ℕ → List Entry → List Entry
 before_turn request [] = []
-before_turn request (entry ∷ more) = if is_turn request entry then [] else entry ∷ before_turn request more
+before_turn request (entry ∷ more) = if is_turn request entry then []
+    else entry ∷ before_turn request more
 
 abbrev pub after_turn : ℕ → List Entry → List Entry
 after_turn request [] = []
@@ -40,35 +42,44 @@ after_turn request (entry ∷ more) = if is_turn request entry then more else af
 
 -- one of these journals meets the row before the turn of the request, and one of them after it
 abbrev pub any_before : ℕ → ℕ → List (List Entry) → Bool
-any_before request row journals = list_any (λ (journal : List Entry). meets_row row (before_turn request journal)) journals
+any_before request row journals = list_any (λ (journal : List Entry). meets_row row
+    (before_turn request journal)) journals
 
 abbrev pub any_after : ℕ → ℕ → List (List Entry) → Bool
-any_after request row journals = list_any (λ (journal : List Entry). meets_row row (after_turn request journal)) journals
+any_after request row journals = list_any (λ (journal : List Entry). meets_row row
+    (after_turn request journal)) journals
 
 -- these workers meet the row before their turns of the request alone, or after them alone
 abbrev pub IsOneSided : Ran → ℕ → ℕ → List Worker → Type 0
 IsOneSided ran request row workers =
-    (any_after request row (journals_at ran.journals workers) ≡ false) ⊎ (any_before request row (journals_at ran.journals workers) ≡ false)
+    (any_after request row (journals_at ran.journals workers) ≡ false)
+    ⊎ (any_before request row (journals_at ran.journals workers) ≡ false)
 
 -- the workers of the nodes that a request changes
 abbrev pub changed_workers : SetupView → ℕ → List Worker
-changed_workers setup request = filter (λ (who : Worker). changes setup request who.node) (workers_in setup.job)
+changed_workers setup request = filter (λ (who : Worker). changes setup request who.node)
+    (workers_in setup.job)
 
 -- the workers of the nodes that the plan of a request asks: those that it changes are among them
 abbrev pub asked_workers : SetupView → ℕ → List Worker
-asked_workers setup request = filter (λ (who : Worker). asks setup request who.node) (workers_in setup.job)
+asked_workers setup request = filter (λ (who : Worker). asks setup request who.node)
+    (workers_in setup.job)
 
--- the row is whole at the request: its nodes met the row with their old functions alone, or with their new ones alone
+-- the row is whole at the request: its nodes met the row with their old functions alone, or with
+-- their new ones alone
 abbrev pub IsWhole : Ran → ℕ → ℕ → Type 0
 IsWhole ran request row = IsOneSided ran request row (changed_workers ran.setup request)
 
 -- the row is new at the request: a node that the request changes met it after the turn
 abbrev pub is_new : Ran → ℕ → ℕ → Bool
-is_new ran request row = any_after request row (journals_at ran.journals (changed_workers ran.setup request))
+is_new ran request row = any_after request row
+    (journals_at ran.journals (changed_workers ran.setup request))
 
--- the row is old at the request: a node that the request changes met it before the turn, and it isn't new
+-- the row is old at the request: a node that the request changes met it before the turn, and it
+-- isn't new
 abbrev pub is_old : Ran → ℕ → ℕ → Bool
-is_old ran request row = any_before request row (journals_at ran.journals (changed_workers ran.setup request)) && not (is_new ran request row)
+is_old ran request row = any_before request row
+    (journals_at ran.journals (changed_workers ran.setup request)) && not (is_new ran request row)
 
 -- the identities that a journal met, in order
 abbrev pub identities : List Entry → List (ℕ × List ℕ)
@@ -76,4 +87,5 @@ identities journal = map (λ (tuple : Tuple). (tuple.row, tuple.birth)) (met_tup
 
 -- the workers of a node meet no identity twice
 abbrev pub IsMetOnce : Ran → ℕ → Type 0
-IsMetOnce ran node = AllPairs (λ a b. a ≡ b → ⊥) (flat_map identities (journals_at ran.journals (workers_at_node ran.setup.job node)))
+IsMetOnce ran node = AllPairs (λ a b. a ≡ b → ⊥)
+    (flat_map identities (journals_at ran.journals (workers_at_node ran.setup.job node)))

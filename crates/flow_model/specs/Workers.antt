@@ -11,15 +11,18 @@ use Rattle.flow_model.specs.SetupView.{Worker}
 abbrev pub node_workers : ℕ → ℕ → Func → ℕ → ℕ → List Worker
 node_workers number node func place zero = []
 node_workers number node func place (suc left) =
-    record { number = number; node = node; place = place; func = func } ∷ node_workers (number + 1) node func (place + 1) left
+    record { number = number; node = node; place = place; func = func } ∷ node_workers
+    (number + 1) node func (place + 1) left
 
 -- the workers of these nodes, node by node; number and node are the first ones
 abbrev pub workers_from : ℕ → ℕ → List NodeDef → List Worker
 workers_from number node [] = []
 workers_from number node (def ∷ more) =
-    node_workers number node def.func 0 (workers_of def) ++ workers_from (number + workers_of def) (node + 1) more
+    node_workers number node def.func 0 (workers_of def)
+    ++ workers_from (number + workers_of def) (node + 1) more
 
--- the workers of a job, in the order of their numbers: through the nodes in order, and at each node by their places
+-- the workers of a job, in the order of their numbers: through the nodes in order, and at each node
+-- by their places
 abbrev pub workers_in : JobView → List Worker
 workers_in job = workers_from 0 0 job.nodes
 

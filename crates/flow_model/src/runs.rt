@@ -19,7 +19,7 @@ use crate::Setup;
 use tuple_trace::Rows;
 
 /// The law of one worker, whatever the others do. Where its journal is lawful so far, and what its
-/// lanes have brought it is steady on each, the tuples that it met agree with its turns, and what
+/// lanes have delivered is steady on each, the tuples that it met agree with its turns, and what
 /// it sends is steady on every lane.
 pub fn workers_keep_steady(setup: &Setup)
     ensures agreement { (graph : Graph) (begin : Begin) (who : Worker) (journal : List EntryIs)
@@ -50,7 +50,7 @@ pub fn runs_are_whole(setup: &Setup, rows: &Rows)
 }
 
 /// In every run the law of one worker applies to each: its journal is lawful, and its lanes have
-/// brought it steady lists.
+/// delivered steady lists.
 pub fn runs_keep_steady(setup: &Setup, rows: &Rows)
     ensures { (ran : Ran) (graph : Graph) (w : ℕ) (who : Worker) (journal : List EntryIs)
         → IsRun (setup_view setup.now) rows.now ran → IsGraphOf ran.setup.job graph

@@ -1,5 +1,6 @@
 -- Masks over the places of a worker's lanes.
-use Rattle.std.specs.Prelude.{◌≡◌, ℕ, zero, suc, ◌<◌, ◌≤◌, ◌==◌, List, [], ◌∷◌, Bool, true, false, length, get_or, set, Option, Some, None, if◌then◌else◌}
+use Rattle.std.specs.Prelude.{◌≡◌, ℕ, zero, suc, ◌<◌, ◌≤◌, ◌==◌, List, [], ◌∷◌, Bool, true, false}
+use Rattle.std.specs.Prelude.{length, get_or, set, Option, Some, None, if◌then◌else◌}
 use Rattle.flow_dag.specs.Masks.{has}
 use Rattle.marker_align.specs.Hands.{is_tuple}
 use Rattle.marker_align.specs.declared.held.Hand.{Hand}
@@ -78,7 +79,8 @@ IsMaskWith place is_in before after =
 abbrev pub IsTakenFrom : ℕ → Option ℕ → ℕ → Type 0
 IsTakenFrom before None after = (k : ℕ) → has before k ≡ false
 IsTakenFrom before (Some place) after =
-    (place < 128) × (has before place ≡ true) × (after < before) × IsMaskWith place false before after
+    (place < 128) × (has before place ≡ true) × (after < before)
+    × IsMaskWith place false before after
 
 -- the first place of the mask from a place on
 abbrev pub IsFirstFrom : ℕ → ℕ → Option ℕ → Type 0

@@ -1,5 +1,6 @@
 -- What the steps of a turn do.
-use Rattle.std.specs.Prelude.{◌≡◌, ℕ, zero, suc, ◌+◌, ◌<◌, ◌==◌, List, [], ◌∷◌, ◌++◌, true, get_or, length, map, set, Option, Some, None, slice_get, if◌then◌else◌}
+use Rattle.std.specs.Prelude.{◌≡◌, ℕ, zero, suc, ◌+◌, ◌<◌, ◌==◌, List, [], ◌∷◌, ◌++◌, true, get_or}
+use Rattle.std.specs.Prelude.{length, map, set, Option, Some, None, slice_get, if◌then◌else◌}
 use Rattle.flow_dag.specs.Masks.{has}
 use Rattle.jobs.specs.JobView.{JobView}
 use Rattle.jobs.specs.declared.func.Func.{Func}
@@ -130,7 +131,8 @@ laid_down (suc place) (a ∷ more) = a ∷ laid_down place more
 abbrev pub view_of : WorkerIs → Func → StateView
 view_of w func = record { func = func; counts = w.counts; last = w.last; ended = 0 }
 
-pub record HasProcessed (setup : SetupView) (who : WorkerOf) (place : ℕ) (w v : WorkerIs) : Type 0 where
+pub record HasProcessed (setup : SetupView) (who : WorkerOf) (place : ℕ)
+    (w v : WorkerIs) : Type 0 where
   pub tuple : Tuple
   pub at : LaneInIs
   pub func : Func

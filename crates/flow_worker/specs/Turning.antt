@@ -1,5 +1,6 @@
 -- What one turn of a worker promises.
-use Rattle.std.specs.Prelude.{◌≡◌, ◌≢◌, ◌⊎◌, ◌↔◌, ⊤, ℕ, ◌+◌, ◌<◌, List, [], ◌∷◌, ◌++◌, Bool, true, false, length, map, Option, Some, None, IsTrue, Contains, drop}
+use Rattle.std.specs.Prelude.{◌≡◌, ◌≢◌, ◌⊎◌, ◌↔◌, ⊤, ℕ, ◌+◌, ◌<◌, List, [], ◌∷◌, ◌++◌, Bool, true}
+use Rattle.std.specs.Prelude.{false, length, map, Option, Some, None, IsTrue, Contains, drop}
 use Rattle.std.specs.List.{list_any}
 use Rattle.tuple_trace.specs.Counts.{Rose}
 use Rattle.tuple_trace.specs.declared.tuple.Tuple.{Tuple}
@@ -15,7 +16,8 @@ use Rattle.flow_model.specs.Agreement.{Agreement}
 use Rattle.flow_model.specs.Begin.{Begin}
 use Rattle.flow_model.specs.SetupView.{SetupView, Worker as WorkerOf}
 use Rattle.flow_worker.specs.Pairs.{Each, EachPair}
-use Rattle.flow_worker.specs.Endpoints.{LaneInIs, LaneOutIs, SameIn, SameOut, all_sent, all_taken, planned}
+use Rattle.flow_worker.specs.Endpoints.{LaneInIs, LaneOutIs, SameIn, SameOut, all_sent, all_taken}
+use Rattle.flow_worker.specs.Endpoints.{planned}
 use Rattle.flow_worker.specs.Worker.{IsWorker, WorkerIs, hands}
 use Rattle.flow_worker.specs.Steps.{HasClosed, HasProcessed, HasTurned, MemoryOnly}
 use Rattle.flow_worker.specs.declared.worker.acting.Acted.{Acted}
@@ -100,7 +102,8 @@ pub record IsAsBefore (w v : WorkerIs) : Type 0 where
 -- the cause of each outcome
 abbrev pub HasCause : turn_type.Turn → WorkerIs → WorkerIs → Type 0
 HasCause turn.Moved w v = (moves w < moves v) × ¬ IsDone v
-HasCause turn.Idle w v = (w.closed ≡ false → IsIdle w v) × (w.closed ≡ true → EachPair FullWhereWaiting w.outs v.outs) × ¬ IsDone v
+HasCause turn.Idle w v = (w.closed ≡ false → IsIdle w v)
+    × (w.closed ≡ true → EachPair FullWhereWaiting w.outs v.outs) × ¬ IsDone v
 HasCause turn.Done w v = IsDone v
 HasCause turn.NoMemory w v = IsAsBefore w v
 

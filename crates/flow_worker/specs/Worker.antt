@@ -1,5 +1,6 @@
 -- What contracts see of a worker, and its law.
-use Rattle.std.specs.Prelude.{◌≡◌, ℕ, ◌<◌, ◌≤◌, IfSome, List, [], ◌++◌, Bool, true, false, length, map, Option, Some, slice_get}
+use Rattle.std.specs.Prelude.{◌≡◌, ℕ, ◌<◌, ◌≤◌, IfSome, List, [], ◌++◌, Bool, true, false, length}
+use Rattle.std.specs.Prelude.{map, Option, Some, slice_get}
 use Rattle.control_box.specs.Ends.{OwnerIs}
 use Rattle.flow_dag.specs.declared.edge.Edge.{Edge}
 use Rattle.flow_dag.specs.declared.graph.Graph.{Graph}
@@ -22,14 +23,15 @@ use Rattle.flow_model.specs.Duties.{duties}
 use Rattle.flow_model.specs.Workers.{workers_in}
 use Rattle.flow_model.specs.declared.in_force.InForce.{InForce}
 use Rattle.flow_worker.specs.Pairs.{Each}
-use Rattle.flow_worker.specs.Endpoints.{LaneInIs, IsSteadyIn, IsSteadyOut, LaneOutIs, in_hand, planned}
+use Rattle.flow_worker.specs.Endpoints.{LaneInIs, IsSteadyIn, IsSteadyOut, LaneOutIs, in_hand}
+use Rattle.flow_worker.specs.Endpoints.{planned}
 use Rattle.flow_model.specs.Dues.{AreDues, IsDueOf}
 use Rattle.flow_model.specs.InForce.{func_in}
 
 -- A worker: its number, its node and its place there; its journal, and the number of entries for
 -- which it has memory; the function in force, the counts, the latest request turned, and the next
--- due; its lanes in and out; its end of the box; whether it has closed; the place at which its search
--- for a tuple begins; and the memory for `finish`.
+-- due; its lanes in and out; its end of the box; whether it has closed; the place at which its
+-- search for a tuple begins; and the memory for `finish`.
 pub record WorkerIs : Type 0 where
   pub number : ℕ
   pub node : ℕ

@@ -1,5 +1,6 @@
 -- What a reader of releases took.
-use Rattle.std.specs.Prelude.{◌≡◌, ◌⊎◌, ℕ, ◌+◌, ◌≤◌, ◌<◌, ◌==◌, true, false, List, [], ◌∷◌, ◌++◌, length, if◌then◌else◌}
+use Rattle.std.specs.Prelude.{◌≡◌, ◌⊎◌, ℕ, ◌+◌, ◌≤◌, ◌<◌, ◌==◌, true, false, List, [], ◌∷◌, ◌++◌}
+use Rattle.std.specs.Prelude.{length, if◌then◌else◌}
 use Rattle.std.specs.Io.KnownBytes.{Consumes, IsAtEnd}
 use Rattle.tuple_trace.specs.Counts.{Rose}
 use Rattle.live_control.specs.Asking.{AsksIs}
@@ -19,8 +20,8 @@ abbrev pub most_bytes : ℕ
 most_bytes = 1048576
 
 -- What a reader of at most so many releases took. `taken` are its bytes, of which each line feed is
--- a release. Before the last of them there were too few line feeds. A reader that hasn't failed took
--- enough line feeds, or the most bytes, or left nothing.
+-- a release. Before the last of them there were too few line feeds. A reader that hasn't failed
+-- took enough line feeds, or the most bytes, or left nothing.
 pub record IsHeard (most : ℕ) (old new : AsksIs) (heard : Heard) : Type 0 where
   pub taken : List ℕ
   pub took : Consumes old.left new.left taken

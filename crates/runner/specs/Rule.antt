@@ -1,5 +1,6 @@
 -- The rule of the queue of runners.
-use Rattle.std.specs.Prelude.{◌≡◌, ℕ, Bool, true, zero, suc, ◌+◌, ◌<◌, cond, nat_lt, ◌==◌, List, [], ◌∷◌, ◌++◌, map, length}
+use Rattle.std.specs.Prelude.{◌≡◌, ℕ, Bool, true, zero, suc, ◌+◌, ◌<◌, cond, nat_lt, ◌==◌, List, []}
+use Rattle.std.specs.Prelude.{◌∷◌, ◌++◌, map, length}
 use Rattle.std.specs.List.{All, slice_index_or}
 use mathlib.Core.Option.{some}
 use lib.ListN.{get_elem?}

@@ -36,7 +36,8 @@ pub record RunnerIs : Type 0 where
 
 -- Each runner's worker has the law of a worker from the beginning on. The runner holds the setup,
 -- and knows its worker's number, and when it is done.
-pub record IsRunner (setup : SetupView) (begin : Begin) (held : SetupView) (number : ℕ) (w : WorkerIs)
+pub record IsRunner (setup : SetupView) (begin : Begin) (held : SetupView) (number : ℕ)
+    (w : WorkerIs)
     (done : Bool) : Type 0 where
   pub setup_is : held ≡ setup
   pub number_is : number ≡ w.number

@@ -1,11 +1,13 @@
 -- What a text tells, in the steps in which it is read.
-use Rattle.std.specs.Prelude.{ℕ, ℤ, pos, ◌+◌, Bool, List, [], ◌∷◌, ◌++◌, Option, Some, None, Result, Ok, Err, min, nat_le, option_map}
+use Rattle.std.specs.Prelude.{ℕ, ℤ, pos, ◌+◌, Bool, List, [], ◌∷◌, ◌++◌, Option, Some, None, Result}
+use Rattle.std.specs.Prelude.{Ok, Err, min, nat_le, option_map}
 use Rattle.std.specs.Cmp.Lexicographic.{slice_cmp}
 use Rattle.std.specs.Ordering.{is_lt, nat_cmp}
 use Rattle.jobs.specs.JobView.{JobView}
 use Rattle.versions.specs.declared.request.Request.{Request}
 use Rattle.flow_model.specs.SetupView.{Worker}
-use Rattle.savepoint.specs.SaveReading.{Placed, Spelled, is_named_by, one_more, one_placed, placed_of, spelled_of}
+use Rattle.savepoint.specs.SaveReading.{Placed, Spelled, is_named_by, one_more, one_placed}
+use Rattle.savepoint.specs.SaveReading.{placed_of, spelled_of}
 use Rattle.savepoint.specs.declared.fault.SaveFault.{SaveFault}
 use Rattle.savepoint.specs.declared.fault.SaveFault.TheVariants as fault
 
@@ -33,7 +35,8 @@ abbrev pub read_from :
     JobView → ℕ → List (List (List ℕ)) → Result (List (Option Placed)) SaveFault
 read_from job number [] = Ok []
 read_from job number (first ∷ later) =
-    one_read number (option_map (placed_of job) (spelled_of first)) (read_from job (number + 1) later)
+    one_read number (option_map (placed_of job) (spelled_of first))
+    (read_from job (number + 1) later)
 
 -- the counts, if each has a place and comes after the one before it
 abbrev pub placed_in :

@@ -1,5 +1,8 @@
 -- The beginning that the text of a savepoint tells.
-use Rattle.std.specs.Prelude.{◌≡◌, ◌<◌, ◌≤◌, ◌+◌, ◌-◌, ◌^◌, ◌==◌, ◌&&◌, ◌||◌, ℕ, ℤ, All, Bool, FitsSigned, pos, negsuc, true, false, List, [], ◌∷◌, Option, Some, None, Result, Ok, Err, length, map, filter, codes, nat_eq, nat_le, nat_lt, option_map, position, slice_get, if◌then◌else◌}
+use Rattle.std.specs.Prelude.{◌≡◌, ◌<◌, ◌≤◌, ◌+◌, ◌-◌, ◌^◌, ◌==◌, ◌&&◌, ◌||◌, ℕ, ℤ, All, Bool}
+use Rattle.std.specs.Prelude.{FitsSigned, pos, negsuc, true, false, List, [], ◌∷◌, Option, Some}
+use Rattle.std.specs.Prelude.{None, Result, Ok, Err, length, map, filter, codes, nat_eq, nat_le}
+use Rattle.std.specs.Prelude.{nat_lt, option_map, position, slice_get, if◌then◌else◌}
 use Rattle.std.specs.Cmp.Lexicographic.{pointwise, slice_cmp}
 use Rattle.std.specs.FinMap.{entries, from_entries}
 use Rattle.std.specs.Int.{w64}
@@ -104,7 +107,8 @@ placed_by spelled worker = record { worker = worker; key = spelled.key; count = 
 abbrev pub placed_of : JobView → Spelled → Option Placed
 placed_of job spelled =
     if nat_le (length spelled.key) text_max
-    then option_map (placed_by spelled) (position (is_named_by job spelled) (workers_in job)) else None
+    then option_map (placed_by spelled) (position (is_named_by job spelled) (workers_in job))
+    else None
 
 -- the count comes after the one before it: at a later worker, or with a later key by its bytes
 abbrev pub stands_behind : Option Placed → Placed → Bool

@@ -1,5 +1,6 @@
 -- Lists of numbers, one for each row, and how some rows get a new number.
-use Rattle.std.specs.Prelude.{ℕ, Bool, ◌+◌, false, List, [], ◌∷◌, Option, Some, None, option_map, if◌then◌else◌}
+use Rattle.std.specs.Prelude.{ℕ, Bool, ◌+◌, false, List, [], ◌∷◌, Option, Some, None, option_map}
+use Rattle.std.specs.Prelude.{if◌then◌else◌}
 use Rattle.sink_journal.specs.Alerts.{met}
 use Rattle.sink_journal.specs.declared.journal.Entry.{Entry}
 use Rattle.tuple_trace.specs.declared.tuple.Tuple.{Tuple}

@@ -1,6 +1,7 @@
 -- What a call of the program answers, and what it leaves.
 use Rattle.std.specs.Prelude.{◌≡◌, ◌⊎◌, ⊤, Option}
-use Rattle.command_line.specs.Asked.{Asked, Check, First, Help, Live, Make, Plan, Resume, Run, Save, Verify, Version}
+use Rattle.command_line.specs.Asked.{Asked, Check, First, Help, Live, Make, Plan, Resume, Run, Save}
+use Rattle.command_line.specs.Asked.{Verify, Version}
 use Rattle.command_line.specs.Help.{help_of, version_line}
 use Rattle.top_call.specs.Check.{AnswersCheck, FollowsCheck}
 use Rattle.call_steps.specs.Ends.{stopped}
@@ -23,7 +24,12 @@ use Rattle.top_call.specs.declared.outcome.Outcome.{Outcome}
 
 -- what a call came to, but for its status
 abbrev pub outcome_view : Outcome → Answer
-outcome_view outcome = record { fault = outcome.fault; refused = outcome.refused; ran = outcome.ran; start = outcome.start }
+outcome_view outcome = record {
+  fault = outcome.fault;
+  refused = outcome.refused;
+  ran = outcome.ran;
+  start = outcome.start;
+}
 
 -- what a call answers, leaves and prints that was asked this; `was` and `now` are the input of
 -- releases before and after it
@@ -45,7 +51,8 @@ abbrev pub LeavesAsks : Asked → AsksIs → AsksIs → Type 0
 LeavesAsks (Live asked) was now = ⊤
 LeavesAsks _ was now = now ≡ was
 
--- what a call answers, leaves and prints whose words are no full form of a command and ask for neither help nor the version; memory may run out
+-- what a call answers, leaves and prints whose words are no full form of a command and ask for
+-- neither help nor the version; memory may run out
 pub record AnswersUsage (old new : World) (answer : Answer) : Type 0 where
   pub usage : (answer ≡ stopped fault.Usage) ⊎ (answer ≡ stopped fault.NoMemory)
   pub prints : PrintsFault answer.fault old new

@@ -20,7 +20,8 @@ pub record PrintsSizes (name : List ℕ) (old new : World) (answer : Answer) : T
 
 -- how a call of `check` ends, before the line of its fault is printed
 abbrev pub EndsCheck : List ℕ → World → World → Answer → Type 0
-EndsCheck name old new answer = Stops (IsNoJob old.shelf.files name) old new answer ⊎ PrintsSizes name old new answer
+EndsCheck name old new answer = Stops (IsNoJob old.shelf.files name) old new answer
+    ⊎ PrintsSizes name old new answer
 
 -- what a call of `check` answers, leaves and prints
 pub record AnswersCheck (name : List ℕ) (old new : World) (answer : Answer) : Type 0 where
@@ -31,4 +32,5 @@ pub record AnswersCheck (name : List ℕ) (old new : World) (answer : Answer) : 
 -- the answer, seen from the job file
 pub record FollowsCheck (name : List ℕ) (old new : World) (answer : Option Fault) : Type 0 where
   pub job : FollowsJob name old new answer
-  pub done : (job : JobView) → TellsJob old.shelf.files name job → (answer ≡ None) ⊎ IsExcused old new answer
+  pub done : (job : JobView) → TellsJob old.shelf.files name job
+      → (answer ≡ None) ⊎ IsExcused old new answer

@@ -1,5 +1,6 @@
 -- What a call of `first` answers, why, and what it leaves.
-use Rattle.std.specs.Prelude.{◌≡◌, ◌⊎◌, ◌<◌, ◌≤◌, ℕ, true, false, List, [], ◌∷◌, Option, None, Some, length, slice_get}
+use Rattle.std.specs.Prelude.{◌≡◌, ◌⊎◌, ◌<◌, ◌≤◌, ℕ, true, false, List, [], ◌∷◌, Option, None, Some}
+use Rattle.std.specs.Prelude.{length, slice_get}
 use Rattle.jobs.specs.JobView.{JobView}
 use Rattle.payments.specs.Files.{Files}
 use Rattle.sink_journal.specs.declared.journal.Entry.{Entry}
@@ -35,27 +36,32 @@ pub record IsMetAfter (journal : List Entry) (request row : ℕ) : Type 0 where
   pub before : meets_row row (before_turn request journal) ≡ false
   pub after : meets_row row (after_turn request journal) ≡ true
 
--- of so many rows, those up to `last` are met before the turn of the request, and the later ones after it
+-- of so many rows, those up to `last` are met before the turn of the request, and the later ones
+-- after it
 pub record TurnsAfterRow (journal : List Entry) (request last rows : ℕ) : Type 0 where
   pub old : (row : ℕ) → 1 ≤ row → row ≤ rows → row ≤ last → IsMetBefore journal request row
   pub new : (row : ℕ) → row ≤ rows → last < row → IsMetAfter journal request row
 
--- The rows of the payments file were run, and the one request, which is accepted. What it covers turned behind the row that it waits for and before
--- every later one. So the worker of `big`, which is worker 0, met the rows up to `after` before the turn, and all others after it.
+-- The rows of the payments file were run, and the one request, which is accepted. What it covers
+-- turned behind the row that it waits for and before every later one. So the worker of `big`, which
+-- is worker 0, met the rows up to `after` before the turn, and all others after it.
 pub record IsFirstRun (asked : FirstAsked) (files : Option Files) (done : Done) : Type 0 where
   pub rows : List Row
   pub of_rows : AreRowsOf files asked.payments (asked_job asked) rows
-  pub run : IsRunOf AreSame false (asked_job asked) (first_request asked.after asked.least_after ∷ []) rows done
+  pub run : IsRunOf AreSame false (asked_job asked)
+      (first_request asked.after asked.least_after ∷ []) rows done
   pub accepted : done.refused ≡ []
   pub order : IsInOrder (length rows) (record_view done.ran)
-  pub turns : (journal : List Entry) → slice_get done.ran.journals 0 ≡ Some journal → TurnsAfterRow journal 1 asked.after (length rows)
+  pub turns : (journal : List Entry) → slice_get done.ran.journals 0 ≡ Some journal
+      → TurnsAfterRow journal 1 asked.after (length rows)
 
 -- ---- the answer
 
 -- how a call of `first` ends, before the line of its fault is printed
 abbrev pub EndsFirst : FirstAsked → World → World → Answer → Type 0
 EndsFirst asked old new answer =
-    Stops (AreNoRows old.shelf.files asked.payments (asked_job asked)) old new answer ⊎ Runs (IsFirstRun asked old.shelf.files) asked.alerts None None None old new answer
+    Stops (AreNoRows old.shelf.files asked.payments (asked_job asked)) old new answer
+    ⊎ Runs (IsFirstRun asked old.shelf.files) asked.alerts None None None old new answer
 
 -- what a call of `first` answers, leaves and prints
 pub record AnswersFirst (asked : FirstAsked) (old new : World) (answer : Answer) : Type 0 where
@@ -64,6 +70,8 @@ pub record AnswersFirst (asked : FirstAsked) (old new : World) (answer : Answer)
   pub prints : PrintsFault answer.fault between new
 
 -- the answer, seen from the payments file
-pub record FollowsFirst (asked : FirstAsked) (old new : World) (answer : Option Fault) : Type 0 where
+pub record FollowsFirst (asked : FirstAsked) (old new : World)
+    (answer : Option Fault) : Type 0 where
   pub payments : FollowsRows (asked_job asked) asked.payments old new answer
-  pub done : (rows : List Row) → TellsRows old.shelf.files asked.payments (asked_job asked) rows → (answer ≡ None) ⊎ IsExcused old new answer
+  pub done : (rows : List Row) → TellsRows old.shelf.files asked.payments (asked_job asked) rows
+      → (answer ≡ None) ⊎ IsExcused old new answer

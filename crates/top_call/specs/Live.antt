@@ -14,7 +14,8 @@ use Rattle.report.specs.declared.fault.FileIs.TheVariants as file
 use Rattle.call_steps.specs.Ends.{EndsAfterRun, Stops}
 use Rattle.call_steps.specs.Live.{IsLiveRun, live_fault, live_lines}
 use Rattle.call_steps.specs.Outside.{IsExcused, PrintsFault}
-use Rattle.call_steps.specs.Reading.{AreRequestsOf, AreRowsOf, FollowsJob, FollowsRequests, FollowsRows, IsJobOf, TellsJob, TellsRequests, TellsRows}
+use Rattle.call_steps.specs.Reading.{AreRequestsOf, AreRowsOf, FollowsJob, FollowsRequests}
+use Rattle.call_steps.specs.Reading.{FollowsRows, IsJobOf, TellsJob, TellsRequests, TellsRows}
 use Rattle.call_steps.specs.Running.{files_of}
 use Rattle.call_steps.specs.declared.answer.Answer.{Answer}
 use Rattle.call_steps.specs.declared.live.LiveDone.{LiveDone}

@@ -30,14 +30,16 @@ pub record IsMadeRun (asked : MakeAsked) (files : Option Files) (done : Done) : 
 
 -- no rows are made for the job, for this fault; memory may run out
 abbrev pub MakesNoRows : MakeAsked → JobView → Fault → Type 0
-MakesNoRows asked job (fault.Payments code) = (code ≢ rows.NoMemory) × (made_rows job asked.seed asked.rows ≡ Err code)
+MakesNoRows asked job (fault.Payments code) = (code ≢ rows.NoMemory)
+    × (made_rows job asked.seed asked.rows ≡ Err code)
 MakesNoRows asked job fault.NoMemory = ⊤
 MakesNoRows asked job _ = ⊥
 
 -- why there is no run: no job was read, or else no rows were made for it
 abbrev pub IsNotMade : MakeAsked → Option Files → Faults → Faults → Fault → Type 0
 IsNotMade asked files old new why =
-    IsNoJob files asked.job old new why ⊎ ((job : JobView) × IsJobOf files asked.job job × MakesNoRows asked job why × (new ≡ old))
+    IsNoJob files asked.job old new why ⊎ ((job : JobView) × IsJobOf files asked.job job
+    × MakesNoRows asked job why × (new ≡ old))
 
 -- ---- the answer
 
@@ -52,7 +54,8 @@ pub record RunsMade (asked : MakeAsked) (old new : World) (answer : Answer) : Ty
 
 -- how a call of `make` ends, before the line of its fault is printed
 abbrev pub EndsMake : MakeAsked → World → World → Answer → Type 0
-EndsMake asked old new answer = Stops (IsNotMade asked old.shelf.files) old new answer ⊎ RunsMade asked old new answer
+EndsMake asked old new answer = Stops (IsNotMade asked old.shelf.files) old new answer
+    ⊎ RunsMade asked old new answer
 
 -- what a call of `make` answers, leaves and prints
 pub record AnswersMake (asked : MakeAsked) (old new : World) (answer : Answer) : Type 0 where
@@ -63,7 +66,9 @@ pub record AnswersMake (asked : MakeAsked) (old new : World) (answer : Answer) :
 -- the answer, seen from the job file: the rows are looked at if it holds a job
 pub record FollowsMake (asked : MakeAsked) (old new : World) (answer : Option Fault) : Type 0 where
   pub job : FollowsJob asked.job old new answer
-  pub rows : (job : JobView) (code : PFault) → TellsJob old.shelf.files asked.job job → made_rows job asked.seed asked.rows ≡ Err code →
+  pub rows : (job : JobView) (code : PFault) → TellsJob old.shelf.files asked.job job
+      → made_rows job asked.seed asked.rows ≡ Err code →
       (answer ≡ Some (fault.Payments code)) ⊎ IsExcused old new answer
-  pub done : (job : JobView) (rows : List Row) → TellsJob old.shelf.files asked.job job → made_rows job asked.seed asked.rows ≡ Ok rows →
+  pub done : (job : JobView) (rows : List Row) → TellsJob old.shelf.files asked.job job
+      → made_rows job asked.seed asked.rows ≡ Ok rows →
       (answer ≡ None) ⊎ IsExcused old new answer

@@ -12,7 +12,8 @@ use Rattle.call_steps.specs.Ends.{PrintsLines, Stops}
 use Rattle.report.specs.Lines.{plan_lines, refused_lines}
 use Rattle.payments.specs.World.{World}
 use Rattle.call_steps.specs.Outside.{IsExcused, PrintsFault}
-use Rattle.call_steps.specs.Reading.{AreNoRequests, AreRequestsOf, FollowsJob, FollowsRequests, IsJobOf, IsNoJob, TellsJob, TellsRequests}
+use Rattle.call_steps.specs.Reading.{AreNoRequests, AreRequestsOf, FollowsJob, FollowsRequests}
+use Rattle.call_steps.specs.Reading.{IsJobOf, IsNoJob, TellsJob, TellsRequests}
 use Rattle.call_steps.specs.declared.answer.Answer.{Answer}
 use Rattle.report.specs.declared.fault.Fault.{Fault}
 
@@ -30,13 +31,15 @@ pub record IsSetupOf (asked : PlanAsked) (files : Option Files) (setup : Setup) 
 abbrev pub IsNoSetup : PlanAsked → Option Files → Faults → Faults → Fault → Type 0
 IsNoSetup asked files old new why =
     IsNoJob files asked.job old new why
-    ⊎ ((job : JobView) × IsJobOf files asked.job job × AreNoRequests files asked.requests job old new why)
+    ⊎ ((job : JobView) × IsJobOf files asked.job job
+    × AreNoRequests files asked.requests job old new why)
 
 -- ---- the answer
 
 -- what is printed of a setup: the plan of each accepted request, and then each refused request
 abbrev pub setup_lines : Setup → List ℕ
-setup_lines setup = plan_lines (job_view setup.job) setup.plans ++ refused_lines setup.judged.refused
+setup_lines setup = plan_lines (job_view setup.job) setup.plans
+    ++ refused_lines setup.judged.refused
 
 -- it made the setup of what the files hold, and came to printing its lines; it changed no file
 pub record PrintsSetup (asked : PlanAsked) (old new : World) (answer : Answer) : Type 0 where
@@ -49,7 +52,8 @@ pub record PrintsSetup (asked : PlanAsked) (old new : World) (answer : Answer) :
 
 -- how a call of `plan` ends, before the line of its fault is printed
 abbrev pub EndsPlan : PlanAsked → World → World → Answer → Type 0
-EndsPlan asked old new answer = Stops (IsNoSetup asked old.shelf.files) old new answer ⊎ PrintsSetup asked old new answer
+EndsPlan asked old new answer = Stops (IsNoSetup asked old.shelf.files) old new answer
+    ⊎ PrintsSetup asked old new answer
 
 -- what a call of `plan` answers, leaves and prints
 pub record AnswersPlan (asked : PlanAsked) (old new : World) (answer : Answer) : Type 0 where
@@ -60,6 +64,8 @@ pub record AnswersPlan (asked : PlanAsked) (old new : World) (answer : Answer) :
 -- the answer, seen from the files: each is looked at where those before it hold what they should
 pub record FollowsPlan (asked : PlanAsked) (old new : World) (answer : Option Fault) : Type 0 where
   pub job : FollowsJob asked.job old new answer
-  pub requests : (job : JobView) → TellsJob old.shelf.files asked.job job → FollowsRequests job asked.requests old new answer
-  pub done : (job : JobView) (requests : List Request) → TellsJob old.shelf.files asked.job job → TellsRequests old.shelf.files asked.requests job requests →
+  pub requests : (job : JobView) → TellsJob old.shelf.files asked.job job
+      → FollowsRequests job asked.requests old new answer
+  pub done : (job : JobView) (requests : List Request) → TellsJob old.shelf.files asked.job job
+      → TellsRequests old.shelf.files asked.requests job requests →
       (answer ≡ None) ⊎ IsExcused old new answer

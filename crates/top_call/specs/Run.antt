@@ -11,7 +11,9 @@ use Rattle.payments.specs.World.{World}
 use Rattle.call_steps.specs.Outside.{IsExcused, PrintsFault}
 use Rattle.call_steps.specs.SetupFor.{AreSame}
 use Rattle.top_call.specs.Plan.{IsNoSetup}
-use Rattle.call_steps.specs.Reading.{AreNoRows, AreRequestsOf, AreRowsOf, FollowsJob, FollowsRequests, FollowsRows, IsJobOf, TellsJob, TellsRequests, TellsRows}
+use Rattle.call_steps.specs.Reading.{AreNoRows, AreRequestsOf, AreRowsOf, FollowsJob}
+use Rattle.call_steps.specs.Reading.{FollowsRequests, FollowsRows, IsJobOf, TellsJob, TellsRequests}
+use Rattle.call_steps.specs.Reading.{TellsRows}
 use Rattle.call_steps.specs.Running.{IsRunOf, Runs}
 use Rattle.call_steps.specs.declared.answer.Answer.{Answer}
 use Rattle.report.specs.declared.fault.Fault.{Fault}
@@ -43,7 +45,9 @@ IsNoRun asked files old new why = HasNoRows asked.plan asked.payments files old 
 
 -- how a call of `run` ends, before the line of its fault is printed
 abbrev pub EndsRun : RunAsked → World → World → Answer → Type 0
-EndsRun asked old new answer = Stops (IsNoRun asked old.shelf.files) old new answer ⊎ Runs (IsRunOfFiles asked old.shelf.files) asked.alerts (Some asked.audit) None None old new answer
+EndsRun asked old new answer = Stops (IsNoRun asked old.shelf.files) old new answer
+    ⊎ Runs (IsRunOfFiles asked old.shelf.files) asked.alerts
+    (Some asked.audit) None None old new answer
 
 -- what a call of `run` answers, leaves and prints
 pub record AnswersRun (asked : RunAsked) (old new : World) (answer : Answer) : Type 0 where
@@ -54,8 +58,14 @@ pub record AnswersRun (asked : RunAsked) (old new : World) (answer : Answer) : T
 -- the answer, seen from the files: each is looked at where those before it hold what they should
 pub record FollowsRun (asked : RunAsked) (old new : World) (answer : Option Fault) : Type 0 where
   pub job : FollowsJob asked.plan.job old new answer
-  pub requests : (job : JobView) → TellsJob old.shelf.files asked.plan.job job → FollowsRequests job asked.plan.requests old new answer
-  pub payments : (job : JobView) (requests : List Request) → TellsJob old.shelf.files asked.plan.job job → TellsRequests old.shelf.files asked.plan.requests job requests →
+  pub requests : (job : JobView) → TellsJob old.shelf.files asked.plan.job job
+      → FollowsRequests job asked.plan.requests old new answer
+  pub payments : (job : JobView) (requests : List Request)
+      → TellsJob old.shelf.files asked.plan.job job
+      → TellsRequests old.shelf.files asked.plan.requests job requests →
       FollowsRows job asked.payments old new answer
-  pub done : (job : JobView) (requests : List Request) (rows : List Row) → TellsJob old.shelf.files asked.plan.job job →
-      TellsRequests old.shelf.files asked.plan.requests job requests → TellsRows old.shelf.files asked.payments job rows → (answer ≡ None) ⊎ IsExcused old new answer
+  pub done : (job : JobView) (requests : List Request) (rows : List Row)
+      → TellsJob old.shelf.files asked.plan.job job →
+      TellsRequests old.shelf.files asked.plan.requests job requests
+      → TellsRows old.shelf.files asked.payments job rows
+      → (answer ≡ None) ⊎ IsExcused old new answer

@@ -26,11 +26,13 @@ pub record IsSavedRun (asked : SaveAsked) (files : Option Files) (done : Done) :
   pub of_rows : AreRowsOf files asked.run.payments job rows
   pub part : IsFirstPart (min asked.rows (length rows)) job requests rows done
 
--- How a call of `save` ends, before the line of its fault is printed. The savepoint is stored after the alerts and the audit.
+-- How a call of `save` ends, before the line of its fault is printed. The savepoint is stored after
+-- the alerts and the audit.
 abbrev pub EndsSave : SaveAsked → World → World → Answer → Type 0
 EndsSave asked old new answer =
     Stops (IsNoRun asked.run old.shelf.files) old new answer
-    ⊎ Runs (IsSavedRun asked old.shelf.files) asked.run.alerts (Some asked.run.audit) (Some asked.save) None old new answer
+    ⊎ Runs (IsSavedRun asked old.shelf.files) asked.run.alerts (Some asked.run.audit)
+    (Some asked.save) None old new answer
 
 -- what a call of `save` answers, leaves and prints
 pub record AnswersSave (asked : SaveAsked) (old new : World) (answer : Answer) : Type 0 where

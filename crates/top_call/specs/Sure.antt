@@ -19,9 +19,12 @@ IsSureStatus status = Contains (0 ∷ 1 ∷ 2 ∷ 3 ∷ 4 ∷ 7 ∷ 8 ∷ 9 ∷ 
 
 -- a call answered this, whatever it was asked
 abbrev pub IsAnswered : AsksIs → AsksIs → World → World → Answer → Type 0
-IsAnswered was now old new answer = AnswersUsage old new answer ⊎ ((asked : Asked) × Answers asked was now old new answer)
+IsAnswered was now old new answer = AnswersUsage old new answer
+    ⊎ ((asked : Asked) × Answers asked was now old new answer)
 
--- a call ends with such a status if neither the shelf nor the output nor the input has counted a fault before or in it
+-- a call ends with such a status if neither the shelf nor the output nor the input has counted a
+-- fault before or in it
 abbrev pub SureCallsEndWell : Type 0
-SureCallsEndWell = (was now : AsksIs) (old new : World) (answer : Answer) → IsAnswered was now old new answer → IsSure old → IsSure new →
+SureCallsEndWell = (was now : AsksIs) (old new : World) (answer : Answer)
+    → IsAnswered was now old new answer → IsSure old → IsSure new →
     was.faults ≡ 0 → now.faults ≡ 0 → IsSureStatus (status_for answer.fault answer.refused)

@@ -11,10 +11,12 @@ use Rattle.flow_model.specs.Run.{Ran}
 use Rattle.flow_model.specs.declared.setup.Setup.{Setup}
 use Rattle.command_line.specs.Asked.{VerifyAsked}
 use Rattle.report.specs.declared.fault.Fault.{Fault}
-use Rattle.call_steps.specs.Audits.{FollowsAudit, HaveOneVerdict, IsAuditOf, IsNoAudit, TellsAudit, verified_lines}
+use Rattle.call_steps.specs.Audits.{FollowsAudit, HaveOneVerdict, IsAuditOf, IsNoAudit, TellsAudit}
+use Rattle.call_steps.specs.Audits.{verified_lines}
 use Rattle.call_steps.specs.Ends.{PrintsLines, Stops}
 use Rattle.call_steps.specs.Outside.{IsExcused, PrintsFault}
-use Rattle.call_steps.specs.Reading.{AreRequestsOf, AreRowsOf, FollowsJob, FollowsRequests, FollowsRows, IsJobOf, TellsJob, TellsRequests, TellsRows}
+use Rattle.call_steps.specs.Reading.{AreRequestsOf, AreRowsOf, FollowsJob, FollowsRequests}
+use Rattle.call_steps.specs.Reading.{FollowsRows, IsJobOf, TellsJob, TellsRequests, TellsRows}
 use Rattle.call_steps.specs.Running.{IsRunOf}
 use Rattle.call_steps.specs.SetupFor.{AreSame, IsSetupFor}
 use Rattle.call_steps.specs.declared.answer.Answer.{Answer}
@@ -33,8 +35,8 @@ pub record IsVerifiedRun (asked : VerifyAsked) (files : Option Files) (done : Do
   pub of_audit : IsAuditOf files asked.audit done.ran.setup rows (record_view done.ran)
   pub verdict : HaveOneVerdict done.ran.setup rows
 
--- the files hold a job, requests and rows, and the audit's file holds no audit of a run of them, for
--- this fault
+-- the files hold a job, requests and rows, and the audit's file holds no audit of a run of them,
+-- for this fault
 pub record HasNoAudit (asked : VerifyAsked) (files : Option Files) (old new : Faults) (why : Fault)
     : Type 0 where
   pub job : JobView
@@ -86,7 +88,8 @@ pub record FollowsVerdict (asked : VerifyAsked) (job : JobView) (requests : List
       (answer ≡ None) ⊎ IsExcused old new answer
 
 -- the answer, seen from the files: each is looked at if those before it hold what they should
-pub record FollowsVerify (asked : VerifyAsked) (old new : World) (answer : Option Fault) : Type 0 where
+pub record FollowsVerify (asked : VerifyAsked) (old new : World)
+    (answer : Option Fault) : Type 0 where
   pub job : FollowsJob asked.plan.job old new answer
   pub requests :
       (job : JobView) → TellsJob old.shelf.files asked.plan.job job →

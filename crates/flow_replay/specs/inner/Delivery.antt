@@ -18,7 +18,8 @@ use Rattle.flow_model.specs.Replay.{Put, items_on, put_out}
 use Rattle.jobs.specs.JobView.{JobView}
 use Rattle.flow_replay.specs.declared.worker_run.WorkerRun.{WorkerRun}
 use Rattle.flow_model.specs.Workers.{nth_worker}
-use Rattle.flow_replay.specs.inner.Runs.{AreInForce, IsConserved, IsQuiescentFrom, journal_at, with_item}
+use Rattle.flow_replay.specs.inner.Runs.{AreInForce, IsConserved, IsQuiescentFrom, journal_at}
+use Rattle.flow_replay.specs.inner.Runs.{with_item}
 
 -- the place of a node in the order of the graph: each edge leads to a higher one
 abbrev pub rank_in : Setup → ℕ → ℕ

@@ -14,7 +14,8 @@ use Rattle.flow_replay.specs.inner.SoFar.{left_by}
 -- it has done nothing
 pub record IsNew (setup : Setup) (executor : Executor) : Type 0 where
   pub setup_is : executor.setup ≡ setup
-  pub runs_are : executor.runs.items ≡ replicate (length (workers_in (job_view setup.job))) empty_run
+  pub runs_are : executor.runs.items ≡ replicate
+      (length (workers_in (job_view setup.job))) empty_run
   pub feeds_are : executor.feeds ≡ []
   pub issued_is : executor.issued ≡ 0
 
@@ -27,5 +28,6 @@ pub record SameBesideRuns (old new : Executor) : Type 0 where
 -- all workers and the feeder ended, and this is what they left
 pub record HasLeft (old : Executor) (ran : Ran) : Type 0 where
   pub runs : List WorkerRun
-  pub ended : AllGain (setup_view old.setup) (end_block (setup_view old.setup).job) old.runs.items runs
+  pub ended : AllGain (setup_view old.setup) (end_block
+      (setup_view old.setup).job) old.runs.items runs
   pub ran_is : ran ≡ left_by (setup_view old.setup) (old.feeds ++ feed.Stopped ∷ []) runs

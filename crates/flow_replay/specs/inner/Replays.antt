@@ -1,5 +1,6 @@
 -- Replays, entry by entry.
-use Rattle.std.specs.Prelude.{◌≡◌, ◌==◌, ◌++◌, ⊤, ℕ, Bool, true, List, [], ◌∷◌, length, replicate, Option, Some, None, slice_get, if◌then◌else◌}
+use Rattle.std.specs.Prelude.{◌≡◌, ◌==◌, ◌++◌, ⊤, ℕ, Bool, true, List, [], ◌∷◌, length, replicate}
+use Rattle.std.specs.Prelude.{Option, Some, None, slice_get, if◌then◌else◌}
 use Rattle.cover_planner.specs.declared.cover.Plan.{Plan}
 use Rattle.jobs.specs.JobView.{JobView}
 use Rattle.sink_journal.specs.declared.journal.Entry.{Entry}
@@ -43,7 +44,8 @@ with_item test item (number ∷ numbers) (list ∷ lists) =
     item_if (test number) item list ∷ with_item test item numbers lists
 
 -- the lists of these lanes, with the marker of a request on those that it covers
-abbrev pub with_marker_of : SetupView → ℕ → Option Plan → List ℕ → List (List Item) → List (List Item)
+abbrev pub with_marker_of : SetupView → ℕ → Option Plan → List ℕ → List (List Item)
+    → List (List Item)
 with_marker_of setup request None numbers lists = lists
 with_marker_of setup request (Some plan) numbers lists =
     with_item (reaches setup (onto.Covered request)) (item.Mark request plan.nodes) numbers lists
@@ -69,7 +71,8 @@ abbrev pub replay_view : SetupView → Worker → Replaying → StateView
 replay_view setup who replay = state_view setup who replay.state
 
 -- a replay has gone on by one entry
-pub record IsEntered (setup : SetupView) (who : Worker) (entry : Entry) (old new : Replaying) : Type 0
+pub record IsEntered (setup : SetupView) (who : Worker) (entry : Entry)
+    (old new : Replaying) : Type 0
   where
     pub view : replay_view setup who new ≡ after setup who (replay_view setup who old) entry
     pub lists :

@@ -1,5 +1,6 @@
 -- A run between two steps of the feeder.
-use Rattle.std.specs.Prelude.{◌≡◌, ◌<◌, ◌≤◌, ◌+◌, ◌++◌, ℕ, suc, Bool, true, false, All, List, [], ◌∷◌, drop, length, map, min, nat_le, Some, slice_get}
+use Rattle.std.specs.Prelude.{◌≡◌, ◌<◌, ◌≤◌, ◌+◌, ◌++◌, ℕ, suc, Bool, true, false, All, List, []}
+use Rattle.std.specs.Prelude.{◌∷◌, drop, length, map, min, nat_le, Some, slice_get}
 use Rattle.std.specs.List.{list_any}
 use Rattle.sink_journal.specs.declared.journal.Entry.{Entry}
 use Rattle.sink_journal.specs.declared.journal.Feed.{Feed}
@@ -18,7 +19,8 @@ use Rattle.flow_model.specs.Duties.{dues_after, duties}
 use Rattle.flow_model.specs.Whole.{is_turn, met_tuples}
 use Rattle.flow_model.specs.Workers.{nth_worker, workers_in}
 use Rattle.flow_replay.specs.declared.worker_run.WorkerRun.{WorkerRun}
-use Rattle.flow_replay.specs.inner.Runs.{AreInForce, IsConserved, empty_run, journal_at, nothing, run_at}
+use Rattle.flow_replay.specs.inner.Runs.{AreInForce, IsConserved, empty_run, journal_at, nothing}
+use Rattle.flow_replay.specs.inner.Runs.{run_at}
 use Rattle.flow_replay.specs.Order.{TurnsInOrder}
 
 -- how far the journal of a worker has come that has turned the first requests and nothing else
