@@ -14,7 +14,7 @@ use std::marker::{Model, PhantomData};
 use tuple_trace::{Gate, NoMemory};
 
 /// How many turns a runner gets at one visit, at most.
-pub const VISIT: u32 = 16;
+pub const VISIT: u32 = 64;
 
 /// A worker with its number and its setup, which may be given turns by any thread.
 ///
