@@ -13,13 +13,13 @@ mod verified;
 
 use crate::tests::lawful::is_lawful;
 use crate::tests::seen::{Seen, Wanted, are_wanted, is_audit, is_printed, met_before_turn};
-use live_control::MemoryAsks;
 use payments::{Calls, MemoryShelf, MemorySink};
 use std::alloc::Global;
 use std::sync::Wait;
 use std::thread::Threads;
-use top_call::{Outcome, fries};
-use tuple_trace::{Bytes, Gate, NoMemory, Word};
+use top_call::Outcome;
+use tuple_trace::{Gate, NoMemory, Word};
+use whole_calls::{call, file, put_text, words_of};
 
 /// What `run` is called with: the texts of its files, and the numbers of its options.
 #[derive(Clone, Copy)]
@@ -93,25 +93,7 @@ where
 {
     let mut out = MemorySink::new(alloc, Calls::new(alloc));
     let outcome = call(rt, alloc, words, shelf, &mut out, gate);
-    see(alloc, &outcome, out.written(), shelf, wanted)
-}
-
-// The top call. It stands in a function without clauses, since a caller of its contract is dear to
-// prove.
-fn call<R, G>(
-    rt: &R,
-    alloc: Global,
-    words: &[Word],
-    shelf: &mut MemoryShelf,
-    out: &mut MemorySink,
-    gate: &G,
-) -> Outcome
-where
-    R: Threads + Wait + Copy + Send + Sync + 'static,
-    G: Gate + Sync,
-{
-    let mut asks = MemoryAsks::new(Bytes::new(alloc), Calls::new(alloc));
-    fries(rt, alloc, words, shelf, out, &mut asks, gate)
+    Ok(see(alloc, &outcome, out.written(), shelf, wanted))
 }
 
 fn see(
@@ -120,39 +102,22 @@ fn see(
     printed: &[u8],
     shelf: &MemoryShelf,
     wanted: Wanted<'_>,
-) -> Result<Seen, NoMemory> {
+) -> Seen {
     let ended = outcome.status == wanted.status && is_printed(printed, wanted.printed);
-    let alerts = word(alloc, ALERTS)?;
-    let audit = word(alloc, AUDIT)?;
-    Ok(Seen {
+    Seen {
         is_wanted: ended
-            && are_wanted(bytes_of(shelf.get(&alerts)), wanted.alerts)
-            && is_audit(bytes_of(shelf.get(&audit)), wanted.audit),
+            && are_wanted(bytes_of(file(alloc, shelf, ALERTS)), wanted.alerts)
+            && is_audit(bytes_of(file(alloc, shelf, AUDIT)), wanted.audit),
         met: [
             met_before_turn(&outcome.ran, 0),
             met_before_turn(&outcome.ran, 1),
         ],
         is_lawful: is_lawful(&outcome.ran),
-    })
-}
-
-fn bytes_of(file: Option<&Bytes>) -> &[u8] {
-    match file {
-        Some(bytes) => bytes.as_slice(),
-        None => &[],
     }
 }
 
-fn words_of(alloc: Global, texts: &[&str]) -> Result<Vec<Word>, NoMemory> {
-    let mut words = Vec::new(alloc);
-    for text in texts {
-        words.push(word(alloc, text)?)?;
-    }
-    Ok(words)
-}
-
-fn word(alloc: Global, text: &str) -> Result<Word, NoMemory> {
-    Ok(Word::from_string(text.to_string(alloc)?))
+fn bytes_of(file: Option<&[u8]>) -> &[u8] {
+    file.unwrap_or(&[])
 }
 
 fn shelf_of(alloc: Global, input: Input<'_>) -> Result<MemoryShelf, NoMemory> {
@@ -163,13 +128,7 @@ fn shelf_of(alloc: Global, input: Input<'_>) -> Result<MemoryShelf, NoMemory> {
     ];
     let mut shelf = MemoryShelf::new(alloc, 1_000_000, Calls::new(alloc));
     for (name, text) in files {
-        put(alloc, name, text, &mut shelf)?;
+        put_text(alloc, name, text, &mut shelf)?;
     }
     Ok(shelf)
-}
-
-fn put(alloc: Global, name: &str, text: &str, shelf: &mut MemoryShelf) -> Result<(), NoMemory> {
-    let name = word(alloc, name)?;
-    let bytes = Bytes::from_slice(alloc, text.as_bytes())?;
-    shelf.put(name, bytes).map_err(|_| NoMemory)
 }

@@ -15,13 +15,13 @@ mod words;
 use crate::tests::alone::{ByThemselves, are_alerts};
 use crate::tests::told::{has_audit, tells_feed, tells_turns};
 use flow_model::RunRecord;
-use live_control::MemoryAsks;
 use payments::{Calls, MemoryShelf, MemorySink};
 use std::alloc::Global;
 use std::sync::Wait;
 use std::thread::Threads;
-use top_call::{Outcome, fries};
+use top_call::Outcome;
 use tuple_trace::{Bytes, NoMemory, OpenGate, Word};
+use whole_calls::{call, put_text, words_in};
 
 /// What a call finds outside: files by their names, and the numbers of the calls of the shelf and
 /// of the output that fail.
@@ -138,8 +138,8 @@ struct Call {
 impl Call {
     fn of(alloc: Global, around: &Around<'_>, line: &str) -> Result<Call, NoMemory> {
         Ok(Call {
-            words: words_of(alloc, line)?,
-            names: words_of(alloc, "alerts.csv audit.csv")?,
+            words: words_in(alloc, line)?,
+            names: words_in(alloc, "alerts.csv audit.csv")?,
             shelf: shelf_of(alloc, around)?,
             out: MemorySink::new(alloc, Calls::from_slice(alloc, around.refusing)?),
         })
@@ -152,7 +152,7 @@ pub fn leaves<R>(rt: &R, alloc: Global, around: &Around<'_>, line: &str, left: &
 where
     R: Threads + Wait + Copy + Send + Sync + 'static,
 {
-    let Ok(call) = Call::of(alloc, around, line) else {
+    let Ok(made) = Call::of(alloc, around, line) else {
         return false;
     };
     let Call {
@@ -160,26 +160,10 @@ where
         names,
         mut shelf,
         mut out,
-    } = call;
-    let outcome = answer(rt, alloc, &words, &mut shelf, &mut out);
+    } = made;
+    let outcome = call(rt, alloc, &words, &mut shelf, &mut out, &OpenGate);
     let has_left = has_left(alloc, &outcome, &names, &shelf, out.written(), left);
     matches!(has_left, Ok(true))
-}
-
-// The top call. It stands in a function without clauses, since a caller of its contract is dear to
-// prove.
-fn answer<R>(
-    rt: &R,
-    alloc: Global,
-    words: &[Word],
-    shelf: &mut MemoryShelf,
-    out: &mut MemorySink,
-) -> Outcome
-where
-    R: Threads + Wait + Copy + Send + Sync + 'static,
-{
-    let mut asks = MemoryAsks::new(Bytes::new(alloc), Calls::new(alloc));
-    fries(rt, alloc, words, shelf, out, &mut asks, &OpenGate)
 }
 
 fn has_left(
@@ -240,33 +224,10 @@ fn is_stored(alloc: Global, bytes: Option<&Bytes>, wanted: Wanted<'_>) -> Result
     }
 }
 
-// An empty line has no word.
-fn words_of(alloc: Global, line: &str) -> Result<Vec<Word>, NoMemory> {
-    let mut words = Vec::new(alloc);
-    if !line.is_empty() {
-        for text in line.split(' ') {
-            words.push(word(alloc, text)?)?;
-        }
-    }
-    Ok(words)
-}
-
-fn word(alloc: Global, text: &str) -> Result<Word, NoMemory> {
-    Ok(Word::from_string(text.to_string(alloc)?))
-}
-
 fn shelf_of(alloc: Global, around: &Around<'_>) -> Result<MemoryShelf, NoMemory> {
     let mut shelf = MemoryShelf::new(alloc, 16, Calls::from_slice(alloc, around.failing)?);
     for (name, text) in around.files {
-        put(alloc, name, text, &mut shelf)?;
+        put_text(alloc, name, text, &mut shelf)?;
     }
     Ok(shelf)
-}
-
-fn put(alloc: Global, name: &str, text: &str, shelf: &mut MemoryShelf) -> Result<(), NoMemory> {
-    let bytes = Bytes::from_slice(alloc, text.as_bytes())?;
-    match shelf.put(word(alloc, name)?, bytes) {
-        Ok(()) => Ok(()),
-        Err(_) => Err(NoMemory),
-    }
 }

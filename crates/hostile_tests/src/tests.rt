@@ -6,13 +6,13 @@ mod texts;
 
 use crate::tests::cut::Cuts;
 use crate::tests::texts::{CHAIN, FOUR_PAYMENTS};
-use live_control::MemoryAsks;
 use payments::{Calls, MemoryShelf, MemorySink};
 use std::alloc::Global;
 use std::sync::Wait;
 use std::thread::Threads;
-use top_call::{Outcome, fries};
+use top_call::Outcome;
 use tuple_trace::{Bytes, NoMemory, OpenGate, Word};
+use whole_calls::{call, put, words_of};
 
 /// The words of `run`. The last two name the alerts and the audit.
 const RUN: [&str; 6] = [
@@ -131,7 +131,7 @@ struct Call {
 impl Call {
     fn of(alloc: Global, around: &Around<'_>) -> Result<Call, NoMemory> {
         Ok(Call {
-            words: words_of(alloc)?,
+            words: words_of(alloc, &RUN)?,
             shelf: shelf_of(alloc, around)?,
             out: MemorySink::new(alloc, calls_of(alloc, around.refusing)?),
         })
@@ -189,32 +189,16 @@ pub fn leaves<R>(rt: &R, alloc: Global, around: &Around<'_>, left: &Left<'_>) ->
 where
     R: Threads + Wait + Copy + Send + Sync + 'static,
 {
-    let Ok(call) = Call::of(alloc, around) else {
+    let Ok(made) = Call::of(alloc, around) else {
         return false;
     };
     let Call {
         words,
         mut shelf,
         mut out,
-    } = call;
-    let outcome = answer(rt, alloc, &words, &mut shelf, &mut out);
+    } = made;
+    let outcome = call(rt, alloc, &words, &mut shelf, &mut out, &OpenGate);
     has_left(&outcome, &words, &shelf, out.written(), left)
-}
-
-// The top call. It stands in a function without clauses, since a caller of its contract is dear to
-// prove.
-fn answer<R>(
-    rt: &R,
-    alloc: Global,
-    words: &[Word],
-    shelf: &mut MemoryShelf,
-    out: &mut MemorySink,
-) -> Outcome
-where
-    R: Threads + Wait + Copy + Send + Sync + 'static,
-{
-    let mut asks = MemoryAsks::new(Bytes::new(alloc), Calls::new(alloc));
-    fries(rt, alloc, words, shelf, out, &mut asks, &OpenGate)
 }
 
 /// Calls of which each has a number.
@@ -267,18 +251,6 @@ where
     None
 }
 
-fn words_of(alloc: Global) -> Result<Vec<Word>, NoMemory> {
-    let mut words = Vec::new(alloc);
-    for text in RUN {
-        words.push(word(alloc, text)?)?;
-    }
-    Ok(words)
-}
-
-fn word(alloc: Global, text: &str) -> Result<Word, NoMemory> {
-    Ok(Word::from_string(text.to_string(alloc)?))
-}
-
 fn calls_of(alloc: Global, number: Option<u64>) -> Result<Calls, NoMemory> {
     match number {
         Some(number) => Calls::from_slice(alloc, &[number]),
@@ -294,17 +266,9 @@ fn shelf_of(alloc: Global, around: &Around<'_>) -> Result<MemoryShelf, NoMemory>
     ];
     let mut shelf = MemoryShelf::new(alloc, around.step, calls_of(alloc, around.failing)?);
     for (name, text) in files {
-        put(alloc, name, text, &mut shelf)?;
+        put(alloc, name, bytes_of(alloc, text)?, &mut shelf)?;
     }
     Ok(shelf)
-}
-
-fn put(alloc: Global, name: &str, text: Text<'_>, shelf: &mut MemoryShelf) -> Result<(), NoMemory> {
-    let bytes = bytes_of(alloc, text)?;
-    match shelf.put(word(alloc, name)?, bytes) {
-        Ok(()) => Ok(()),
-        Err(_) => Err(NoMemory),
-    }
 }
 
 fn bytes_of(alloc: Global, text: Text<'_>) -> Result<Bytes, NoMemory> {

@@ -1,13 +1,10 @@
 mod beside;
 mod releases;
 
-use live_control::Asks;
-use payments::{Calls, MemoryShelf, MemorySink};
+use payments::{Calls, MemoryShelf};
 use std::alloc::Global;
-use std::sync::Wait;
-use std::thread::Threads;
-use top_call::{Outcome, fries};
-use tuple_trace::{Bytes, Gate, NoMemory, Word};
+use tuple_trace::{NoMemory, Word};
+use whole_calls::{put_text, words_of};
 
 /// A source, a filter and a sink in a row.
 const CHAIN: &str = r#"columns = ["amount:cents"]
@@ -42,15 +39,7 @@ pub fn live_words(alloc: Global, threads: &str, capacity: &str) -> Result<Vec<Wo
         "--capacity",
         capacity,
     ];
-    let mut words = Vec::new(alloc);
-    for text in texts {
-        words.push(word(alloc, text)?)?;
-    }
-    Ok(words)
-}
-
-fn word(alloc: Global, text: &str) -> Result<Word, NoMemory> {
-    Ok(Word::from_string(text.to_string(alloc)?))
+    words_of(alloc, &texts)
 }
 
 /// The files of a call: the chain, its one request, and these payments.
@@ -62,39 +51,7 @@ pub fn shelf_of(alloc: Global, payments: &str) -> Result<MemoryShelf, NoMemory> 
     ];
     let mut shelf = MemoryShelf::new(alloc, 1_000_000, Calls::new(alloc));
     for (name, text) in files {
-        let bytes = Bytes::from_slice(alloc, text.as_bytes())?;
-        shelf.put(word(alloc, name)?, bytes).map_err(|_| NoMemory)?;
+        put_text(alloc, name, text, &mut shelf)?;
     }
     Ok(shelf)
-}
-
-/// The text of a file, empty if it isn't there.
-pub fn text_in<'a>(
-    alloc: Global,
-    shelf: &'a MemoryShelf,
-    name: &str,
-) -> Result<&'a [u8], NoMemory> {
-    match shelf.get(&word(alloc, name)?) {
-        Some(bytes) => Ok(bytes.as_slice()),
-        None => Ok(&[]),
-    }
-}
-
-/// The top call. It stands in a function without clauses, since a caller of its contract is dear to
-/// prove.
-pub fn call<R, G, Q>(
-    rt: &R,
-    alloc: Global,
-    words: &[Word],
-    shelf: &mut MemoryShelf,
-    out: &mut MemorySink,
-    asks: &mut Q,
-    gate: &G,
-) -> Outcome
-where
-    R: Threads + Wait + Copy + Send + Sync + 'static,
-    G: Gate + Sync,
-    Q: Asks,
-{
-    fries(rt, alloc, words, shelf, out, asks, gate)
 }

@@ -10,14 +10,14 @@ mod stages;
 mod texts;
 
 use flow_model::RunRecord;
-use live_control::MemoryAsks;
 use payments::{Calls, MemoryShelf, MemorySink};
 use std::alloc::Global;
 use std::str;
 use std::sync::Wait;
 use std::thread::Threads;
-use top_call::{Outcome, fries};
-use tuple_trace::{Bytes, NoMemory, OpenGate, Word};
+use top_call::Outcome;
+use tuple_trace::{NoMemory, OpenGate};
+use whole_calls::{call, file, put_text, words_in};
 
 /// The texts of the files that both commands read.
 #[derive(Clone, Copy)]
@@ -76,20 +76,10 @@ fn called<R>(
 where
     R: Threads + Wait + Copy + Send + Sync + 'static,
 {
-    let words = words_of(alloc, line)?;
-    Ok(call(rt, alloc, &words, shelf))
-}
-
-// The top call. It stands in a function without clauses, since a caller of its contract is dear to
-// prove.
-fn call<R>(rt: &R, alloc: Global, words: &[Word], shelf: &mut MemoryShelf) -> Answered
-where
-    R: Threads + Wait + Copy + Send + Sync + 'static,
-{
+    let words = words_in(alloc, line)?;
     let mut out = MemorySink::new(alloc, Calls::new(alloc));
-    let mut asks = MemoryAsks::new(Bytes::new(alloc), Calls::new(alloc));
-    let outcome = fries(rt, alloc, words, shelf, &mut out, &mut asks, &OpenGate);
-    Answered { outcome, out }
+    let outcome = call(rt, alloc, &words, shelf, &mut out, &OpenGate);
+    Ok(Answered { outcome, out })
 }
 
 // Whether a call has this status, and prints this.
@@ -140,30 +130,10 @@ fn are_left(alloc: Global, shelf: &MemoryShelf, after: [Option<&str>; 3]) -> boo
 
 /// The text that stands under this name.
 pub fn stored<'a>(alloc: Global, shelf: &'a MemoryShelf, name: &str) -> Option<&'a str> {
-    let Ok(name) = word(alloc, name) else {
-        return None;
-    };
-    match shelf.get(&name) {
-        Some(bytes) => str::from_utf8(bytes.as_slice()).ok(),
+    match file(alloc, shelf, name) {
+        Some(bytes) => str::from_utf8(bytes).ok(),
         None => None,
     }
-}
-
-fn words_of(alloc: Global, line: &str) -> Result<Vec<Word>, NoMemory> {
-    let mut words = Vec::new(alloc);
-    for text in line.split(' ') {
-        push_word(alloc, text, &mut words)?;
-    }
-    Ok(words)
-}
-
-fn push_word(alloc: Global, text: &str, words: &mut Vec<Word>) -> Result<(), NoMemory> {
-    let word = word(alloc, text)?;
-    Ok(words.push(word)?)
-}
-
-fn word(alloc: Global, text: &str) -> Result<Word, NoMemory> {
-    Ok(Word::from_string(text.to_string(alloc)?))
 }
 
 /// Files in memory. An append takes the whole text.
@@ -178,7 +148,7 @@ pub fn shelf_of(alloc: Global, around: Around<'_>) -> Result<MemoryShelf, NoMemo
     ];
     let mut shelf = MemoryShelf::new(alloc, 1_000_000, calls_of(alloc, around.failing)?);
     for (name, text) in files {
-        put(alloc, name, text, &mut shelf)?;
+        put_text(alloc, name, text, &mut shelf)?;
     }
     Ok(shelf)
 }
@@ -187,13 +157,5 @@ fn calls_of(alloc: Global, number: Option<u64>) -> Result<Calls, NoMemory> {
     match number {
         Some(number) => Calls::from_slice(alloc, &[number]),
         None => Ok(Calls::new(alloc)),
-    }
-}
-
-fn put(alloc: Global, name: &str, text: &str, shelf: &mut MemoryShelf) -> Result<(), NoMemory> {
-    let bytes = Bytes::from_slice(alloc, text.as_bytes())?;
-    match shelf.put(word(alloc, name)?, bytes) {
-        Ok(()) => Ok(()),
-        Err(_) => Err(NoMemory),
     }
 }

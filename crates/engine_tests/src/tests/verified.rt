@@ -1,13 +1,14 @@
 //! What `verify` says of audits that `run` wrote, and of audits with a damage.
 use crate::tests::random::Case;
 use crate::tests::texts::{CHAIN, PAYMENTS, PAYMENTS_REQUESTS, TEN_PAYMENTS};
-use crate::tests::{AUDIT, Input, bytes_of, call, put, shelf_of, word, words_of};
+use crate::tests::{AUDIT, Input, bytes_of, shelf_of};
 use payments::{Calls, MemoryShelf, MemorySink};
 use std::alloc::Global;
 use std::str;
 use std::sync::Wait;
 use std::thread::Threads;
 use tuple_trace::{NoMemory, OpenGate};
+use whole_calls::{call, file, put_text, words_of};
 
 /// What a call ended with, and what it printed.
 #[derive(Drop)]
@@ -66,7 +67,7 @@ where
     R: Threads + Wait + Copy + Send + Sync + 'static,
 {
     let mut shelf = shelf_of(alloc, input)?;
-    put(alloc, AUDIT, audit, &mut shelf)?;
+    put_text(alloc, AUDIT, audit, &mut shelf)?;
     let said = say(rt, alloc, &VERIFY, &mut shelf)?;
     Ok(said.status == wanted.0 && said.out.written() == wanted.1.as_bytes())
 }
@@ -173,8 +174,7 @@ where
     let has_run = run_with(rt, alloc, ON_FOUR, &mut shelf);
     let said = say(rt, alloc, &VERIFY, &mut shelf)?;
     let lines = "verified\nrows 10 alerts 4 requests 3 refused 1\n";
-    let name = word(alloc, AUDIT)?;
-    let audit = bytes_of(shelf.get(&name));
+    let audit = bytes_of(file(alloc, &shelf, AUDIT));
     Ok(
         has_run
             && said.status == 8

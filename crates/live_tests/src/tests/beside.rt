@@ -1,4 +1,4 @@
-use crate::tests::{call, live_words, shelf_of};
+use crate::tests::{live_words, shelf_of};
 use live_control::{Asks, Failed, MemoryAsks};
 use payments::{Calls, MemorySink};
 use sink_journal::Feed;
@@ -9,6 +9,7 @@ use std::thread;
 use std::thread::Threads;
 use top_call::Outcome;
 use tuple_trace::{Bytes, Gate, NoMemory};
+use whole_calls::call_asking;
 
 const TWELVE_PAYMENTS: &str = "source,amount
 card,75
@@ -98,7 +99,7 @@ where
     let bytes = Bytes::from_slice(alloc, b"\n")?;
     let asks = MemoryAsks::new(bytes, Calls::new(alloc));
     let mut asks = AfterPass { asks, gate: &gate };
-    let outcome = call(rt, alloc, &words, &mut shelf, &mut out, &mut asks, &gate);
+    let outcome = call_asking(rt, alloc, &words, &mut shelf, &mut out, &mut asks, &gate);
     Ok(outcome.status == 0 && !gate.missed.load(Ordering::SeqCst) && is_before_last(&outcome))
 }
 

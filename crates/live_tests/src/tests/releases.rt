@@ -1,4 +1,4 @@
-use crate::tests::{call, live_words, shelf_of, text_in};
+use crate::tests::{live_words, shelf_of};
 use live_control::MemoryAsks;
 use payments::{Calls, MemoryShelf, MemorySink};
 use std::alloc::Global;
@@ -7,6 +7,7 @@ use std::sync::Wait;
 use std::thread::Threads;
 use top_call::Outcome;
 use tuple_trace::{Bytes, NoMemory, OpenGate, Word};
+use whole_calls::{call_asking, file};
 
 const FOUR_PAYMENTS: &str = "source,amount
 card,99.99
@@ -86,7 +87,7 @@ where
 {
     let (mut shelf, mut asks) = (shelf, asks);
     let mut out = MemorySink::new(alloc, Calls::new(alloc));
-    let outcome = call(rt, alloc, words, &mut shelf, &mut out, &mut asks, &OpenGate);
+    let outcome = call_asking(rt, alloc, words, &mut shelf, &mut out, &mut asks, &OpenGate);
     Left {
         outcome,
         shelf,
@@ -103,16 +104,16 @@ fn is_told(left: &Left, case: Case) -> bool {
 }
 
 fn are_files(alloc: Global, shelf: &MemoryShelf, case: Case) -> bool {
-    match text_in(alloc, shelf, "alerts.csv") {
-        Ok(alerts) => alerts == ALERTS.as_bytes() && is_fed(alloc, shelf, case),
-        Err(_) => false,
+    match file(alloc, shelf, "alerts.csv") {
+        Some(alerts) => alerts == ALERTS.as_bytes() && is_fed(alloc, shelf, case),
+        None => false,
     }
 }
 
 fn is_fed(alloc: Global, shelf: &MemoryShelf, case: Case) -> bool {
-    match text_in(alloc, shelf, "audit.csv") {
-        Ok(audit) => has_part(audit, case.feed),
-        Err(_) => false,
+    match file(alloc, shelf, "audit.csv") {
+        Some(audit) => has_part(audit, case.feed),
+        None => false,
     }
 }
 

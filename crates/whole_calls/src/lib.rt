@@ -1,0 +1,121 @@
+//! Whole calls over files in memory, for the tests of crates above.
+//!
+//! [`call`] and [`call_asking`] call `fries`. They have no clauses: a caller of its contract is dear
+//! to prove, and each crate of tests would pay for that again.
+//!
+//! ```
+//! let mut shelf = MemoryShelf::new(alloc, 16, Calls::new(alloc));
+//! put_text(alloc, "job.toml", JOB, &mut shelf)?;
+//! let words = words_in(alloc, "check job.toml")?;
+//! let mut out = MemorySink::new(alloc, Calls::new(alloc));
+//! let outcome = call(rt, alloc, &words, &mut shelf, &mut out, &OpenGate);
+//! ```
+#![tactic(auto)]
+
+use live_control::{Asks, MemoryAsks};
+use payments::{Calls, MemoryShelf, MemorySink};
+use std::alloc::Global;
+use std::sync::Wait;
+use std::thread::Threads;
+use top_call::{Outcome, fries};
+use tuple_trace::{Bytes, Gate, NoMemory, Word};
+
+/// Calls `fries` with these words. The input that releases live requests is empty.
+pub fn call<R, G>(
+    rt: &R,
+    alloc: Global,
+    words: &[Word],
+    shelf: &mut MemoryShelf,
+    out: &mut MemorySink,
+    gate: &G,
+) -> Outcome
+where
+    R: Threads + Wait + Copy + Send + Sync + 'static,
+    G: Gate + Sync,
+{
+    let mut asks = MemoryAsks::new(Bytes::new(alloc), Calls::new(alloc));
+    call_asking(rt, alloc, words, shelf, out, &mut asks, gate)
+}
+
+/// Calls `fries` with these words. `asks` is the input that releases live requests.
+pub fn call_asking<R, G, Q>(
+    rt: &R,
+    alloc: Global,
+    words: &[Word],
+    shelf: &mut MemoryShelf,
+    out: &mut MemorySink,
+    asks: &mut Q,
+    gate: &G,
+) -> Outcome
+where
+    R: Threads + Wait + Copy + Send + Sync + 'static,
+    G: Gate + Sync,
+    Q: Asks,
+{
+    fries(rt, alloc, words, shelf, out, asks, gate)
+}
+
+/// Returns the words of a line, which has one space between two. An empty line has none. The one
+/// error is out of memory.
+pub fn words_in(alloc: Global, line: &str) -> Result<Vec<Word>, NoMemory> {
+    let mut words = Vec::new(alloc);
+    if !line.is_empty() {
+        for text in line.split(' ') {
+            words.push(word(alloc, text)?)?;
+        }
+    }
+    Ok(words)
+}
+
+/// Returns a word for each text. The one error is out of memory.
+pub fn words_of(alloc: Global, texts: &[&str]) -> Result<Vec<Word>, NoMemory> {
+    let mut words = Vec::new(alloc);
+    for text in texts {
+        words.push(word(alloc, text)?)?;
+    }
+    Ok(words)
+}
+
+/// Returns the word with this text. The one error is out of memory.
+pub fn word(alloc: Global, text: &str) -> Result<Word, NoMemory> {
+    Ok(Word::from_string(text.to_string(alloc)?))
+}
+
+/// Puts a file with this text under a name. The one error is out of memory.
+pub fn put_text(
+    alloc: Global,
+    name: &str,
+    text: &str,
+    shelf: &mut MemoryShelf,
+) -> Result<(), NoMemory> {
+    put(
+        alloc,
+        name,
+        Bytes::from_slice(alloc, text.as_bytes())?,
+        shelf,
+    )
+}
+
+/// Puts a file with these bytes under a name. The one error is out of memory.
+pub fn put(
+    alloc: Global,
+    name: &str,
+    bytes: Bytes,
+    shelf: &mut MemoryShelf,
+) -> Result<(), NoMemory> {
+    match shelf.put(word(alloc, name)?, bytes) {
+        Ok(()) => Ok(()),
+        Err(_) => Err(NoMemory),
+    }
+}
+
+/// Returns what stands under a name, and `None` if nothing does or memory runs out.
+pub fn file<'a>(alloc: Global, shelf: &'a MemoryShelf, name: &str) -> Option<&'a [u8]> {
+    let Ok(name) = word(alloc, name) else {
+        return None;
+    };
+    match shelf.get(&name) {
+        Some(bytes) => Some(bytes.as_slice()),
+        None => None,
+    }
+}
