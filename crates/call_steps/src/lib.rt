@@ -28,7 +28,7 @@ pub use audits::{audited_run, verified_lines};
 pub use job::{first_job, first_requests};
 pub use live::{LiveDone, leave_live, run_live};
 pub use parts::{run_first_part, run_later_part};
-pub use printing::print;
+pub use printing::{print, print_made};
 pub use reading::{job_in, requests_in, rows_in, start_in};
 pub use running::{Done, Outputs, leave_run, run_in_order, run_lines, run_on_threads};
 pub use setup::setup_of;

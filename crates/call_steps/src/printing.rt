@@ -1,8 +1,10 @@
+ghost use Rattle.std.specs.Prelude.{◌≡◌, ℕ, IfOk, List, string_bytes};
 ghost use Rattle.std.specs.Result.{result_err};
 ghost use Rattle.call_steps.specs.Outside.{Prints};
 
 use payments::{Sink, SinkFault, write_all};
 use report::{Fault, FileIs};
+use tuple_trace::NoMemory;
 
 /// Prints a text. After a fault a prefix of it is printed; where it is empty, nothing is handed to
 /// the output.
@@ -13,5 +15,16 @@ pub fn print<O: Sink>(out: &mut O, text: &[u8]) -> Result<(), Fault>
         Ok(()) => Ok(()),
         Err(SinkFault::Failed) => Err(Fault::Write(FileIs::Out)),
         Err(SinkFault::NoMemory) => Err(Fault::NoMemory),
+    }
+}
+
+/// Prints a line that was made. If memory ran out before, nothing is printed.
+pub fn print_made<O: Sink>(made: Result<String, NoMemory>, out: &mut O) -> Result<(), Fault>
+    ensures { (text : List ℕ) → IfOk made (λ line. string_bytes line ≡ text)
+        → Prints text (O.state out.old) (O.state out.new) (result_err result) }
+{
+    match made {
+        Ok(line) => print(out, line.as_bytes()),
+        Err(NoMemory) => Err(Fault::NoMemory),
     }
 }

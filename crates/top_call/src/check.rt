@@ -5,7 +5,7 @@ ghost use Rattle.report.specs.Lines.{sizes_line as sizes_line_of};
 ghost use Rattle.payments.specs.World.{world};
 ghost use Rattle.call_steps.specs.Outside.{Prints};
 
-use call_steps::{Answer, job_in, print};
+use call_steps::{Answer, job_in, print_made};
 use jobs::Job;
 use payments::{Shelf, Sink};
 use report::{Fault, sizes_line};
@@ -36,11 +36,9 @@ pub fn check_command<S: Shelf, O: Sink>(
     }
 }
 
-#[tactic(auto, using(call_steps::proofs::PrintLemmas::prints_nothing))]
 fn print_sizes<O: Sink>(alloc: Global, job: &Job, out: &mut O) -> Result<(), Fault>
     ensures { Prints (sizes_line_of (job_view job.now))
         (O.state out.old) (O.state out.new) (result_err result) }
 {
-    let line = sizes_line(alloc, job)?;
-    print(out, line.as_bytes())
+    print_made(sizes_line(alloc, job), out)
 }

@@ -29,7 +29,7 @@ use crate::resume::resume_command;
 use crate::run::run_command;
 use crate::save::save_command;
 use crate::verify::answer_verify;
-use call_steps::{Answer, print};
+use call_steps::{Answer, print, print_made};
 use command_line::{
     Command, First, Make, PlanFiles, ResumeFiles, RunFiles, SaveFiles, WordsFault, command_of,
     help_text, version_text,
@@ -379,10 +379,8 @@ pub(crate) fn report<O: Sink>(alloc: Global, fault: Option<Fault>, out: &mut O)
     }
 }
 
-#[tactic(auto, using(call_steps::proofs::PrintLemmas::prints_nothing))]
 fn print_fault<O: Sink>(alloc: Global, fault: Fault, out: &mut O) -> Result<(), Fault>
     ensures { Prints (fault_line_of fault) (O.state out.old) (O.state out.new) (result_err result) }
 {
-    let line = fault_line(alloc, fault)?;
-    print(out, line.as_bytes())
+    print_made(fault_line(alloc, fault), out)
 }
