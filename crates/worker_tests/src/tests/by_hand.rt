@@ -1,5 +1,5 @@
 // Workers that are driven turn by turn.
-ghost use Rattle.std.specs.Prelude.{◌≡◌, [], IfOk, OnOk};
+ghost use Rattle.std.specs.Prelude.{◌≡◌, [], IfOk, IfSome, OnOk};
 ghost use Rattle.flow_model.specs.Setup.{setup_view};
 ghost use Rattle.flow_model.specs.Begin.{at_first};
 ghost use Rattle.flow_worker.specs.Worker.{IsWorker};
@@ -62,7 +62,7 @@ when = [["amount", ">=", 60]]
 "#;
 
 /// What the driver does, and what it has to see.
-#[derive(Clone, Copy, Debug, PartialEq, Eq)]
+#[derive(Clone, Copy)]
 enum Step {
     /// Feeds a row with this amount: whether the lane has room.
     Feed(u64, i64, bool),
@@ -273,45 +273,79 @@ enum Went {
     Well,
 }
 
-fn drive<L: Lanes>(alloc: Global, form: &L) -> Result<Went, NoMemory> {
-    let Some(setup) = setup_of(alloc, JOB, REQUESTS) else {
-        return Ok(Went::NoSetup);
-    };
+// The workers of the setup over lanes of capacity 1, and all that drives them. None if the feeder
+// has no lane.
+fn driven_of<L: Lanes>(
+    alloc: Global,
+    form: &L,
+    setup: &Setup,
+) -> Result<Option<Driven<L>>, NoMemory>
+    ensures { IfOk result (λ made. IfSome made (λ driven.
+        AreWorkers (setup_view setup.now) driven.workers.items)) }
+{
     let Crew {
         workers,
         posters,
         outs,
-    } = Crew::make(alloc, form, &setup, 1)?;
+    } = Crew::make(alloc, form, setup, 1)?;
     let controls = controls_of(alloc, posters)?;
     let Some(fed) = FedLane::last_of(&setup.job, outs) else {
-        return Ok(Went::NoSetup);
+        return Ok(None);
     };
-    let mut driven = Driven {
+    Ok(Some(Driven {
         workers,
         controls,
         fed,
         need: form.need(),
-    };
-    let gate = Watch::new();
-    if let Some(place) = first_wrong(alloc, &mut driven, &setup, &gate, &SCRIPT)? {
-        return Ok(Went::WrongStep(place));
-    }
+    }))
+}
+
+// How the workers went that followed the script.
+fn left_by<L: Lanes>(driven: Driven<L>, setup: &Setup, gate: &Watch) -> Went
+    requires { AreWorkers (setup_view setup.now) driven.workers.items }
+{
     let Driven {
         workers,
         mut need,
         ..
     } = driven;
-    if !leave_journals(workers, &mut need, &setup, &gate) {
-        return Ok(Went::WrongJournals);
+    if !leave_journals(workers, &mut need, setup, gate) {
+        return Went::WrongJournals;
     }
-    if !gate.saw(PASSED) {
-        return Ok(Went::WrongGate);
+    if gate.saw(PASSED) {
+        Went::Well
+    } else {
+        Went::WrongGate
     }
-    Ok(Went::Well)
+}
+
+fn follow<L: Lanes>(alloc: Global, driven: Driven<L>, setup: &Setup) -> Result<Went, NoMemory>
+    requires { AreWorkers (setup_view setup.now) driven.workers.items }
+{
+    let mut driven = driven;
+    let gate = Watch::new();
+    match first_wrong(alloc, &mut driven, setup, &gate, &SCRIPT)? {
+        Some(place) => Ok(Went::WrongStep(place)),
+        None => Ok(left_by(driven, setup, &gate)),
+    }
+}
+
+fn drive<L: Lanes>(alloc: Global, form: &L, setup: &Setup) -> Result<Went, NoMemory> {
+    match driven_of(alloc, form, setup)? {
+        Some(driven) => follow(alloc, driven, setup),
+        None => Ok(Went::NoSetup),
+    }
+}
+
+fn drive_from_texts<L: Lanes>(alloc: Global, form: &L) -> Result<Went, NoMemory> {
+    match setup_of(alloc, JOB, REQUESTS) {
+        Some(setup) => drive(alloc, form, &setup),
+        None => Ok(Went::NoSetup),
+    }
 }
 
 #[test]
 fn full_lanes_a_post_a_marker_and_the_end(rt: HostRuntime) {
-    let went = drive(rt.alloc(), &QueueLanes::new(rt)).ok();
+    let went = drive_from_texts(rt.alloc(), &QueueLanes::new(rt)).ok();
     assert_eq!(rt; went, Some(Went::Well));
 }

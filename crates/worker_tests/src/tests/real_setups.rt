@@ -1,9 +1,13 @@
 // Workers of whole jobs.
 ghost use Rattle.job_file.specs.RequestSizes.{AreFew};
+ghost use Rattle.flow_model.specs.Begin.{at_first};
+ghost use Rattle.flow_model.specs.Setup.{setup_view};
+ghost use Rattle.flow_worker.specs.Worker.{IsWorker};
+ghost use Rattle.worker_tests.specs.Crews.{AreWorkers};
 
 use flow_ends::Crew;
 use flow_model::Setup;
-use flow_worker::Turn;
+use flow_worker::{Turn, Worker};
 use job_file::{read_job, read_requests};
 use jobs::Job;
 use lane_core::{Lanes, QueueLanes};
@@ -175,6 +179,23 @@ fn judged_setup(alloc: Global, job: Job, requests: &Requests) -> Result<Setup, N
     Setup::make(alloc, job, judged)
 }
 
+// Whether the worker has nothing to do in its first turn.
+fn is_idle<L: Lanes>(mut worker: Worker<L>, need: &mut L::Need, setup: &Setup) -> bool
+    requires { IsWorker (setup_view setup.now) (at_first (setup_view setup.now)) worker }
+{
+    worker.turn(need, setup, &OpenGate) == Turn::Idle
+}
+
+fn are_idle<L: Lanes>(workers: Vec<Worker<L>>, need: &mut L::Need, setup: &Setup) -> bool
+    requires { AreWorkers (setup_view setup.now) workers.items }
+{
+    let mut idle = true;
+    for worker in workers {
+        idle &= is_idle(worker, need, setup);
+    }
+    idle
+}
+
 // How many workers a job has, if each of them has nothing to do in its first turn.
 fn idle_workers<L: Lanes>(
     alloc: Global,
@@ -182,15 +203,12 @@ fn idle_workers<L: Lanes>(
     setup: &Setup,
 ) -> Result<Option<usize>, NoMemory> {
     let Crew { workers, .. } = Crew::make(alloc, form, setup, 16)?;
-    let mut need = form.need();
     let count = workers.len();
-    for worker in workers {
-        let mut worker = worker;
-        if worker.turn(&mut need, setup, &OpenGate) != Turn::Idle {
-            return Ok(None);
-        }
+    if are_idle(workers, &mut form.need(), setup) {
+        Ok(Some(count))
+    } else {
+        Ok(None)
     }
-    Ok(Some(count))
 }
 
 fn workers_of<L: Lanes>(alloc: Global, form: &L, job: &str, requests: &str) -> Option<usize> {

@@ -1,7 +1,7 @@
 use Rattle.std.proofs.Common.{◌≡◌}
 use Rattle.control_box.specs.Ends.{PosterIs}
 use Rattle.flow_ends.proofs.Sorting.{each_placed}
-use Rattle.worker_tests.proofs.tests.by_hand.drive.Goals as goal
+use Rattle.worker_tests.proofs.tests.by_hand.driven_of.Goals as goal
 
 pub controls_of-requires : goal.controls_of-requires
 controls_of-requires g c =

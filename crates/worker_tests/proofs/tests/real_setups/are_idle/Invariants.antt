@@ -2,7 +2,7 @@ use Rattle.std.proofs.Common.{◌≡◌, length}
 use Rattle.std.specs.Vec.Iter.{into_iter_items, into_iter_len}
 use Rattle.flow_model.specs.Setup.{setup_view}
 use Rattle.worker_tests.specs.Crews.{AreWorkers}
-use Rattle.worker_tests.proofs.tests.real_setups.idle_workers.Given as goal
+use Rattle.worker_tests.proofs.tests.real_setups.are_idle.Given as goal
 
 abbrev pub invariant-loop-worker : goal.invariant-loop-worker
 invariant-loop-worker g l = record {

@@ -1,17 +1,16 @@
 use Rattle.std.proofs.Common.{ap, arith, length, List}
 use Rattle.std.specs.Vec.Iter.{into_iter_items}
-use Rattle.flow_model.specs.Begin.{at_first}
 use Rattle.flow_model.specs.Setup.{setup_view}
 use Rattle.flow_worker.specs.Worker.{WorkerIs}
 use Rattle.worker_tests.proofs.Crewing.{workers_first, workers_rest}
-use Rattle.worker_tests.proofs.tests.real_setups.idle_workers.Goals as goal
+use Rattle.worker_tests.proofs.tests.real_setups.are_idle.Goals as goal
 
-pub turn-requires-clause-law : goal.turn-requires-clause-law
-turn-requires-clause-law g c κs within =
+pub is_idle-idle-requires-after_bounds : goal.is_idle-idle-requires-after_bounds
+is_idle-idle-requires-after_bounds g c κs within =
     let setup = setup_view c.args.setup.now in
     let its = into_iter_items c.loop-worker.worker-iterator in
     let rest = into_iter_items c.next.new.self in
-    (at_first setup, workers_first setup its rest c.in-Some.worker c.in-Some.ensures.steps.0 c.loop-worker.invariant.left)
+    workers_first setup its rest c.in-Some.worker c.in-Some.ensures.steps.0 c.loop-worker.invariant.left
 
 pub loop-worker-preserved : goal.loop-worker-preserved
 loop-worker-preserved g c =
