@@ -1,4 +1,5 @@
--- The codes under which the table tells of a fault: those that are printed, and a status where there is none.
+-- The codes under which the table tells of a fault: those that are printed, and a status where
+-- there is none.
 use Rattle.std.specs.Prelude.{ℕ, List, codes}
 use Rattle.audit_laws.specs.declared.fault.AuditFault.{AuditFault}
 use Rattle.audit_laws.specs.declared.fault.AuditFault.TheVariants as audit

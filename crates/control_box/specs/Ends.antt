@@ -14,6 +14,7 @@ pub record OwnerIs : Type 0 where
   pub turned : ℕ
   pub polls : List ℕ
 
--- one of these loads of turned shows that every due before k is turned: `ready` of k has answered true, or would have
+-- one of these loads of turned shows that every due before k is turned: `ready` of k has answered
+-- true, or would have
 abbrev pub HasShownReady : ℕ → List ℕ → Type 0
 HasShownReady k loads = Any (λ turned. k ≤ turned + 1) loads

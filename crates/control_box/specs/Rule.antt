@@ -16,13 +16,15 @@ poster_side v = record v { may_turn = false; turned = 0; polls = [] }
 abbrev pub owner_side : View → View
 owner_side v = record v { may_post = false; posted = 0; loads = [] }
 
--- what a seat that may post knows: it is the only one, posted is its last post, and turned has reached what it loaded
+-- what a seat that may post knows: it is the only one, posted is its last post, and turned has
+-- reached what it loaded
 pub record PosterKnows (poster posted turned : ℕ) (seat : ℕ) (v : View) : Type 0 where
   pub alone : seat ≡ poster
   pub posted_is : v.posted ≡ posted
   pub loads : All (λ load. load ≤ turned) v.loads
 
--- what a seat that may turn knows: it is the only one, turned is its last acknowledgement, and posted has reached what it loaded
+-- what a seat that may turn knows: it is the only one, turned is its last acknowledgement, and
+-- posted has reached what it loaded
 pub record OwnerKnows (owner posted turned : ℕ) (seat : ℕ) (v : View) : Type 0 where
   pub alone : seat ≡ owner
   pub turned_is : v.turned ≡ turned
@@ -36,8 +38,12 @@ pub record IsBox {S : Type 0} (s : State S View) : Type 0 where
   pub turned : ℕ
   pub words_are : s.words ≡ posted ∷ turned ∷ []
   pub at_most_one_ahead : posted ≤ turned + 1
-  pub posters : (seat : ℕ) (v : View) → get_elem? s.views seat ≡ some v → v.may_post ≡ true → PosterKnows poster posted turned seat v
-  pub owners : (seat : ℕ) (v : View) → get_elem? s.views seat ≡ some v → v.may_turn ≡ true → OwnerKnows owner posted turned seat v
+  pub posters :
+      (seat : ℕ) (v : View) → get_elem? s.views seat ≡ some v → v.may_post ≡ true →
+      PosterKnows poster posted turned seat v
+  pub owners :
+      (seat : ℕ) (v : View) → get_elem? s.views seat ≡ some v → v.may_turn ≡ true →
+      OwnerKnows owner posted turned seat v
 
 -- the poster found n in turned
 pub record LoadedTurned {S : Type 0} (old : Me S View) (n : ℕ) (new : Me S View) : Type 0 where

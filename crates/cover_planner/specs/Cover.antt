@@ -3,7 +3,8 @@ use Rattle.flow_dag.specs.declared.edge.Edge.{Edge}
 use Rattle.flow_dag.specs.Masks.{Has}
 use Rattle.flow_dag.specs.Paths.{Leads, Reaches, IsOrReaches}
 
--- A cover is said of any members: `E a b` says that an edge leads from `a` to `b`, and `M a` that `a` is a member.
+-- A cover is said of any members: `E a b` says that an edge leads from `a` to `b`, and `M a` that
+-- `a` is a member.
 
 -- `a` and then `b` stand next to each other in the list that `x` and then `rest` make
 abbrev pub StandNext : ℕ → ℕ → ℕ → List ℕ → Type 0
@@ -17,7 +18,9 @@ LiesOn a b (x ∷ rest) = StandNext a b x rest
 
 -- the edge from `a` to `b` lies on a path from a member to a member
 abbrev pub IsCoveredEdge : (ℕ → ℕ → Type 0) → (ℕ → Type 0) → ℕ → ℕ → Type 0
-IsCoveredEdge E M a b = (from : ℕ) × (to : ℕ) × (path : List ℕ) × M from × M to × Leads E from to path × LiesOn a b path
+IsCoveredEdge E M a b =
+    (from : ℕ) × (to : ℕ) × (path : List ℕ) × M from × M to × Leads E from to path
+    × LiesOn a b path
 
 -- a member, or an end of a covered edge
 abbrev pub IsCoveredNode : (ℕ → ℕ → Type 0) → (ℕ → Type 0) → ℕ → Type 0
@@ -45,4 +48,5 @@ IsUpstream E M a = M a ⊎ ((m : ℕ) × M m × Reaches E a m)
 
 -- the mask has the places of exactly those edges of whose ends `C` holds
 abbrev pub MarksEdges : List Edge → (ℕ → ℕ → Type 0) → ℕ → Type 0
-MarksEdges edges C mask = (i : ℕ) → Has mask i ↔ ((e : Edge) × (slice_get edges i ≡ Some e) × C e.from e.to)
+MarksEdges edges C mask =
+    (i : ℕ) → Has mask i ↔ ((e : Edge) × (slice_get edges i ≡ Some e) × C e.from e.to)

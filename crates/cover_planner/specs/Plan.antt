@@ -15,14 +15,17 @@ pub record IsCover (edges : List Edge) (p : Plan) : Type 0 where
   pub heads : (a : ℕ) → Has p.heads a ↔ IsHead (HasEdge edges) (Has p.members) a
   pub parts : IsNumbered (Has p.nodes) (InOnePart (HasEdge edges) (Has p.members)) p.part
 
--- the plan has the members of the asked nodes, where `splits` may make pieces of a tuple and `copies` send copies of it, and their cover
-pub record IsPlan (edges : List Edge) (splits copies : ℕ → Type 0) (asked : ℕ) (p : Plan) : Type 0 where
+-- the plan has the members of the asked nodes, where `splits` may make pieces of a tuple and
+-- `copies` send copies of it, and their cover
+pub record IsPlan (edges : List Edge) (splits copies : ℕ → Type 0) (asked : ℕ)
+    (p : Plan) : Type 0 where
   pub asks : p.asked ≡ asked
   pub members : (a : ℕ) → Has p.members a ↔ IsMember (HasEdge edges) (Has asked) splits copies a
   pub cover : IsCover edges p
 
 -- the tests pass the members, and each edge of each path from a member to a member, with its ends
-pub record HoldsPaths (E : ℕ → ℕ → Type 0) (M : ℕ → Type 0) (node : ℕ → Bool) (edge : ℕ → ℕ → Bool) : Type 0 where
+pub record HoldsPaths (E : ℕ → ℕ → Type 0) (M : ℕ → Type 0) (node : ℕ → Bool)
+    (edge : ℕ → ℕ → Bool) : Type 0 where
   pub members : (a : ℕ) → M a → IsTrue (node a)
   pub paths :
       (from to : ℕ) (path : List ℕ) → M from → M to → Leads E from to path →
@@ -32,7 +35,8 @@ pub record HoldsPaths (E : ℕ → ℕ → Type 0) (M : ℕ → Type 0) (node : 
 pub record HasAllPaths (edges : List Edge) (p : Plan) : Type 0 where
   pub members : (a : ℕ) → Has p.members a → Has p.nodes a
   pub paths :
-      (from to : ℕ) (path : List ℕ) → Has p.members from → Has p.members to → Leads (HasEdge edges) from to path →
+      (from to : ℕ) (path : List ℕ) → Has p.members from → Has p.members to →
+      Leads (HasEdge edges) from to path →
       (i : ℕ) (e : Edge) → slice_get edges i ≡ Some e → LiesOn e.from e.to path →
       Has p.edges i × Has p.nodes e.from × Has p.nodes e.to
 

@@ -4,7 +4,8 @@ use Rattle.flow_dag.specs.Paths.{IsAcyclic}
 use Rattle.flow_dag.specs.Edges.{HasEdge, IsInside, HaveDistinctEnds}
 use Rattle.flow_dag.specs.Order.{IsTopologicalOrder}
 
--- the edges join the nodes, no two have the same ends, they form no cycle, and the order leads each of them forward
+-- the edges join the nodes, no two have the same ends, they form no cycle, and the order leads each
+-- of them forward
 pub record IsDag (nodes : ℕ) (edges : List Edge) (order : List ℕ) : Type 0 where
   pub some : 1 ≤ nodes
   pub size : nodes ≤ 64

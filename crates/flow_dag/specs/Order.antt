@@ -1,7 +1,8 @@
 use Rattle.std.specs.Prelude.{◌≡◌, ◌≢◌, ℕ, ◌<◌, ◌==◌, List, length, All, AllPairs, IsTrue, slice_index}
 use Rattle.std.specs.List.{list_any, position_or_len}
 
--- the list has each of the first `n` nodes once, and every edge leads from an earlier place to a later one
+-- the list has each of the first `n` nodes once, and every edge leads from an earlier place to a
+-- later one
 pub record IsTopologicalOrder (E : ℕ → ℕ → Type 0) (n : ℕ) (order : List ℕ) : Type 0 where
   pub long : length order ≡ n
   pub inside : All (λ a. a < n) order

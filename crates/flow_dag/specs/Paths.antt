@@ -1,6 +1,7 @@
 use Rattle.std.specs.Prelude.{◌≡◌, ⊤, ℕ, List, [], ◌∷◌}
 
--- A graph is given here by the relation of its edges: `E a b` says that an edge leads from `a` to `b`.
+-- A graph is given here by the relation of its edges: `E a b` says that an edge leads from `a` to
+-- `b`.
 
 -- from `a` on, an edge leads from each node to the next one of the list
 abbrev pub IsWalk : (ℕ → ℕ → Type 0) → ℕ → List ℕ → Type 0
@@ -17,7 +18,8 @@ abbrev pub IsPath : (ℕ → ℕ → Type 0) → List ℕ → Type 0
 IsPath E [] = ⊥
 IsPath E (a ∷ rest) = IsWalk E a rest
 
--- the path leads from `a` to `b`: it begins with the one, ends with the other, and has two or more nodes
+-- the path leads from `a` to `b`: it begins with the one, ends with the other, and has two or more
+-- nodes
 abbrev pub Leads : (ℕ → ℕ → Type 0) → ℕ → ℕ → List ℕ → Type 0
 Leads E a b [] = ⊥
 Leads E a b (x ∷ []) = ⊥

@@ -1,7 +1,8 @@
 use Rattle.std.specs.Prelude.{ℕ, List, slice_index, ◌↔◌, ◌⊎◌}
 use Rattle.flow_dag.specs.Masks.{Has}
 
--- A list of masks is a relation: each node has a row, and the row has the nodes to which it is related.
+-- A list of masks is a relation: each node has a row, and the row has the nodes to which it is
+-- related.
 
 -- row `a` has node `b`
 abbrev pub RowHas : List ℕ → ℕ → ℕ → Type 0

@@ -17,7 +17,9 @@ use Rattle.job_file.specs.Names.{node_named}
 
 -- the version that a change was written for
 abbrev pub from_in : Members → Result ℕ FormFault
-from_in ms = and_then (whole_at (codes "from") part.From ms) (λ z. if int_lt z (pos 0) then Err (fault.Shape part.From) else Ok (nat_abs z))
+from_in ms =
+    and_then (whole_at (codes "from") part.From ms)
+    (λ z. if int_lt z (pos 0) then Err (fault.Shape part.From) else Ok (nat_abs z))
 
 -- the keys of a change beside those of its function
 abbrev pub beside_change : List (List ℕ)
@@ -25,14 +27,16 @@ beside_change = codes "node" ∷ codes "from" ∷ codes "kind" ∷ codes "carry"
 
 -- the new function
 abbrev pub func_of_change : JobView → Members → Result Func FormFault
-func_of_change job ms = and_then (kind_in ms) (λ k. func_in job.columns job.tables beside_change k ms)
+func_of_change job ms =
+    and_then (kind_in ms) (λ k. func_in job.columns job.tables beside_change k ms)
 
 -- what becomes of the counts: they stay where nothing is said
 abbrev pub carry_in : Members → Result Carry FormFault
 carry_in ms = read_or carry.Keep carry_of (get_member (codes "carry") ms)
 
 abbrev pub change_with : JobView → List ℕ → ℕ → Func → Carry → Result Change FormFault
-change_with job name from f c = Ok (record { node = node_named job.nodes name; from = from; func = f; carry = c })
+change_with job name from f c =
+    Ok (record { node = node_named job.nodes name; from = from; func = f; carry = c })
 
 -- the change of a table: its node, the version that it was written for, its function and its carry
 abbrev pub change_in : JobView → Members → Result Change FormFault

@@ -29,7 +29,9 @@ ending_of word =
 -- the column with this name and ending
 abbrev pub column_with : List ℕ → Option (ColumnKind × Bool) → Result Column FormFault
 column_with name None = Err (fault.Shape part.Columns)
-column_with name (Some (k, own)) = if is_name name then Ok (record { name = name; kind = k; own = own }) else Err (fault.Shape part.Columns)
+column_with name (Some (k, own)) =
+    if is_name name then Ok (record { name = name; kind = k; own = own })
+    else Err (fault.Shape part.Columns)
 
 -- the column of a text
 abbrev pub column_text : List ℕ → Result Column FormFault

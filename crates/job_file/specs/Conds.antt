@@ -18,7 +18,8 @@ abbrev pub test_of : Data → Result Test FormFault
 test_of d = and_then (text_of part.When d) (λ word. ok_or (test_named word) (fault.Shape part.When))
 
 abbrev pub cond_with : List Column → List ℕ → Test → Value → Result Cond FormFault
-cond_with columns name t literal = Ok (record { column = column_named columns name; test = t; literal = literal })
+cond_with columns name t literal =
+    Ok (record { column = column_named columns name; test = t; literal = literal })
 
 -- a condition is the name of a column, a test and a literal
 abbrev pub cond_by : List Column → Data → Data → Data → Result Cond FormFault

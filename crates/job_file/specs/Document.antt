@@ -15,12 +15,15 @@ and_then (Ok x) next = next x
 
 -- the table of a document
 unfoldable pub document_of : List ℕ → Result Members FormFault
-document_of bytes = if is_utf8 bytes then ok_or (parse_document bytes) fault.NotToml else Err fault.NotToml
+document_of bytes =
+    if is_utf8 bytes then ok_or (parse_document bytes) fault.NotToml else Err fault.NotToml
 
 -- a table has no key but these and those
 abbrev pub has_only : List (List ℕ) → List (List ℕ) → Members → Bool
 has_only these those no_members = true
-has_only these those (member key d ms) = (list_any (λ k. bytes_eq k key) these || list_any (λ k. bytes_eq k key) those) && has_only these those ms
+has_only these those (member key d ms) =
+    (list_any (λ k. bytes_eq k key) these || list_any (λ k. bytes_eq k key) those)
+    && has_only these those ms
 
 -- a text, a whole number, an array and a table
 abbrev pub text_of : Part → Data → Result (List ℕ) FormFault
@@ -49,7 +52,8 @@ abbrev pub items_at : List ℕ → Part → Members → Result Items FormFault
 items_at key part ms = and_then (value_at key part ms) (items_of part)
 
 -- what is read of a value, or this where there is none
-abbrev pub read_or : {A : Type 0} → A → (Data → Result A FormFault) → Option Data → Result A FormFault
+abbrev pub read_or : {A : Type 0} → A → (Data → Result A FormFault) → Option Data
+    → Result A FormFault
 read_or default read None = Ok default
 read_or default read (Some d) = read d
 
@@ -62,12 +66,14 @@ abbrev pub optional_items_at : List ℕ → Part → Members → Result Items Fo
 optional_items_at key part ms = read_or no_items (items_of part) (get_member key ms)
 
 -- one more before a list, or the first fault
-abbrev pub before : {A : Type 0} → Result A FormFault → Result (List A) FormFault → Result (List A) FormFault
+abbrev pub before : {A : Type 0} → Result A FormFault → Result (List A) FormFault
+    → Result (List A) FormFault
 before (Err fault) later = Err fault
 before (Ok first) (Err fault) = Err fault
 before (Ok first) (Ok later) = Ok (first ∷ later)
 
 -- what is read of each item, or the first fault
-unfoldable pub all_of : {A : Type 0} → (Data → Result A FormFault) → Items → Result (List A) FormFault
+unfoldable pub all_of : {A : Type 0} → (Data → Result A FormFault) → Items
+    → Result (List A) FormFault
 all_of read no_items = Ok []
 all_of read (item d ds) = before (read d) (all_of read ds)

@@ -24,10 +24,12 @@ use Rattle.job_file.specs.Steps.{step_of}
 -- what stands at a key: the name of a column or a table, as its number, a literal, an operand, and
 -- a byte
 abbrev pub column_at : List Column → List ℕ → Part → Members → Result ℕ FormFault
-column_at columns key place ms = and_then (text_at key place ms) (λ name. Ok (column_named columns name))
+column_at columns key place ms =
+    and_then (text_at key place ms) (λ name. Ok (column_named columns name))
 
 abbrev pub table_at : List Table → List ℕ → Part → Members → Result ℕ FormFault
-table_at tables key place ms = and_then (text_at key place ms) (λ name. Ok (table_named tables name))
+table_at tables key place ms =
+    and_then (text_at key place ms) (λ name. Ok (table_named tables name))
 
 abbrev pub literal_at : List ℕ → Part → Members → Result Value FormFault
 literal_at key place ms = and_then (value_at key place ms) (literal_of place)
@@ -56,7 +58,8 @@ map_in columns ms =
     and_then (all_of (step_of columns) items) (λ steps. Ok (func.Map steps)))
 
 abbrev pub enrich_with : ℕ → ℕ → ℕ → Value → Result Func FormFault
-enrich_with key into table other = Ok (func.Enrich (record { key = key; into = into; table = table; other = other }))
+enrich_with key into table other =
+    Ok (func.Enrich (record { key = key; into = into; table = table; other = other }))
 
 -- a look-up: its key, its target, its table and its other value
 abbrev pub enrich_in : List Column → List Table → Members → Result Func FormFault
@@ -108,5 +111,8 @@ func_by columns tables kind.Sink ms = sink_in columns ms
 
 -- the function of a table that may have these keys beside those of its kind: first its keys, then
 -- what stands at each
-abbrev pub func_in : List Column → List Table → List (List ℕ) → Kind → Members → Result Func FormFault
-func_in columns tables beside k ms = if has_only beside (row_of k).keys ms then func_by columns tables k ms else Err (fault.Shape part.Unknown)
+abbrev pub func_in : List Column → List Table → List (List ℕ) → Kind → Members
+    → Result Func FormFault
+func_in columns tables beside k ms =
+    if has_only beside (row_of k).keys ms then func_by columns tables k ms
+    else Err (fault.Shape part.Unknown)

@@ -40,8 +40,12 @@ IsJobIn bytes job = (job_of bytes ≡ Ok job) × IsLawful job
 
 -- no file both has a fault and is that of a job
 abbrev pub Excludes : Type 0
-Excludes = (bytes : List ℕ) (f : JobFault) (job : JobView) → f ≢ fault.NoMemory → IsFaultIn bytes f → IsJobIn bytes job → ⊥
+Excludes =
+    (bytes : List ℕ) (f : JobFault) (job : JobView) → f ≢ fault.NoMemory → IsFaultIn bytes f →
+    IsJobIn bytes job → ⊥
 
 -- no file has two faults, but for want of memory
 abbrev pub HaveOneFault : Type 0
-HaveOneFault = (bytes : List ℕ) (f g : JobFault) → f ≢ fault.NoMemory → g ≢ fault.NoMemory → IsFaultIn bytes f → IsFaultIn bytes g → f ≡ g
+HaveOneFault =
+    (bytes : List ℕ) (f g : JobFault) → f ≢ fault.NoMemory → g ≢ fault.NoMemory →
+    IsFaultIn bytes f → IsFaultIn bytes g → f ≡ g

@@ -10,4 +10,6 @@ use Rattle.job_file.specs.Document.{and_then, text_at}
 
 -- the kind that a table names
 abbrev pub kind_in : Members → Result Kind FormFault
-kind_in ms = and_then (text_at (codes "kind") part.Kind ms) (λ word. ok_or (kind_named word) (fault.Shape part.Kind))
+kind_in ms =
+    and_then (text_at (codes "kind") part.Kind ms)
+    (λ word. ok_or (kind_named word) (fault.Shape part.Kind))

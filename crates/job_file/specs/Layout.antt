@@ -20,13 +20,16 @@ abbrev pub columns_in : Members → Result (List Column) FormFault
 columns_in ms = and_then (items_at (codes "columns") part.Columns ms) (all_of column_of)
 
 abbrev pub tables_in : Members → Result (List Table) FormFault
-tables_in ms = read_or [] (λ d. and_then (table_of part.Tables d) tables_of) (get_member (codes "tables") ms)
+tables_in ms =
+    read_or [] (λ d. and_then (table_of part.Tables d) tables_of) (get_member (codes "tables") ms)
 
 abbrev pub nodes_in : List Column → List Table → Members → Result (List NodeDef) FormFault
-nodes_in columns tables ms = and_then (items_at (codes "node") part.Node ms) (all_of (node_of columns tables))
+nodes_in columns tables ms =
+    and_then (items_at (codes "node") part.Node ms) (all_of (node_of columns tables))
 
 abbrev pub edges_in : List NodeDef → Members → Result (List Edge) FormFault
-edges_in nodes ms = and_then (optional_items_at (codes "edge") part.Edge ms) (all_of (edge_of nodes))
+edges_in nodes ms =
+    and_then (optional_items_at (codes "edge") part.Edge ms) (all_of (edge_of nodes))
 
 -- the job of a table: first its keys, then its columns, tables, nodes and edges
 unfoldable pub layout_of : Members → Result JobView FormFault

@@ -34,7 +34,8 @@ searched_max = 64
 
 -- the place of the first column, node or table with this name
 abbrev pub column_place : List Column → List ℕ → Option ℕ
-column_place columns name = position (λ column. pointwise nat_eq column.name name) (take searched_max columns)
+column_place columns name =
+    position (λ column. pointwise nat_eq column.name name) (take searched_max columns)
 
 abbrev pub node_place : List NodeDef → List ℕ → Option ℕ
 node_place nodes name = position (λ node. pointwise nat_eq node.name name) (take searched_max nodes)

@@ -21,16 +21,21 @@ use Rattle.job_file.specs.Numbers.{nearest}
 -- its kind is free
 abbrev pub beside_of : Kind → List (List ℕ)
 beside_of kind =
-    if are_free (row_of kind).followers then codes "name" ∷ codes "kind" ∷ codes "workers" ∷ codes "roof" ∷ []
-    else if nat_lt 1 (row_of kind).most_workers then codes "name" ∷ codes "kind" ∷ codes "workers" ∷ []
+    if are_free (row_of kind).followers
+    then codes "name" ∷ codes "kind" ∷ codes "workers" ∷ codes "roof" ∷ []
+    else if nat_lt 1 (row_of kind).most_workers
+    then codes "name" ∷ codes "kind" ∷ codes "workers" ∷ []
     else codes "name" ∷ codes "kind" ∷ []
 
 -- the name of a node
 abbrev pub name_in : Members → Result (List ℕ) FormFault
-name_in ms = and_then (text_at (codes "name") part.Name ms) (λ name. if is_name name then Ok name else Err (fault.Shape part.Name))
+name_in ms =
+    and_then (text_at (codes "name") part.Name ms)
+    (λ name. if is_name name then Ok name else Err (fault.Shape part.Name))
 
 abbrev pub node_with : List ℕ → Func → ℤ → ℤ → Result NodeDef FormFault
-node_with name f workers roof = Ok (record { name = name; func = f; workers = nearest workers; roof = nearest roof })
+node_with name f workers roof =
+    Ok (record { name = name; func = f; workers = nearest workers; roof = nearest roof })
 
 -- the roof of a node with this function: the fan-out of the function where none is written
 abbrev pub roof_in : Func → Members → Result ℤ FormFault

@@ -12,7 +12,8 @@ use Rattle.job_file.specs.RequestSizes.{list_oversize, wide_in_requests}
 use Rattle.job_file.specs.Requests.{list_in}
 
 -- requests, unless this size is outside of its limits
-abbrev pub unless_outside : Option Oversize → Result (List Request) ReqFileFault → Result (List Request) ReqFileFault
+abbrev pub unless_outside : Option Oversize → Result (List Request) ReqFileFault
+    → Result (List Request) ReqFileFault
 unless_outside None requests = requests
 unless_outside (Some (size, number)) requests = Err (fault.Limit size number)
 
@@ -22,7 +23,9 @@ within_limits requests = unless_outside (list_oversize requests) (Ok requests)
 
 -- the requests of the table of a document: their form, then their wide numbers, then their sizes
 abbrev pub requests_in : JobView → Members → Result (List Request) ReqFileFault
-requests_in job ms = and_then (in_request_form (list_in job ms)) (λ requests. unless_outside (wide_in_requests ms) (within_limits requests))
+requests_in job ms =
+    and_then (in_request_form (list_in job ms))
+    (λ requests. unless_outside (wide_in_requests ms) (within_limits requests))
 
 -- the requests that a file makes of a job, or its first fault
 abbrev pub requests_of : JobView → List ℕ → Result (List Request) ReqFileFault

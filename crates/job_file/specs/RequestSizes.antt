@@ -19,14 +19,16 @@ wide_change d = found_in (wide_at (codes "most") which.Most) (table_of part.Chan
 -- the row of a request, else the first number of its changes
 abbrev pub wide_request : Members → Option Oversize
 wide_request ms =
-    option_or (wide_at (codes "after") which.After ms) (found_in (first_found wide_change) (optional_items_at (codes "change") part.Change ms))
+    option_or (wide_at (codes "after") which.After ms)
+    (found_in (first_found wide_change) (optional_items_at (codes "change") part.Change ms))
 
 abbrev pub wide_request_item : Data → Option Oversize
 wide_request_item d = found_in wide_request (table_of part.Request d)
 
 -- the first number of the requests that is wide
 abbrev pub wide_in_requests : Members → Option Oversize
-wide_in_requests ms = found_in (first_found wide_request_item) (optional_items_at (codes "request") part.Request ms)
+wide_in_requests ms =
+    found_in (first_found wide_request_item) (optional_items_at (codes "request") part.Request ms)
 
 -- ---- sizes outside of their limits
 
@@ -43,7 +45,9 @@ request_oversize request =
 
 -- a file has up to 64 requests
 abbrev pub list_oversize : List Request → Option Oversize
-list_oversize requests = option_or (outside which.Requests 0 64 (length requests)) (first_oversize request_oversize requests)
+list_oversize requests =
+    option_or (outside which.Requests 0 64 (length requests))
+    (first_oversize request_oversize requests)
 
 -- so few requests with so few changes that they can be judged
 pub record AreFew (requests : List Request) : Type 0 where

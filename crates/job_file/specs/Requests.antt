@@ -13,7 +13,8 @@ use Rattle.job_file.specs.Numbers.{nearest}
 
 -- the changes of a request
 abbrev pub changes_in : JobView → Members → Result (List Change) FormFault
-changes_in job ms = and_then (optional_items_at (codes "change") part.Change ms) (all_of (change_of job))
+changes_in job ms =
+    and_then (optional_items_at (codes "change") part.Change ms) (all_of (change_of job))
 
 abbrev pub request_with : ℤ → List Change → Result Request FormFault
 request_with after changes = Ok (record { after = nearest after; changes = changes })
@@ -32,5 +33,6 @@ request_of job d = and_then (table_of part.Request d) (request_in job)
 -- the requests of the table of a document
 abbrev pub list_in : JobView → Members → Result (List Request) FormFault
 list_in job ms =
-    if has_only (codes "request" ∷ []) [] ms then and_then (optional_items_at (codes "request") part.Request ms) (all_of (request_of job))
+    if has_only (codes "request" ∷ []) [] ms
+    then and_then (optional_items_at (codes "request") part.Request ms) (all_of (request_of job))
     else Err (fault.Shape part.Unknown)

@@ -27,7 +27,8 @@ abbrev pub op_of : Data → Result Op FormFault
 op_of d = and_then (text_of part.Steps d) op_named
 
 abbrev pub step_with : List Column → List ℕ → Op → Operand → Operand → Result Step FormFault
-step_with columns name o a b = Ok (record { column = column_named columns name; op = o; a = a; b = b })
+step_with columns name o a b =
+    Ok (record { column = column_named columns name; op = o; a = a; b = b })
 
 -- a step is the name of a column, what is computed, and two operands
 abbrev pub step_by : List Column → Data → Data → Data → Data → Result Step FormFault

@@ -15,7 +15,8 @@ use Rattle.job_file.specs.Names.{is_name}
 -- a map with these entries besides its own
 unfoldable pub entries_onto : TextMapOf Value → Members → Result (TextMapOf Value) FormFault
 entries_onto entries no_members = Ok entries
-entries_onto entries (member key d ms) = and_then (literal_of part.Tables d) (λ value. entries_onto (insert entries key value) ms)
+entries_onto entries (member key d ms) =
+    and_then (literal_of part.Tables d) (λ value. entries_onto (insert entries key value) ms)
 
 abbrev pub table_with : List ℕ → TextMapOf Value → Result Table FormFault
 table_with name entries = Ok (record { name = name; entries = entries })
@@ -23,7 +24,9 @@ table_with name entries = Ok (record { name = name; entries = entries })
 -- the table of this name
 abbrev pub named_table : List ℕ → Data → Result Table FormFault
 named_table name d =
-    if is_name name then and_then (table_of part.Tables d) (λ ms. and_then (entries_onto empty ms) (table_with name))
+    if is_name name
+    then and_then (table_of part.Tables d)
+    (λ ms. and_then (entries_onto empty ms) (table_with name))
     else Err (fault.Shape part.Tables)
 
 -- all tables, in the order of the keys

@@ -32,11 +32,14 @@ operand_fits columns (operand.Column column) = is_amount (kind_at columns column
 -- the condition names a column that may hold its literal, and tests it as a column of that kind may
 -- be
 abbrev pub cond_fits : List Column → Cond → Bool
-cond_fits columns cond = holds (kind_at columns cond.column) cond.literal && is_tested cond.test cond.literal
+cond_fits columns cond =
+    holds (kind_at columns cond.column) cond.literal && is_tested cond.test cond.literal
 
 -- the step computes a column of numbers, of numbers
 abbrev pub step_fits : List Column → Step → Bool
-step_fits columns step = is_amount (kind_at columns step.column) && operand_fits columns step.a && operand_fits columns step.b
+step_fits columns step =
+    is_amount (kind_at columns step.column) && operand_fits columns step.a
+    && operand_fits columns step.b
 
 -- a column of this kind may hold every value of these entries
 abbrev pub values_fit : Option ColumnKind → TextMapOf Value → Bool
@@ -58,7 +61,8 @@ fits_columns columns tables (func.Enrich lookup) =
     && holds (kind_at columns lookup.into) lookup.other
     && table_fits (kind_at columns lookup.into) (slice_get tables lookup.table)
 fits_columns columns tables (func.Count count) =
-    is_text (kind_at columns count.key) && operand_fits columns count.add && is_amount (kind_at columns count.into)
+    is_text (kind_at columns count.key) && operand_fits columns count.add
+    && is_amount (kind_at columns count.into)
 fits_columns columns tables (func.Split split) = is_text (kind_at columns split.on)
 fits_columns columns tables func.Replicate = true
 fits_columns columns tables (func.Sink listed) = list_all (has_column columns) listed

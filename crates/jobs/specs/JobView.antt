@@ -14,4 +14,5 @@ pub record JobView : Type 0 where
 
 -- the job that is written with these parts
 abbrev pub job_view_as : List Column → List NodeDef → List Edge → List Table → JobView
-job_view_as columns nodes edges tables = record { columns = columns; nodes = nodes; edges = edges; tables = tables }
+job_view_as columns nodes edges tables =
+    record { columns = columns; nodes = nodes; edges = edges; tables = tables }

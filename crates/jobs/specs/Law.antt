@@ -70,11 +70,14 @@ pub record IsLawful (job : JobView) : Type 0 where
   pub tables : HasTables job
   pub weight : weight job ≤ 1024
 
--- what a fault says of the job: it stands, at the first place that has it, and none of the faults above it does. Want of memory says nothing
+-- what a fault says of the job: it stands, at the first place that has it, and none of the faults
+-- above it does. Want of memory says nothing
 abbrev pub IsRefused : LawFault → JobView → Type 0
 IsRefused (fault.Limit which number) job = first_oversize_of job ≡ Some (which, number)
-IsRefused (fault.NameTwice named.Column i) job = HasLimits job × IsFirstFailure (is_new_column job.columns) job.columns i
-IsRefused (fault.NameTwice named.Node i) job = HasLimits job × HasColumnNames job × IsFirstFailure (is_new_node job.nodes) job.nodes i
+IsRefused (fault.NameTwice named.Column i) job =
+    HasLimits job × IsFirstFailure (is_new_column job.columns) job.columns i
+IsRefused (fault.NameTwice named.Node i) job =
+    HasLimits job × HasColumnNames job × IsFirstFailure (is_new_node job.nodes) job.nodes i
 IsRefused (fault.NoSuchEnd i) job =
     HasLimits job
     × HasColumnNames job
@@ -82,7 +85,8 @@ IsRefused (fault.NoSuchEnd i) job =
     × IsOutside (length job.nodes) job.edges i
     × All (IsInside (length job.nodes)) (take i job.edges)
 IsRefused (fault.Ports v) job =
-    HasLimits job × HasColumnNames job × HasNodeNames job × HasEnds job × IsFirstFailure (has_ports_of job) job.nodes v
+    HasLimits job × HasColumnNames job × HasNodeNames job × HasEnds job
+    × IsFirstFailure (has_ports_of job) job.nodes v
 IsRefused (fault.Cycle v) job =
     HasShape job
     × Reaches (HasEdge job.edges) v v
@@ -111,4 +115,6 @@ Excludes = (f : LawFault) (job : JobView) → f ≢ fault.NoMemory → IsLawful 
 
 -- no job is refused for two faults, but for want of memory
 abbrev pub HaveOneFault : Type 0
-HaveOneFault = (f g : LawFault) (job : JobView) → f ≢ fault.NoMemory → g ≢ fault.NoMemory → IsRefused f job → IsRefused g job → f ≡ g
+HaveOneFault =
+    (f g : LawFault) (job : JobView) → f ≢ fault.NoMemory → g ≢ fault.NoMemory →
+    IsRefused f job → IsRefused g job → f ≡ g

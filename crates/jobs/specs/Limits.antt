@@ -28,7 +28,8 @@ kept number = pos (min number 9223372036854775807)
 
 -- the number, where it isn't from `least` to `most`
 abbrev pub outside : Which → ℕ → ℕ → ℕ → Option Oversize
-outside which least most number = if nat_le least number && nat_le number most then None else Some (which, kept number)
+outside which least most number =
+    if nat_le least number && nat_le number most then None else Some (which, kept number)
 
 -- the first size that is outside of its limits, of those that the items have
 abbrev pub first_oversize : {A : Type 0} → (A → Option Oversize) → List A → Option Oversize
@@ -60,10 +61,12 @@ value_oversize (value.Text text) = text_oversize text
 abbrev pub literal_oversize : Cond → Option Oversize
 literal_oversize cond = value_oversize cond.literal
 
--- a filter has up to 8 conditions, a map up to 8 steps, and a split makes 1 to 16 pieces; literals and `other` are short
+-- a filter has up to 8 conditions, a map up to 8 steps, and a split makes 1 to 16 pieces; literals
+-- and `other` are short
 abbrev pub oversize : Func → Option Oversize
 oversize func.Source = None
-oversize (func.Filter conds) = option_or (outside which.Conditions 0 8 (length conds)) (first_oversize literal_oversize conds)
+oversize (func.Filter conds) =
+    option_or (outside which.Conditions 0 8 (length conds)) (first_oversize literal_oversize conds)
 oversize (func.Map steps) = outside which.Steps 0 8 (length steps)
 oversize (func.Enrich lookup) = value_oversize lookup.other
 oversize (func.Count count) = None
@@ -83,9 +86,11 @@ workers_oversize node = outside which.Workers 1 (most_workers node.func) node.wo
 abbrev pub most_roof_of : List NodeDef → List Edge → NodeDef → ℕ
 most_roof_of nodes edges node = most_roof node.func (named_out_count nodes edges node.name)
 
--- a roof is at least the fan-out of the node's own function, and at most what its kind and edges allow
+-- a roof is at least the fan-out of the node's own function, and at most what its kind and edges
+-- allow
 abbrev pub roof_oversize : List NodeDef → List Edge → NodeDef → Option Oversize
-roof_oversize nodes edges node = outside which.Roof (fan_out node.func) (most_roof_of nodes edges node) node.roof
+roof_oversize nodes edges node =
+    outside which.Roof (fan_out node.func) (most_roof_of nodes edges node) node.roof
 
 -- how many entries the tables have together
 abbrev pub entry_count : List Table → ℕ
@@ -123,4 +128,6 @@ pub record HasLimits (job : JobView) : Type 0 where
   pub entries : entry_count job.tables ≤ 4096
   pub texts : All (λ table. table_oversize table ≡ None) job.tables
   pub functions : All (λ node. oversize node.func ≡ None) job.nodes
-  pub roofs : All (λ node. (fan_out node.func ≤ node.roof) × (node.roof ≤ most_roof_of job.nodes job.edges node)) job.nodes
+  pub roofs :
+      All (λ node. (fan_out node.func ≤ node.roof)
+      × (node.roof ≤ most_roof_of job.nodes job.edges node)) job.nodes

@@ -16,7 +16,8 @@ EachPasses test xs = Each (λ i x. IsTrue (test i x)) xs
 -- the item at the place fails the test, and each before it passes
 abbrev pub IsFirstFailure : {A : Type 0} → (ℕ → A → Bool) → List A → ℕ → Type 0
 IsFirstFailure test xs i =
-    IsAt xs i (λ x. test i x ≡ false) × ((k : ℕ) (x : _) → k < i → slice_get xs k ≡ Some x → IsTrue (test k x))
+    IsAt xs i (λ x. test i x ≡ false)
+    × ((k : ℕ) (x : _) → k < i → slice_get xs k ≡ Some x → IsTrue (test k x))
 
 -- the answer is the place of the first item that fails the test, and none where each passes
 abbrev pub FindsFailure : {A : Type 0} → (ℕ → A → Bool) → List A → Option ℕ → Type 0

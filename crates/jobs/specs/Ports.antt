@@ -33,7 +33,8 @@ out_count edges node = length (filter (leaves node) edges)
 -- two of the node's edges lead to one node
 abbrev pub leads_twice : List Edge → ℕ → Bool
 leads_twice [] node = false
-leads_twice (edge ∷ edges) node = (leaves node edge && has_edge edges node edge.to) || leads_twice edges node
+leads_twice (edge ∷ edges) node =
+    (leaves node edge && has_edge edges node edge.to) || leads_twice edges node
 
 -- this number of edges may leave a node with this function
 abbrev pub may_leave : Func → ℕ → Bool

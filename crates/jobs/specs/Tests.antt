@@ -15,12 +15,18 @@ pub record TestView : Type 0 where
 
 -- the row of a test
 abbrev pub row_of_test : Test → TestView
-row_of_test test.Eq = record { word = codes "="; texts = true; less = false; equal = true; greater = false }
-row_of_test test.Ne = record { word = codes "!="; texts = true; less = true; equal = false; greater = true }
-row_of_test test.Lt = record { word = codes "<"; texts = false; less = true; equal = false; greater = false }
-row_of_test test.Le = record { word = codes "<="; texts = false; less = true; equal = true; greater = false }
-row_of_test test.Gt = record { word = codes ">"; texts = false; less = false; equal = false; greater = true }
-row_of_test test.Ge = record { word = codes ">="; texts = false; less = false; equal = true; greater = true }
+row_of_test test.Eq =
+    record { word = codes "="; texts = true; less = false; equal = true; greater = false }
+row_of_test test.Ne =
+    record { word = codes "!="; texts = true; less = true; equal = false; greater = true }
+row_of_test test.Lt =
+    record { word = codes "<"; texts = false; less = true; equal = false; greater = false }
+row_of_test test.Le =
+    record { word = codes "<="; texts = false; less = true; equal = true; greater = false }
+row_of_test test.Gt =
+    record { word = codes ">"; texts = false; less = false; equal = false; greater = true }
+row_of_test test.Ge =
+    record { word = codes ">="; texts = false; less = false; equal = true; greater = true }
 
 -- all tests
 abbrev pub all_tests : List Test

@@ -11,7 +11,8 @@ use Rattle.keyed_state.specs.TextMap.{TextMapOf}
 abbrev pub Counts : Type 0
 Counts = TextMapOf ℤ
 
--- a code of counts: a struct whose view holds counts needs it, as `Prim.hlevel (codes, counts_code)`
+-- a code of counts: a struct whose view holds counts needs it, as
+-- `Prim.hlevel (codes, counts_code)`
 abbrev pub counts_code : Coded Counts
 counts_code = code (coded_list coded_ℕ) coded_ℤ
 

@@ -30,7 +30,8 @@ ComesTo graph node (first ∷ rest) = IsWalk (IsEdge graph) first rest × last_o
 
 -- a tuple has come to the lane's beginning along the edges of the graph
 abbrev pub HasComeTo : Origin → Item → Type 0
-HasComeTo origin (Carry tuple) = ComesTo origin.graph origin.from (map (λ visit. visit.node) tuple.trace)
+HasComeTo origin (Carry tuple) =
+    ComesTo origin.graph origin.from (map (λ visit. visit.node) tuple.trace)
 HasComeTo origin (Mark request cover) = ⊤
 HasComeTo origin Last = ⊤
 

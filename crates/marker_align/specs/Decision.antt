@@ -11,11 +11,16 @@ use Rattle.marker_align.specs.declared.decision.Due.{Due}
 
 -- the hand of each of the due's lanes holds its marker
 abbrev pub is_aligned : Due → List Hand → Bool
-is_aligned due hands = list_all (λ (place, hand). not (has due.lanes place) || is_marker due.request due.cover hand) (enumerate_from 0 hands)
+is_aligned due hands =
+    list_all (λ (place, hand). not (has due.lanes place) || is_marker due.request due.cover hand)
+    (enumerate_from 0 hands)
 
--- at a head, the due was posted or a hand holds a tuple fed under it; elsewhere, the markers are aligned
+-- at a head, the due was posted or a hand holds a tuple fed under it; elsewhere, the markers are
+-- aligned
 abbrev pub may_turn : List Hand → Due → Bool → Bool
-may_turn hands due posted = if due.head then posted || list_any (is_issued due.request) hands else is_aligned due hands
+may_turn hands due posted =
+    if due.head then posted || list_any (is_issued due.request) hands
+    else is_aligned due hands
 
 abbrev pub turn : List Hand → Option Due → Bool → Option Act
 turn hands None posted = None
@@ -23,7 +28,9 @@ turn hands (Some due) posted = if may_turn hands due posted then Some (Turn due.
 
 -- the first place with a tuple from `start` on, going round
 abbrev pub next_tuple : ℕ → List Hand → Option ℕ
-next_tuple start hands = option_or (option_map (λ k. start + k) (position is_tuple (drop start hands))) (position is_tuple (take start hands))
+next_tuple start hands =
+    option_or (option_map (λ k. start + k) (position is_tuple (drop start hands)))
+    (position is_tuple (take start hands))
 
 -- nothing is due, and all hands hold ends
 abbrev pub close : List Hand → Option Due → Option Act
@@ -32,4 +39,6 @@ close hands due = if is_none due && list_all is_last hands then Some Close else 
 -- the decision
 abbrev pub decided : List Hand → Option Due → Bool → ℕ → Act
 decided hands due posted start =
-    unwrap_or (option_or (turn hands due posted) (option_or (option_map Process (next_tuple start hands)) (close hands due))) Nothing
+    unwrap_or (option_or (turn hands due posted)
+    (option_or (option_map Process (next_tuple start hands)) (close hands due)))
+    Nothing

@@ -27,11 +27,13 @@ computed op.Max a b = int_max a b
 
 -- what a step computes of the fields: the exact result, cut to the range of 64 bits
 abbrev pub result_of : List Column → List Value → Step → ℤ
-result_of columns fields step = clamp (computed step.op (number_of columns fields step.a) (number_of columns fields step.b))
+result_of columns fields step =
+    clamp (computed step.op (number_of columns fields step.a) (number_of columns fields step.b))
 
 -- the fields after a step
 abbrev pub after_step : List Column → List Value → Step → List Value
-after_step columns fields step = written_at columns fields step.column (value.Num (result_of columns fields step))
+after_step columns fields step =
+    written_at columns fields step.column (value.Num (result_of columns fields step))
 
 -- the fields after steps, each of which reads what the earlier ones wrote
 abbrev pub after_steps : List Column → List Value → List Step → List Value

@@ -23,16 +23,22 @@ admits test o.Greater = (row_of_test test).greater
 -- whether a test admits two texts that are the same or not: an order of texts is no test
 abbrev pub admits_text : Test → Bool → Bool
 admits_text test same =
-    if (row_of_test test).texts then (if same then (row_of_test test).equal else not (row_of_test test).equal) else false
+    if (row_of_test test).texts
+    then (if same then (row_of_test test).equal else not (row_of_test test).equal)
+    else false
 
 -- whether a field of a column of this kind meets a test against a literal; both are read by the
 -- kind
 abbrev pub compares : Option ColumnKind → Test → Option Value → Value → Bool
 compares None test field literal = false
-compares (Some kind.Text) test field literal = admits_text test (pointwise nat_eq (as_text field) (as_text (Some literal)))
-compares (Some kind.Number) test field literal = admits test (int_cmp (as_number field) (as_number (Some literal)))
-compares (Some kind.Cents) test field literal = admits test (int_cmp (as_number field) (as_number (Some literal)))
+compares (Some kind.Text) test field literal =
+    admits_text test (pointwise nat_eq (as_text field) (as_text (Some literal)))
+compares (Some kind.Number) test field literal =
+    admits test (int_cmp (as_number field) (as_number (Some literal)))
+compares (Some kind.Cents) test field literal =
+    admits test (int_cmp (as_number field) (as_number (Some literal)))
 
 -- whether fields meet a condition
 abbrev pub meets : List Column → List Value → Cond → Bool
-meets columns fields cond = compares (kind_at columns cond.column) cond.test (slice_get fields cond.column) cond.literal
+meets columns fields cond =
+    compares (kind_at columns cond.column) cond.test (slice_get fields cond.column) cond.literal

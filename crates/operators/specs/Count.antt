@@ -14,10 +14,12 @@ use Rattle.operators.specs.Sent.{sent, with_fields}
 -- the count of a tuple's key once the tuple is counted
 abbrev pub count_after : List Column → CountBy → Counts → Tuple → ℤ
 count_after columns count counts tuple =
-    raised counts (text_at columns tuple.fields count.key) (number_of columns tuple.fields count.add)
+    raised counts (text_at columns tuple.fields count.key)
+    (number_of columns tuple.fields count.add)
 
 -- a count: a column becomes the count of the key
 abbrev pub counted : List Column → Visit → CountBy → Counts → Tuple → List Output
 counted columns visit count counts tuple =
     let sum = count_after columns count counts tuple in
-    sent visit 0 (with_fields (written_at columns tuple.fields count.into (value.Num sum)) tuple) ∷ []
+    sent visit 0
+    (with_fields (written_at columns tuple.fields count.into (value.Num sum)) tuple) ∷ []

@@ -19,8 +19,10 @@ looked_up (Some table) key other = unwrap_or (finite.get table.entries key) othe
 -- the fields after a look-up: a column becomes what the table holds for the key
 abbrev pub enriched_fields : List Column → List Table → Lookup → List Value → List Value
 enriched_fields columns tables lookup fields =
-    written_at columns fields lookup.into (looked_up (slice_get tables lookup.table) (text_at columns fields lookup.key) lookup.other)
+    written_at columns fields lookup.into
+    (looked_up (slice_get tables lookup.table) (text_at columns fields lookup.key) lookup.other)
 
 -- an enrich: the fields are those after its look-up
 abbrev pub enriched : List Column → List Table → Visit → Lookup → Tuple → List Output
-enriched columns tables visit lookup tuple = sent visit 0 (with_fields (enriched_fields columns tables lookup tuple.fields) tuple) ∷ []
+enriched columns tables visit lookup tuple =
+    sent visit 0 (with_fields (enriched_fields columns tables lookup tuple.fields) tuple) ∷ []

@@ -15,13 +15,16 @@ of_kind kind (Some field) = if holds kind field then Some field else None
 abbrev pub field_at : List Column → List Value → ℕ → Option Value
 field_at columns fields column = of_kind (kind_at columns column) (slice_get fields column)
 
--- a column read as a number, and as a text: 0 and the empty text where the tuple doesn't have it in its kind
+-- a column read as a number, and as a text: 0 and the empty text where the tuple doesn't have it in
+-- its kind
 abbrev pub number_at : List Column → List Value → ℕ → ℤ
 number_at columns fields column = as_number (field_at columns fields column)
 
 abbrev pub text_at : List Column → List Value → ℕ → List ℕ
 text_at columns fields column = as_text (field_at columns fields column)
 
--- the fields with a value in a column: where the tuple doesn't have the column in its kind, nothing is written
+-- the fields with a value in a column: where the tuple doesn't have the column in its kind, nothing
+-- is written
 abbrev pub written_at : List Column → List Value → ℕ → Value → List Value
-written_at columns fields column value = if is_some (field_at columns fields column) then slice_set fields column value else fields
+written_at columns fields column value =
+    if is_some (field_at columns fields column) then slice_set fields column value else fields

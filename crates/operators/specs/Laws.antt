@@ -45,7 +45,8 @@ abbrev pub MayLeaveBy : List Edge → ℕ → Func → ℕ → ℕ → Type 0
 MayLeaveBy edges node func k port = MayLeaveAs (row_at func).shape edges node func k port
 
 -- what every output has of the tuple that it was made of
-pub record IsMadeOf (edges : List Edge) (visit : Visit) (func : Func) (tuple : Tuple) (k : ℕ) (output : Output) : Type 0 where
+pub record IsMadeOf (edges : List Edge) (visit : Visit) (func : Func) (tuple : Tuple) (k : ℕ)
+    (output : Output) : Type 0 where
   pub row : output.tuple.row ≡ tuple.row
   pub issued : output.tuple.issued ≡ tuple.issued
   pub trace : output.tuple.trace ≡ tuple.trace ++ visit ∷ []
@@ -63,7 +64,8 @@ abbrev pub CountsServeCounts : Type 0
 CountsServeCounts =
     (job : JobView) (visit : Visit) (func : Func) (counts other : Counts) (tuple : Tuple)
     → is_count func ≡ false
-    → ((step job visit func counts tuple).0 ≡ counts) × ((step job visit func counts tuple).1 ≡ (step job visit func other tuple).1)
+    → ((step job visit func counts tuple).0 ≡ counts)
+    × ((step job visit func counts tuple).1 ≡ (step job visit func other tuple).1)
 
 -- a tuple and an output without what a flow writes on them: the trace, and how many requests had
 -- been issued
@@ -82,7 +84,8 @@ bare_visit visit = record visit { worker = 0; last = 0 }
 abbrev pub OutputsAreBlind : Type 0
 OutputsAreBlind =
     (job : JobView) (visit : Visit) (func : Func) (counts : Counts) (tuple : Tuple)
-    → map bare (step job visit func counts tuple).1 ≡ map bare (step job (bare_visit visit) func counts (bare_tuple tuple)).1
+    → map bare (step job visit func counts tuple).1
+    ≡ map bare (step job (bare_visit visit) func counts (bare_tuple tuple)).1
 
 -- where the edges of the node are those of the function's kind, each output leaves by the port of
 -- one of them
@@ -90,12 +93,14 @@ abbrev pub PortsHaveEdges : Type 0
 PortsHaveEdges =
     (job : JobView) (visit : Visit) (func : Func) (counts : Counts) (tuple : Tuple)
     → IsTrue (are_ports job.edges visit.node func)
-    → Each (λ k (output : Output). IsTrue (has_port job.edges visit.node output.port)) (step job visit func counts tuple).1
+    → Each (λ k (output : Output). IsTrue (has_port job.edges visit.node output.port))
+    (step job visit func counts tuple).1
 
 -- and two outputs for one tuple have different births
 abbrev pub OutputsArePeers : Type 0
 OutputsArePeers =
-    (job : JobView) (visit : Visit) (func : Func) (counts : Counts) (tuple : Tuple) (k l : ℕ) (a b : Output)
+    (job : JobView) (visit : Visit) (func : Func) (counts : Counts) (tuple : Tuple) (k l : ℕ)
+    (a b : Output)
     → IsTrue (are_ports job.edges visit.node func)
     → slice_get (step job visit func counts tuple).1 k ≡ Some a
     → slice_get (step job visit func counts tuple).1 l ≡ Some b

@@ -10,4 +10,5 @@ use Rattle.operators.specs.Sent.{sent, with_fields}
 
 -- a map: the fields are those after its steps
 abbrev pub mapped : List Column → Visit → List Step → Tuple → List Output
-mapped columns visit steps tuple = sent visit 0 (with_fields (after_steps columns tuple.fields steps) tuple) ∷ []
+mapped columns visit steps tuple =
+    sent visit 0 (with_fields (after_steps columns tuple.fields steps) tuple) ∷ []

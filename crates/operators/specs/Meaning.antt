@@ -20,9 +20,11 @@ pub use Rattle.operators.specs.Split.{piece_sent, split_up}
 -- what a function puts out for a tuple, where the node has these counts
 abbrev pub outputs : JobView → Visit → Func → Counts → Tuple → List Output
 outputs job visit func.Source counts tuple = []
-outputs job visit (func.Filter conds) counts tuple = filtered job.columns job.edges visit conds tuple
+outputs job visit (func.Filter conds) counts tuple =
+    filtered job.columns job.edges visit conds tuple
 outputs job visit (func.Map steps) counts tuple = mapped job.columns visit steps tuple
-outputs job visit (func.Enrich lookup) counts tuple = enriched job.columns job.tables visit lookup tuple
+outputs job visit (func.Enrich lookup) counts tuple =
+    enriched job.columns job.tables visit lookup tuple
 outputs job visit (func.Count count) counts tuple = counted job.columns visit count counts tuple
 outputs job visit (func.Split split) counts tuple = split_up job.columns visit split tuple
 outputs job visit func.Replicate counts tuple = replicated job.edges visit tuple
@@ -35,7 +37,8 @@ counts_after job (func.Filter conds) counts tuple = counts
 counts_after job (func.Map steps) counts tuple = counts
 counts_after job (func.Enrich lookup) counts tuple = counts
 counts_after job (func.Count count) counts tuple =
-    finite.insert counts (text_at job.columns tuple.fields count.key) (count_after job.columns count counts tuple)
+    finite.insert counts (text_at job.columns tuple.fields count.key)
+    (count_after job.columns count counts tuple)
 counts_after job (func.Split split) counts tuple = counts
 counts_after job func.Replicate counts tuple = counts
 counts_after job (func.Sink listed) counts tuple = counts
@@ -43,4 +46,5 @@ counts_after job (func.Sink listed) counts tuple = counts
 -- the meaning of a function: of the counts of a node and a tuple that visits it, the counts
 -- afterwards, and what is put out
 abbrev pub step : JobView → Visit → Func → Counts → Tuple → Counts × List Output
-step job visit func counts tuple = (counts_after job func counts tuple, outputs job visit func counts tuple)
+step job visit func counts tuple =
+    (counts_after job func counts tuple, outputs job visit func counts tuple)

@@ -4,9 +4,12 @@ use Rattle.std.specs.Prelude.{ℕ, ◌==◌, List, [], ◌∷◌, ◌++◌, Opti
 -- the pieces of a text that is cut at every byte `by`, where the first piece begins with `begun`
 abbrev pub pieces_from : ℕ → List ℕ → List ℕ → List (List ℕ)
 pieces_from by begun [] = begun ∷ []
-pieces_from by begun (byte ∷ rest) = if byte == by then begun ∷ pieces_from by [] rest else pieces_from by (begun ++ byte ∷ []) rest
+pieces_from by begun (byte ∷ rest) =
+    if byte == by then begun ∷ pieces_from by [] rest
+    else pieces_from by (begun ++ byte ∷ []) rest
 
--- the pieces of a text that is cut at every byte `by`: one more than there are such bytes, and any of them may be empty
+-- the pieces of a text that is cut at every byte `by`: one more than there are such bytes, and any
+-- of them may be empty
 abbrev pub pieces : ℕ → List ℕ → List (List ℕ)
 pieces by text = pieces_from by [] text
 

@@ -10,4 +10,5 @@ use Rattle.operators.specs.Sent.{born, sent}
 -- a replicate: a copy leaves along each edge of the node, and its last birth is the port of the
 -- edge
 abbrev pub replicated : List Edge → Visit → Tuple → List Output
-replicated edges visit tuple = map (λ (e : Edge). sent visit e.port (born e.port tuple)) (filter (leaves visit.node) edges)
+replicated edges visit tuple =
+    map (λ (e : Edge). sent visit e.port (born e.port tuple)) (filter (leaves visit.node) edges)

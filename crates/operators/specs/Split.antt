@@ -14,7 +14,8 @@ use Rattle.operators.specs.Sent.{born, sent, with_fields}
 -- the piece with this number
 abbrev pub piece_sent : List Column → Visit → ℕ → Tuple → ℕ × List ℕ → Output
 piece_sent columns visit on tuple piece =
-    sent visit 0 (born piece.0 (with_fields (written_at columns tuple.fields on (value.Text piece.1)) tuple))
+    sent visit 0
+    (born piece.0 (with_fields (written_at columns tuple.fields on (value.Text piece.1)) tuple))
 
 -- a split: each of the first pieces of a column makes a tuple, whose last birth is the number of
 -- the piece

@@ -32,7 +32,8 @@ ReadCause (Err shelf.Long) name before now = now ≡ before
 ReadCause (Err shelf.NoMemory) name before now = now ≡ before
 
 -- what a write to the file leaves of the faults; `Long` isn't its answer
-abbrev pub WriteCause : {T : Type 0} → Result T ShelfFault → Option (List ℕ) → Faults → Faults → Type 0
+abbrev pub WriteCause : {T : Type 0} → Result T ShelfFault → Option (List ℕ) → Faults → Faults
+    → Type 0
 WriteCause (Ok value) name before now = now ≡ before
 WriteCause (Err shelf.Failed) name before now = WriteFailed name before now
 WriteCause (Err shelf.Long) name before now = ⊥

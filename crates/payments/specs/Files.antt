@@ -22,7 +22,8 @@ with_bytes files name bytes = option_map (λ files. map.insert files name bytes)
 
 -- the files with more bytes at the end of one
 abbrev pub with_more : Option Files → List ℕ → List ℕ → Option Files
-with_more files name bytes = option_map (λ files. map.insert files name (bytes_of files name ++ bytes)) files
+with_more files name bytes =
+    option_map (λ files. map.insert files name (bytes_of files name ++ bytes)) files
 
 -- the files, with the first bytes of a text under a name
 pub record HoldsPrefix (old new : Option Files) (name text : List ℕ) : Type 0 where

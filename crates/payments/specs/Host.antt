@@ -7,7 +7,11 @@ use Rattle.payments.specs.declared.host.StdOut.{StdOut}
 
 -- what the files have counted
 abbrev pub host_faults_of : {R File Folder : Type 0} → HostShelf R File Folder → Faults
-host_faults_of shelf = record { reads = shelf.read_faults; writes = shelf.write_faults; failed = shelf.failed }
+host_faults_of shelf = record {
+  reads = shelf.read_faults;
+  writes = shelf.write_faults;
+  failed = shelf.failed;
+}
 
 -- the file that takes what is appended
 abbrev pub host_target_of : {R File Folder : Type 0} → HostShelf R File Folder → Option (List ℕ)
@@ -15,7 +19,11 @@ host_target_of shelf = option_map (λ target. target.name) shelf.target
 
 -- the files of the system as a shelf, which tells none of their bytes
 abbrev pub host_state_of : {R File Folder : Type 0} → HostShelf R File Folder → ShelfState
-host_state_of shelf = record { files = None; faults = host_faults_of shelf; target = host_target_of shelf }
+host_state_of shelf = record {
+  files = None;
+  faults = host_faults_of shelf;
+  target = host_target_of shelf;
+}
 
 -- how many writes to the output have failed
 abbrev pub out_faults_of : {R : Type 0} → StdOut R → ℕ

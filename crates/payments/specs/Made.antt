@@ -77,7 +77,13 @@ source_made nodes draw = get_or (sources_from 0 nodes) (draw % length (sources_f
 abbrev pub row_made : JobView → ℕ → ℕ → Row
 row_made job number row = record {
   source = source_made job.nodes (draw_of (number_after number));
-  tuple = record { row = row; birth = []; issued = 0; fields = fields_made job.columns (number_after number); trace = [] };
+  tuple = record {
+    row = row;
+    birth = [];
+    issued = 0;
+    fields = fields_made job.columns (number_after number);
+    trace = [];
+  };
 }
 
 -- the generator's number after a row
@@ -90,7 +96,8 @@ rows_made_from job number row zero = []
 rows_made_from job number row (suc count) =
     row_made job number row ∷ rows_made_from job (number_after_row job number) (row + 1) count
 
--- the rows that are made, or the first row that is too much for the job. The generator's number starts as the seed
+-- the rows that are made, or the first row that is too much for the job. The generator's number
+-- starts as the seed
 abbrev pub made_rows : JobView → ℕ → ℕ → Result (List Row) PFault
 made_rows job seed count =
     if nat_le (count * weight job) work_max then Ok (rows_made_from job seed 1 count)

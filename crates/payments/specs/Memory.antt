@@ -42,11 +42,19 @@ target_of shelf = open_name shelf.is_open shelf.last
 
 -- what a shelf in memory has counted
 abbrev pub faults_of : MemoryShelf → Faults
-faults_of shelf = record { reads = shelf.read_faults; writes = shelf.write_faults; failed = shelf.failed }
+faults_of shelf = record {
+  reads = shelf.read_faults;
+  writes = shelf.write_faults;
+  failed = shelf.failed;
+}
 
 -- a shelf in memory as a shelf, which tells its files
 abbrev pub shelf_state_of : MemoryShelf → ShelfState
-shelf_state_of shelf = record { files = Some (files_of shelf); faults = faults_of shelf; target = target_of shelf }
+shelf_state_of shelf = record {
+  files = Some (files_of shelf);
+  faults = faults_of shelf;
+  target = target_of shelf;
+}
 
 -- which calls are to fail, and how many there were
 pub record Plan : Type 0 where
@@ -93,15 +101,18 @@ up_to limit (Some bytes) = if nat_le (length bytes) limit then Ok bytes else Err
 
 -- what a shelf in memory answers to a read, where there is memory
 abbrev pub read_of : MemoryShelf → List ℕ → ℕ → Result (List ℕ) ShelfFault
-read_of shelf name limit = unless_due (plan_of shelf) shelf_fault.Failed (up_to limit (map.get (files_of shelf) name))
+read_of shelf name limit =
+    unless_due (plan_of shelf) shelf_fault.Failed (up_to limit (map.get (files_of shelf) name))
 
 -- what it answers to a file that is to be made
 abbrev pub create_of : MemoryShelf → Result (Unit {0}) ShelfFault
 create_of shelf = unless_due (plan_of shelf) shelf_fault.Failed (Ok tt)
 
--- what it answers to a piece of this length: the step, but at least one byte and at most the whole piece
+-- what it answers to a piece of this length: the step, but at least one byte and at most the whole
+-- piece
 abbrev pub append_of : MemoryShelf → ℕ → Result ℕ ShelfFault
-append_of shelf size = unless_due (plan_of shelf) shelf_fault.Failed (Ok (min (max (step_of shelf) 1) size))
+append_of shelf size =
+    unless_due (plan_of shelf) shelf_fault.Failed (Ok (min (max (step_of shelf) 1) size))
 
 -- what a sink in memory answers to a piece of this length, where there is memory
 abbrev pub write_of : MemorySink → ℕ → Result ℕ SinkFault

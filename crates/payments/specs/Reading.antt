@@ -41,9 +41,13 @@ source_named job name = position (is_source_with name) job.nodes
 
 -- what a cell of a row stands for in the column at this place
 abbrev pub value_of : ℕ → ℕ → ColumnKind → List ℕ → Result Value PFault
-value_of row place kind.Text cell = if nat_le (length cell) text_max then Ok (value.Text cell) else Err (fault.TextLong row place)
-value_of row place kind.Number cell = ok_or (option_map value.Num (number_of cell)) (fault.Value row place)
-value_of row place kind.Cents cell = ok_or (option_map value.Num (amount_of cell)) (fault.Value row place)
+value_of row place kind.Text cell =
+    if nat_le (length cell) text_max then Ok (value.Text cell)
+    else Err (fault.TextLong row place)
+value_of row place kind.Number cell =
+    ok_or (option_map value.Num (number_of cell)) (fault.Value row place)
+value_of row place kind.Cents cell =
+    ok_or (option_map value.Num (amount_of cell)) (fault.Value row place)
 
 -- what an own column starts as
 abbrev pub first_value : ColumnKind → Value
@@ -62,9 +66,12 @@ abbrev pub first_cell : List (List ℕ) → List ℕ
 first_cell [] = []
 first_cell (cell ∷ cells) = cell
 
--- the field of the column at this place: what it starts as where it is own, else what the first cell stands for
+-- the field of the column at this place: what it starts as where it is own, else what the first
+-- cell stands for
 abbrev pub field_of : ℕ → ℕ → Column → List (List ℕ) → Result Value PFault
-field_of row place column cells = if column.own then Ok (first_value column.kind) else value_of row place column.kind (first_cell cells)
+field_of row place column cells =
+    if column.own then Ok (first_value column.kind)
+    else value_of row place column.kind (first_cell cells)
 
 -- the cells that a column leaves for those behind it
 abbrev pub cells_behind : Column → List (List ℕ) → List (List ℕ)
@@ -73,19 +80,26 @@ cells_behind column cells = if column.own then cells else drop 1 cells
 -- the fields of these columns, the first of which is at this place
 unfoldable pub fields_from : ℕ → ℕ → List Column → List (List ℕ) → Result (List Value) PFault
 fields_from row place [] cells = Ok []
-fields_from row place (column ∷ columns) cells = before (field_of row place column cells) (fields_from row (place + 1) columns (cells_behind column cells))
+fields_from row place (column ∷ columns) cells =
+    before (field_of row place column cells)
+    (fields_from row (place + 1) columns (cells_behind column cells))
 
 -- a row with this number, in one piece, fed under no request, that was nowhere yet
 abbrev pub row_with : ℕ → ℕ → Result (List Value) PFault → Result Row PFault
 row_with row source (Err fault) = Err fault
-row_with row source (Ok fields) = Ok (record { source = source; tuple = record { row = row; birth = []; issued = 0; fields = fields; trace = [] } })
+row_with row source (Ok fields) = Ok (record {
+  source = source;
+  tuple = record { row = row; birth = []; issued = 0; fields = fields; trace = [] };
+})
 
 -- the row whose source was looked for by its name
 abbrev pub row_by : JobView → ℕ → List (List ℕ) → Option ℕ → Result Row PFault
 row_by job row cells None = Err (fault.Source row)
-row_by job row cells (Some source) = row_with row source (fields_from row 0 job.columns (drop 1 cells))
+row_by job row cells (Some source) =
+    row_with row source (fields_from row 0 job.columns (drop 1 cells))
 
--- the row of a record of the right length: its first cell names the source, the others are the fields
+-- the row of a record of the right length: its first cell names the source, the others are the
+-- fields
 abbrev pub row_from : JobView → ℕ → List (List ℕ) → Result Row PFault
 row_from job row cells = row_by job row cells (source_named job (first_cell cells))
 
@@ -93,7 +107,8 @@ row_from job row cells = row_by job row cells (source_named job (first_cell cell
 abbrev pub work_max : ℕ
 work_max = 1048576
 
--- the row of a record, or what is wrong with it: first its number, then its length, its source, and its columns from left to right
+-- the row of a record, or what is wrong with it: first its number, then its length, its source, and
+-- its columns from left to right
 abbrev pub row_of : JobView → ℕ → List (List ℕ) → Result Row PFault
 row_of job row cells =
     if nat_le (row * weight job) work_max then
@@ -109,7 +124,9 @@ rows_from job row (first ∷ later) = before (row_of job row first) (rows_from j
 -- the rows behind a header
 abbrev pub rows_behind : JobView → List (List (List ℕ)) → Result (List Row) PFault
 rows_behind job [] = Err fault.NoHeader
-rows_behind job (header ∷ later) = if pointwise (pointwise nat_eq) header (header_of job) then rows_from job 1 later else Err fault.Header
+rows_behind job (header ∷ later) =
+    if pointwise (pointwise nat_eq) header (header_of job) then rows_from job 1 later
+    else Err fault.Header
 
 -- the rows of a payments file, or its first fault
 abbrev pub rows_of : JobView → List ℕ → Result (List Row) PFault

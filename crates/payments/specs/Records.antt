@@ -15,7 +15,8 @@ records_of state (Some text) = records_from default_config (length text + 1) sta
 abbrev pub unread_of : Reader (Bor (List ℕ)) → List (List (List ℕ))
 unread_of reader = records_of (reader_state reader) (source_of (λ s. Some s.now) reader)
 
--- as long as it hasn't failed, a reader reads by the crate's defaults and takes no record for a header
+-- as long as it hasn't failed, a reader reads by the crate's defaults and takes no record for a
+-- header
 pub record Plain (reader : Reader (Bor (List ℕ))) : Type 0 where
   pub config : reader_config reader ≡ default_config
   pub trim : reader_trim reader ≡ trim.None

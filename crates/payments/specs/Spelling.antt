@@ -41,12 +41,14 @@ cents (Some whole) (Some part) = Some (whole * 100 + part)
 -- the cents of an amount without a dash, whose point stands there
 abbrev pub size_at : Option ℕ → List ℕ → Option ℕ
 size_at None text = cents (digits_of text) (Some 0)
-size_at (Some point) text = cents (digits_of (take point text)) (hundredths_of (drop (point + 1) text))
+size_at (Some point) text =
+    cents (digits_of (take point text)) (hundredths_of (drop (point + 1) text))
 
 -- the cents of an amount without a dash
 abbrev pub size_of : List ℕ → Option ℕ
 size_of text = size_at (position (λ byte. nat_eq byte 46) text) text
 
--- an amount: an optional dash, digits, and optionally a point with one or two digits; counted in cents
+-- an amount: an optional dash, digits, and optionally a point with one or two digits; counted in
+-- cents
 abbrev pub amount_of : List ℕ → Option ℤ
 amount_of text = with_sign (is_negative text) (size_of (after_sign text))

@@ -21,7 +21,11 @@ no_faults = record { reads = 0; writes = 0; failed = None }
 
 -- a sure shelf as a shelf, which tells its files and counts no fault
 abbrev pub sure_state_of : SureShelf → ShelfState
-sure_state_of shelf = record { files = Some (sure_files shelf); faults = no_faults; target = sure_target shelf }
+sure_state_of shelf = record {
+  files = Some (sure_files shelf);
+  faults = no_faults;
+  target = sure_target shelf;
+}
 
 -- what was written to a sure sink
 abbrev pub sure_written : SureSink → List ℕ

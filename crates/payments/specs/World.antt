@@ -3,7 +3,8 @@ use Rattle.std.specs.Prelude.{ℕ, List, Option}
 use Rattle.payments.specs.Causes.{Faults}
 use Rattle.payments.specs.Files.{Files}
 
--- the files, if they are told; how many reads and writes of them have failed; and the file that takes what is appended
+-- the files, if they are told; how many reads and writes of them have failed; and the file that
+-- takes what is appended
 pub record ShelfState : Type 0 where
   pub files : Option Files
   pub faults : Faults

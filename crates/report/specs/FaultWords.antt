@@ -34,4 +34,5 @@ fault_words (fault.Long file) = file_words file
 
 -- the line of a fault
 abbrev pub fault_line : Fault → List ℕ
-fault_line fault = codes "fault " ++ decimal (status_of fault) ++ codes " " ++ fault_words fault ++ codes "\n"
+fault_line fault =
+    codes "fault " ++ decimal (status_of fault) ++ codes " " ++ fault_words fault ++ codes "\n"

@@ -42,10 +42,13 @@ abbrev pub met_by : Func → List (List Entry) → ℕ
 met_by (func.Sink listed) journals = sum_by met_count journals
 met_by _ journals = 0
 
--- how many tuples reached the sinks among these nodes, each of which has as many of the journals as it has workers
+-- how many tuples reached the sinks among these nodes, each of which has as many of the journals as
+-- it has workers
 abbrev pub alert_count : List NodeDef → List (List Entry) → ℕ
 alert_count [] journals = 0
-alert_count (node ∷ nodes) journals = met_by node.func (take (workers_of node) journals) + alert_count nodes (drop (workers_of node) journals)
+alert_count (node ∷ nodes) journals =
+    met_by node.func (take (workers_of node) journals)
+    + alert_count nodes (drop (workers_of node) journals)
 
 -- the words of a summary
 abbrev pub summary_words : Summary → List ℕ
@@ -66,7 +69,12 @@ sizes_words sizes =
 
 -- what is counted of a job: its workers are those that keep a journal
 abbrev pub sizes_of : JobView → Sizes
-sizes_of job = record { nodes = length job.nodes; edges = length job.edges; workers = worker_count job.nodes; weight = weight job }
+sizes_of job = record {
+  nodes = length job.nodes;
+  edges = length job.edges;
+  workers = worker_count job.nodes;
+  weight = weight job;
+}
 
 -- the line that `check` prints
 abbrev pub sizes_line : JobView → List ℕ
@@ -81,7 +89,9 @@ listed (first ∷ later) = join_with_byte 44 (first ∷ later)
 
 -- the names of those items whose numbers a mask has, in their order; the first item has this number
 abbrev pub names_from : {X : Type 0} → (X → List ℕ) → ℕ → ℕ → List X → List (List ℕ)
-names_from name mask number items = map (λ (number, item). name item) (filter (λ (number, item). has mask number) (enumerate_from number items))
+names_from name mask number items =
+    map (λ (number, item). name item)
+    (filter (λ (number, item). has mask number) (enumerate_from number items))
 
 -- those of the nodes of a mask
 abbrev pub node_names : List NodeDef → ℕ → List (List ℕ)
@@ -93,7 +103,8 @@ name_of (Some node) = node.name
 
 -- the names of the ends of an edge
 unfoldable pub edge_name : List NodeDef → Edge → List ℕ
-edge_name nodes edge = name_of (slice_get nodes edge.from) ++ codes "-" ++ name_of (slice_get nodes edge.to)
+edge_name nodes edge =
+    name_of (slice_get nodes edge.from) ++ codes "-" ++ name_of (slice_get nodes edge.to)
 
 -- those of the edges of a mask
 abbrev pub edge_names : List NodeDef → List Edge → ℕ → List (List ℕ)
@@ -110,13 +121,17 @@ part_count parts = count_by (is_part parts) (range_with_len 0 (length parts))
 -- the line of the plan of a request
 abbrev pub plan_line : JobView → ℕ → Plan → List ℕ
 plan_line job request plan =
-    codes "request " ++ decimal request ++ codes " asked " ++ listed (node_names job.nodes plan.asked)
-    ++ codes " members " ++ listed (node_names job.nodes plan.members) ++ codes " heads " ++ listed (node_names job.nodes plan.heads)
-    ++ codes " parts " ++ decimal (part_count plan.part) ++ codes " edges " ++ listed (edge_names job.nodes job.edges plan.edges) ++ codes "\n"
+    codes "request " ++ decimal request
+    ++ codes " asked " ++ listed (node_names job.nodes plan.asked)
+    ++ codes " members " ++ listed (node_names job.nodes plan.members)
+    ++ codes " heads " ++ listed (node_names job.nodes plan.heads)
+    ++ codes " parts " ++ decimal (part_count plan.part)
+    ++ codes " edges " ++ listed (edge_names job.nodes job.edges plan.edges) ++ codes "\n"
 
 -- the lines of the plans of requests, which are counted from 1
 abbrev pub plan_lines : JobView → List Plan → List ℕ
-plan_lines job plans = flat_map (λ (request, plan). plan_line job request plan) (enumerate_from 1 plans)
+plan_lines job plans =
+    flat_map (λ (request, plan). plan_line job request plan) (enumerate_from 1 plans)
 
 -- ---- requests that are refused
 
@@ -137,7 +152,8 @@ abbrev pub named_by : QFault → List ℕ
 named_by (refusal.NoNode change) = codes " change " ++ decimal change
 named_by (refusal.Fixed change) = codes " change " ++ decimal change
 named_by (refusal.NodeTwice change) = codes " change " ++ decimal change
-named_by (refusal.Stale change current) = codes " change " ++ decimal change ++ codes " current " ++ decimal current
+named_by (refusal.Stale change current) =
+    codes " change " ++ decimal change ++ codes " current " ++ decimal current
 named_by (refusal.IllTyped change) = codes " change " ++ decimal change
 named_by (refusal.KindOrKey change) = codes " change " ++ decimal change
 named_by (refusal.BadCarry change) = codes " change " ++ decimal change
@@ -154,7 +170,9 @@ noted refused = record { place = refused.place; code = code_of refused.fault }
 
 -- the line of a refused request
 abbrev pub refused_line : Refused → List ℕ
-refused_line refused = codes "refused " ++ decimal refused.place ++ codes " " ++ refusal_words refused.fault ++ codes "\n"
+refused_line refused =
+    codes "refused " ++ decimal refused.place ++ codes " " ++ refusal_words refused.fault
+    ++ codes "\n"
 
 abbrev pub refused_lines : List Refused → List ℕ
 refused_lines refused = flat_map refused_line refused

@@ -19,13 +19,18 @@ use Rattle.sink_journal.specs.declared.journal.Entry.TheVariants as entry
 abbrev pub header : List Column → List (List ℕ)
 header columns = codes "sink" ∷ codes "row" ∷ map (λ column. column.name) columns
 
--- how a sink shows each column: by the column's kind, and not at all where it doesn't list the column
+-- how a sink shows each column: by the column's kind, and not at all where it doesn't list the
+-- column
 abbrev pub layout : List Column → List ℕ → List (Option ColumnKind)
-layout columns listed = map (λ (number, column). if list_any (λ n. nat_eq n number) listed then Some column.kind else None) (enumerate_from 0 columns)
+layout columns listed =
+    map (λ (number, column).
+    if list_any (λ n. nat_eq n number) listed then Some column.kind else None)
+    (enumerate_from 0 columns)
 
 -- what a sink with this layout shows in the columns for these fields of a tuple
 abbrev pub cells : List (Option ColumnKind) → List Value → List (List ℕ)
-cells layout fields = map (λ (number, kind). cell kind (slice_get fields number)) (enumerate_from 0 layout)
+cells layout fields =
+    map (λ (number, kind). cell kind (slice_get fields number)) (enumerate_from 0 layout)
 
 -- the fields that a sink of this name shows for a tuple
 abbrev pub alert : List ℕ → List (Option ColumnKind) → Tuple → List (List ℕ)
@@ -42,7 +47,8 @@ sink_alerts name layout journal = map (alert name layout) (filter_map met journa
 
 -- what a node with this function shows for the journals of its workers
 abbrev pub alerts_by : Func → List Column → List ℕ → List (List Entry) → List (List (List ℕ))
-alerts_by (func.Sink listed) columns name journals = flat_map (sink_alerts name (layout columns listed)) journals
+alerts_by (func.Sink listed) columns name journals =
+    flat_map (sink_alerts name (layout columns listed)) journals
 alerts_by _ columns name journals = []
 
 -- what a node shows for the journals of its workers
@@ -53,7 +59,8 @@ node_alerts columns node journals = alerts_by node.func columns node.name journa
 abbrev pub all_alerts : List Column → List NodeDef → List (List Entry) → List (List (List ℕ))
 all_alerts columns [] journals = []
 all_alerts columns (node ∷ nodes) journals =
-    node_alerts columns node (take (workers_of node) journals) ++ all_alerts columns nodes (drop (workers_of node) journals)
+    node_alerts columns node (take (workers_of node) journals)
+    ++ all_alerts columns nodes (drop (workers_of node) journals)
 
 -- the whole text
 abbrev pub alerts : JobView → List (List Entry) → List ℕ

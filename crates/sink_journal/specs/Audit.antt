@@ -1,4 +1,5 @@
--- The text of what a run was asked and did: the refused requests, the feed, and each worker's journal and counts.
+-- The text of what a run was asked and did: the refused requests, the feed, and each worker's
+-- journal and counts.
 use Rattle.std.specs.Prelude.{◌+◌, ℕ, ℤ, List, [], ◌∷◌, ◌++◌, Option, None, Some, take, drop, map, decimal, codes}
 use Rattle.std.specs.FinMap.{entries}
 use Rattle.std.specs.Fmt.{signed_decimal}
@@ -16,7 +17,9 @@ use Rattle.sink_journal.specs.declared.journal.Feed.TheVariants as feed
 
 -- the header's fields, which are those of every record
 abbrev pub audit_header : List (List ℕ)
-audit_header = codes "entry" ∷ codes "node" ∷ codes "worker" ∷ codes "lane" ∷ codes "number" ∷ codes "extra" ∷ []
+audit_header =
+    codes "entry" ∷ codes "node" ∷ codes "worker" ∷ codes "lane" ∷ codes "number" ∷ codes "extra"
+    ∷ []
 
 -- the code by which a request is refused
 abbrev pub code_word : ℕ → List ℕ
@@ -33,7 +36,8 @@ shown (Some number) = decimal number
 
 -- a refused request: its place in the file and its code
 abbrev pub refused_fields : Noted → List (List ℕ)
-refused_fields noted = codes "refused" ∷ [] ∷ [] ∷ [] ∷ decimal noted.place ∷ code_word noted.code ∷ []
+refused_fields noted =
+    codes "refused" ∷ [] ∷ [] ∷ [] ∷ decimal noted.place ∷ code_word noted.code ∷ []
 
 -- a step of the feeder
 abbrev pub feed_fields : Feed → List (List ℕ)
@@ -69,7 +73,8 @@ workers_records node place (journal ∷ journals) [] = []
 workers_records node place (journal ∷ journals) (counts ∷ states) =
     worker_records node place journal counts ++ workers_records node (place + 1) journals states
 
--- the workers of nodes, each of which has as many of the journals and of the states as it has workers
+-- the workers of nodes, each of which has as many of the journals and of the states as it has
+-- workers
 abbrev pub nodes_records : List NodeDef → List (List Entry) → List Counts → List (List (List ℕ))
 nodes_records [] journals states = []
 nodes_records (node ∷ nodes) journals states =
@@ -77,10 +82,12 @@ nodes_records (node ∷ nodes) journals states =
     ++ nodes_records nodes (drop (workers_of node) journals) (drop (workers_of node) states)
 
 -- all records after the header
-abbrev pub audit_records : JobView → List Noted → List Feed → List (List Entry) → List Counts → List (List (List ℕ))
+abbrev pub audit_records : JobView → List Noted → List Feed → List (List Entry) → List Counts
+    → List (List (List ℕ))
 audit_records job refused feeds journals states =
     map refused_fields refused ++ map feed_fields feeds ++ nodes_records job.nodes journals states
 
 -- the whole text
 abbrev pub audit : JobView → List Noted → List Feed → List (List Entry) → List Counts → List ℕ
-audit job refused feeds journals states = records_text (audit_header ∷ audit_records job refused feeds journals states)
+audit job refused feeds journals states =
+    records_text (audit_header ∷ audit_records job refused feeds journals states)

@@ -16,7 +16,9 @@ current_version (Some current) = current.version
 
 -- the book in which a node has a new function and the next version
 abbrev pub with_change : List Current → ℕ → Func → List Current
-with_change book node func = slice_set book node (record { version = current_version (slice_get book node) + 1; func = func })
+with_change book node func =
+    slice_set book node
+    (record { version = current_version (slice_get book node) + 1; func = func })
 
 -- the book after these changes
 unfoldable pub accepted : List Current → List Change → List Current
@@ -29,10 +31,15 @@ is_named changes node = list_any (λ (c : Change). c.node == node) changes
 
 -- the version of the node isn't the last one
 abbrev pub HasRoom : List Current → ℕ → Type 0
-HasRoom book node = (current : Current) → slice_get book node ≡ Some current → current.version < 2 ^ 64 - 1
+HasRoom book node =
+    (current : Current) → slice_get book node ≡ Some current → current.version < 2 ^ 64 - 1
 
 -- each change names a node of the book whose version isn't the last one, and no two name the same
 pub record CanAccept (book : List Current) (changes : List Change) : Type 0 where
-  pub there : (i : ℕ) (change : Change) → slice_get changes i ≡ Some change → change.node < length book
-  pub room : (i : ℕ) (change : Change) → slice_get changes i ≡ Some change → HasRoom book change.node
-  pub apart : (i : ℕ) (change : Change) → slice_get changes i ≡ Some change → is_named (take i changes) change.node ≡ false
+  pub there :
+      (i : ℕ) (change : Change) → slice_get changes i ≡ Some change → change.node < length book
+  pub room :
+      (i : ℕ) (change : Change) → slice_get changes i ≡ Some change → HasRoom book change.node
+  pub apart :
+      (i : ℕ) (change : Change) → slice_get changes i ≡ Some change →
+      is_named (take i changes) change.node ≡ false

@@ -13,20 +13,26 @@ abbrev pub accepting : Request → Judged → Judged
 accepting request later = record { accepted = request ∷ later.accepted; refused = later.refused }
 
 abbrev pub refusing : ℕ → QFault → Judged → Judged
-refusing place fault later = record { accepted = later.accepted; refused = (record { place = place; fault = fault }) ∷ later.refused }
+refusing place fault later = record {
+  accepted = later.accepted;
+  refused = (record { place = place; fault = fault }) ∷ later.refused;
+}
 
 -- the one answer with a fault, the other without
 abbrev pub by_fault : Option QFault → (QFault → Judged) → Judged → Judged
 by_fault None refused accepted = accepted
 by_fault (Some fault) refused accepted = refused fault
 
--- The requests from this place on, with this book and the row of the latest accepted request. One with a fault is refused, and leaves both as
--- they were; any other is accepted, gives its nodes their new functions and the next versions, and is the latest.
+-- The requests from this place on, with this book and the row of the latest accepted request. One
+-- with a fault is refused, and leaves both as they were; any other is accepted, gives its nodes
+-- their new functions and the next versions, and is the latest.
 unfoldable pub judged_from : JobView → List Current → ℕ → ℕ → List Request → Judged
 judged_from job book last_after place [] = record { accepted = []; refused = [] }
 judged_from job book last_after place (request ∷ rest) =
-    by_fault (fault_of book job request last_after) (λ fault. refusing place fault (judged_from job book last_after (place + 1) rest)) (
-    accepting request (judged_from job (accepted book request.changes) request.after (place + 1) rest))
+    by_fault (fault_of book job request last_after)
+    (λ fault. refusing place fault (judged_from job book last_after (place + 1) rest))
+    (accepting request
+    (judged_from job (accepted book request.changes) request.after (place + 1) rest))
 
 -- the judging of a list of requests
 abbrev pub judged : JobView → List Request → Judged
@@ -38,4 +44,6 @@ AreAccepted job requests = (judged job requests).refused ≡ []
 
 -- every change of the requests names a node of the job
 abbrev pub NameNodes : JobView → List Request → Type 0
-NameNodes job requests = All (λ (request : Request). All (λ (change : Change). change.node < length job.nodes) request.changes) requests
+NameNodes job requests =
+    All (λ (request : Request). All (λ (change : Change). change.node < length job.nodes)
+    request.changes) requests

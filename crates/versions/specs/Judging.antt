@@ -63,7 +63,8 @@ is_key _ _ = false
 -- both functions are of one kind that requests change, and count by the same key
 abbrev pub is_like : Func → Func → Bool
 is_like current new =
-    not (is_fixed current) && (is_kind (kind_of current) (kind_of new) && is_key (key_of current) (key_of new))
+    not (is_fixed current)
+    && (is_kind (kind_of current) (kind_of new) && is_key (key_of current) (key_of new))
 
 -- the change was written for another version
 abbrev pub is_stale_at : Option Current → ℕ → Bool
@@ -73,7 +74,8 @@ is_stale_at (Some current) from = not (current.version == from)
 -- a new function may follow the current one: it is of its kind and counts by the same key, or both
 -- are of free kinds and one edge leaves the node; and its fan-out is at most the node's roof
 abbrev pub may_replace : Func → Func → ℕ → Bool → Bool
-may_replace current new roof once = (is_like current new || (is_free current && is_free new && once)) && nat_le (fan_out new) roof
+may_replace current new roof once =
+    (is_like current new || (is_free current && is_free new && once)) && nat_le (fan_out new) roof
 
 abbrev pub may_replace_at : Option Current → Func → ℕ → Bool → Bool
 may_replace_at None new roof once = true
@@ -93,8 +95,11 @@ has_fault code.Fixed book job before c = is_fixed_at (slice_get job.nodes c.node
 has_fault code.NodeTwice book job before c = is_named before c.node
 has_fault code.Stale book job before c = is_stale_at (slice_get book c.node) c.from
 has_fault code.IllTyped book job before c = not (fits job c.func)
-has_fault code.KindOrKey book job before c = not (may_replace_at (slice_get book c.node) c.func (roof_at (slice_get job.nodes c.node)) (leaves_once job.edges c.node))
-has_fault code.BadCarry book job before c = is_bad_carry (is_count_at (slice_get job.nodes c.node)) c.carry
+has_fault code.KindOrKey book job before c =
+    not (may_replace_at (slice_get book c.node) c.func (roof_at (slice_get job.nodes c.node))
+    (leaves_once job.edges c.node))
+has_fault code.BadCarry book job before c =
+    is_bad_carry (is_count_at (slice_get job.nodes c.node)) c.carry
 
 -- ---- a request
 
@@ -102,7 +107,8 @@ has_fault code.BadCarry book job before c = is_bad_carry (is_count_at (slice_get
 unfoldable pub first_with : Code → List Current → JobView → List Change → List Change → Option ℕ
 first_with code book job before [] = None
 first_with code book job before (change ∷ rest) =
-    if has_fault code book job before change then Some (length before) else first_with code book job (before ++ change ∷ []) rest
+    if has_fault code book job before change then Some (length before)
+    else first_with code book job (before ++ change ∷ []) rest
 
 -- the first change with the fault, as a fault that names it; changes are counted from 1
 abbrev pub named : (ℕ → QFault) → Option ℕ → Option QFault
@@ -117,7 +123,8 @@ version_of book (Some change) = current_version (slice_get book change.node)
 -- a stale change is shown the version that is current
 abbrev pub stale : List Current → List Change → Option ℕ → Option QFault
 stale book changes None = None
-stale book changes (Some place) = Some (fault.Stale (place + 1) (version_of book (slice_get changes place)))
+stale book changes (Some place) =
+    Some (fault.Stale (place + 1) (version_of book (slice_get changes place)))
 
 abbrev pub is_empty : List Change → Bool
 is_empty [] = true

@@ -8,8 +8,9 @@ use Rattle.versions.specs.Judging.{leaves_once, may_replace}
 use Rattle.versions.specs.declared.request.Change.{Change}
 use Rattle.versions.specs.declared.request.Request.{Request}
 
--- the new function may replace the one that the job gives the node: it is of its kind and counts by the same key, or both are of free kinds and one
--- edge leaves the node; and its fan-out is at most the node's roof
+-- the new function may replace the one that the job gives the node: it is of its kind and counts by
+-- the same key, or both are of free kinds and one edge leaves the node; and its fan-out is at most
+-- the node's roof
 abbrev pub KeepsKind : JobView → Change → Type 0
 KeepsKind job change =
     (node : NodeDef) → slice_get job.nodes change.node ≡ Some node →
