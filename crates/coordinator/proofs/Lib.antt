@@ -10,6 +10,9 @@ pub mod Keeping
 pub mod Starting
 pub mod Telling
 pub mod LiveLemmas
+pub mod Loading
+pub mod Waiting
+pub mod LiveSteps
 pub mod Living
 pub mod Meaning
 pub mod Conserving

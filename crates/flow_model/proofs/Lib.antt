@@ -26,6 +26,7 @@ pub mod WorkerPlaces
 pub mod LaneNumbers
 pub mod SizeLemmas
 pub mod TopologyLemmas
+pub mod RouteLemmas
 pub mod OutLanes
 pub mod CoverLemmas
 pub mod ChangeLemmas
@@ -49,6 +50,7 @@ pub mod FitLemmas
 pub mod FlowLemmas
 pub mod TableLemmas
 pub mod LandingLemmas
+pub mod PutFitLemmas
 pub mod OneTableLemmas
 pub mod SerialLemmas
 pub mod PremiseLemmas

@@ -248,7 +248,7 @@ visit_of ran p a c chain u k h n =
     subst (λ (l : List Visit). IsIn v l) (sym q.trace) (in_left v k.tuple.trace q.later
     (subst (λ (l : List Visit). IsIn v l) (sym (ap (λ (t : Tuple). t.trace) b.is ∙ b.made_of.trace)) (in_right v b.tuple.trace (v ∷ []) (inl refl))))
 
--- ---- kin
+-- ---- two entries that share a root
 
 -- of two entries that come of one, one comes of the other, or they parted at an entry between
 abbrev pub ShareRoot : Ran → Address → Address → Type 0
@@ -258,11 +258,11 @@ ShareRoot ran c d =
     ⊎ ((p : Address) × (a : Address) × (b : Address) × Child ran p a × Child ran p b × (a ≢ b)
     × ((chain : List Address) × IsChain ran a chain c) × ((chain : List Address) × IsChain ran b chain d)))
 
-pub kin : (ran : Ran) (root c d : Address) (first second : List Address) → IsChain ran root first c → IsChain ran root second d → ShareRoot ran c d
-kin ran root c d [] second h k = inl (second, subst (λ a. IsChain ran a second d) h k)
-kin ran root c d (a ∷ first) [] h k = inr (inl (a ∷ first, subst (λ x. IsChain ran x (a ∷ first) c) k h))
-kin ran root c d (a ∷ first) (b ∷ second) h k =
+pub share_root : (ran : Ran) (root c d : Address) (first second : List Address) → IsChain ran root first c → IsChain ran root second d → ShareRoot ran c d
+share_root ran root c d [] second h k = inl (second, subst (λ a. IsChain ran a second d) h k)
+share_root ran root c d (a ∷ first) [] h k = inr (inl (a ∷ first, subst (λ x. IsChain ran x (a ∷ first) c) k h))
+share_root ran root c d (a ∷ first) (b ∷ second) h k =
     elim (decide_address a b) [
-      | inl e ↦ kin ran a c d first second h.1 (subst (λ x. IsChain ran x second d) (sym e) k.1)
+      | inl e ↦ share_root ran a c d first second h.1 (subst (λ x. IsChain ran x second d) (sym e) k.1)
       | inr n ↦ inr (inr (root, a, b, h.0, k.0, n, (first, h.1), (second, k.1)))
     ]

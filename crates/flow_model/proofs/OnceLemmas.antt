@@ -65,13 +65,13 @@ module _ (rows : List Row) (ran : Ran) (g : Running rows ran) (row : ℕ) (c d :
         let bd : n.tuple.birth ≡ (h.tuple.birth ++ q.other ∷ []) ++ pd.pieces = pd.birth ∙ ap (λ (xs : List ℕ). xs ++ pd.pieces) q.second_is in
         q.differ (pieces_stay_apart h.tuple.birth q.one q.other m.tuple.birth n.tuple.birth pc.pieces pd.pieces bc bd birth)
 
-    by_kin : ShareRoot ran c d → c ≡ d
-    by_kin (inl h) = stays rows ran g c d h.0 node h.1
-    by_kin (inr (inl h)) = sym (stays rows ran g d c h.0 (sym node) h.1)
-    by_kin (inr (inr h)) = absurd (between h.0 h.1 h.2 h.3 h.4 h.5 h.6.0 h.7.0 h.6.1 h.7.1)
+    by_root : ShareRoot ran c d → c ≡ d
+    by_root (inl h) = stays rows ran g c d h.0 node h.1
+    by_root (inr (inl h)) = sym (stays rows ran g d c h.0 (sym node) h.1)
+    by_root (inr (inr h)) = absurd (between h.0 h.1 h.2 h.3 h.4 h.5 h.6.0 h.7.0 h.6.1 h.7.1)
 
     pub one_entry : c ≡ d
-    one_entry = by_kin (share_root_of_row rows ran g row c d m n)
+    one_entry = by_root (share_root_of_row rows ran g row c d m n)
 
 -- ---- the list of identities
 

@@ -1,11 +1,9 @@
 -- What came to the sinks of a run is what its rows make by themselves, each with a table of the functions that were in force where it was met.
-use Rattle.std.proofs.Common.{◌≡◌, ◌∙◌, ◌<◌, ◌≤◌, ◌+◌, ◌-◌, ◌++◌, ◌==◌, ℕ, zero, suc, List, [], ◌∷◌, inl, refl, sym, subst, ap, arith, true, false, Bool, cond, is_none, length, map, flat_map, count_by, nat_le, Some, None, Option, slice_get, append_assoc}
+use Rattle.std.proofs.Common.{◌≡◌, ◌∙◌, ◌<◌, ◌≤◌, ◌+◌, ◌-◌, ◌++◌, ◌==◌, ℕ, zero, suc, List, [], ◌∷◌, refl, sym, subst, ap, arith, true, false, Bool, cond, length, map, flat_map, count_by, nat_le, Some, None, Option, slice_get, append_assoc}
 use Rattle.std.specs.FinMap.{empty}
 use Rattle.std.specs.List.{cons_option, enumerate_from}
-use Rattle.std.proofs.lemmas.Bool.{eq-eqb}
 use Rattle.std.proofs.lemmas.Option.{same_Some, slice_get_within}
-use Rattle.jobs.specs.Nodes.{AreFromSources, IsSourceOf, is_source_node}
-use Rattle.jobs.specs.Ports.{are_ports}
+use Rattle.jobs.specs.Nodes.{AreFromSources}
 use Rattle.jobs.specs.JobView.{JobView}
 use Rattle.jobs.specs.declared.func.Func.{Func}
 use Rattle.jobs.specs.declared.func.Func.TheVariants as func
@@ -13,7 +11,6 @@ use Rattle.jobs.specs.declared.func.NodeDef.{NodeDef}
 use Rattle.operators.specs.Laws.{IsMadeOf, bare, bare_tuple}
 use Rattle.operators.specs.Meaning.{outputs, step}
 use Rattle.operators.specs.declared.output.Output.{Output}
-use Rattle.operators.proofs.EdgeLemmas.{outputs_leave}
 use Rattle.operators.proofs.OutputLemmas.{outputs_made}
 use Rattle.sink_journal.specs.Alerts.{met}
 use Rattle.sink_journal.specs.declared.journal.Entry.{Entry}
@@ -27,7 +24,7 @@ use Rattle.versions.specs.declared.request.Change.{Change}
 use Rattle.flow_model.specs.declared.landing.Landing.{Landing}
 use Rattle.flow_model.specs.Alone.{alone, bare_visit, func_for, func_for_node, is_sink, landing, lands, onward, table}
 use Rattle.flow_model.specs.Feeding.{fed_put, fed_puts, fed_tuple, feed_after, issued_after, issued_at_first, row_at}
-use Rattle.flow_model.specs.Lanes.{first_on, is_sender, lane_of, lanes, senders}
+use Rattle.flow_model.specs.Lanes.{first_on, lane_of}
 use Rattle.flow_model.specs.OneTable.{HasNoCounts, IsOneTable, landings, landings_by}
 use Rattle.flow_model.specs.declared.topology.Lane.{Lane}
 use Rattle.flow_model.specs.SetupView.{SetupView, Worker}
@@ -35,18 +32,19 @@ use Rattle.flow_model.specs.Replay.{StateView, Put, after, put_out, puts, visit_
 use Rattle.flow_model.specs.Requests.{afters, change_of, func_with}
 use Rattle.flow_model.specs.Run.{Ran}
 use Rattle.flow_model.specs.Whole.{is_new, journals_at, met_tuples}
-use Rattle.flow_model.specs.Workers.{workers_in, workers_at_node}
-use Rattle.flow_model.proofs.ElementLemmas.{IsIn, at_of_all, in_flat_map, in_map, in_of_place, map_in, place_of_in}
-use Rattle.flow_model.proofs.WorkerLemmas.{IsWorker, begun, in_workers, journal_of, who_is, worker_no, workers_at_node_in, worker_is}
+use Rattle.flow_model.specs.Workers.{workers_in}
+use Rattle.flow_model.proofs.ElementLemmas.{IsIn, place_of_in}
+use Rattle.flow_model.proofs.WorkerLemmas.{IsWorker, begun, in_workers, journal_of, who_is, worker_no, worker_is}
 use Rattle.flow_model.proofs.StoryLemmas.{Moment, story, story_get}
-use Rattle.flow_model.proofs.SendingLemmas.{ComesOf, made, puts_come}
-use Rattle.flow_model.proofs.KindLemmas.{AreAlike, alike_self, alike_then, changed_alike}
-use Rattle.flow_model.proofs.RunLemmas.{HasWorker, Running, in_fed_puts, journal_here}
+use Rattle.flow_model.proofs.SendingLemmas.{made, puts_come}
+use Rattle.flow_model.proofs.KindLemmas.{AreAlike, alike_self, changed_alike}
+use Rattle.flow_model.proofs.RunLemmas.{HasWorker, Running, journal_here}
 use Rattle.flow_model.proofs.LineageLemmas.{puts_of, story_of}
 use Rattle.flow_model.proofs.FreshLemmas.{past_issued}
 use Rattle.flow_model.proofs.SumLemmas.{count_append, count_flat_map, count_one, count_sum, if_none, of_some, sum_add, sum_append, sum_filter_map, sum_flat_map, sum_map, sum_none, sum_over, sum_same}
-use Rattle.flow_model.proofs.FitLemmas.{GoesOn, goes_on, source_port}
-use Rattle.flow_model.proofs.FlowLemmas.{PutsFit, all_puts, entry_weight, flow, lane_to, node_to, put_weight, weigh}
+use Rattle.flow_model.proofs.FitLemmas.{GoesOn}
+use Rattle.flow_model.proofs.FlowLemmas.{all_puts, entry_weight, flow, lane_to, node_to, put_weight, weigh}
+use Rattle.flow_model.proofs.PutFitLemmas.{AtWork, at_work, feeder_fits, out_goes, row_goes, worker_fits}
 use Rattle.flow_model.proofs.LandingLemmas.{AreTables, HasFunc, behind, has_func, lands-outputs, lands-sink, lands_same, outputs_alike, sum_alike}
 use Rattle.flow_model.proofs.TableLemmas.{by_table}
 
@@ -86,97 +84,6 @@ module _ (rows : List Row) (ran : Ran) (g : Running rows ran) (none : HasNoCount
       ap (λ r. count_by test (lands ran.setup.job (T r) (left_at node) node t)) e
       ∙ ap (count_by test) (lands_same rows ran g none T tables row (left_at node) n node t u a lt (omega arith) le)
 
-  -- ---- a worker's moments
-
-  -- a worker of the run, with what is in force at one of its moments
-  record AtWork (w : ℕ) (m : Moment) : Type 0 where
-    is : IsWorker ran.setup.job (worker_no ran.setup w)
-    within : HasWorker ran w
-    number : (worker_no ran.setup w).number ≡ w
-    i : ℕ
-    there : slice_get (story_of ran w) i ≡ Some m
-    alike : AreAlike ran.setup.job.edges (worker_no ran.setup w).node (worker_no ran.setup w).func m.view.func
-    ports : are_ports ran.setup.job.edges (worker_no ran.setup w).node m.view.func ≡ true
-
-  at_work : (w : ℕ) (m : Moment) → HasWorker ran w → IsIn m (story_of ran w) → AtWork w m
-  at_work w m lt h =
-      let is : IsWorker ran.setup.job (worker_no ran.setup w) = (worker_is ran.setup w lt).1 in
-      let i = place_of_in m (story_of ran w) h in
-      let alike : AreAlike ran.setup.job.edges (worker_no ran.setup w).node is.def.func m.view.func =
-      alike_then ran.setup (worker_no ran.setup w) is.def (begun ran.setup w) (journal_of ran w) i.0 m g.kinds is.node_is (sym is.func_is) i.1 in
-      record {
-        is = is;
-        within = lt;
-        number = (worker_is ran.setup w lt).0;
-        i = i.0;
-        there = i.1;
-        alike = subst (λ (f : Func). AreAlike ran.setup.job.edges (worker_no ran.setup w).node f m.view.func) (sym is.func_is) alike;
-        ports = alike.ports (g.connected.ports (worker_no ran.setup w).node is.def is.node_is);
-      }
-
-  sends : (w : ℕ) → IsWorker ran.setup.job (worker_no ran.setup w) → IsIn (Some (worker_no ran.setup w).number) (senders ran.setup.job (worker_no ran.setup w).node)
-  sends w is =
-      let source : is_source_node (slice_get ran.setup.job.nodes (worker_no ran.setup w).node) ≡ false = ap is_source_node is.node_is ∙ is.no_source in
-      rw source (map_in (λ (who : Worker). Some who.number) (worker_no ran.setup w) (workers_at_node ran.setup.job (worker_no ran.setup w).node)
-      (workers_at_node_in ran.setup.job (worker_no ran.setup w).node (worker_no ran.setup w) (in_of_place (worker_no ran.setup w) (workers_in ran.setup.job) (worker_no ran.setup w).number is.there) refl))
-
-  -- the lane of an output
-  out_goes : (w : ℕ) (m : Moment) (u : Tuple) (o : Output) → AtWork w m → IsIn o (made ran.setup (worker_no ran.setup w) m.view u)
-      → GoesOn ran.setup.job (Some (worker_no ran.setup w).number) (worker_no ran.setup w).node o.port o.tuple
-  out_goes w m u o a i =
-      let k = place_of_in o (made ran.setup (worker_no ran.setup w) m.view u) i in
-      goes_on ran.setup.job g.connected (Some (worker_no ran.setup w).number) (worker_no ran.setup w).node o.port o.tuple
-      (outputs_leave ran.setup.job (visit_at (worker_no ran.setup w) m.view) m.view.func m.view.counts u a.ports k.0 o k.1) (sends w a.is)
-
-  -- ---- what is put fits
-
-  moment_fits : (w : ℕ) (m : Moment) (p : Put) (t : Tuple) → AtWork w m → IsIn p (puts_of ran w m) → p.item ≡ item.Carry t
-      → (n : ℕ) × (lane : Lane) × (p.lane ≡ Some lane) × (slice_get (lanes ran.setup.job) n ≡ Some lane) × (is_sender (worker_no ran.setup w).number lane.sender ≡ true)
-  moment_fits w m p t a h c = go m.entry h (puts_come ran.setup (worker_no ran.setup w) m.view m.entry p h)
-    where
-      go : (e : Entry) → IsIn p (puts ran.setup (worker_no ran.setup w) m.view e) → ComesOf ran.setup (worker_no ran.setup w) m.view e p.item
-          → (n : ℕ) × (lane : Lane) × (p.lane ≡ Some lane) × (slice_get (lanes ran.setup.job) n ≡ Some lane) × (is_sender (worker_no ran.setup w).number lane.sender ≡ true)
-      go (entry.Met l u) h k =
-          let o = in_map (put_out ran.setup.job (worker_no ran.setup w)) p (made ran.setup (worker_no ran.setup w) m.view u) h in
-          let on : GoesOn ran.setup.job (Some (worker_no ran.setup w).number) (worker_no ran.setup w).node o.0.port o.0.tuple = out_goes w m u o.0 a o.1 in (
-            on.n,
-            on.lane,
-            ap (λ (p : Put). p.lane) o.2 ∙ on.lane_is,
-            on.there,
-            ap (is_sender (worker_no ran.setup w).number) on.sent_by ∙ eq-eqb (worker_no ran.setup w).number (worker_no ran.setup w).number refl,
-          )
-      go (entry.Marked l r) h k = absurd k
-      go (entry.Turned r) h k = let x = k.2 in absurd (cc)
-      go (entry.Ended l) h k = absurd (cc)
-
-  worker_fits : (who : Worker) → IsIn who (workers_in ran.setup.job) → PutsFit ran.setup.job (λ (lane : Lane). is_sender who.number lane.sender) (all_puts ran who.number)
-  worker_fits who i p t h c =
-      let is : IsWorker ran.setup.job who = in_workers ran.setup.job who i in
-      let lt : HasWorker ran who.number = slice_get_within (workers_in ran.setup.job) who.number who is.there in
-      let same : worker_no ran.setup who.number ≡ who = who_is ran.setup who.number who is.there in
-      let m = in_flat_map (puts_of ran who.number) p (story_of ran who.number) h in
-      let fit = moment_fits who.number m.0 p t (at_work who.number m.0 lt m.1) m.2 c in
-      (fit.0, fit.1, fit.2, fit.3, subst (λ (x : Worker). is_sender x.number fit.1.sender ≡ true) same fit.4)
-
-  -- the lane of a row
-  row_goes : (number : ℕ) (row : Row) → row_at rows number ≡ Some row → GoesOn ran.setup.job None row.source 0 row.tuple
-  row_goes zero row e = absurd (cc)
-  row_goes (suc place) row e =
-      let source : is_source_node (slice_get ran.setup.job.nodes row.source) ≡ true = at_of_all (λ (row : Row). IsSourceOf ran.setup.job row.source) row rows sources (in_of_place row rows place e) in
-      go (slice_get ran.setup.job.nodes row.source) refl source
-    where
-      go : (o : Option NodeDef) → slice_get ran.setup.job.nodes row.source ≡ o → is_source_node o ≡ true → GoesOn ran.setup.job None row.source 0 row.tuple
-      go None there s = absurd (cc)
-      go (Some def) there s =
-          let all : is_source_node (slice_get ran.setup.job.nodes row.source) ≡ true = ap is_source_node there ∙ s in
-          goes_on ran.setup.job g.connected None row.source 0 row.tuple (source_port ran.setup.job.edges row.source def.func s (g.connected.ports row.source def there)) (rw all (inl refl))
-
-  feeder_fits : PutsFit ran.setup.job (λ (lane : Lane). is_none lane.sender) (fed_puts ran.setup.job rows 0 ran.feeds)
-  feeder_fits p t h c =
-      let (number, row, count, there, is) = in_fed_puts ran.setup.job rows 0 ran.feeds p h in
-      let on : GoesOn ran.setup.job None row.source 0 row.tuple = row_goes number row there in
-      (on.n, on.lane, ap (λ (p : Put). p.lane) is ∙ on.lane_is, on.there, ap is_none on.sent_by)
-
   -- ---- a worker that is no sink makes what it met, and a sink makes nothing
 
   abbrev kept_at : ℕ → Entry → ℕ
@@ -191,11 +98,11 @@ module _ (rows : List Row) (ran : Ran) (g : Running rows ran) (none : HasNoCount
       go p i (Some lane) = h p i (lane_to ran.setup.job lane)
 
   -- an output weighs what becomes of it
-  out_weighs : (w l : ℕ) (m : Moment) (u : Tuple) (n : ℕ) (o p : Output) → AtWork w m → length ran.setup.job.nodes ≤ suc n + g.connected.rank (worker_no ran.setup w).node
+  out_weighs : (w l : ℕ) (m : Moment) (u : Tuple) (n : ℕ) (o p : Output) → AtWork ran w m → length ran.setup.job.nodes ≤ suc n + g.connected.rank (worker_no ran.setup w).node
       → IsIn o (made ran.setup (worker_no ran.setup w) m.view u) → bare o ≡ bare p
       → put_weight V ran.setup.job (put_out ran.setup.job (worker_no ran.setup w) o) ≡ count_by test (behind ran.setup.job (T u.row) n (worker_no ran.setup w).node p)
   out_weighs w l m u n o p a le i b =
-      let on : GoesOn ran.setup.job (Some (worker_no ran.setup w).number) (worker_no ran.setup w).node o.port o.tuple = out_goes w m u o a i in
+      let on : GoesOn ran.setup.job (Some (worker_no ran.setup w).number) (worker_no ran.setup w).node o.port o.tuple = out_goes rows ran g w m u o a i in
       let k = place_of_in o (made ran.setup (worker_no ran.setup w) m.view u) i in
       let of : IsMadeOf ran.setup.job.edges (visit_at (worker_no ran.setup w) m.view) m.view.func u k.0 o =
       outputs_made ran.setup.job (visit_at (worker_no ran.setup w) m.view) m.view.func m.view.counts u k.0 o k.1 in
@@ -208,7 +115,7 @@ module _ (rows : List Row) (ran : Ran) (g : Running rows ran) (none : HasNoCount
       ∙ (V_is u.row n on.edge.to o.tuple p.tuple of.row (ap (λ (x : Output). x.tuple) b) (g.connected.ends on.number on.edge on.edge_is).1 (omega arith)
       ∙ ap (λ f. count_by test (onward (lands ran.setup.job (T u.row) n) f p.tuple)) (sym found))
 
-  met_keeps : (w l : ℕ) (m : Moment) (u : Tuple) → AtWork w m → m.entry ≡ entry.Met l u
+  met_keeps : (w l : ℕ) (m : Moment) (u : Tuple) → AtWork ran w m → m.entry ≡ entry.Met l u
       → sum_over (put_weight V ran.setup.job) (puts ran.setup (worker_no ran.setup w) m.view (entry.Met l u)) ≡ kept_at w (entry.Met l u)
   met_keeps w l m u a e =
       sum_map (put_out ran.setup.job (worker_no ran.setup w)) (put_weight V ran.setup.job) (made ran.setup (worker_no ran.setup w) m.view u)
@@ -257,7 +164,7 @@ module _ (rows : List Row) (ran : Ran) (g : Running rows ran) (none : HasNoCount
   no_last : (node : ℕ) (x : Item) → x ≡ item.Last → weigh V node x ≡ 0
   no_last node x e = ap (weigh V node) e
 
-  keeps : (w : ℕ) (m : Moment) → AtWork w m → sum_over (put_weight V ran.setup.job) (puts_of ran w m) ≡ kept_at w m.entry
+  keeps : (w : ℕ) (m : Moment) → AtWork ran w m → sum_over (put_weight V ran.setup.job) (puts_of ran w m) ≡ kept_at w m.entry
   keeps w m a = go m.entry refl
     where
       go : (e : Entry) → m.entry ≡ e → sum_over (put_weight V ran.setup.job) (puts ran.setup (worker_no ran.setup w) m.view e) ≡ kept_at w e
@@ -287,7 +194,7 @@ module _ (rows : List Row) (ran : Ran) (g : Running rows ran) (none : HasNoCount
       let same : worker_no ran.setup who.number ≡ who = who_is ran.setup who.number who is.there in
       sum_flat_map (puts_of ran who.number) (put_weight V ran.setup.job) (story_of ran who.number)
       ∙ (sum_same (λ (m : Moment). sum_over (put_weight V ran.setup.job) (puts_of ran who.number m)) (λ (m : Moment). kept_at who.number m.entry) (story_of ran who.number)
-      (λ m h. keeps who.number m (at_work who.number m lt h))
+      (λ m h. keeps who.number m (at_work rows ran g who.number m lt h))
       ∙ (sum_entries ran.setup (worker_no ran.setup who.number) (begun ran.setup who.number) (journal_of ran who.number) (kept_at who.number)
       ∙ (if_sum_zero (is_sink (worker_no ran.setup who.number).func) (entry_weight V (worker_no ran.setup who.number).node) (journal_of ran who.number)
       ∙ ap (λ (p : Worker). cond (is_sink p.func) 0 (sum_over (entry_weight V p.node) (journal_of ran who.number))) same)))
@@ -299,7 +206,7 @@ module _ (rows : List Row) (ran : Ran) (g : Running rows ran) (none : HasNoCount
 
   fed_weighs : (number issued : ℕ) (row : Row) → row_at rows number ≡ Some row → sum_over (put_weight V ran.setup.job) (fed_put ran.setup.job issued (Some row)) ≡ row_weight row
   fed_weighs number issued row e =
-      let on : GoesOn ran.setup.job None row.source 0 row.tuple = row_goes number row e in
+      let on : GoesOn ran.setup.job None row.source 0 row.tuple = row_goes rows ran g sources number row e in
       let a : put_weight V ran.setup.job (record { lane = lane_of ran.setup.job None row.source 0 row.tuple; item = item.Carry (fed_tuple issued row) }) ≡ row_weight row =
       weight_on V ran.setup.job None row.source 0 row.tuple (fed_tuple issued row) on
       ∙ (V_is row.tuple.row (length ran.setup.job.nodes) on.edge.to (fed_tuple issued row) row.tuple refl refl (g.connected.ends on.number on.edge on.edge_is).1 (omega arith)
@@ -409,7 +316,7 @@ module _ (rows : List Row) (ran : Ran) (g : Running rows ran) (none : HasNoCount
       let at_sink : Worker → ℕ = λ (who : Worker). cond (is_sink who.func) (sum_over (entry_weight V who.node) (journal_of ran who.number)) 0 in
       let elsewhere : Worker → ℕ = λ (who : Worker). cond (is_sink who.func) 0 (sum_over (entry_weight V who.node) (journal_of ran who.number)) in
       let all : List Worker = workers_in ran.setup.job in
-      let flows = flow rows ran g V feeder_fits worker_fits in
+      let flows = flow rows ran g V (feeder_fits rows ran g sources) (worker_fits rows ran g) in
       let made_is : sum_over (λ (who : Worker). sum_over (put_weight V ran.setup.job) (all_puts ran who.number)) all ≡ sum_over elsewhere all =
       sum_same (λ (who : Worker). sum_over (put_weight V ran.setup.job) (all_puts ran who.number)) elsewhere all worker_keeps in
       let parts : sum_over met_at all ≡ sum_over at_sink all + sum_over elsewhere all =

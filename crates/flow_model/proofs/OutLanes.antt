@@ -20,7 +20,8 @@ use Rattle.flow_model.specs.declared.topology.Lane.{Lane}
 use Rattle.flow_model.proofs.ElementLemmas.{AreDistinct, IsIn, distinct_filter, filter_in, in_filter, in_of_place}
 use Rattle.flow_model.proofs.FitLemmas.{HasPortEdge, port_edge, source_port}
 use Rattle.flow_model.proofs.LaneLemmas.{lane_self, lanes_distinct, same_lane}
-use Rattle.flow_model.proofs.TopologyLemmas.{is_reached, length-feeder}
+use Rattle.flow_model.proofs.TopologyLemmas.{length-feeder}
+use Rattle.flow_model.proofs.RouteLemmas.{is_reached}
 
 -- ---- an item on each of some lanes
 

@@ -30,7 +30,7 @@ use Rattle.flow_model.proofs.StoryLemmas.{Moment}
 use Rattle.flow_model.proofs.AgreementLemmas.{HasAgreed, IsNew, IsOld}
 use Rattle.flow_model.proofs.KindLemmas.{AreAlike, ArePieces, IsGiven, alike_given, copies_given, copies_part, emits_cases, given_then, pieces_of, splits_given}
 use Rattle.flow_model.proofs.RunLemmas.{HasWorker, Running, all_agree, execution, finished, start_of, duties_of}
-use Rattle.flow_model.proofs.LineageLemmas.{Address, ShareRoot, Born, Child, IsChain, Meets, Parted, Passed, born, kin, meets_one, parted, passed, story_of, visit_of}
+use Rattle.flow_model.proofs.LineageLemmas.{Address, ShareRoot, Born, Child, IsChain, Meets, Parted, Passed, born, meets_one, parted, passed, share_root, story_of, visit_of}
 use Rattle.flow_model.proofs.RootLemmas.{Rooted, one_root, rooted}
 use Rattle.flow_model.proofs.TurnLemmas.{Early, Late, found_early, found_late, turns}
 use Rattle.std.proofs.lemmas.Option.{same_Some, slice_get_within}
@@ -132,7 +132,7 @@ share_root_of_row rows ran g row c d m n =
     let a : Passed p.root.tuple m.tuple = passed ran p.at c p.chain p.root.tuple m.tuple p.down (p.root.n, p.root.met) m.meets in
     let b : Passed q.root.tuple n.tuple = passed ran q.at d q.chain q.root.tuple n.tuple q.down (q.root.n, q.root.met) n.meets in
     let one : p.at ≡ q.at = one_root rows ran p.at q.at g p.root q.root (sym a.row ∙ (m.is_row ∙ (sym n.is_row ∙ b.row))) in
-    kin ran p.at c d p.chain q.chain p.down (subst (λ x. IsChain ran x q.chain d) (sym one) q.down)
+    share_root ran p.at c d p.chain q.chain p.down (subst (λ x. IsChain ran x q.chain d) (sym one) q.down)
 
 same_last : (ran : Ran) (p : Address) (m n : Moment) → slice_get (story_of ran p.worker) p.entry ≡ Some m → slice_get (story_of ran p.worker) p.entry ≡ Some n → m.view.last ≡ n.view.last
 same_last ran p m n x y = let z : m ≡ n = cc in ap (λ (m : Moment). m.view.last) z

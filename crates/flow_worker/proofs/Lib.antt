@@ -13,8 +13,10 @@ pub mod Acting
 pub mod Noting
 pub mod Taking
 pub mod LimitLemmas
+pub mod ActLemmas
 pub mod TurnLemmas
 pub mod OutLanes
+pub mod OutputPlaces
 pub mod OutputLemmas
 pub mod Acted
 pub mod Making

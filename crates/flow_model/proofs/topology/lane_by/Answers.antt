@@ -3,7 +3,7 @@ use Rattle.std.proofs.lemmas.Option.{same_Some}
 use Rattle.flow_dag.specs.declared.edge.Edge.{Edge}
 use Rattle.jobs.specs.Job.{job_view}
 use Rattle.flow_model.specs.Topology.{out_edge}
-use Rattle.flow_model.proofs.TopologyLemmas.{lane_fits, lane_made}
+use Rattle.flow_model.proofs.RouteLemmas.{lane_fits, lane_made}
 use Rattle.flow_model.proofs.topology.lane_by.Goals as goal
 
 pub overflow_mul-result : goal.overflow_mul-result

@@ -1,6 +1,6 @@
 use Rattle.std.proofs.Common.{◌∙◌, arith}
 use Rattle.jobs.specs.Job.{job_view}
-use Rattle.flow_worker.proofs.OutputLemmas.{edge_within, only_place, outs_few}
+use Rattle.flow_worker.proofs.OutputPlaces.{edge_within, only_place, outs_few}
 use Rattle.flow_worker.proofs.outputs.place_of.Goals as goal
 
 pub lane_of-requires : goal.lane_of-requires

@@ -1,5 +1,6 @@
 use Rattle.flow_model.specs.Setup.{setup_view}
-use Rattle.coordinator.proofs.Living.{first_after, heard_after, is_live_turn, law_unloads}
+use Rattle.coordinator.proofs.Waiting.{law_unloads}
+use Rattle.coordinator.proofs.Living.{first_after, heard_after, is_live_turn}
 use Rattle.coordinator.proofs.state.FeederState.live_turn.Goals as goal
 
 pub step-requires-clause-law : goal.step-requires-clause-law

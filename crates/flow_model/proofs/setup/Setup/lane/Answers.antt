@@ -1,7 +1,7 @@
 use Rattle.std.proofs.Common.{◌∙◌, ap}
 use Rattle.jobs.specs.Job.{job_view}
 use Rattle.flow_model.specs.declared.topology.Topology.{Topology}
-use Rattle.flow_model.proofs.TopologyLemmas.{lane_limits}
+use Rattle.flow_model.proofs.RouteLemmas.{lane_limits}
 use Rattle.flow_model.proofs.setup.Setup.lane.Goals as goal
 
 pub returns-clause-edge : goal.returns-clause-edge

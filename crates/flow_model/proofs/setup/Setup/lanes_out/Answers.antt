@@ -3,7 +3,7 @@ use Rattle.jobs.specs.Job.{job_view}
 use Rattle.flow_model.specs.declared.topology.Topology.{Topology}
 use Rattle.flow_model.specs.Lanes.{out_numbers}
 use Rattle.flow_model.specs.Workers.{workers_in}
-use Rattle.flow_model.proofs.TopologyLemmas.{row_at, row_within}
+use Rattle.flow_model.proofs.RouteLemmas.{row_at, row_within}
 use Rattle.flow_model.proofs.setup.Setup.lanes_out.Goals as goal
 
 pub bounds-as_slice-worker : goal.bounds-as_slice-worker

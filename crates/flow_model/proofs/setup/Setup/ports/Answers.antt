@@ -2,7 +2,7 @@ use Rattle.std.proofs.Common.{ap, length}
 use Rattle.jobs.specs.Job.{job_view}
 use Rattle.flow_model.specs.declared.topology.Topology.{Topology}
 use Rattle.operators.specs.Ports.{out_ports}
-use Rattle.flow_model.proofs.TopologyLemmas.{row_at, row_within}
+use Rattle.flow_model.proofs.RouteLemmas.{row_at, row_within}
 use Rattle.flow_model.proofs.setup.Setup.ports.Goals as goal
 
 pub bounds-as_slice-node : goal.bounds-as_slice-node

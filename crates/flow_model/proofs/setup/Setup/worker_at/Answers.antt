@@ -2,7 +2,7 @@ use Rattle.std.proofs.Common.{◌∙◌, ap, sym, subst, length, ◌<◌}
 use Rattle.jobs.specs.Job.{job_view}
 use Rattle.flow_model.specs.declared.topology.Topology.{Topology}
 use Rattle.flow_model.specs.declared.topology.WorkerAt.{WorkerAt}
-use Rattle.flow_model.proofs.TopologyLemmas.{worker_is_at}
+use Rattle.flow_model.proofs.RouteLemmas.{worker_is_at}
 use Rattle.flow_model.proofs.WorkerPlaces.{node_below}
 use Rattle.flow_model.proofs.setup.Setup.worker_at.Goals as goal
 

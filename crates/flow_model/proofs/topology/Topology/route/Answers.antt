@@ -4,7 +4,7 @@ use Rattle.jobs.specs.Job.{job_view}
 use Rattle.flow_model.specs.declared.topology.Topology.{Topology}
 use Rattle.flow_model.specs.Lanes.{lane_along}
 use Rattle.flow_model.specs.Topology.{IsNumberOf, out_edges}
-use Rattle.flow_model.proofs.TopologyLemmas.{found_out, no_out, row_at, row_within, sends_within}
+use Rattle.flow_model.proofs.RouteLemmas.{found_out, no_out, row_at, row_within, sends_within}
 use Rattle.flow_model.proofs.topology.Topology.route.Goals as goal
 
 pub bounds-as_slice-sender : goal.bounds-as_slice-sender
