@@ -44,10 +44,11 @@ fn push_due(
 {
     let count = setup.requests();
     for place in issued..count {
-        if setup.after(place).min(rows) > row {
+        let request = place as u64 + 1;
+        if setup.after(request).min(rows) > row {
             return Ok(place);
         }
-        feeds.push(Feed::Issued(place as u64 + 1))?;
+        feeds.push(Feed::Issued(request))?;
     }
     Ok(count)
 }

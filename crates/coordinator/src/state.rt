@@ -211,7 +211,7 @@ impl<N, T: Tx<N> + Drop> FeederState<N, T> {
         if self.issued as u64 >= released {
             return rows;
         }
-        setup.after(self.issued)
+        setup.after(self.issued as u64 + 1)
     }
 
     // Issues the next request, once each worker has turned all earlier ones that cover it.

@@ -1,4 +1,4 @@
-ghost use Rattle.std.specs.Prelude.{◌≡◌, ◌<◌, ◌≤◌, ◌+◌, true, false, Some, IfOk, length, slice_get};
+ghost use Rattle.std.specs.Prelude.{◌≡◌, ◌<◌, ◌≤◌, ◌+◌, ◌-◌, true, false, Some, IfOk, length, slice_get};
 ghost use Rattle.jobs.specs.Job.{job_view};
 ghost use Rattle.flow_model.specs.SetupView.{setup_view_of};
 ghost use Rattle.versions.specs.Judged.{AreAccepted};
@@ -125,13 +125,14 @@ impl Setup {
         self.judged.accepted.len()
     }
 
-    /// The row after which the accepted request at this place is issued; places are counted from 0.
-    /// Takes no memory.
-    pub fn after(&self, place: usize) -> u64
-        requires { place < length (setup_view self.now).requests }
-        ensures { slice_get (afters (setup_view self.now).requests) place ≡ Some result }
+    /// The row after which an accepted request is issued; requests are counted from 1. Takes no
+    /// memory.
+    pub fn after(&self, request: u64) -> u64
+        requires one { 1 ≤ request }
+        requires there { request ≤ length (setup_view self.now).requests }
+        ensures { slice_get (afters (setup_view self.now).requests) (request - 1) ≡ Some result }
     {
-        self.judged.accepted.as_slice()[place].after
+        self.judged.accepted.as_slice()[(request - 1) as usize].after
     }
 }
 

@@ -62,10 +62,10 @@ impl Executor {
         ensures same { OnOk result (self.new.setup ≡ self.old.setup) }
     {
         for place in self.issued..self.setup.requests() {
-            if self.setup.after(place).min(rows) > row {
+            let request = place as u64 + 1;
+            if self.setup.after(request).min(rows) > row {
                 return Ok(());
             }
-            let request = place as u64 + 1;
             self.feeds.push(Feed::Issued(request))?;
             self.turn_all(request)?;
             self.issued = place + 1;

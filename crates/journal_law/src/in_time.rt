@@ -16,11 +16,10 @@ pub(crate) fn is_fed_before(setup: &Setup, rows: u64, row: u64, request: u64) ->
     if request == 0 {
         return false;
     }
-    let place = request - 1;
-    if place >= setup.requests() as u64 {
+    if request > setup.requests() as u64 {
         return true;
     }
-    let after = setup.after(place as usize);
+    let after = setup.after(request);
     if row > rows {
         return true;
     }

@@ -1,4 +1,4 @@
-use Rattle.std.proofs.Common.{◌≡◌, arith, ap, slice_get, subst, Some}
+use Rattle.std.proofs.Common.{◌≡◌, ◌+◌, ◌-◌, arith, ap, slice_get, subst, Some}
 use Rattle.std.proofs.lemmas.List.{length-map}
 use Rattle.versions.specs.declared.request.Request.{Request}
 use Rattle.flow_model.specs.Requests.{afters}
@@ -17,5 +17,6 @@ pub returns : goal.returns
 returns g c =
     let setup = setup_view c.args.setup.now in
     let same : c.self.inside.issued ≡ c.args.self.now.issued = ap (λ f. f.issued) c.self.view_is in
+    let here : c.self.inside.issued + 1 - 1 ≡ c.args.self.now.issued = omega (arith, same) in
     get_released c.args.released c.args.rows (afters setup.requests) c.args.self.now.issued c.after.result
-    (subst (λ k. slice_get (afters setup.requests) k ≡ Some c.after.result) same c.after.ensures) (omega (arith, same, c.if-self-released.false))
+    (subst (λ k. slice_get (afters setup.requests) k ≡ Some c.after.result) here c.after.ensures) (omega (arith, same, c.if-self-released.false))

@@ -1,4 +1,4 @@
-use Rattle.std.proofs.Common.{◌≡◌, ◌≤◌, ◌<◌, ◌++◌, ◌∷◌, [], ◌∙◌, ◌+◌, ℕ, List, Some, arith, length, min, subst, sym}
+use Rattle.std.proofs.Common.{◌≡◌, ◌≤◌, ◌<◌, ◌++◌, ◌∷◌, [], ◌∙◌, ◌+◌, ◌-◌, ℕ, List, Some, arith, length, min, subst, sym}
 use Rattle.std.specs.Prelude.{slice_get}
 use Rattle.std.proofs.lemmas.List.{length-map}
 use Rattle.sink_journal.specs.declared.journal.Feed.{Feed}
@@ -24,9 +24,11 @@ returns-then-min-row-clause-issued c =
     let h = c.loop-place.invariant in
     let later : c.args.row < min c.after.result c.args.rows =
     omega (arith, c.if-min-row.true, c.min.ensures) in
+    let here : place + 1 - 1 ≡ place = omega arith in
     let after =
     subst (λ (s : Setup). slice_get (afters (setup_view s).requests) place ≡ Some c.after.result)
-    h.same c.after.ensures in
+    h.same (subst (λ k. slice_get (afters (setup_view c.loop-place.self.setup).requests) k
+    ≡ Some c.after.result) here c.after.ensures) in
     subst (λ (n : ℕ). AreIssued setup c.args.rows c.args.row c.args.self.now.issued n
     c.args.self.now.feeds c.loop-place.self.feeds c.args.self.now.runs.items
     c.loop-place.self.runs.items) (sym h.at) (record {
@@ -50,9 +52,11 @@ loop-place-preserved c =
     let now = c.turn_all.new.self in
     let due : min c.after.result c.args.rows ≤ c.args.row =
     omega (arith, c.if-min-row.false, c.min.ensures) in
+    let here : place + 1 - 1 ≡ place = omega arith in
     let after =
     subst (λ (s : Setup). slice_get (afters (setup_view s).requests) place ≡ Some c.after.result)
-    h.same c.after.ensures in
+    h.same (subst (λ k. slice_get (afters (setup_view c.loop-place.self.setup).requests) k
+    ≡ Some c.after.result) here c.after.ensures) in
     let gain =
     subst (λ (s : Setup). AllGain (setup_view s) (turn_block (setup_view s) (place + 1))
     c.loop-place.self.runs.items now.runs.items) h.same c.in_ok-turn_all.ensures.turned in
