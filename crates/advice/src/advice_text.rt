@@ -13,6 +13,7 @@ use crate::row_places::{audit_place, row_place, save_place};
 use crate::shown::push_shown;
 use crate::table::{Help, REFUSED};
 use job_file::read_job;
+use payments::PFault;
 use report::{Fault, FileIs};
 use std::alloc::{AllocError, Global};
 use std::fmt::Write;
@@ -142,18 +143,7 @@ fn place_of<L: Look>(
             Some(requests) => Ok(request_place(alloc, requests.as_slice(), fault)?),
             None => Ok(Place::new(alloc)),
         },
-        Fault::Payments(fault) => {
-            let job = match file_of(alloc, call, FileIs::Job, look) {
-                Some(job) => read_job(alloc, job.as_slice()).ok(),
-                None => None,
-            };
-            let rows = file_of(alloc, call, FileIs::Payments, look);
-            let rows = match &rows {
-                Some(rows) => rows.as_slice(),
-                None => &[],
-            };
-            Ok(row_place(alloc, job.as_ref(), rows, fault)?)
-        }
+        Fault::Payments(fault) => payments_place(alloc, call, fault, look),
         Fault::Save(fault) => match file_of(alloc, call, FileIs::Save, look) {
             Some(save) => Ok(save_place(alloc, save.as_slice(), fault)?),
             None => Ok(Place::new(alloc)),
@@ -162,14 +152,34 @@ fn place_of<L: Look>(
             Some(audit) => Ok(audit_place(alloc, audit.as_slice(), fault)?),
             None => Ok(Place::new(alloc)),
         },
-        Fault::Long(file) => {
-            let mut place = Place::new(alloc);
-            let most = file.limit();
-            write!(place.detail, "At most {most} bytes are read of it.")?;
-            Ok(place)
-        }
+        Fault::Long(file) => limit_place(alloc, file),
         Fault::Usage | Fault::Read(_) | Fault::Write(_) | Fault::NoMemory => Ok(Place::new(alloc)),
     }
+}
+
+fn payments_place<L: Look>(
+    alloc: Global,
+    call: Call<'_>,
+    fault: PFault,
+    look: &mut L,
+) -> Result<Place, NoMemory> {
+    let job = match file_of(alloc, call, FileIs::Job, look) {
+        Some(job) => read_job(alloc, job.as_slice()).ok(),
+        None => None,
+    };
+    let rows = file_of(alloc, call, FileIs::Payments, look);
+    let rows = match &rows {
+        Some(rows) => rows.as_slice(),
+        None => &[],
+    };
+    Ok(row_place(alloc, job.as_ref(), rows, fault)?)
+}
+
+fn limit_place(alloc: Global, file: FileIs) -> Result<Place, NoMemory> {
+    let mut place = Place::new(alloc);
+    let most = file.limit();
+    write!(place.detail, "At most {most} bytes are read of it.")?;
+    Ok(place)
 }
 
 // The bytes of a file of the call.

@@ -2,7 +2,7 @@
 use crate::place::Place;
 use crate::shown::{line_at, push_bytes};
 use audit_laws::AuditFault;
-use csv::{ByteRecord, ReaderBuilder};
+use csv::{ByteRecord, Reader, ReaderBuilder};
 use jobs::{ColumnKind, Job, is_source, weight};
 use payments::PFault;
 use savepoint::SaveFault;
@@ -22,34 +22,19 @@ pub(crate) fn row_place(
     let mut place = Place::new(alloc);
     match fault {
         PFault::NoHeader | PFault::Header => push_header(job, &mut place.detail)?,
-        PFault::Length(row) => {
+        PFault::Length(row)
+        | PFault::Source(row)
+        | PFault::Value(row, _)
+        | PFault::TextLong(row, _) => {
             if let Some(found) = record_at(alloc, bytes, row) {
-                found.push_line(&mut place.note)?;
-                let (count, width) = (found.cells.len(), found.width);
-                write!(
-                    place.detail,
-                    "It has {count} fields, and the header has {width}."
-                )?;
-            }
-        }
-        PFault::Source(row) => {
-            if let Some(found) = record_at(alloc, bytes, row) {
-                found.push_line(&mut place.note)?;
-                found.push_field(0, &mut place.detail)?;
-            }
-            push_sources(job, &mut place.detail)?;
-        }
-        PFault::Value(row, column) | PFault::TextLong(row, column) => {
-            if let Some(found) = record_at(alloc, bytes, row) {
-                found.push_line(&mut place.note)?;
-                if let Some(job) = job {
-                    push_column(job, column, &mut place.note)?;
-                    found.push_field(cell_of(job, column), &mut place.detail)?;
-                }
+                found.tell(job, fault, &mut place)?;
             }
         }
         PFault::TooMuch(_) => push_most_rows(job, &mut place.detail)?,
         PFault::NoMemory => {}
+    }
+    if let PFault::Source(_) = fault {
+        push_sources(job, &mut place.detail)?;
     }
     Ok(place)
 }
@@ -99,6 +84,29 @@ struct Found {
 }
 
 impl Found {
+    // The line of the record, and what is wrong with it.
+    fn tell(&self, job: Option<&Job>, fault: PFault, place: &mut Place) -> Result<(), AllocError> {
+        self.push_line(&mut place.note)?;
+        match fault {
+            PFault::Length(_) => {
+                let (count, width) = (self.cells.len(), self.width);
+                write!(
+                    place.detail,
+                    "It has {count} fields, and the header has {width}."
+                )
+            }
+            PFault::Source(_) => self.push_field(0, &mut place.detail),
+            PFault::Value(_, column) | PFault::TextLong(_, column) => match job {
+                Some(job) => {
+                    push_column(job, column, &mut place.note)?;
+                    self.push_field(cell_of(job, column), &mut place.detail)
+                }
+                None => Ok(()),
+            },
+            PFault::NoHeader | PFault::Header | PFault::TooMuch(_) | PFault::NoMemory => Ok(()),
+        }
+    }
+
     fn push_line(&self, out: &mut String) -> Result<(), AllocError> {
         let line = self.line;
         write!(out, "line {line}")
@@ -123,21 +131,27 @@ fn record_at(alloc: Global, bytes: &[u8], row: u64) -> Option<Found> {
         .flexible(true)
         .from_reader(alloc, bytes);
     let mut cells = ByteRecord::new(alloc);
-    if !reader.read_byte_record(&mut cells).ok()? {
+    let (width, from) = read_to(&mut reader, &mut cells, row)?;
+    Some(Found {
+        line: line_at(bytes, first_byte(bytes, from)),
+        cells,
+        width,
+    })
+}
+
+// Reads on to the record of a row. Returns how many fields the header has, and where the record is
+// looked for.
+fn read_to(reader: &mut Reader<&[u8]>, cells: &mut ByteRecord, row: u64) -> Option<(usize, u64)> {
+    if !reader.read_byte_record(cells).ok()? {
         return None;
     }
     let width = cells.len();
     for _ in 0..row {
-        if !reader.read_byte_record(&mut cells).ok()? {
+        if !reader.read_byte_record(cells).ok()? {
             return None;
         }
     }
-    let start = first_byte(bytes, cells.position()?.byte());
-    Some(Found {
-        line: line_at(bytes, start),
-        cells,
-        width,
-    })
+    Some((width, cells.position()?.byte()))
 }
 
 // Where a record begins that is looked for from this place on: after the ends of lines.

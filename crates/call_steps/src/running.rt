@@ -114,14 +114,31 @@ pub(crate) fn done_of(
 ) -> Result<Done, NoMemory>
     ensures { IfOk result (IsDoneOf ran requests.now rows.now) }
 {
-    let refused = Refusals::from_slice(alloc, ran.setup.judged.refused.as_slice())?;
-    let serial = serial_of(alloc, &ran, rows)?;
+    let Beside { refused, serial } = beside_of(alloc, &ran, rows)?;
     Ok(Done {
         ran,
         requests: requests.len(),
         refused,
         serial,
         row: rows.len() as u64,
+    })
+}
+
+/// What is kept of a run beside its record.
+#[derive(Drop)]
+struct Beside {
+    refused: Refusals,
+    serial: Serial,
+}
+
+fn beside_of(alloc: Global, ran: &RunRecord, rows: &Rows) -> Result<Beside, NoMemory>
+    ensures refused { IfOk result (λ beside. beside.refused ≡ ran.now.setup.judged.refused) }
+    ensures numbers { IfOk result (λ beside. IsTrue ran.now.setup.ordered
+        → beside.serial ≡ serials (record_view ran.now) rows.now) }
+{
+    Ok(Beside {
+        refused: Refusals::from_slice(alloc, ran.setup.judged.refused.as_slice())?,
+        serial: serial_of(alloc, ran, rows)?,
     })
 }
 

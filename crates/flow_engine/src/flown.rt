@@ -28,13 +28,7 @@ impl<L: Lanes> Flown<L> {
         ensures { IfOk result (λ ran. ran ≡ record_of self.setup self.feeds self.crew.items) }
     {
         let Flown { setup, feeds, crew } = self;
-        let mut journals = Journals::new(alloc);
-        let mut states = States::new(alloc);
-        for worked in crew {
-            let Opened { journal, state } = worked.open();
-            journals.push(journal)?;
-            states.push(state)?;
-        }
+        let Left { journals, states } = left_by(alloc, crew)?;
         Ok(RunRecord {
             setup,
             feeds,
@@ -42,4 +36,29 @@ impl<L: Lanes> Flown<L> {
             states,
         })
     }
+}
+
+/// What the workers left.
+#[derive(Drop)]
+struct Left {
+    journals: Journals,
+    states: States,
+}
+
+fn left_by<L: Lanes>(alloc: Global, crew: Vec<Worked<L>>) -> Result<Left, NoMemory>
+    ensures journals { IfOk result (λ left. left.journals
+        ≡ map (λ (w : WorkedIs). w.journal) crew.items) }
+    ensures states { IfOk result (λ left. left.states
+        ≡ map (λ (w : WorkedIs). w.state) crew.items) }
+{
+    let mut left = Left {
+        journals: Journals::new(alloc),
+        states: States::new(alloc),
+    };
+    for worked in crew {
+        let Opened { journal, state } = worked.open();
+        left.journals.push(journal)?;
+        left.states.push(state)?;
+    }
+    Ok(left)
 }

@@ -17,7 +17,7 @@ use Rattle.flow_replay.specs.Order.{IsInOrder}
 use Rattle.flow_replay.specs.declared.executor.Executor.{Executor}
 use Rattle.flow_replay.specs.declared.worker_run.WorkerRun.{WorkerRun}
 use Rattle.flow_replay.specs.inner.Delivery.{IsFed, rank_in}
-use Rattle.flow_replay.specs.inner.Executor.{HasLeft, IsNew}
+use Rattle.flow_replay.specs.inner.Executor.{HasFed, HasLeft, IsNew}
 use Rattle.flow_replay.specs.inner.Runs.{AllGain, AreOpen, empty_run, end_block}
 use Rattle.flow_replay.specs.inner.SoFar.{AreEmpty, AreIssued, AreIssuedBefore, AreSorted, IsSoFar, left_by}
 use Rattle.flow_replay.proofs.IssueLemmas.{all_issued, feed_first, feed_last, feed_next}
@@ -25,17 +25,6 @@ use Rattle.flow_replay.proofs.RunLemmas.{feed_step, first_far}
 use Rattle.flow_replay.proofs.StopLemmas.{are_open, stop_step}
 use Rattle.flow_replay.proofs.SetupLemmas.{covered}
 use Rattle.flow_replay.proofs.SortLemmas.{ends_sorted, fed_sorted, first_sorted}
-
--- the rows up to this one are fed, and the requests that wait for them issued
-pub record HasFed (kept : Setup) (rows : List Row) (row : ℕ) (e : Executor) : Type 0 where
-  pub same : e.setup ≡ kept
-  pub waits : AreIssuedBefore (afters (setup_view kept).requests) (length rows) (row + 1) e.issued
-  pub far : IsSoFar (setup_view kept) rows e.feeds e.issued e.runs.items
-  pub sorted : AreSorted (setup_view kept) (length rows) row e.issued e.runs.items
-  pub feeds :
-      e.feeds
-      ++ feed_after (afters (setup_view kept).requests) 1 row (length rows) (length rows - row)
-      ≡ feed_from 0 0 (afters (setup_view kept).requests) (length rows)
 
 -- ---- at first
 
@@ -60,6 +49,17 @@ empty setup runs are = subst (AreEmpty setup) (sym are) (record {
       get_or-replicate (length (workers_in setup.job)) w empty_run empty_run
       (omega (arith, lt, length-replicate (length (workers_in setup.job)) empty_run));
 })
+
+pub is_new : (kept : Setup) (e : Executor) → IsNew kept e → IsNew e.setup e
+is_new kept e new = record {
+  setup_is = refl;
+  runs_are =
+      subst (λ (s : Setup). e.runs.items
+      ≡ replicate (length (workers_in (setup_view s).job)) empty_run) (sym new.setup_is)
+      new.runs_are;
+  feeds_are = new.feeds_are;
+  issued_is = new.issued_is;
+}
 
 pub begins : (kept : Setup) (rows : List Row) (old new : Executor) → IsNew kept old →
     AreIssued (setup_view old.setup) (length rows) 0 old.issued new.issued old.feeds new.feeds

@@ -1,7 +1,9 @@
 // An executor on one thread.
-ghost use Rattle.std.specs.Prelude.{◌≡◌, ◌<◌, ◌++◌, ◌∷◌, [], IfOk, OnOk, length, replicate};
+ghost use Rattle.std.specs.Prelude.{◌≡◌, ◌<◌, ◌++◌, ◌∷◌, [], IfOk, OnOk, length, map};
+ghost use Rattle.std.specs.Prelude.{replicate};
 ghost use Rattle.jobs.specs.Job.{job_view};
 ghost use Rattle.jobs.specs.Nodes.{IsSourceOf};
+ghost use Rattle.sink_journal.specs.declared.journal.Feed.TheVariants.{Stopped};
 ghost use Rattle.flow_model.specs.Lanes.{lane_at, lanes};
 ghost use Rattle.flow_model.specs.Record.{record_view};
 ghost use Rattle.flow_model.specs.Requests.{afters};
@@ -10,7 +12,7 @@ ghost use Rattle.flow_model.specs.Workers.{nth_worker, workers_in};
 ghost use Rattle.flow_replay.specs.inner.Runs.{AllGain, AreOpen, IsStep, empty_run};
 ghost use Rattle.flow_replay.specs.inner.Runs.{end_block, made_at, run_at, turn_block};
 ghost use Rattle.flow_replay.specs.inner.Delivery.{IsDelivered, IsFed, rank_in};
-ghost use Rattle.flow_replay.specs.inner.SoFar.{AreIssued, AreIssuedBefore, left_by};
+ghost use Rattle.flow_replay.specs.inner.SoFar.{AreIssued, AreIssuedBefore, counts_of, journal_of};
 
 use crate::worker_run::WorkerRun;
 use flow_model::{RunRecord, Setup, States, WorkerAt, WorkerState};
@@ -175,8 +177,7 @@ impl Executor {
         ensures left { IfOk result (λ ran. HasLeft self (record_view ran)) }
         ensures same { IfOk result (λ ran. ran.setup ≡ self.setup) }
     {
-        self.end_all()?;
-        self.feeds.push(Feed::Stopped)?;
+        self.end()?;
         let Executor {
             alloc,
             setup,
@@ -184,8 +185,35 @@ impl Executor {
             feeds,
             ..
         } = self;
-        record(alloc, setup, feeds, runs)
+        let Left { journals, states } = left_by_workers(alloc, runs)?;
+        Ok(RunRecord {
+            setup,
+            feeds,
+            journals,
+            states,
+        })
     }
+
+    // Every worker ends, and the feeder stops.
+    fn end(&mut self) -> Result<(), NoMemory>
+        requires { AreOpen self.old.runs.items }
+        ensures ended { OnOk result (AllGain (setup_view self.old.setup)
+            (end_block (setup_view self.old.setup).job) self.old.runs.items self.new.runs.items) }
+        ensures stopped { OnOk result (self.new.feeds
+            ≡ self.old.feeds ++ Stopped ∷ []) }
+        ensures same { OnOk result (self.new.setup ≡ self.old.setup) }
+    {
+        self.end_all()?;
+        self.feeds.push(Feed::Stopped)?;
+        Ok(())
+    }
+}
+
+/// What the workers left.
+#[derive(Drop)]
+struct Left {
+    journals: Journals,
+    states: States,
 }
 
 fn empty_runs(alloc: Global, workers: usize) -> Result<Vec<WorkerRun>, NoMemory>
@@ -198,28 +226,19 @@ fn empty_runs(alloc: Global, workers: usize) -> Result<Vec<WorkerRun>, NoMemory>
     Ok(runs)
 }
 
-fn record(
-    alloc: Global,
-    setup: Setup,
-    feeds: Feeds,
-    runs: Vec<WorkerRun>,
-) -> Result<RunRecord, NoMemory>
-    ensures record_view { IfOk result (λ ran. record_view ran
-        ≡ left_by (setup_view setup) feeds runs.items) }
-    ensures same { IfOk result (λ ran. ran.setup ≡ setup) }
+fn left_by_workers(alloc: Global, runs: Vec<WorkerRun>) -> Result<Left, NoMemory>
+    ensures journals { IfOk result (λ left. left.journals ≡ map journal_of runs.items) }
+    ensures states { IfOk result (λ left. left.states ≡ map counts_of runs.items) }
 {
-    let mut journals = Journals::new(alloc);
-    let mut states = States::new(alloc);
+    let mut left = Left {
+        journals: Journals::new(alloc),
+        states: States::new(alloc),
+    };
     for run in runs {
         let WorkerRun { journal, state } = run;
         let WorkerState { counts, .. } = state;
-        journals.push(journal)?;
-        states.push(counts)?;
+        left.journals.push(journal)?;
+        left.states.push(counts)?;
     }
-    Ok(RunRecord {
-        setup,
-        feeds,
-        journals,
-        states,
-    })
+    Ok(left)
 }

@@ -1,4 +1,4 @@
-ghost use Rattle.std.specs.Prelude.{◌≡◌, IfOk, length};
+ghost use Rattle.std.specs.Prelude.{◌≡◌, IfOk, OnOk, length};
 ghost use Rattle.jobs.specs.Job.{job_view};
 ghost use Rattle.jobs.specs.Nodes.{AreFromSources};
 ghost use Rattle.flow_model.specs.Consistent.{IsConsistent};
@@ -6,6 +6,7 @@ ghost use Rattle.flow_model.specs.Record.{record_view};
 ghost use Rattle.flow_model.specs.Run.{IsRun};
 ghost use Rattle.flow_model.specs.Setup.{setup_view};
 ghost use Rattle.flow_replay.specs.Order.{IsInOrder};
+ghost use Rattle.flow_replay.specs.inner.Executor.{HasFed, IsNew};
 
 use crate::executor::Executor;
 use flow_model::{RunRecord, Setup, runs_are_consistent};
@@ -27,6 +28,16 @@ pub fn plain_run(alloc: Global, setup: Setup, rows: &Rows) -> Result<RunRecord, 
 {
     runs_are_consistent(&setup, rows);
     let mut executor = Executor::new(alloc, setup)?;
+    feed_all(&mut executor, rows)?;
+    executor.finish()
+}
+
+// Feeds all rows, and issues each request directly after the row that it waits for.
+fn feed_all(executor: &mut Executor, rows: &Rows) -> Result<(), NoMemory>
+    requires new { IsNew executor.old.setup executor.old }
+    requires sources { AreFromSources (job_view executor.old.setup.job) rows.now }
+    ensures { OnOk result (HasFed executor.old.setup rows.now (length rows.now) executor.new) }
+{
     let list = rows.as_slice();
     let count = list.len() as u64;
     executor.issue_up_to(0, count)?;
@@ -34,5 +45,5 @@ pub fn plain_run(alloc: Global, setup: Setup, rows: &Rows) -> Result<RunRecord, 
         executor.feed(row)?;
         executor.issue_up_to(place as u64 + 1, count)?;
     }
-    executor.finish()
+    Ok(())
 }

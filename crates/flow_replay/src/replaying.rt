@@ -121,7 +121,7 @@ impl Replaying {
 }
 
 /// The lanes out that an item is put on.
-#[derive(Clone, Copy, Debug)]
+#[derive(Clone, Copy)]
 enum Onto {
     /// The lane with this number.
     Lane(u32),

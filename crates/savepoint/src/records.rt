@@ -15,7 +15,7 @@ ghost use Rattle.savepoint.specs.Parts.{
   unstopped,
 };
 
-use flow_model::{RunRecord, Setup};
+use flow_model::{RunRecord, Setup, States};
 use sink_journal::{Entry, Feed, Feeds, Journal, Journals};
 use std::alloc::Global;
 use tuple_trace::{Items, NoMemory};
@@ -67,11 +67,62 @@ pub fn join(
         AreParts (setup_view setup) rows row (record_view first) (record_view second) →
         IsRun (setup_view setup) rows (record_view ran)) }
 {
+    let Left {
+        feeds,
+        journals,
+        states,
+    } = joined_left(alloc, left_of(first), left_of(second))?;
     Ok(RunRecord {
         setup,
-        feeds: joined_feeds(first.feeds, second.feeds)?,
-        journals: joined_journals(alloc, first.journals, second.journals)?,
-        states: second.states,
+        feeds,
+        journals,
+        states,
+    })
+}
+
+/// What a run left, without its setup.
+#[derive(Drop)]
+struct Left {
+    feeds: Feeds,
+    journals: Journals,
+    states: States,
+}
+
+fn left_of(ran: RunRecord) -> Left
+    ensures feeds { result.feeds ≡ ran.feeds }
+    ensures journals { result.journals ≡ ran.journals }
+    ensures states { result.states ≡ ran.states }
+{
+    let RunRecord {
+        feeds,
+        journals,
+        states,
+        ..
+    } = ran;
+    Left {
+        feeds,
+        journals,
+        states,
+    }
+}
+
+fn joined_left(alloc: Global, first: Left, second: Left) -> Result<Left, NoMemory>
+    ensures feeds { IfOk result (λ left. left.feeds ≡ unstopped first.feeds ++ second.feeds) }
+    ensures journals { IfOk result (λ left. left.journals
+        ≡ map joined_journal (zip first.journals second.journals)) }
+    ensures states { IfOk result (λ left. left.states ≡ second.states) }
+{
+    let Left {
+        feeds: more_feeds,
+        journals: more_journals,
+        states,
+    } = second;
+    let feeds = joined_feeds(first.feeds, more_feeds)?;
+    let journals = joined_journals(alloc, first.journals, more_journals)?;
+    Ok(Left {
+        feeds,
+        journals,
+        states,
     })
 }
 

@@ -1,15 +1,18 @@
 -- What an executor does.
-use Rattle.std.specs.Prelude.{◌≡◌, ◌++◌, List, [], ◌∷◌, length, replicate}
+use Rattle.std.specs.Prelude.{◌≡◌, ◌+◌, ◌-◌, ◌++◌, ℕ, List, [], ◌∷◌, length, replicate}
 use Rattle.sink_journal.specs.declared.journal.Feed.TheVariants as feed
+use Rattle.tuple_trace.specs.declared.row.Row.{Row}
 use Rattle.jobs.specs.Job.{job_view}
 use Rattle.flow_model.specs.declared.setup.Setup.{Setup}
+use Rattle.flow_model.specs.Feeding.{feed_after, feed_from}
+use Rattle.flow_model.specs.Requests.{afters}
 use Rattle.flow_model.specs.Run.{Ran}
 use Rattle.flow_model.specs.Setup.{setup_view}
 use Rattle.flow_model.specs.Workers.{workers_in}
 use Rattle.flow_replay.specs.declared.executor.Executor.{Executor}
 use Rattle.flow_replay.specs.declared.worker_run.WorkerRun.{WorkerRun}
 use Rattle.flow_replay.specs.inner.Runs.{AllGain, empty_run, end_block}
-use Rattle.flow_replay.specs.inner.SoFar.{left_by}
+use Rattle.flow_replay.specs.inner.SoFar.{AreIssuedBefore, AreSorted, IsSoFar, left_by}
 
 -- it has done nothing
 pub record IsNew (setup : Setup) (executor : Executor) : Type 0 where
@@ -31,3 +34,14 @@ pub record HasLeft (old : Executor) (ran : Ran) : Type 0 where
   pub ended : AllGain (setup_view old.setup) (end_block
       (setup_view old.setup).job) old.runs.items runs
   pub ran_is : ran ≡ left_by (setup_view old.setup) (old.feeds ++ feed.Stopped ∷ []) runs
+
+-- the rows up to this one are fed, and the requests that wait for them issued
+pub record HasFed (kept : Setup) (rows : List Row) (row : ℕ) (e : Executor) : Type 0 where
+  pub same : e.setup ≡ kept
+  pub waits : AreIssuedBefore (afters (setup_view kept).requests) (length rows) (row + 1) e.issued
+  pub far : IsSoFar (setup_view kept) rows e.feeds e.issued e.runs.items
+  pub sorted : AreSorted (setup_view kept) (length rows) row e.issued e.runs.items
+  pub feeds :
+      e.feeds
+      ++ feed_after (afters (setup_view kept).requests) 1 row (length rows) (length rows - row)
+      ≡ feed_from 0 0 (afters (setup_view kept).requests) (length rows)

@@ -2,6 +2,7 @@
 use Rattle.std.specs.Prelude.{◌≡◌, ◌<◌, ◌≤◌, ◌+◌, ◌++◌, ℕ, suc, Bool, true, false, All, List, []}
 use Rattle.std.specs.Prelude.{◌∷◌, drop, length, map, min, nat_le, Some, slice_get}
 use Rattle.std.specs.List.{list_any}
+use Rattle.keyed_state.specs.Counts.{Counts}
 use Rattle.sink_journal.specs.declared.journal.Entry.{Entry}
 use Rattle.sink_journal.specs.declared.journal.Feed.{Feed}
 use Rattle.sink_journal.specs.declared.journal.Feed.TheVariants as feed
@@ -94,11 +95,17 @@ AreSorted setup rows row turned runs =
 
 -- ---- the whole
 
+-- what a worker leaves
+abbrev pub journal_of : WorkerRun → List Entry
+journal_of run = run.journal
+
+abbrev pub counts_of : WorkerRun → Counts
+counts_of run = run.state.counts
+
 -- what a run with these feeds and workers leaves
 abbrev pub left_by : SetupView → List Feed → List WorkerRun → Ran
 left_by setup feeds runs =
-    ran_as setup feeds (map (λ (run : WorkerRun). run.journal) runs)
-    (map (λ (run : WorkerRun). run.state.counts) runs)
+    ran_as setup feeds (map journal_of runs) (map counts_of runs)
 
 -- nothing was done yet
 pub record AreEmpty (setup : SetupView) (runs : List WorkerRun) : Type 0 where
