@@ -1,5 +1,6 @@
 pub mod AppLemmas
 pub mod FormLemmas
 pub mod RowLemmas
+pub mod TopicRules
 pub mod TopicLemmas
 pub mod WalkLemmas

@@ -10,7 +10,7 @@ use Rattle.clap.specs.declared.builder.value_parser.Reading.{Reading}
 use Rattle.clap.specs.declared.builder.value_parser.Reading.TheVariants.{AsWritten}
 use Rattle.clap.specs.declared.parser.matches.ValueSource.{ValueSource}
 use Rattle.clap.specs.declared.parser.matches.ValueSource.TheVariants.{CommandLine, DefaultValue}
-use Rattle.command_line.specs.Asked.{is_true}
+use Rattle.command_line.specs.Words.{is_true}
 use Rattle.command_line.specs.Form.{is_found, value_of}
 use Rattle.command_line.proofs.FormLemmas.{map-more}
 

@@ -1,9 +1,15 @@
 -- The commands that `clap` reads the words by.
-use Rattle.std.specs.Prelude.{◌≡◌, true, false, Some, codes}
-use Rattle.clap.specs.Words.{App, app_of, Rule, Text, new_app, new_rule, with_rule, with_subcommand}
+use Rattle.std.specs.Prelude.{◌≡◌, ◌++◌, ◌∷◌, [], List, map, true, false, Some, codes}
+use Rattle.std.specs.Borrow.{Bor}
+use Rattle.clap.specs.Simple.{on_top}
+use Rattle.clap.specs.Words.{App, app_of, Rule, Shape, Text, new_app, new_rule}
 use Rattle.clap.specs.declared.builder.action.ArgAction.TheVariants.{SetTrue}
 use Rattle.clap.specs.declared.builder.command.Command.{Command}
 use Rattle.clap.specs.declared.builder.command.Command.TheViews.{out-Command}
+use Rattle.command_line.specs.Words.{form_of}
+use Rattle.command_line.specs.Form.{Flag, Form, ValueOption}
+use Rattle.command_line.specs.declared.topic.Topic.{Topic}
+use Rattle.command_line.specs.declared.topic.Topic.TheVariants as topic
 
 -- the command is this one, and no argument of it is one of its subcommands too
 abbrev pub IsApp : Command → App → Type 0
@@ -18,55 +24,59 @@ abbrev pub option_rule : Text → Rule
 option_rule id = record (new_rule id) { long = Some id }
 
 -- an option without one
-abbrev pub flag_rule : Text → Rule
-flag_rule id = record (option_rule id) { action = Some SetTrue }
+abbrev pub switch_rule : Text → Rule
+switch_rule id = record (option_rule id) { action = Some SetTrue }
 
-abbrev pub first_app : App
-first_app = with_rule (with_rule (with_rule (with_rule (with_rule (new_app (codes "first"))
-    (name_rule (codes "payments"))) (name_rule (codes "alerts"))) (name_rule (codes "min"))) (name_rule (codes "after"))) (name_rule (codes "min2"))
+abbrev pub option_rule_of : ValueOption → Rule
+option_rule_of option = option_rule option.id
 
-abbrev pub check_app : App
-check_app = with_rule (new_app (codes "check")) (name_rule (codes "job"))
+abbrev pub flag_rule_of : Flag → Rule
+flag_rule_of flag = switch_rule flag.id
 
-abbrev pub plan_app : App
-plan_app = with_rule (with_rule (with_rule (new_app (codes "plan"))
-    (name_rule (codes "job"))) (name_rule (codes "requests"))) (flag_rule (codes "ordered"))
+-- the command with these arguments behind its own
+abbrev pub with_rules : App → List Rule → App
+with_rules app rules = on_top (λ top. record top { rules = top.rules ++ rules }) app
 
-abbrev pub run_app : App
-run_app = with_rule (with_rule (with_rule (with_rule (with_rule (with_rule (with_rule (with_rule (new_app (codes "run"))
-    (name_rule (codes "job"))) (name_rule (codes "requests"))) (name_rule (codes "payments"))) (name_rule (codes "alerts"))) (name_rule (codes "audit")))
-    (option_rule (codes "threads"))) (option_rule (codes "capacity"))) (flag_rule (codes "ordered"))
-
-abbrev pub make_app : App
-make_app = with_rule (with_rule (with_rule (with_rule (new_app (codes "make"))
-    (name_rule (codes "job"))) (name_rule (codes "seed"))) (name_rule (codes "rows"))) (option_rule (codes "threads"))
-
-abbrev pub save_app : App
-save_app = with_rule (with_rule (with_rule (with_rule (with_rule (with_rule (with_rule (with_rule (with_rule (new_app (codes "save"))
-    (name_rule (codes "job"))) (name_rule (codes "requests"))) (name_rule (codes "payments"))) (name_rule (codes "alerts"))) (name_rule (codes "audit")))
-    (name_rule (codes "save"))) (name_rule (codes "rows"))) (option_rule (codes "threads"))) (option_rule (codes "capacity"))
-
-abbrev pub resume_app : App
-resume_app = with_rule (with_rule (with_rule (with_rule (with_rule (with_rule (with_rule (with_rule (new_app (codes "resume"))
-    (name_rule (codes "job"))) (name_rule (codes "requests"))) (name_rule (codes "payments"))) (name_rule (codes "save"))) (name_rule (codes "alerts")))
-    (name_rule (codes "audit"))) (option_rule (codes "threads"))) (option_rule (codes "capacity"))
-
-abbrev pub live_app : App
-live_app = with_rule (with_rule (with_rule (with_rule (with_rule (with_rule (with_rule (new_app (codes "live"))
-    (name_rule (codes "job"))) (name_rule (codes "requests"))) (name_rule (codes "payments"))) (name_rule (codes "alerts"))) (name_rule (codes "audit")))
-    (option_rule (codes "threads"))) (option_rule (codes "capacity"))
-
-abbrev pub verify_app : App
-verify_app = with_rule (with_rule (with_rule (with_rule (with_rule (new_app (codes "verify"))
-    (name_rule (codes "job"))) (name_rule (codes "requests"))) (name_rule (codes "payments")))
-    (name_rule (codes "audit"))) (flag_rule (codes "ordered"))
+-- the command with the arguments of a form: its names, its options and its flags
+abbrev pub command_app : Text → Form → App
+command_app word form =
+    with_rules
+    (with_rules (with_rules (new_app word) (map name_rule form.names))
+    (map option_rule_of form.options))
+    (map flag_rule_of form.flags)
 
 -- the program gets the words after its own name
 abbrev pub without_its_name : App → App
 without_its_name app = record app { top = record app.top { no_binary_name = true } }
 
+-- a command and what it is about, as the code holds them
+abbrev pub topic_view : Bor Text × Topic → Text × Topic
+topic_view pair = (pair.0.now, pair.1)
+
+-- a command under this word
+abbrev pub shape_on : Text × Topic → Shape
+shape_on (word, about) = (command_app word (form_of about)).top
+
+-- the program with these commands behind its own
+abbrev pub with_shapes : App → List Shape → App
+with_shapes app [] = app
+with_shapes app (shape ∷ shapes) =
+    record { top = record app.top { is_leaf = false }; subs = app.subs ++ shape ∷ shapes }
+
+-- each command, and what it is about
+abbrev pub commands : List (Text × Topic)
+commands =
+    (codes "first", topic.First)
+    ∷ (codes "check", topic.Check)
+    ∷ (codes "plan", topic.Plan)
+    ∷ (codes "run", topic.Run)
+    ∷ (codes "make", topic.Make)
+    ∷ (codes "save", topic.Save)
+    ∷ (codes "resume", topic.Resume)
+    ∷ (codes "live", topic.Live)
+    ∷ (codes "verify", topic.Verify)
+    ∷ []
+
 -- the program with its commands
 abbrev pub program_app : App
-program_app = with_subcommand (with_subcommand (with_subcommand (with_subcommand (with_subcommand (with_subcommand (with_subcommand (with_subcommand (with_subcommand
-    (without_its_name (new_app (codes "fries")))
-    first_app.top) check_app.top) plan_app.top) run_app.top) make_app.top) save_app.top) resume_app.top) live_app.top) verify_app.top
+program_app = with_shapes (without_its_name (new_app (codes "fries"))) (map shape_on commands)

@@ -1,8 +1,6 @@
--- What the words of a command line ask for.
-use Rattle.std.specs.Prelude.{◌^◌, ◌-◌, ◌≤◌, ⊤, ℕ, ℤ, pos, Bool, false, List, [], ◌∷◌, ◌||◌, nat_le, Option, None, Some, option_map, option_and_then, unwrap_or, codes, if◌then◌else◌}
-use Rattle.std.specs.Str.{bytes_eq}
-use Rattle.tuple_trace.specs.Digits.{at_most, digits_of}
-use Rattle.command_line.specs.Form.{Flag, Form, Text, ValueOption, found_in, value_of}
+-- What a command line may ask for, and what a command asks for.
+use Rattle.std.specs.Prelude.{◌≤◌, ⊤, ℕ, ℤ, Bool}
+use Rattle.command_line.specs.Form.{Text}
 use Rattle.command_line.specs.declared.command.EngineSize.{EngineSize}
 use Rattle.command_line.specs.declared.command.Command.{Command}
 use Rattle.command_line.specs.declared.command.Command.TheVariants as command
@@ -14,11 +12,11 @@ use Rattle.command_line.specs.declared.command.RunFiles.{RunFiles}
 use Rattle.command_line.specs.declared.command.SaveFiles.{SaveFiles}
 use Rattle.command_line.specs.declared.command.VerifyFiles.{VerifyFiles}
 use Rattle.command_line.specs.declared.topic.Topic.{Topic}
-use Rattle.command_line.specs.declared.topic.Topic.TheVariants as topic
 
 -- ---- what is asked
 
--- what `first` is asked to do: the files, the least amount at first, after which row it changes, and the least amount from then on
+-- what `first` is asked to do: the files, the least amount at first, after which row it changes,
+-- and the least amount from then on
 pub record FirstAsked : Type 0 where
   pub payments : Text
   pub alerts : Text
@@ -26,7 +24,8 @@ pub record FirstAsked : Type 0 where
   pub after : ℕ
   pub least_after : ℤ
 
--- what `plan` is asked to do: the job file, the request file, and whether rows and requests are to have one order
+-- what `plan` is asked to do: the job file, the request file, and whether rows and requests are to
+-- have one order
 pub record PlanAsked : Type 0 where
   pub job : Text
   pub requests : Text
@@ -39,7 +38,8 @@ pub record IsSize (size : EngineSize) : Type 0 where
   pub some_items : 1 ≤ size.capacity
   pub few_items : size.capacity ≤ 64
 
--- what `run` is asked to do: the files of `plan`, the payments, the alerts and the audit that it is to write, and by how large an engine
+-- what `run` is asked to do: the files of `plan`, the payments, the alerts and the audit that it is
+-- to write, and by how large an engine
 pub record RunAsked : Type 0 where
   pub plan : PlanAsked
   pub payments : Text
@@ -93,304 +93,6 @@ pub data Asked : Type 0 where
   -- to say which version this is
   Version : Asked
 
--- ---- the forms of the commands
-
-abbrev pub threads_option : ValueOption
-threads_option = record { id = codes "threads"; word = codes "--threads"; start = codes "--threads=" }
-
-abbrev pub capacity_option : ValueOption
-capacity_option = record { id = codes "capacity"; word = codes "--capacity"; start = codes "--capacity=" }
-
-abbrev pub ordered_flag : Flag
-ordered_flag = record { id = codes "ordered"; word = codes "--ordered" }
-
-abbrev pub first_form : Form
-first_form = record {
-  names = codes "payments" ∷ codes "alerts" ∷ codes "min" ∷ codes "after" ∷ codes "min2" ∷ [];
-  options = [];
-  flags = [];
-}
-
-abbrev pub check_form : Form
-check_form = record { names = codes "job" ∷ []; options = []; flags = [] }
-
-abbrev pub plan_form : Form
-plan_form = record {
-  names = codes "job" ∷ codes "requests" ∷ [];
-  options = [];
-  flags = ordered_flag ∷ [];
-}
-
-abbrev pub run_form : Form
-run_form = record {
-  names = codes "job" ∷ codes "requests" ∷ codes "payments" ∷ codes "alerts" ∷ codes "audit" ∷ [];
-  options = threads_option ∷ capacity_option ∷ [];
-  flags = ordered_flag ∷ [];
-}
-
-abbrev pub make_form : Form
-make_form = record {
-  names = codes "job" ∷ codes "seed" ∷ codes "rows" ∷ [];
-  options = threads_option ∷ [];
-  flags = [];
-}
-
-abbrev pub save_form : Form
-save_form = record {
-  names =
-      codes "job" ∷ codes "requests" ∷ codes "payments" ∷ codes "alerts" ∷ codes "audit"
-      ∷ codes "save" ∷ codes "rows" ∷ [];
-  options = threads_option ∷ capacity_option ∷ [];
-  flags = [];
-}
-
-abbrev pub resume_form : Form
-resume_form = record {
-  names =
-      codes "job" ∷ codes "requests" ∷ codes "payments" ∷ codes "save" ∷ codes "alerts"
-      ∷ codes "audit" ∷ [];
-  options = threads_option ∷ capacity_option ∷ [];
-  flags = [];
-}
-
-abbrev pub live_form : Form
-live_form = record {
-  names = codes "job" ∷ codes "requests" ∷ codes "payments" ∷ codes "alerts" ∷ codes "audit" ∷ [];
-  options = threads_option ∷ capacity_option ∷ [];
-  flags = [];
-}
-
-abbrev pub verify_form : Form
-verify_form = record {
-  names = codes "job" ∷ codes "requests" ∷ codes "payments" ∷ codes "audit" ∷ [];
-  options = [];
-  flags = ordered_flag ∷ [];
-}
-
--- the full form of the words after a command
-abbrev pub form_of : Topic → Form
-form_of topic.Program = record { names = []; options = []; flags = [] }
-form_of topic.First = first_form
-form_of topic.Check = check_form
-form_of topic.Plan = plan_form
-form_of topic.Run = run_form
-form_of topic.Make = make_form
-form_of topic.Save = save_form
-form_of topic.Resume = resume_form
-form_of topic.Live = live_form
-form_of topic.Verify = verify_form
-
--- ---- values
-
--- the value under each name and option
-abbrev pub Values : Type 0
-Values = Text → Option Text
-
--- the value of a name, which every full form has
-abbrev pub name_in : Values → Text → Text
-name_in values id = unwrap_or (values id) []
-
--- the number in digits of a name
-abbrev pub number_in : Values → ℕ → Text → Option ℕ
-number_in values most id = at_most most (digits_of (name_in values id))
-
--- an amount in cents, in digits
-abbrev pub amount_in : Values → Text → Option ℤ
-amount_in values id = option_map pos (number_in values (2 ^ 63 - 1) id)
-
--- a number, if it is at least 1
-abbrev pub at_least_1 : ℕ → Option ℕ
-at_least_1 number = if nat_le 1 number then Some number else None
-
--- the number of an option, 1 to so many, or the usual one if the option isn't there
-abbrev pub size_in : ℕ → ℕ → Option Text → Option ℕ
-size_in usual most None = Some usual
-size_in usual most (Some text) = option_and_then at_least_1 (at_most most (digits_of text))
-
--- the text of a flag says that it is there
-abbrev pub is_true : Option Text → Bool
-is_true None = false
-is_true (Some text) = bytes_eq text (codes "true")
-
--- how many rows a request waits for at most, and how many come before a savepoint at most
-abbrev pub after_max : ℕ
-after_max = 1048576
-
--- two names and three numbers, which are in range
-abbrev pub with_numbers : Text → Text → Option ℤ → Option ℕ → Option ℤ → Option FirstAsked
-with_numbers payments alerts (Some least) (Some after) (Some least_after) =
-    Some (record { payments = payments; alerts = alerts; least = least; after = after; least_after = least_after })
-with_numbers payments alerts None after least_after = None
-with_numbers payments alerts (Some least) None least_after = None
-with_numbers payments alerts (Some least) (Some after) None = None
-
-abbrev pub first_of : Values → Option FirstAsked
-first_of values =
-    with_numbers (name_in values (codes "payments")) (name_in values (codes "alerts"))
-    (amount_in values (codes "min"))
-    (number_in values after_max (codes "after"))
-    (amount_in values (codes "min2"))
-
--- the files of a plan and its mode: ordered where the flag is there
-abbrev pub plan_of : Values → PlanAsked
-plan_of values = record {
-  job = name_in values (codes "job");
-  requests = name_in values (codes "requests");
-  ordered = is_true (values (codes "ordered"));
-}
-
--- the size of an engine
-abbrev pub engine_of : Option ℕ → Option ℕ → Option EngineSize
-engine_of (Some threads) (Some capacity) = Some (record { threads = threads; capacity = capacity })
-engine_of None capacity = None
-engine_of (Some threads) None = None
-
--- one thread and lanes of 16 items, if the options aren't there
-abbrev pub engine_in : Values → Option EngineSize
-engine_in values = engine_of (size_in 1 16 (values (codes "threads"))) (size_in 16 64 (values (codes "capacity")))
-
--- the files of a run, the last two of which are different words
-abbrev pub run_over : PlanAsked → Text → Text → Text → EngineSize → Option RunAsked
-run_over plan payments alerts audit size =
-    if bytes_eq alerts audit then None
-    else Some (record { plan = plan; payments = payments; alerts = alerts; audit = audit; size = size })
-
--- the files of a plan that isn't in ordered mode
-abbrev pub unordered_of : Values → PlanAsked
-unordered_of values = record {
-  job = name_in values (codes "job");
-  requests = name_in values (codes "requests");
-  ordered = false;
-}
-
-abbrev pub run_with : PlanAsked → Values → Option RunAsked
-run_with plan values =
-    option_and_then (run_over plan (name_in values (codes "payments")) (name_in values (codes "alerts")) (name_in values (codes "audit")))
-    (engine_in values)
-
-abbrev pub run_of : Values → Option RunAsked
-run_of values = run_with (plan_of values) values
-
--- the files of a run, and its audit
-abbrev pub verify_of : Values → VerifyAsked
-verify_of values = record {
-  plan = plan_of values;
-  payments = name_in values (codes "payments");
-  audit = name_in values (codes "audit");
-}
-
--- a run that isn't in ordered mode
-abbrev pub live_of : Values → Option RunAsked
-live_of values = run_with (unordered_of values) values
-
--- the run writes a file with this name
-abbrev pub writes : RunAsked → Text → Bool
-writes run name = bytes_eq run.alerts name || bytes_eq run.audit name
-
--- a run and a savepoint, which is another word than the files that the run writes
-abbrev pub resume_with : Text → RunAsked → Option ResumeAsked
-resume_with save run = if writes run save then None else Some (record { run = run; save = save })
-
-abbrev pub resume_of : Values → Option ResumeAsked
-resume_of values =
-    option_and_then (resume_with (name_in values (codes "save"))) (run_with (unordered_of values) values)
-
--- the same, and a number of rows that is in range
-abbrev pub save_after : ℕ → ResumeAsked → SaveAsked
-save_after rows files = record { run = files.run; save = files.save; rows = rows }
-
-abbrev pub save_with : Option ResumeAsked → Option ℕ → Option SaveAsked
-save_with files None = None
-save_with files (Some rows) = option_map (save_after rows) files
-
-abbrev pub save_of : Values → Option SaveAsked
-save_of values = save_with (resume_of values) (number_in values after_max (codes "rows"))
-
--- a job file and three numbers, which are in range
-abbrev pub make_with : Text → Option ℕ → Option ℕ → Option ℕ → Option MakeAsked
-make_with job (Some seed) (Some rows) (Some threads) = Some (record { job = job; seed = seed; rows = rows; threads = threads })
-make_with job None rows threads = None
-make_with job (Some seed) None threads = None
-make_with job (Some seed) (Some rows) None = None
-
-abbrev pub make_of : Values → Option MakeAsked
-make_of values =
-    make_with (name_in values (codes "job"))
-    (number_in values (2 ^ 64 - 1) (codes "seed"))
-    (number_in values (2 ^ 32 - 1) (codes "rows"))
-    (size_in 1 16 (values (codes "threads")))
-
--- ---- words
-
--- `--help` or `-h`
-abbrev pub is_help : Text → Bool
-is_help word = bytes_eq word (codes "--help") || bytes_eq word (codes "-h")
-
--- `--version` or `-V`
-abbrev pub is_version : Text → Bool
-is_version word = bytes_eq word (codes "--version") || bytes_eq word (codes "-V")
-
--- the command that a word names
-abbrev pub topic_of : Text → Option Topic
-topic_of word =
-    if bytes_eq word (codes "first") then Some topic.First
-    else if bytes_eq word (codes "check") then Some topic.Check
-    else if bytes_eq word (codes "plan") then Some topic.Plan
-    else if bytes_eq word (codes "run") then Some topic.Run
-    else if bytes_eq word (codes "make") then Some topic.Make
-    else if bytes_eq word (codes "save") then Some topic.Save
-    else if bytes_eq word (codes "resume") then Some topic.Resume
-    else if bytes_eq word (codes "live") then Some topic.Live
-    else if bytes_eq word (codes "verify") then Some topic.Verify
-    else None
-
--- what the values of a command ask for
-abbrev pub asked_with : Topic → Values → Option Asked
-asked_with topic.Program values = None
-asked_with topic.First values = option_map First (first_of values)
-asked_with topic.Check values = Some (Check (name_in values (codes "job")))
-asked_with topic.Plan values = Some (Plan (plan_of values))
-asked_with topic.Run values = option_map Run (run_of values)
-asked_with topic.Make values = option_map Make (make_of values)
-asked_with topic.Save values = option_map Save (save_of values)
-asked_with topic.Resume values = option_map Resume (resume_of values)
-asked_with topic.Live values = option_map Live (live_of values)
-asked_with topic.Verify values = Some (Verify (verify_of values))
-
--- what the words after a command ask for, if they have its full form
-abbrev pub asked_after : Topic → List Text → Option Asked
-asked_after about words =
-    option_and_then (λ found. asked_with about (value_of found)) (found_in (form_of about) words)
-
--- the only word asks for help or for the version
-abbrev pub asked_alone : Text → Option Asked
-asked_alone word = if is_help word then Some (Help topic.Program) else if is_version word then Some Version else None
-
--- the only word after a command asks for help on it
-abbrev pub asks_help : List Text → Bool
-asks_help [] = false
-asks_help (word ∷ []) = is_help word
-asks_help (word ∷ more ∷ words) = false
-
--- what the words after a command ask for
-abbrev pub asked_on : Topic → List Text → Option Asked
-asked_on about words = if asks_help words then Some (Help about) else asked_after about words
-
--- what a first word that names no command asks for, alone
-abbrev pub asked_first : Text → List Text → Option Asked
-asked_first word [] = asked_alone word
-asked_first word (next ∷ words) = None
-
--- what words ask for that begin with this one
-abbrev pub asked_by_word : Option Topic → Text → List Text → Option Asked
-asked_by_word (Some about) word words = asked_on about words
-asked_by_word None word words = asked_first word words
-
--- What words ask for: a command in its full form, help, or the version. None if they do neither.
-abbrev pub asked_of : List Text → Option Asked
-asked_of [] = None
-asked_of (word ∷ words) = asked_by_word (topic_of word) word words
-
 -- ---- what a command asks for
 
 -- what a `First` asks for
@@ -409,11 +111,22 @@ plan_asked files = record { job = files.job; requests = files.requests; ordered 
 
 -- what the files of `run` ask for
 abbrev pub run_asked : RunFiles → RunAsked
-run_asked files = record { plan = plan_asked files.plan; payments = files.payments; alerts = files.alerts; audit = files.audit; size = files.size }
+run_asked files = record {
+  plan = plan_asked files.plan;
+  payments = files.payments;
+  alerts = files.alerts;
+  audit = files.audit;
+  size = files.size;
+}
 
 -- what a `Make` asks for
 abbrev pub make_asked : MakeWords → MakeAsked
-make_asked make = record { job = make.job; seed = make.seed; rows = make.rows; threads = make.threads }
+make_asked make = record {
+  job = make.job;
+  seed = make.seed;
+  rows = make.rows;
+  threads = make.threads;
+}
 
 -- what the files of `resume` ask for
 abbrev pub resume_asked : ResumeFiles → ResumeAsked

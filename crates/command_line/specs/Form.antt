@@ -108,6 +108,7 @@ found_after form parts [] = at_end parts.names parts.waiting parts.found
 found_after form parts (word ∷ words) =
     option_and_then (λ next. found_after form next words) (with_word form parts parts.waiting word)
 
--- What is found in the words after a command, if they have its form. Each option stands at most once, at any place, as two words or as one.
+-- What is found in the words after a command, if they have its form. Each option stands at most
+-- once, at any place, as two words or as one.
 abbrev pub found_in : Form → List Text → Option (List (Text × Text))
 found_in form words = found_after form (no_parts form) words

@@ -16,14 +16,19 @@ help_of topic.Program =
     ++ codes "  check JOB                                       prints the sizes of a job\n"
     ++ codes "  plan JOB REQUESTS                               prints what each request changes\n"
     ++ codes "  run JOB REQUESTS PAYMENTS ALERTS AUDIT          runs payments through a job\n"
-    ++ codes "  live JOB REQUESTS PAYMENTS ALERTS AUDIT         the same, with requests released by lines\n"
-    ++ codes "  save JOB REQUESTS PAYMENTS ALERTS AUDIT SAVE N  runs the first payments, saves the counts\n"
-    ++ codes "  resume JOB REQUESTS PAYMENTS SAVE ALERTS AUDIT  runs the later payments from there\n"
-    ++ codes "  verify JOB REQUESTS PAYMENTS AUDIT              looks whether an audit is that of a run\n"
+    ++ codes
+    "  live JOB REQUESTS PAYMENTS ALERTS AUDIT         the same, with requests released by lines\n"
+    ++ codes
+    "  save JOB REQUESTS PAYMENTS ALERTS AUDIT SAVE N  runs the first payments, saves the counts\n"
+    ++ codes
+    "  resume JOB REQUESTS PAYMENTS SAVE ALERTS AUDIT  runs the later payments from there\n"
+    ++ codes
+    "  verify JOB REQUESTS PAYMENTS AUDIT              looks whether an audit is that of a run\n"
     ++ codes "  make JOB SEED ROWS                              runs rows that are made up\n"
     ++ codes "  first PAYMENTS ALERTS MIN AFTER MIN2            runs the smallest job\n"
     ++ codes "\n"
-    ++ codes "Options stand anywhere after the command, as two words or one: --threads 2, --threads=2.\n"
+    ++ codes
+    "Options stand anywhere after the command, as two words or one: --threads 2, --threads=2.\n"
     ++ codes "`fries COMMAND --help` explains a command, `fries --version` prints the version.\n"
     ++ codes "\n"
     ++ codes "example: fries check job.toml\n"
@@ -50,11 +55,13 @@ help_of topic.Check =
 help_of topic.Plan =
     codes "usage: fries plan JOB REQUESTS [--ordered]\n"
     ++ codes "\n"
-    ++ codes "Prints for each request which nodes and edges its change covers, or why it is refused.\n"
+    ++ codes
+    "Prints for each request which nodes and edges its change covers, or why it is refused.\n"
     ++ codes "\n"
     ++ codes "  JOB        file to read: a job as TOML\n"
     ++ codes "  REQUESTS   file to read: requests as TOML\n"
-    ++ codes "  --ordered  plans for one order of all rows and requests; without it, rows alone are whole\n"
+    ++ codes
+    "  --ordered  plans for one order of all rows and requests; without it, rows alone are whole\n"
     ++ codes "\n"
     ++ codes "example: fries plan job.toml requests.toml\n"
 help_of topic.Run =
@@ -66,7 +73,8 @@ help_of topic.Run =
     ++ codes "  REQUESTS      file to read: requests as TOML\n"
     ++ codes "  PAYMENTS      file to read: payments as CSV\n"
     ++ codes "  ALERTS        file to write: what comes to the sinks, as CSV\n"
-    ++ codes "  AUDIT         file to write: what each worker did, as CSV; another word than ALERTS\n"
+    ++ codes
+    "  AUDIT         file to write: what each worker did, as CSV; another word than ALERTS\n"
     ++ codes "  --threads N   threads, 1 to 16; without it, 1\n"
     ++ codes "  --capacity C  items on a lane, 1 to 64; without it, 16\n"
     ++ codes "  --ordered     gives rows and requests one order; without it, rows alone are whole\n"
@@ -92,8 +100,10 @@ help_of topic.Save =
     ++ codes "  REQUESTS      file to read: requests as TOML\n"
     ++ codes "  PAYMENTS      file to read: payments as CSV\n"
     ++ codes "  ALERTS        file to write: what comes to the sinks, as CSV\n"
-    ++ codes "  AUDIT         file to write: what each worker did, as CSV; another word than ALERTS\n"
-    ++ codes "  SAVE          file to write: the savepoint, as CSV; another word than ALERTS and AUDIT\n"
+    ++ codes
+    "  AUDIT         file to write: what each worker did, as CSV; another word than ALERTS\n"
+    ++ codes
+    "  SAVE          file to write: the savepoint, as CSV; another word than ALERTS and AUDIT\n"
     ++ codes "  N             payments before the savepoint, 0 to 1048576; all if there are fewer\n"
     ++ codes "  --threads N   threads, 1 to 16; without it, 1\n"
     ++ codes "  --capacity C  items on a lane, 1 to 64; without it, 16\n"
@@ -107,9 +117,11 @@ help_of topic.Resume =
     ++ codes "  JOB           file to read: a job as TOML\n"
     ++ codes "  REQUESTS      file to read: requests as TOML\n"
     ++ codes "  PAYMENTS      file to read: payments as CSV, with those before the savepoint\n"
-    ++ codes "  SAVE          file to read: the savepoint, as CSV; another word than ALERTS and AUDIT\n"
+    ++ codes
+    "  SAVE          file to read: the savepoint, as CSV; another word than ALERTS and AUDIT\n"
     ++ codes "  ALERTS        file to write: what comes to the sinks, as CSV\n"
-    ++ codes "  AUDIT         file to write: what each worker did, as CSV; another word than ALERTS\n"
+    ++ codes
+    "  AUDIT         file to write: what each worker did, as CSV; another word than ALERTS\n"
     ++ codes "  --threads N   threads, 1 to 16; without it, 1\n"
     ++ codes "  --capacity C  items on a lane, 1 to 64; without it, 16\n"
     ++ codes "\n"
@@ -118,15 +130,18 @@ help_of topic.Live =
     codes "usage: fries live JOB REQUESTS PAYMENTS ALERTS AUDIT [OPTIONS]\n"
     ++ codes "\n"
     ++ codes "Runs payments through a job, while the standard input releases its requests.\n"
-    ++ codes "Each line feed there releases the next request. It changes operators once the payments that it\n"
-    ++ codes "waits for are read, and after the last payment if it isn't released by then. The command ends once\n"
+    ++ codes "Each line feed there releases the next request. "
+    ++ codes "It changes operators once the payments that it\n"
+    ++ codes "waits for are read, and after the last payment if it isn't released by then. "
+    ++ codes "The command ends once\n"
     ++ codes "the input has ended or has released all requests.\n"
     ++ codes "\n"
     ++ codes "  JOB           file to read: a job as TOML\n"
     ++ codes "  REQUESTS      file to read: requests as TOML\n"
     ++ codes "  PAYMENTS      file to read: payments as CSV\n"
     ++ codes "  ALERTS        file to write: what comes to the sinks, as CSV\n"
-    ++ codes "  AUDIT         file to write: what each worker did, as CSV; another word than ALERTS\n"
+    ++ codes
+    "  AUDIT         file to write: what each worker did, as CSV; another word than ALERTS\n"
     ++ codes "  --threads N   threads, 1 to 16; without it, 1\n"
     ++ codes "  --capacity C  items on a lane, 1 to 64; without it, 16\n"
     ++ codes "\n"
@@ -134,7 +149,8 @@ help_of topic.Live =
 help_of topic.Verify =
     codes "usage: fries verify JOB REQUESTS PAYMENTS AUDIT [--ordered]\n"
     ++ codes "\n"
-    ++ codes "Looks whether an audit is that of a run, and rebuilds the run: then no row met half of a change.\n"
+    ++ codes "Looks whether an audit is that of a run, "
+    ++ codes "and rebuilds the run: then no row met half of a change.\n"
     ++ codes "\n"
     ++ codes "  JOB        file to read: a job as TOML\n"
     ++ codes "  REQUESTS   file to read: requests as TOML\n"

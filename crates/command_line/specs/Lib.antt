@@ -3,3 +3,4 @@ pub mod Asked
 pub mod Form
 pub mod Help
 pub mod Views
+pub mod Words

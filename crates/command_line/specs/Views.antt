@@ -17,7 +17,11 @@ abbrev pub flag_view : FlagIs → Flag
 flag_view flag = record { id = flag.id.now; word = flag.word.now }
 
 abbrev pub form_view : FormIs → Form
-form_view form = record { names = texts form.names.now; options = map option_view form.options.now; flags = map flag_view form.flags.now }
+form_view form = record {
+  names = texts form.names.now;
+  options = map option_view form.options.now;
+  flags = map flag_view form.flags.now;
+}
 
 abbrev pub pair_view : Bor Text × Bor Text → Text × Text
 pair_view pair = (pair.0.now, pair.1.now)

@@ -1,131 +1,112 @@
 // The commands that `clap` reads the words by.
-ghost use Rattle.std.specs.Prelude.{◌≡◌, IfOk, false};
-ghost use Rattle.clap.specs.Words.{rule_of};
-ghost use Rattle.command_line.specs.Apps.{IsApp, check_app, first_app, flag_rule, live_app};
-ghost use Rattle.command_line.specs.Apps.{make_app, name_rule, option_rule, plan_app, program_app};
-ghost use Rattle.command_line.specs.Apps.{resume_app, run_app, save_app, verify_app};
+ghost use Rattle.std.specs.Prelude.{◌≡◌, IfOk, false, map};
+ghost use Rattle.clap.specs.Words.{app_of, rule_of};
+ghost use Rattle.clap.specs.declared.builder.command.Command.TheViews.{out-Command};
+ghost use Rattle.command_line.specs.Apps.{IsApp, command_app, flag_rule_of, name_rule};
+ghost use Rattle.command_line.specs.Apps.{option_rule, option_rule_of, program_app, shape_on};
+ghost use Rattle.command_line.specs.Apps.{switch_rule, topic_view, with_rules, with_shapes};
+ghost use Rattle.command_line.specs.Views.{flag_view, form_view, option_view, texts};
 
+use crate::Topic;
+use crate::form::{Flag, Form, ValueOption, form_of};
 use clap::{Arg, ArgAction, Command};
 use std::alloc::{AllocError, Global};
+
+// Each command, and what it is about.
+const COMMANDS: &[(&str, Topic)] = &[
+    ("first", Topic::First),
+    ("check", Topic::Check),
+    ("plan", Topic::Plan),
+    ("run", Topic::Run),
+    ("make", Topic::Make),
+    ("save", Topic::Save),
+    ("resume", Topic::Resume),
+    ("live", Topic::Live),
+    ("verify", Topic::Verify),
+];
 
 /// The program with its commands.
 pub(crate) fn program<'w>(alloc: Global) -> Result<Command<'w>, AllocError>
     ensures { IfOk result (λ made. IsApp made program_app) }
 {
-    Command::new(alloc, "fries")
-        .no_binary_name(true)
-        .subcommand(first(alloc)?)?
-        .subcommand(check(alloc)?)?
-        .subcommand(plan(alloc)?)?
-        .subcommand(run(alloc)?)?
-        .subcommand(make(alloc)?)?
-        .subcommand(save(alloc)?)?
-        .subcommand(resume(alloc)?)?
-        .subcommand(live(alloc)?)?
-        .subcommand(verify(alloc)?)
+    with_commands(
+        alloc,
+        Command::new(alloc, "fries").no_binary_name(true),
+        COMMANDS,
+    )
 }
 
-fn first<'w>(alloc: Global) -> Result<Command<'w>, AllocError>
-    ensures { IfOk result (λ made. IsApp made first_app) }
+fn with_commands<'w>(
+    alloc: Global,
+    program: Command<'w>,
+    commands: &'static [(&'static str, Topic)],
+) -> Result<Command<'w>, AllocError>
+    requires { (out-Command program).has_globals ≡ false }
+    ensures { IfOk result (λ made. IsApp made
+        (with_shapes (app_of program.entry) (map shape_on (map topic_view commands.entry.now)))) }
 {
-    Command::new(alloc, "first")
-        .arg(name(alloc, "payments"))?
-        .arg(name(alloc, "alerts"))?
-        .arg(name(alloc, "min"))?
-        .arg(name(alloc, "after"))?
-        .arg(name(alloc, "min2"))
+    let mut program = program;
+    for pair in commands {
+        program = program.subcommand(command(alloc, pair.0, &form_of(pair.1))?)?;
+    }
+    Ok(program)
 }
 
-fn check<'w>(alloc: Global) -> Result<Command<'w>, AllocError>
-    ensures { IfOk result (λ made. IsApp made check_app) }
+fn command<'w>(alloc: Global, word: &'w str, form: &Form) -> Result<Command<'w>, AllocError>
+    ensures { IfOk result (λ made. IsApp made (command_app word.entry.now (form_view form.now))) }
 {
-    Command::new(alloc, "check").arg(name(alloc, "job"))
+    let command = with_names(alloc, Command::new(alloc, word), form.names)?;
+    let command = with_options(alloc, command, form.options)?;
+    with_flags(alloc, command, form.flags)
 }
 
-fn plan<'w>(alloc: Global) -> Result<Command<'w>, AllocError>
-    ensures { IfOk result (λ made. IsApp made plan_app) }
+fn with_names<'w>(
+    alloc: Global,
+    command: Command<'w>,
+    names: &'static [&'static str],
+) -> Result<Command<'w>, AllocError>
+    requires { (out-Command command).has_globals ≡ false }
+    ensures { IfOk result (λ made. IsApp made
+        (with_rules (app_of command.entry) (map name_rule (texts names.entry.now)))) }
 {
-    Command::new(alloc, "plan")
-        .arg(name(alloc, "job"))?
-        .arg(name(alloc, "requests"))?
-        .arg(flag(alloc, "ordered"))
+    let mut command = command;
+    for id in names {
+        command = command.arg(name(alloc, id))?;
+    }
+    Ok(command)
 }
 
-fn run<'w>(alloc: Global) -> Result<Command<'w>, AllocError>
-    ensures { IfOk result (λ made. IsApp made run_app) }
+fn with_options<'w>(
+    alloc: Global,
+    command: Command<'w>,
+    options: &'static [ValueOption],
+) -> Result<Command<'w>, AllocError>
+    requires { (out-Command command).has_globals ≡ false }
+    ensures { IfOk result (λ made. IsApp made
+        (with_rules (app_of command.entry)
+        (map option_rule_of (map option_view options.entry.now)))) }
 {
-    Command::new(alloc, "run")
-        .arg(name(alloc, "job"))?
-        .arg(name(alloc, "requests"))?
-        .arg(name(alloc, "payments"))?
-        .arg(name(alloc, "alerts"))?
-        .arg(name(alloc, "audit"))?
-        .arg(option(alloc, "threads"))?
-        .arg(option(alloc, "capacity"))?
-        .arg(flag(alloc, "ordered"))
+    let mut command = command;
+    for value in options {
+        command = command.arg(option(alloc, value.id))?;
+    }
+    Ok(command)
 }
 
-fn make<'w>(alloc: Global) -> Result<Command<'w>, AllocError>
-    ensures { IfOk result (λ made. IsApp made make_app) }
+fn with_flags<'w>(
+    alloc: Global,
+    command: Command<'w>,
+    flags: &'static [Flag],
+) -> Result<Command<'w>, AllocError>
+    requires { (out-Command command).has_globals ≡ false }
+    ensures { IfOk result (λ made. IsApp made
+        (with_rules (app_of command.entry) (map flag_rule_of (map flag_view flags.entry.now)))) }
 {
-    Command::new(alloc, "make")
-        .arg(name(alloc, "job"))?
-        .arg(name(alloc, "seed"))?
-        .arg(name(alloc, "rows"))?
-        .arg(option(alloc, "threads"))
-}
-
-fn save<'w>(alloc: Global) -> Result<Command<'w>, AllocError>
-    ensures { IfOk result (λ made. IsApp made save_app) }
-{
-    Command::new(alloc, "save")
-        .arg(name(alloc, "job"))?
-        .arg(name(alloc, "requests"))?
-        .arg(name(alloc, "payments"))?
-        .arg(name(alloc, "alerts"))?
-        .arg(name(alloc, "audit"))?
-        .arg(name(alloc, "save"))?
-        .arg(name(alloc, "rows"))?
-        .arg(option(alloc, "threads"))?
-        .arg(option(alloc, "capacity"))
-}
-
-fn resume<'w>(alloc: Global) -> Result<Command<'w>, AllocError>
-    ensures { IfOk result (λ made. IsApp made resume_app) }
-{
-    Command::new(alloc, "resume")
-        .arg(name(alloc, "job"))?
-        .arg(name(alloc, "requests"))?
-        .arg(name(alloc, "payments"))?
-        .arg(name(alloc, "save"))?
-        .arg(name(alloc, "alerts"))?
-        .arg(name(alloc, "audit"))?
-        .arg(option(alloc, "threads"))?
-        .arg(option(alloc, "capacity"))
-}
-
-fn live<'w>(alloc: Global) -> Result<Command<'w>, AllocError>
-    ensures { IfOk result (λ made. IsApp made live_app) }
-{
-    Command::new(alloc, "live")
-        .arg(name(alloc, "job"))?
-        .arg(name(alloc, "requests"))?
-        .arg(name(alloc, "payments"))?
-        .arg(name(alloc, "alerts"))?
-        .arg(name(alloc, "audit"))?
-        .arg(option(alloc, "threads"))?
-        .arg(option(alloc, "capacity"))
-}
-
-fn verify<'w>(alloc: Global) -> Result<Command<'w>, AllocError>
-    ensures { IfOk result (λ made. IsApp made verify_app) }
-{
-    Command::new(alloc, "verify")
-        .arg(name(alloc, "job"))?
-        .arg(name(alloc, "requests"))?
-        .arg(name(alloc, "payments"))?
-        .arg(name(alloc, "audit"))?
-        .arg(flag(alloc, "ordered"))
+    let mut command = command;
+    for flag in flags {
+        command = command.arg(switch(alloc, flag.id))?;
+    }
+    Ok(command)
 }
 
 fn name<'w>(alloc: Global, id: &'w str) -> Arg<'w>
@@ -142,9 +123,9 @@ fn option<'w>(alloc: Global, id: &'w str) -> Arg<'w>
     Arg::new(alloc, id).long(id)
 }
 
-fn flag<'w>(alloc: Global, id: &'w str) -> Arg<'w>
-    ensures rule { rule_of result ≡ flag_rule id.entry.now }
+fn switch<'w>(alloc: Global, id: &'w str) -> Arg<'w>
+    ensures rule { rule_of result ≡ switch_rule id.entry.now }
     ensures local { result.global ≡ false }
 {
-    Arg::new(alloc, id).long(id).action(ArgAction::SetTrue)
+    option(alloc, id).action(ArgAction::SetTrue)
 }

@@ -1,9 +1,10 @@
 ghost use Rattle.std.specs.Prelude.{◌≡◌, ◌≢◌, ◌≤◌, IfOk, IfErr, IfSome, Some, None, drop, length};
 ghost use Rattle.std.specs.Prelude.{slice_get};
-ghost use Rattle.command_line.specs.Asked.{IsSized, asked_after, asked_alone, asked_by, asked_of};
-ghost use Rattle.command_line.specs.Asked.{asks_help as asks_help_of, is_help as is_help_word};
-ghost use Rattle.command_line.specs.Asked.{is_version as is_version_word};
-ghost use Rattle.command_line.specs.Asked.{topic_of as topic_of_word};
+ghost use Rattle.command_line.specs.Asked.{IsSized, asked_by};
+ghost use Rattle.command_line.specs.Words.{asked_after, asked_alone, asked_of};
+ghost use Rattle.command_line.specs.Words.{asks_help as asks_help_of, is_help as is_help_word};
+ghost use Rattle.command_line.specs.Words.{is_version as is_version_word};
+ghost use Rattle.command_line.specs.Words.{topic_of as topic_of_word};
 ghost use Rattle.command_line.specs.Views.{texts};
 ghost use Rattle.command_line.specs.declared.command.WordsFault.TheVariants.{NoMemory as OutOfMemory};
 

@@ -1,6 +1,6 @@
 // The full form of each command.
 ghost use Rattle.std.specs.Prelude.{◌≡◌};
-ghost use Rattle.command_line.specs.Asked.{capacity_option, form_of, ordered_flag, threads_option};
+ghost use Rattle.command_line.specs.Words.{capacity_option, form_of, ordered_flag, threads_option};
 ghost use Rattle.command_line.specs.Views.{flag_view, form_view, option_view};
 
 use crate::Topic;

@@ -2,20 +2,18 @@
 ghost use Rattle.std.specs.Prelude.{◌≡◌, ◌≢◌, ◌≤◌, IfOk, IfErr, IfSome, Some, None, codes};
 ghost use Rattle.std.specs.Prelude.{option_map};
 ghost use Rattle.clap.specs.Words.{first_value, found_of};
-ghost use Rattle.command_line.specs.Asked.{IsSize, IsSized, IsThreads, amount_in as amount_of};
-ghost use Rattle.command_line.specs.Asked.{asked_by, asked_with, engine_in as engine_of};
-ghost use Rattle.command_line.specs.Asked.{first_asked, first_of as first_of_values};
-ghost use Rattle.command_line.specs.Asked.{live_of as live_of_values};
-ghost use Rattle.command_line.specs.Asked.{is_true as is_true_text, make_asked};
-ghost use Rattle.command_line.specs.Asked.{make_of as make_of_values, name_in as name_of};
-ghost use Rattle.command_line.specs.Asked.{number_in as number_of, plan_asked};
-ghost use Rattle.command_line.specs.Asked.{plan_of as plan_of_values, resume_asked};
-ghost use Rattle.command_line.specs.Asked.{resume_of as resume_of_values, run_asked};
-ghost use Rattle.command_line.specs.Asked.{run_of as run_of_values, run_with as run_with_values};
-ghost use Rattle.command_line.specs.Asked.{save_asked, save_of as save_of_values};
-ghost use Rattle.command_line.specs.Asked.{size_in as size_of, unordered_of as unordered_of_values};
-ghost use Rattle.command_line.specs.Asked.{verify_asked, verify_of as verify_of_values};
-ghost use Rattle.command_line.specs.Asked.{writes as writes_to};
+ghost use Rattle.command_line.specs.Asked.{IsSize, IsSized, IsThreads, asked_by, first_asked};
+ghost use Rattle.command_line.specs.Asked.{make_asked, plan_asked, resume_asked, run_asked};
+ghost use Rattle.command_line.specs.Asked.{save_asked, verify_asked};
+ghost use Rattle.command_line.specs.Words.{amount_in as amount_of, asked_with};
+ghost use Rattle.command_line.specs.Words.{engine_in as engine_of, first_of as first_of_values};
+ghost use Rattle.command_line.specs.Words.{is_true as is_true_text, live_of as live_of_values};
+ghost use Rattle.command_line.specs.Words.{make_of as make_of_values, name_in as name_of};
+ghost use Rattle.command_line.specs.Words.{number_in as number_of, plan_of as plan_of_values};
+ghost use Rattle.command_line.specs.Words.{resume_of as resume_of_values, run_of as run_of_values};
+ghost use Rattle.command_line.specs.Words.{run_with as run_with_values, save_of as save_of_values};
+ghost use Rattle.command_line.specs.Words.{size_in as size_of, unordered_of as unordered_of_values};
+ghost use Rattle.command_line.specs.Words.{verify_of as verify_of_values, writes as writes_to};
 
 use crate::{
     Command, EngineSize, First, Make, PlanFiles, ResumeFiles, RunFiles, SaveFiles, Topic,

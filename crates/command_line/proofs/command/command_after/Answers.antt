@@ -2,7 +2,8 @@ use Rattle.std.proofs.Common.{◌∙◌, ap, sym}
 use Rattle.std.proofs.lemmas.Result.{IfErr-weaker, IfOk-weaker}
 use Rattle.clap.specs.Words.{app_of, found_of, is_simple, subcommand_rows_of}
 use Rattle.command_line.specs.Views.{form_view}
-use Rattle.command_line.proofs.TopicLemmas.{asked_words, program_is_simple}
+use Rattle.command_line.proofs.TopicRules.{program_is_simple}
+use Rattle.command_line.proofs.TopicLemmas.{asked_words}
 use Rattle.command_line.proofs.command.command_after.Goals as goal
 
 pub returns-in-Some-clause-asked : goal.returns-in-Some-clause-asked

@@ -1,5 +1,5 @@
 use Rattle.std.proofs.Common.{ap, refl}
-use Rattle.command_line.specs.Asked.{asked_of}
+use Rattle.command_line.specs.Words.{asked_of}
 use Rattle.top_call.proofs.MemoryLemmas.{answers_memory, whatever}
 use Rattle.call_steps.specs.declared.answer.Answer.{Answer}
 use Rattle.top_call.proofs.top.fries.Goals as goal
