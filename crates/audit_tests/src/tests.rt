@@ -7,12 +7,9 @@ mod verified;
 use audit_check::{check_text, read_audit};
 use audit_laws::AuditFault;
 use flow_model::Setup;
-use job_file::{read_job, read_requests};
-use jobs::Job;
-use payments::read_rows;
+use plain_runs::{job_of, rows_of, setup_of};
 use sink_journal::Noted;
 use std::alloc::Global;
-use versions::{accepted_requests_stay_accepted, judge_all};
 
 /// A source, a filter and a sink in a row.
 const CHAIN: &str = r#"columns = ["amount:cents"]
@@ -28,24 +25,7 @@ edge = [
 "#;
 
 fn setup(alloc: Global) -> Option<Setup> {
-    let Ok(job) = read_job(alloc, CHAIN.as_bytes()) else {
-        return None;
-    };
-    setup_of(alloc, job)
-}
-
-fn setup_of(alloc: Global, job: Job) -> Option<Setup> {
-    let Ok(requests) = read_requests(alloc, &job, b"") else {
-        return None;
-    };
-    let Ok(judged) = judge_all(alloc, &job, &requests) else {
-        return None;
-    };
-    accepted_requests_stay_accepted();
-    match Setup::make(alloc, job, judged) {
-        Ok(setup) => Some(setup),
-        Err(_) => None,
-    }
+    setup_of(alloc, job_of(alloc, CHAIN)?, "", false)
 }
 
 /// The first record of a text that is out of shape.
@@ -57,10 +37,14 @@ enum Shape {
 }
 
 fn shape_of(alloc: Global, text: &str) -> Shape {
-    let Some(setup) = setup(alloc) else {
-        return Shape::Unknown;
-    };
-    match read_audit(alloc, &setup, text.as_bytes()) {
+    match setup(alloc) {
+        Some(setup) => shape_by(alloc, &setup, text),
+        None => Shape::Unknown,
+    }
+}
+
+fn shape_by(alloc: Global, setup: &Setup, text: &str) -> Shape {
+    match read_audit(alloc, setup, text.as_bytes()) {
         Ok(_) => Shape::Right,
         Err(AuditFault::Shape(record)) => Shape::Wrong(record),
         Err(_) => Shape::Unknown,
@@ -138,10 +122,12 @@ const REFUSED: [Noted; 1] = [Noted { place: 2, code: 4 }];
 /// of the first three codes.
 fn fault_of(alloc: Global, text: &str) -> Option<AuditFault> {
     let setup = setup(alloc)?;
-    let Ok(rows) = read_rows(alloc, &setup.job, TWO_PAYMENTS.as_bytes()) else {
-        return None;
-    };
-    match check_text(alloc, &setup, &REFUSED, &rows, text.as_bytes()) {
+    fault_by(alloc, &setup, text)
+}
+
+fn fault_by(alloc: Global, setup: &Setup, text: &str) -> Option<AuditFault> {
+    let rows = rows_of(alloc, &setup.job, TWO_PAYMENTS)?;
+    match check_text(alloc, setup, &REFUSED, &rows, text.as_bytes()) {
         Ok(_) => None,
         Err(fault) => Some(fault),
     }

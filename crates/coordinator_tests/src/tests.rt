@@ -1,8 +1,7 @@
 mod whole;
 
-ghost use Rattle.std.specs.Prelude.{◌≡◌, ℕ, [], IfOk, IfSome, Some, length, slice_get};
+ghost use Rattle.std.specs.Prelude.{◌≡◌, ℕ, [], IfOk, Some, length, slice_get};
 ghost use Rattle.control_box.specs.Ends.{PosterIs};
-ghost use Rattle.jobs.specs.Job.{job_view};
 ghost use Rattle.jobs.specs.Nodes.{AreFromSources};
 ghost use Rattle.flow_model.specs.Begin.{Begin};
 ghost use Rattle.flow_model.specs.Setup.{setup_view};
@@ -12,16 +11,13 @@ use control_box::{Owner, Poster, make_box};
 use coordinator::{FeedTurn, Feeder, Feeding};
 use flow_ends::AllEndpoints;
 use flow_model::Setup;
-use job_file::{read_job, read_requests};
-use jobs::Job;
 use lane_core::{Lanes, QueueLanes};
 use live_control::{LiveFeeder, line};
-use payments::read_rows;
+use plain_runs::Inputs;
 use sink_journal::{Feed, Feeds};
 use std::alloc::Global;
 use std::sync::Wait;
 use tuple_trace::{NoMemory, OpenGate, Rows};
-use versions::{accepted_requests_stay_accepted, judge_all};
 
 const CHAIN: &str = r#"columns = ["amount:cents"]
 node = [
@@ -136,20 +132,13 @@ where
     Ok(feed_of::<L, F>(feeder, &mut need, setup, rows, owners, 100))
 }
 
-/// The setup of a job with the requests of a text.
-fn setup_of(alloc: Global, job: Job, requests: &str) -> Option<Setup>
-    ensures { IfSome result (λ setup. setup.job ≡ job) }
-{
-    let Ok(requests) = read_requests(alloc, &job, requests.as_bytes()) else {
-        return None;
-    };
-    let Ok(judged) = judge_all(alloc, &job, &requests) else {
-        return None;
-    };
-    accepted_requests_stay_accepted();
-    match Setup::make(alloc, job, judged) {
-        Ok(setup) => Some(setup),
-        Err(_) => None,
+/// The chain and its four payments, with these requests.
+fn inputs(requests: &str) -> Inputs<'_> {
+    Inputs {
+        job: CHAIN,
+        requests,
+        payments: FOUR_PAYMENTS,
+        ordered: false,
     }
 }
 
@@ -165,13 +154,7 @@ where
     F::Rest: Drop,
     F::Seed: Drop,
 {
-    let Ok(job) = read_job(alloc, CHAIN.as_bytes()) else {
-        return false;
-    };
-    let Ok(rows) = read_rows(alloc, &job, FOUR_PAYMENTS.as_bytes()) else {
-        return false;
-    };
-    let Some(setup) = setup_of(alloc, job, requests) else {
+    let Some((setup, rows)) = inputs(requests).read(alloc) else {
         return false;
     };
     match fed::<L, F>(alloc, form, &setup, &rows, seed) {

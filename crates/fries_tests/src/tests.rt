@@ -144,6 +144,38 @@ impl Call {
             out: MemorySink::new(alloc, Calls::from_slice(alloc, around.refusing)?),
         })
     }
+
+    // Makes the call, and sees whether it leaves this.
+    fn leaves<R>(&mut self, rt: &R, alloc: Global, left: &Left<'_>) -> bool
+    where
+        R: Threads + Wait + Copy + Send + Sync + 'static,
+    {
+        let outcome = call(
+            rt,
+            alloc,
+            &self.words,
+            &mut self.shelf,
+            &mut self.out,
+            &OpenGate,
+        );
+        matches!(self.has_left(alloc, &outcome, left), Ok(true))
+    }
+
+    fn has_left(
+        &self,
+        alloc: Global,
+        outcome: &Outcome,
+        left: &Left<'_>,
+    ) -> Result<bool, NoMemory> {
+        Ok(
+            outcome.status == left.status
+                && self.out.written() == left.out.as_bytes()
+                && has_failed(&self.shelf, left.failed)
+                && is_ran(alloc, &outcome.ran, left.ran)?
+                && is_stored(alloc, file(&self.names, 0, &self.shelf), left.alerts)?
+                && is_stored(alloc, file(&self.names, 1, &self.shelf), left.audit)?,
+        )
+    }
 }
 
 /// Whether a call leaves this. The line has its words, with a space between two. An append takes at
@@ -152,36 +184,10 @@ pub fn leaves<R>(rt: &R, alloc: Global, around: &Around<'_>, line: &str, left: &
 where
     R: Threads + Wait + Copy + Send + Sync + 'static,
 {
-    let Ok(made) = Call::of(alloc, around, line) else {
-        return false;
-    };
-    let Call {
-        words,
-        names,
-        mut shelf,
-        mut out,
-    } = made;
-    let outcome = call(rt, alloc, &words, &mut shelf, &mut out, &OpenGate);
-    let has_left = has_left(alloc, &outcome, &names, &shelf, out.written(), left);
-    matches!(has_left, Ok(true))
-}
-
-fn has_left(
-    alloc: Global,
-    outcome: &Outcome,
-    names: &[Word],
-    shelf: &MemoryShelf,
-    out: &[u8],
-    left: &Left<'_>,
-) -> Result<bool, NoMemory> {
-    Ok(
-        outcome.status == left.status
-            && out == left.out.as_bytes()
-            && has_failed(shelf, left.failed)
-            && is_ran(alloc, &outcome.ran, left.ran)?
-            && is_stored(alloc, file(names, 0, shelf), left.alerts)?
-            && is_stored(alloc, file(names, 1, shelf), left.audit)?,
-    )
+    match Call::of(alloc, around, line) {
+        Ok(mut made) => made.leaves(rt, alloc, left),
+        Err(_) => false,
+    }
 }
 
 fn has_failed(shelf: &MemoryShelf, wanted: Option<&str>) -> bool {

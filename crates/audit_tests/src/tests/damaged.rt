@@ -1,6 +1,7 @@
 //! Audits of which one record is damaged.
-use crate::tests::case::{Case, Said, audit_of, said_of};
+use crate::tests::case::{Said, audit_of, said_of};
 use crate::tests::texts::{FOUR_PAYMENTS, PAYMENTS};
+use plain_runs::Inputs;
 use std::alloc::{AllocError, Global};
 
 /// What is done to one record.
@@ -90,7 +91,7 @@ fn lines_of(alloc: Global, text: &str) -> Result<Vec<&str>, AllocError> {
     text.lines().collect(alloc)
 }
 
-fn count_all(alloc: Global, case: Case<'_>) -> Option<Found> {
+fn count_all(alloc: Global, case: Inputs<'_>) -> Option<Found> {
     let audit = audit_of(alloc, case)?;
     let Ok(text) = str::from_utf8(audit.as_slice()) else {
         return None;
@@ -116,7 +117,7 @@ fn count_all(alloc: Global, case: Case<'_>) -> Option<Found> {
     Some(found)
 }
 
-fn note(alloc: Global, case: Case<'_>, text: &[u8], found: &mut Found) {
+fn note(alloc: Global, case: Inputs<'_>, text: &[u8], found: &mut Found) {
     match said_of(alloc, case, text) {
         Said::Fault(_) => found.refused = found.refused.wrapping_add(1),
         Said::Run(again) if again.as_slice() == text => {

@@ -1,5 +1,6 @@
 //! Audits of random jobs.
-use crate::tests::case::{Case, audit_of, is_verified};
+use crate::tests::case::{audit_of, is_verified};
+use plain_runs::Inputs;
 use std::alloc::{AllocError, Global};
 
 /// What a seed draws for this use, below `count`.
@@ -99,10 +100,11 @@ fn is_right(alloc: Global, seed: u64) -> Option<bool> {
     let job = job_of(alloc, seed, stages).ok()?;
     let requests = requests_of(alloc, seed, stages).ok()?;
     let payments = payments_of(alloc, seed).ok()?;
-    let case = Case {
+    let case = Inputs {
         job: job.as_str(),
         requests: requests.as_str(),
         payments: payments.as_str(),
+        ordered: false,
     };
     let text = audit_of(alloc, case)?;
     Some(is_verified(alloc, case, text.as_slice()))

@@ -1,5 +1,5 @@
 //! The texts of jobs, requests and payments.
-use crate::tests::case::Case;
+use plain_runs::Inputs;
 
 /// A source, a filter and a sink in a row.
 pub const CHAIN: &str = r#"columns = ["amount:cents"]
@@ -14,13 +14,14 @@ edge = [
 ]
 "#;
 
-pub const NO_PAYMENTS: Case<'_> = Case {
+pub const NO_PAYMENTS: Inputs<'_> = Inputs {
     job: CHAIN,
     requests: "",
     payments: "source,amount\n",
+    ordered: false,
 };
 
-pub const FOUR_PAYMENTS: Case<'_> = Case {
+pub const FOUR_PAYMENTS: Inputs<'_> = Inputs {
     job: CHAIN,
     requests: "",
     payments: "source,amount
@@ -29,11 +30,12 @@ card,150.00
 card,100.00
 card,12.00
 ",
+    ordered: false,
 };
 
 /// Payments over a filter, a counter with two workers and two sinks. Of the three requests the last
 /// is refused.
-pub const PAYMENTS: Case<'_> = Case {
+pub const PAYMENTS: Inputs<'_> = Inputs {
     job: r#"columns = ["account:text", "merchant:text", "amount:cents",
            "risk:number:own", "seen:number:own"]
 
@@ -147,4 +149,5 @@ card,gus,grocer,10.00
 card,ann,"A, ""B"" Ltd",12.00
 card,gus,grocer,5.00
 "#,
+    ordered: false,
 };

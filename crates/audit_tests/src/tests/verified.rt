@@ -1,7 +1,8 @@
 //! What the checker says of audits, and of audits with a damage.
-use crate::tests::case::{Case, audit_of, has_fault, is_verified};
+use crate::tests::case::{audit_of, has_fault, is_verified};
 use crate::tests::texts::{FOUR_PAYMENTS, NO_PAYMENTS, PAYMENTS};
 use audit_laws::AuditFault;
+use plain_runs::Inputs;
 use std::alloc::Global;
 
 const AUDIT_OF_NONE: &str = "entry,node,worker,lane,number,extra
@@ -64,7 +65,7 @@ fn verify_damaged(rt: HostRuntime) {
 }
 
 // Whether the audit of the payments, with ann's count in the place of another, is found.
-fn is_counted(alloc: Global, case: Case<'_>) -> bool {
+fn is_counted(alloc: Global, case: Inputs<'_>) -> bool {
     let Some(text) = audit_of(alloc, case) else {
         return false;
     };
@@ -80,7 +81,7 @@ fn is_counted(alloc: Global, case: Case<'_>) -> bool {
     }
 }
 
-fn is_found_right(alloc: Global, case: Case<'_>) -> bool {
+fn is_found_right(alloc: Global, case: Inputs<'_>) -> bool {
     match audit_of(alloc, case) {
         Some(text) => is_verified(alloc, case, text.as_slice()),
         None => false,

@@ -12,14 +12,12 @@ ghost use Rattle.coordinator.specs.Views.{FeederIs, end_of};
 ghost use Rattle.flow_ends.specs.Ended.{record_of};
 ghost use Rattle.flow_ends.specs.Sides.{lane_ids};
 
-use super::{CHAIN, FOUR_PAYMENTS, setup_of};
+use super::inputs;
 use coordinator::{FeedTurn, Feeder, Feeding};
 use flow_ends::{Crew, Ended, end_run};
 use flow_model::Setup;
 use flow_worker::{Turn, Worker};
-use job_file::read_job;
 use lane_core::{Lanes, QueueLanes};
-use payments::read_rows;
 use sink_journal::Feed;
 use std::alloc::Global;
 use tuple_trace::{NoMemory, OpenGate, Rows};
@@ -155,13 +153,7 @@ fn leaves_all<L: Lanes>(ended: Ended<L>) -> bool {
 }
 
 fn runs<L: Lanes>(alloc: Global, form: &L) -> bool {
-    let Ok(job) = read_job(alloc, CHAIN.as_bytes()) else {
-        return false;
-    };
-    let Ok(rows) = read_rows(alloc, &job, FOUR_PAYMENTS.as_bytes()) else {
-        return false;
-    };
-    let Some(setup) = setup_of(alloc, job, "") else {
+    let Some((setup, rows)) = inputs("").read(alloc) else {
         return false;
     };
     match whole(alloc, form, &setup, &rows, 100) {

@@ -1,20 +1,14 @@
 //! Runs of the engine beside those of the plain executor.
-ghost use Rattle.std.specs.Prelude.{◌≡◌, IfOk};
-ghost use Rattle.jobs.specs.Job.{job_view};
-ghost use Rattle.versions.specs.Judged.{AreAccepted};
-
 use crate::tests::seen::{Alerts, DONE, Wanted};
 use crate::tests::{Input, run};
-use flow_replay::{RunRecord, Setup, plain_run};
-use job_file::{read_job, read_requests};
-use jobs::{Job, worker_count};
-use payments::read_rows;
+use flow_model::RunRecord;
+use jobs::worker_count;
+use plain_runs::Inputs;
 use sink_journal::alerts_text;
 use std::alloc::Global;
 use std::sync::Wait;
 use std::thread::Threads;
 use tuple_trace::{Bytes, NoMemory, OpenGate};
-use versions::{Judged, accepted_requests_stay_accepted, judge_all};
 
 /// The alerts of the plain executor. It is an error if a reader refuses a text.
 pub fn plain_alerts(alloc: Global, input: Input<'_>) -> Result<Bytes, NoMemory> {
@@ -31,34 +25,13 @@ fn alerts_of(alloc: Global, ran: &RunRecord) -> Result<Bytes, NoMemory> {
 }
 
 fn plainly(alloc: Global, input: Input<'_>) -> Result<RunRecord, NoMemory> {
-    let Ok(job) = read_job(alloc, input.job.as_bytes()) else {
-        return Err(NoMemory);
+    let inputs = Inputs {
+        job: input.job,
+        requests: input.requests,
+        payments: input.payments,
+        ordered: false,
     };
-    let Ok(rows) = read_rows(alloc, &job, input.payments.as_bytes()) else {
-        return Err(NoMemory);
-    };
-    let setup = setup_of(alloc, job, input.requests)?;
-    plain_run(alloc, setup, &rows)
-}
-
-fn setup_of(alloc: Global, job: Job, requests: &str) -> Result<Setup, NoMemory>
-    ensures { IfOk result (λ setup. setup.job ≡ job) }
-{
-    let Ok(requests) = read_requests(alloc, &job, requests.as_bytes()) else {
-        return Err(NoMemory);
-    };
-    let Ok(judged) = judge_all(alloc, &job, &requests) else {
-        return Err(NoMemory);
-    };
-    accepted_requests_stay_accepted();
-    made(alloc, job, judged)
-}
-
-fn made(alloc: Global, job: Job, judged: Judged) -> Result<Setup, NoMemory>
-    requires { AreAccepted (job_view job) judged.accepted }
-    ensures { IfOk result (λ setup. setup.job ≡ job) }
-{
-    Setup::make(alloc, job, judged)
+    inputs.run(alloc).ok_or(NoMemory)
 }
 
 /// A chain with a count of one worker, so each worker has one lane in.

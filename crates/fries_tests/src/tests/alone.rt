@@ -2,14 +2,13 @@ use crate::tests::run::run_leaves;
 use crate::tests::texts::{CHAIN, FOUR_PAYMENTS};
 use crate::tests::{Around, Left, Ran, Wanted, leaves};
 use flow_replay::{FuncTable, Landing, alone};
-use job_file::read_job;
 use jobs::{ColumnKind, Job};
-use payments::read_rows;
+use plain_runs::{job_of, rows_of};
 use std::alloc::Global;
 use std::str;
 use std::sync::Wait;
 use std::thread::Threads;
-use tuple_trace::{Bytes, NoMemory, Row, Rows, Value};
+use tuple_trace::{Bytes, NoMemory, Row, Value};
 
 /// Two sources, a split into as many pieces as there may be, `counted` with eight workers, and a
 /// replicate whose eight ways meet in a sink. The map on the first way has these steps.
@@ -147,28 +146,14 @@ fn push_rows(
     old: bool,
     lines: &mut Bytes,
 ) -> Result<(), NoMemory> {
-    let job = job_of(alloc, job)?;
-    let all = rows_of(alloc, &job, rows.payments)?;
+    let job = job_of(alloc, job).ok_or(NoMemory)?;
+    let all = rows_of(alloc, &job, rows.payments).ok_or(NoMemory)?;
     for (row, is_old) in all.as_slice().iter().zip(olds) {
         if *is_old == old {
             push_alone(alloc, &job, rows.sink, row, lines)?;
         }
     }
     Ok(())
-}
-
-fn job_of(alloc: Global, text: &str) -> Result<Job, NoMemory> {
-    match read_job(alloc, text.as_bytes()) {
-        Ok(job) => Ok(job),
-        Err(_) => Err(NoMemory),
-    }
-}
-
-fn rows_of(alloc: Global, job: &Job, text: &str) -> Result<Rows, NoMemory> {
-    match read_rows(alloc, job, text.as_bytes()) {
-        Ok(rows) => Ok(rows),
-        Err(_) => Err(NoMemory),
-    }
 }
 
 /// How many lines of a text are this one.

@@ -1,5 +1,5 @@
+use crate::tests::inputs;
 use crate::tests::texts::AFTER_4;
-use crate::tests::{ran, setup};
 use flow_replay::{RunRecord, States};
 use savepoint::{first_of, join};
 use sink_journal::{Entry, Feed, Feeds, Journal, Journals};
@@ -21,7 +21,7 @@ fn ends(alloc: Global, workers: usize) -> Result<(Feeds, Journals), NoMemory> {
 }
 
 fn end_of_run(alloc: Global) -> Option<RunRecord> {
-    let setup = setup(alloc, AFTER_4)?;
+    let setup = inputs(AFTER_4).setup(alloc)?;
     let workers = setup.workers() as usize;
     let Ok((feeds, journals)) = ends(alloc, workers) else {
         return None;
@@ -52,26 +52,32 @@ fn counts(ran: &RunRecord) -> [usize; 4] {
 }
 
 fn joined(alloc: Global) -> Option<RunRecord> {
-    let setup = setup(alloc, AFTER_4)?;
-    let (first, _rows) = ran(alloc, AFTER_4)?;
-    match join(alloc, setup, first, end_of_run(alloc)?) {
-        Ok(ran) => Some(ran),
-        Err(_) => None,
+    joined_to_end(alloc, inputs(AFTER_4).run(alloc)?)
+}
+
+fn joined_to_end(alloc: Global, first: RunRecord) -> Option<RunRecord> {
+    joined_by_setup(alloc, first, end_of_run(alloc)?)
+}
+
+fn joined_by_setup(alloc: Global, first: RunRecord, end: RunRecord) -> Option<RunRecord> {
+    join(alloc, inputs(AFTER_4).setup(alloc)?, first, end).ok()
+}
+
+fn counts_of_joined(alloc: Global) -> [usize; 4] {
+    match joined(alloc) {
+        Some(ran) => counts(&ran),
+        None => [0, 0, 0, 0],
     }
 }
 
 #[test]
 fn a_run_is_joined_to_its_end(rt: HostRuntime) {
-    let counted = match joined(rt.alloc()) {
-        Some(ran) => counts(&ran),
-        None => [0, 0, 0, 0],
-    };
-    assert!(rt; counted == [1, 12, 8, 40]);
+    assert!(rt; counts_of_joined(rt.alloc()) == [1, 12, 8, 40]);
 }
 
 /// How many requests and plans are left of a setup with one request.
 fn left(alloc: Global) -> Option<(usize, usize)> {
-    let setup = first_of(setup(alloc, AFTER_4)?, 0);
+    let setup = first_of(inputs(AFTER_4).setup(alloc)?, 0);
     Some((setup.requests(), setup.plans.len()))
 }
 

@@ -1,22 +1,24 @@
-use crate::tests::texts::{AFTER_4, AFTER_4_AND_8, AT_FIRST};
-use crate::tests::{ran, setup};
-use flow_replay::RunRecord;
+use crate::tests::inputs;
+use crate::tests::texts::{AFTER_4, AFTER_4_AND_8, AT_FIRST, PAYMENTS};
+use flow_replay::{RunRecord, Setup};
 use jobs::Func;
+use plain_runs::rows_of;
 use serial_order::{push_serial_line, serial, table_at};
 use std::alloc::Global;
-use tuple_trace::{Bytes, NoMemory, Rows, Value};
+use tuple_trace::{Bytes, NoMemory, Value};
 
 /// Whether the line of the run's order is this one.
-fn tells(alloc: Global, ran: &RunRecord, rows: &Rows, wanted: &str) -> Result<bool, NoMemory> {
-    let order = serial(alloc, ran, rows)?;
+fn tells(alloc: Global, ran: &RunRecord, wanted: &str) -> Result<bool, NoMemory> {
+    let rows = rows_of(alloc, &ran.setup.job, PAYMENTS).ok_or(NoMemory)?;
+    let order = serial(alloc, ran, &rows)?;
     let mut line = Bytes::new(alloc);
     push_serial_line(alloc, &order, ran.setup.requests(), &mut line)?;
     Ok(line.as_slice() == wanted.as_bytes())
 }
 
 fn has_line(alloc: Global, requests: &str, wanted: &str) -> bool {
-    match ran(alloc, requests) {
-        Some((ran, rows)) => matches!(tells(alloc, &ran, &rows, wanted), Ok(true)),
+    match inputs(requests).run(alloc) {
+        Some(ran) => matches!(tells(alloc, &ran, wanted), Ok(true)),
         None => false,
     }
 }
@@ -47,8 +49,12 @@ fn threshold(func: Option<&Func>) -> Option<i64> {
 
 /// The thresholds of `big`, `hot` and `often` after the first `k` requests.
 fn thresholds(alloc: Global, k: u64) -> Option<[Option<i64>; 3]> {
-    let setup = setup(alloc, AFTER_4)?;
-    let Ok(table) = table_at(alloc, &setup, k) else {
+    let setup = inputs(AFTER_4).setup(alloc)?;
+    thresholds_in(alloc, &setup, k)
+}
+
+fn thresholds_in(alloc: Global, setup: &Setup, k: u64) -> Option<[Option<i64>; 3]> {
+    let Ok(table) = table_at(alloc, setup, k) else {
         return None;
     };
     let funcs = table.as_slice();

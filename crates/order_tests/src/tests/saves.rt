@@ -1,9 +1,9 @@
-use crate::tests::setup;
+use crate::tests::inputs;
 use crate::tests::texts::{AFTER_4_AND_8, FIRST_8};
 use flow_model::{RunRecord, Setup, Start};
 use flow_replay::plain_run;
 use jobs::worker_count;
-use payments::read_rows;
+use plain_runs::rows_of;
 use save_file::{issued_up_to, read_save, save_text, start_of};
 use savepoint::{SaveFault, first_of};
 use std::alloc::Global;
@@ -19,19 +19,21 @@ tally,1,gus,1
 
 /// The run of the first eight rows, with the requests up to there.
 fn first_run(alloc: Global) -> Option<RunRecord> {
-    let setup = setup(alloc, AFTER_4_AND_8)?;
+    run_first(alloc, first_setup(alloc)?)
+}
+
+fn first_setup(alloc: Global) -> Option<Setup> {
+    let setup = inputs(AFTER_4_AND_8).setup(alloc)?;
     let issued = issued_up_to(&setup, 8, 10);
     if issued > setup.requests() as u64 {
         return None;
     }
-    let setup = first_of(setup, issued);
-    let Ok(rows) = read_rows(alloc, &setup.job, FIRST_8.as_bytes()) else {
-        return None;
-    };
-    match plain_run(alloc, setup, &rows) {
-        Ok(ran) => Some(ran),
-        Err(_) => None,
-    }
+    Some(first_of(setup, issued))
+}
+
+fn run_first(alloc: Global, setup: Setup) -> Option<RunRecord> {
+    let rows = rows_of(alloc, &setup.job, FIRST_8)?;
+    plain_run(alloc, setup, &rows).ok()
 }
 
 /// The text of a start, if it has one state for each worker.
@@ -47,7 +49,11 @@ fn text_of(alloc: Global, setup: &Setup, start: &Start) -> Option<Bytes> {
 
 fn is_saved(alloc: Global) -> Option<bool> {
     let ran = first_run(alloc)?;
-    let Ok(start) = start_of(alloc, &ran, 8) else {
+    saves_text(alloc, &ran)
+}
+
+fn saves_text(alloc: Global, ran: &RunRecord) -> Option<bool> {
+    let Ok(start) = start_of(alloc, ran, 8) else {
         return None;
     };
     let text = text_of(alloc, &ran.setup, &start)?;
@@ -61,11 +67,15 @@ fn eight_payments_are_saved(rt: HostRuntime) {
 
 /// Whether what the text tells has this text again.
 fn is_read_again(alloc: Global) -> Option<bool> {
-    let setup = setup(alloc, AFTER_4_AND_8)?;
-    let Ok(start) = read_save(alloc, &setup, 10, SAVE.as_bytes()) else {
+    let setup = inputs(AFTER_4_AND_8).setup(alloc)?;
+    reads_again(alloc, &setup)
+}
+
+fn reads_again(alloc: Global, setup: &Setup) -> Option<bool> {
+    let Ok(start) = read_save(alloc, setup, 10, SAVE.as_bytes()) else {
         return None;
     };
-    let text = text_of(alloc, &setup, &start)?;
+    let text = text_of(alloc, setup, &start)?;
     Some(text.as_slice() == SAVE.as_bytes())
 }
 
@@ -75,12 +85,14 @@ fn a_savepoint_is_read_again(rt: HostRuntime) {
 }
 
 fn has_fault(alloc: Global, text: &str, wanted: SaveFault) -> bool {
-    match setup(alloc, AFTER_4_AND_8) {
-        Some(setup) => {
-            matches!(read_save(alloc, &setup, 10, text.as_bytes()), Err(fault) if fault == wanted)
-        }
+    match inputs(AFTER_4_AND_8).setup(alloc) {
+        Some(setup) => is_refused(alloc, &setup, text, wanted),
         None => false,
     }
+}
+
+fn is_refused(alloc: Global, setup: &Setup, text: &str, wanted: SaveFault) -> bool {
+    matches!(read_save(alloc, setup, 10, text.as_bytes()), Err(fault) if fault == wanted)
 }
 
 const REFUSED: [(&str, SaveFault); 6] = [

@@ -1,7 +1,7 @@
 use crate::tests::texts::{BOTH_AT_ONCE, ONE_AFTER_THE_OTHER, TWO_FILTERS};
-use crate::tests::{job_of, setup_of};
 use cover_planner::Plan;
 use flow_replay::Setup;
+use plain_runs::{job_of, setup_of};
 use std::alloc::Global;
 
 fn setup(alloc: Global, requests: &str, ordered: bool) -> Option<Setup> {
@@ -26,13 +26,16 @@ fn covers_both(setup: &Setup) -> bool {
     true
 }
 
-#[test]
-fn filters_in_a_row(rt: HostRuntime) {
-    let covered = match setup(rt.alloc(), BOTH_AT_ONCE, false) {
+fn are_covered(alloc: Global) -> bool {
+    match setup(alloc, BOTH_AT_ONCE, false) {
         Some(setup) => covers_both(&setup),
         None => false,
-    };
-    assert!(rt; covered);
+    }
+}
+
+#[test]
+fn filters_in_a_row(rt: HostRuntime) {
+    assert!(rt; are_covered(rt.alloc()));
 }
 
 fn asks(plan: Option<&Plan>, asked: u64, heads: u64, edges: u128) -> bool {
@@ -49,11 +52,14 @@ fn asks_more(setup: &Setup) -> bool {
         && asks(setup.plan_of(2), 0b0110, 0b0010, 0b010)
 }
 
-#[test]
-fn one_filter_after_the_other(rt: HostRuntime) {
-    let asked = match setup(rt.alloc(), ONE_AFTER_THE_OTHER, true) {
+fn are_asked(alloc: Global) -> bool {
+    match setup(alloc, ONE_AFTER_THE_OTHER, true) {
         Some(setup) => asks_more(&setup),
         None => false,
-    };
-    assert!(rt; asked);
+    }
+}
+
+#[test]
+fn one_filter_after_the_other(rt: HostRuntime) {
+    assert!(rt; are_asked(rt.alloc()));
 }

@@ -1,8 +1,7 @@
-use crate::tests::job_of;
 use crate::tests::texts::{ONE_ROW, TWO_WAYS, TWO_WAYS_FOR_B, WAYS};
 use flow_replay::{FuncTable, Landing, alone};
 use jobs::Job;
-use payments::read_rows;
+use plain_runs::{job_of, rows_of};
 use std::alloc::{AllocError, Global};
 use tuple_trace::{NoMemory, Row, Value};
 
@@ -62,7 +61,7 @@ fn makes(alloc: Global, nodes: &str, tags: &[&str]) -> bool {
     let Ok(table) = table(alloc, &job) else {
         return false;
     };
-    let Ok(rows) = read_rows(alloc, &job, ONE_ROW.as_bytes()) else {
+    let Some(rows) = rows_of(alloc, &job, ONE_ROW) else {
         return false;
     };
     match rows.as_slice() {

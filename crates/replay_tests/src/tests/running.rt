@@ -1,22 +1,19 @@
 use crate::tests::texts::{AFTER_2, AT_BOTH_ENDS, CHAIN, FOUR_PAYMENTS, TWICE_AFTER_3};
-use crate::tests::{job_of, setup_of};
-use flow_replay::{Replayed, RunRecord, plain_run, replay};
-use payments::read_rows;
+use flow_replay::{Replayed, RunRecord, replay};
+use plain_runs::Inputs;
 use sink_journal::{Entry, Feed, Journal};
 use std::alloc::Global;
 use tuple_trace::Item;
 
 /// The run of the four payments through the chain.
 fn ran(alloc: Global, requests: &str) -> Option<RunRecord> {
-    let job = job_of(alloc, CHAIN)?;
-    let Ok(rows) = read_rows(alloc, &job, FOUR_PAYMENTS.as_bytes()) else {
-        return None;
+    let inputs = Inputs {
+        job: CHAIN,
+        requests,
+        payments: FOUR_PAYMENTS,
+        ordered: false,
     };
-    let setup = setup_of(alloc, job, requests, false)?;
-    match plain_run(alloc, setup, &rows) {
-        Ok(ran) => Some(ran),
-        Err(_) => None,
-    }
+    inputs.run(alloc)
 }
 
 /// A step of a worker: a tuple of a row, the marker of a request, the turn of one, or an end.
@@ -64,13 +61,16 @@ fn has_both_journals(ran: &RunRecord) -> bool {
     }
 }
 
-#[test]
-fn four_payments(rt: HostRuntime) {
-    let noted = match ran(rt.alloc(), AFTER_2) {
+fn are_noted(alloc: Global) -> bool {
+    match ran(alloc, AFTER_2) {
         Some(ran) => has_both_journals(&ran),
         None => false,
-    };
-    assert!(rt; noted);
+    }
+}
+
+#[test]
+fn four_payments(rt: HostRuntime) {
+    assert!(rt; are_noted(rt.alloc()));
 }
 
 fn has_feed(alloc: Global, requests: &str, feed: &[Feed]) -> bool {
@@ -169,12 +169,16 @@ fn alerts_send_nothing(alloc: Global, ran: &RunRecord) -> bool {
     }
 }
 
+const ITEMS: [Sent; 4] = [Sent::Carry(2), Sent::Carry(3), Sent::Carry(4), Sent::Last];
+
+fn are_replayed(alloc: Global) -> bool {
+    match ran(alloc, AFTER_2) {
+        Some(ran) => big_sends(alloc, &ran, &ITEMS) && alerts_send_nothing(alloc, &ran),
+        None => false,
+    }
+}
+
 #[test]
 fn replay_of_four_payments(rt: HostRuntime) {
-    let items = [Sent::Carry(2), Sent::Carry(3), Sent::Carry(4), Sent::Last];
-    let replayed = match ran(rt.alloc(), AFTER_2) {
-        Some(ran) => big_sends(rt.alloc(), &ran, &items) && alerts_send_nothing(rt.alloc(), &ran),
-        None => false,
-    };
-    assert!(rt; replayed);
+    assert!(rt; are_replayed(rt.alloc()));
 }

@@ -1,6 +1,6 @@
 //! The records of both parts, joined to one.
 
-use crate::tests::plain::{Texts, job_of, setup_of, texts_of};
+use crate::tests::plain::{Texts, inputs_of, texts_of};
 use crate::tests::texts::{PAYMENTS_ALERTS, TEN};
 use crate::tests::{Around, record_of, shelf_of};
 use flow_model::{RunRecord, Setup};
@@ -82,11 +82,6 @@ where
     Some((first, second))
 }
 
-fn ten_setup(alloc: Global) -> Result<Setup, NoMemory> {
-    let job = job_of(alloc, TEN.job)?;
-    setup_of(alloc, job, TEN.requests)
-}
-
 fn joined_in(
     alloc: Global,
     setup: Setup,
@@ -97,9 +92,9 @@ fn joined_in(
 }
 
 fn joined(alloc: Global, first: RunRecord, second: RunRecord) -> Result<RunRecord, NoMemory> {
-    match ten_setup(alloc) {
-        Ok(setup) => joined_in(alloc, setup, first, second),
-        Err(_) => Err(NoMemory),
+    match inputs_of(TEN).setup(alloc) {
+        Some(setup) => joined_in(alloc, setup, first, second),
+        None => Err(NoMemory),
     }
 }
 

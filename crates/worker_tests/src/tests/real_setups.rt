@@ -1,5 +1,4 @@
 // Workers of whole jobs.
-ghost use Rattle.job_file.specs.RequestSizes.{AreFew};
 ghost use Rattle.flow_model.specs.Begin.{at_first};
 ghost use Rattle.flow_model.specs.Setup.{setup_view};
 ghost use Rattle.flow_worker.specs.Worker.{IsWorker};
@@ -8,12 +7,10 @@ ghost use Rattle.worker_tests.specs.Crews.{AreWorkers};
 use flow_ends::Crew;
 use flow_model::Setup;
 use flow_worker::{Turn, Worker};
-use job_file::{read_job, read_requests};
-use jobs::Job;
 use lane_core::{Lanes, QueueLanes};
+use plain_runs::job_of;
 use std::alloc::Global;
 use tuple_trace::{NoMemory, OpenGate};
-use versions::{Requests, accepted_requests_stay_accepted, judge_all};
 
 /// Two sources, a table, a count with two workers and two sinks.
 const PAYMENTS: &str = r#"
@@ -166,17 +163,7 @@ steps = [["amount", "add", "amount", 1]]
 
 /// Reads a job and its requests. Returns `None` if either has a fault, or memory ran out.
 pub fn setup_of(alloc: Global, job: &str, requests: &str) -> Option<Setup> {
-    let job = read_job(alloc, job.as_bytes()).ok()?;
-    let requests = read_requests(alloc, &job, requests.as_bytes()).ok()?;
-    judged_setup(alloc, job, &requests).ok()
-}
-
-fn judged_setup(alloc: Global, job: Job, requests: &Requests) -> Result<Setup, NoMemory>
-    requires { AreFew requests.now }
-{
-    accepted_requests_stay_accepted();
-    let judged = judge_all(alloc, &job, requests)?;
-    Setup::make(alloc, job, judged)
+    plain_runs::setup_of(alloc, job_of(alloc, job)?, requests, false)
 }
 
 // Whether the worker has nothing to do in its first turn.
@@ -213,7 +200,11 @@ fn idle_workers<L: Lanes>(
 
 fn workers_of<L: Lanes>(alloc: Global, form: &L, job: &str, requests: &str) -> Option<usize> {
     let setup = setup_of(alloc, job, requests)?;
-    idle_workers(alloc, form, &setup).ok()?
+    workers_in(alloc, form, &setup)
+}
+
+fn workers_in<L: Lanes>(alloc: Global, form: &L, setup: &Setup) -> Option<usize> {
+    idle_workers(alloc, form, setup).ok()?
 }
 
 /// A job, its requests, and the number of its workers.

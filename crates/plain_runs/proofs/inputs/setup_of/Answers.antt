@@ -2,9 +2,10 @@ use Rattle.std.proofs.Common.{sym, subst}
 use Rattle.jobs.specs.Job.{job_view}
 use Rattle.versions.specs.Judged.{AreAccepted}
 use Rattle.versions.specs.declared.in_order.Judged.{Judged}
-use Rattle.save_tests.proofs.tests.plain.setup_of.Goals as goal
+use Rattle.plain_runs.proofs.inputs.setup_of.Goals as goal
 
 pub made-requires : goal.made-requires
 made-requires c =
     let job = job_view c.args.job in
-    subst (λ (j : Judged). AreAccepted job j.accepted) (sym c.in-Ok-judge_all.ensures) (c.accepted_requests_stay_accepted.ensures job _)
+    subst (λ (j : Judged). AreAccepted job j.accepted) (sym c.in-Ok-judge_all.ensures)
+    (c.accepted_requests_stay_accepted.ensures job _)
