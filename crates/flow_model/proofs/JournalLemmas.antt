@@ -8,7 +8,9 @@ use Rattle.tuple_trace.specs.declared.tuple.Item.{Item}
 use Rattle.flow_model.specs.declared.topology.Lane.{Lane}
 use Rattle.flow_model.specs.SetupView.{SetupView, Worker}
 use Rattle.flow_model.specs.Law.{IsEnabled, IsExecution, IsInTime, IsLawful, Progress, Duties, after_entry, initial, later_dues, next_due, progress_after}
-use Rattle.flow_model.specs.Points.{AreOtherEnds, EndsStandLast, HasPoints, HeadsAreInTime, LeadsToTurn, MarkersLeadToTheirTurn, MayStandAtItsPlace, TurnsFirst, TurnsFollowTheirMarkers, markers, turned}
+use Rattle.flow_model.specs.Points.{EndEntriesStandLast, EndOtherLanes, HasPoints, HeadsAreInTime}
+use Rattle.flow_model.specs.Points.{LeadsToTurn, MarkersLeadToTheirTurn, MayStandAtItsPlace}
+use Rattle.flow_model.specs.Points.{TurnsFirst, TurnsFollowTheirMarkers, markers, turned}
 use Rattle.flow_model.specs.Replay.{StateView, after, after_all, came_in, items_on, puts, sent, shown}
 
 pub after_all-append : (setup : SetupView) (who : Worker) (view : StateView) (xs ys : List Entry)
@@ -89,14 +91,17 @@ contains_both : (l : ℕ) (a b : List ℕ) → ((x : ℕ) → Contains a x → C
 contains_both l a b f x (zero, lt, is) = (zero, omega arith, is)
 contains_both l a b f x (suc k, lt, is) = contains_more l x b (f x (k, omega (arith, lt), is))
 
-fewer_ends : (few many : List ℕ) (later : List Entry) → ((x : ℕ) → Contains few x → Contains many x) → AreOtherEnds many later → AreOtherEnds few later
+fewer_ends : (few many : List ℕ) (later : List Entry) →
+    ((x : ℕ) → Contains few x → Contains many x) → EndOtherLanes many later → EndOtherLanes few later
 fewer_ends few many [] f h = tt
 fewer_ends few many (entry.Met lane tuple ∷ more) f h = h
 fewer_ends few many (entry.Marked lane request ∷ more) f h = h
 fewer_ends few many (entry.Turned request ∷ more) f h = h
 fewer_ends few many (entry.Ended lane ∷ more) f h = ((λ c. h.0 (f lane c)), fewer_ends (lane ∷ few) (lane ∷ many) more (contains_both lane few many f) h.1)
 
-ends : (duties : Duties) (progress : Progress) (journal : List Entry) → IsExecution duties progress journal → (progress.ended ≡ [] → ⊥) → AreOtherEnds progress.ended journal
+ends : (duties : Duties) (progress : Progress) (journal : List Entry) →
+    IsExecution duties progress journal → (progress.ended ≡ [] → ⊥) →
+    EndOtherLanes progress.ended journal
 ends duties progress [] h never = tt
 ends duties progress (entry.Met lane tuple ∷ more) h never = absurd (never h.0.2)
 ends duties progress (entry.Marked lane request ∷ more) h never = absurd (never h.0.3)
@@ -107,7 +112,8 @@ only_first : (l : ℕ) (ys : List ℕ) (x : ℕ) → Contains (l ∷ []) x → C
 only_first l ys x (zero, lt, is) = (zero, omega arith, is)
 only_first l ys x (suc k, lt, is) = absurd (omega (arith, lt))
 
-pub lawful-ends : (duties : Duties) (journal : List Entry) → IsExecution duties (initial duties) journal → EndsStandLast duties journal
+pub lawful-ends : (duties : Duties) (journal : List Entry) →
+    IsExecution duties (initial duties) journal → EndEntriesStandLast duties journal
 lawful-ends duties journal h before lane later is =
     let h' = subst (λ (l : List Entry). IsExecution duties (initial duties) l) is h in
     let both = split duties (initial duties) before (entry.Ended lane ∷ later) h' in
@@ -214,5 +220,5 @@ points-lawful duties journal h = record {
   markers_before = lawful-markers duties journal h.execution;
   no_other_markers = lawful-leads duties journal h;
   heads = lawful-heads duties journal h.execution;
-  ends = lawful-ends duties journal h.execution;
+  ended_last = lawful-ends duties journal h.execution;
 }

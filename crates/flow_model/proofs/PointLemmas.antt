@@ -6,7 +6,7 @@ use Rattle.std.proofs.lemmas.List.Elements.{Contains-append_left, filter_map-app
 use Rattle.sink_journal.specs.declared.journal.Entry.{Entry}
 use Rattle.sink_journal.specs.declared.journal.Entry.TheVariants as entry
 use Rattle.flow_model.specs.Law.{IsExecution, IsLawful, Progress, Duties, after_entry, initial, later_dues, next_due, progress_after}
-use Rattle.flow_model.specs.Points.{AreOtherEnds, HasPoints, LeadsToTurn, markers, turn_in, turned}
+use Rattle.flow_model.specs.Points.{EndOtherLanes, HasPoints, LeadsToTurn, markers, turn_in, turned}
 use Rattle.flow_model.proofs.JournalLemmas.{due_first, points-lawful, progress_after-append}
 
 -- what holds of a journal's beginning, of the progress behind it, and of what is left
@@ -14,7 +14,7 @@ record Going (duties : Duties) (progress : Progress) (before rest : List Entry) 
   dues : duties.dues ≡ turned before ++ progress.dues
   left : (more : List ℕ) × (progress.dues ≡ turned rest ++ more)
   marks : (progress.marked ≡ []) ⊎ ((request : ℕ) × LeadsToTurn progress.marked request rest)
-  ends : (progress.ended ≡ []) ⊎ AreOtherEnds progress.ended rest
+  ends : (progress.ended ≡ []) ⊎ EndOtherLanes progress.ended rest
 
 none_in : (x : ℕ) → Contains [] x → ⊥
 none_in x (k, lt, is) = absurd (omega (arith, lt))
@@ -113,13 +113,15 @@ back duties journal points before (entry.Turned request ∷ more) progress is at
     (((next, all, none_ended), later.0), later.1)
 back duties journal points before (entry.Ended lane ∷ more) progress is at going =
     let x : Entry = entry.Ended lane in
-    let point = points.ends before lane more is in
+    let point = points.ended_last before lane more is in
     let none_marked : progress.marked ≡ [] = elim going.marks [ inl e ↦ e | inr w ↦ absurd w.1 ] in
     let none_due : progress.dues ≡ [] = append_cancel_left (turned before) progress.dues [] (sym going.dues ∙ (point.1 ∙ sym (append-nil (turned before)))) in
-    let others : (¬ Contains progress.ended lane) × AreOtherEnds (lane ∷ progress.ended) more = elim going.ends [
+    let others :
+    (¬ Contains progress.ended lane) × EndOtherLanes (lane ∷ progress.ended) more
+    = elim going.ends [
       | inl e ↦ (
         subst (λ (l : List ℕ). ¬ Contains l lane) (sym e) (none_in lane),
-        subst (λ (l : List ℕ). AreOtherEnds (lane ∷ l) more) (sym e) point.0,
+        subst (λ (l : List ℕ). EndOtherLanes (lane ∷ l) more) (sym e) point.0,
       )
       | inr w ↦ (w.0, w.1)
     ] in

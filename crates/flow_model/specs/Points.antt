@@ -27,20 +27,21 @@ MayStandAtItsPlace duties journal =
 abbrev pub TurnsFirst : List ℕ → List Entry → Type 0
 TurnsFirst dues journal = (left : List ℕ) × (dues ≡ turned journal ++ left)
 
--- only ends of other lanes than these, none twice
-abbrev pub AreOtherEnds : List ℕ → List Entry → Type 0
-AreOtherEnds seen [] = ⊤
-AreOtherEnds seen (entry.Ended lane ∷ more) = ¬ Contains seen lane × AreOtherEnds (lane ∷ seen) more
-AreOtherEnds seen (entry.Met lane tuple ∷ more) = ⊥
-AreOtherEnds seen (entry.Marked lane request ∷ more) = ⊥
-AreOtherEnds seen (entry.Turned request ∷ more) = ⊥
+-- only entries that end other lanes than these, none twice
+abbrev pub EndOtherLanes : List ℕ → List Entry → Type 0
+EndOtherLanes seen [] = ⊤
+EndOtherLanes seen (entry.Ended lane ∷ more) =
+    ¬ Contains seen lane × EndOtherLanes (lane ∷ seen) more
+EndOtherLanes seen (entry.Met lane tuple ∷ more) = ⊥
+EndOtherLanes seen (entry.Marked lane request ∷ more) = ⊥
+EndOtherLanes seen (entry.Turned request ∷ more) = ⊥
 
 -- behind an end stand only ends, of other lanes, and before it every request was turned
-abbrev pub EndsStandLast : Duties → List Entry → Type 0
-EndsStandLast duties journal =
+abbrev pub EndEntriesStandLast : Duties → List Entry → Type 0
+EndEntriesStandLast duties journal =
     (before : List Entry) (lane : ℕ) (later : List Entry)
     → journal ≡ before ++ entry.Ended lane ∷ later →
-    AreOtherEnds (lane ∷ []) later × (duties.dues ≡ turned before)
+    EndOtherLanes (lane ∷ []) later × (duties.dues ≡ turned before)
 
 -- at a head, a tuple that is met before the turn of the next request was fed before that was issued
 abbrev pub HeadsAreInTime : Duties → List Entry → Type 0
@@ -85,8 +86,8 @@ TuplesComeByLanes duties journal =
     (before : List Entry) (lane : ℕ) (tuple : Tuple) (later : List Entry)
     → journal ≡ before ++ entry.Met lane tuple ∷ later → Contains duties.lanes lane
 
-abbrev pub EndsComeByLanes : Duties → List Entry → Type 0
-EndsComeByLanes duties journal =
+abbrev pub EndEntriesComeByLanes : Duties → List Entry → Type 0
+EndEntriesComeByLanes duties journal =
     (before : List Entry) (lane : ℕ) (later : List Entry)
     → journal ≡ before ++ entry.Ended lane ∷ later → Contains duties.lanes lane
 
@@ -95,9 +96,9 @@ EndsComeByLanes duties journal =
 -- nowhere else; heads are in time; the ends stand together at the end.
 pub record HasPoints (duties : Duties) (journal : List Entry) : Type 0 where
   pub tuple_lanes : TuplesComeByLanes duties journal
-  pub end_lanes : EndsComeByLanes duties journal
+  pub end_lanes : EndEntriesComeByLanes duties journal
   pub turns : TurnsFirst duties.dues journal
   pub markers_before : TurnsFollowTheirMarkers duties journal
   pub no_other_markers : MarkersLeadToTheirTurn duties journal
   pub heads : HeadsAreInTime duties journal
-  pub ends : EndsStandLast duties journal
+  pub ended_last : EndEntriesStandLast duties journal

@@ -14,24 +14,25 @@ joining = record {
   marked_lanes = λ request. 0 ∷ 1 ∷ [];
 }
 
-abbrev pub ends : List Entry
-ends = entry.Ended 0 ∷ entry.Ended 1 ∷ []
+abbrev pub both_ended : List Entry
+both_ended = entry.Ended 0 ∷ entry.Ended 1 ∷ []
 
 abbrev pub meets : ℕ → ℕ → Entry
 meets lane row = entry.Met lane (payment row (pos 1) 0 [])
 
 -- both markers, and directly behind them the turn
 abbrev pub joined : List Entry
-joined = meets 0 1 ∷ entry.Marked 1 1 ∷ entry.Marked 0 1 ∷ entry.Turned 1 ∷ meets 1 2 ∷ ends
+joined =
+    meets 0 1 ∷ entry.Marked 1 1 ∷ entry.Marked 0 1 ∷ entry.Turned 1 ∷ meets 1 2 ∷ both_ended
 
 -- a marker is missing
 abbrev pub unmarked : List Entry
-unmarked = entry.Marked 0 1 ∷ entry.Turned 1 ∷ ends
+unmarked = entry.Marked 0 1 ∷ entry.Turned 1 ∷ both_ended
 
 -- a tuple stands between two markers
 abbrev pub parted : List Entry
-parted = entry.Marked 0 1 ∷ meets 1 1 ∷ entry.Marked 1 1 ∷ entry.Turned 1 ∷ ends
+parted = entry.Marked 0 1 ∷ meets 1 1 ∷ entry.Marked 1 1 ∷ entry.Turned 1 ∷ both_ended
 
 -- a request is never turned
 abbrev pub unturned : List Entry
-unturned = ends
+unturned = both_ended

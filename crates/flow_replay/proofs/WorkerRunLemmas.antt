@@ -18,7 +18,8 @@ use Rattle.flow_model.specs.Topology.{worker_of}
 use Rattle.flow_model.specs.WorkerState.{IsTurned, state_view}
 use Rattle.flow_model.specs.Workers.{nth_worker, workers_in}
 use Rattle.flow_replay.specs.declared.worker_run.WorkerRun.{WorkerRun}
-use Rattle.flow_replay.specs.inner.Runs.{IsGain, end_block, ends, marks, run_view, turn_block, turn_entries}
+use Rattle.flow_replay.specs.inner.Runs.{IsGain, end_block, ended_entries, marks, run_view}
+use Rattle.flow_replay.specs.inner.Runs.{turn_block, turn_entries}
 use Rattle.flow_model.proofs.ElementLemmas.{IsIn}
 use Rattle.flow_model.proofs.LaneLemmas.{in_enumerate}
 use Rattle.flow_model.proofs.LaneNumbers.{sends}
@@ -126,10 +127,10 @@ edge_marks setup r number edge lane b there is told =
 
 -- the lanes before a place have ended
 pub record HaveEnded (i : ℕ) (numbers : List ℕ) (old new : WorkerRun) : Type 0 where
-  pub journal : new.journal ++ ends (drop i numbers) ≡ old.journal ++ ends numbers
+  pub journal : new.journal ++ ended_entries (drop i numbers) ≡ old.journal ++ ended_entries numbers
   pub view : (setup : SetupView) (who : Worker) →
-      after_all setup who (run_view setup who new) (ends (drop i numbers))
-      ≡ after_all setup who (run_view setup who old) (ends numbers)
+      after_all setup who (run_view setup who new) (ended_entries (drop i numbers))
+      ≡ after_all setup who (run_view setup who old) (ended_entries numbers)
   pub ended : new.state.ended ≡ old.state.ended + i
 
 pub ends-next : (i : ℕ) (numbers : List ℕ) (old mid new : WorkerRun) → i < length numbers →
@@ -138,27 +139,33 @@ pub ends-next : (i : ℕ) (numbers : List ℕ) (old mid new : WorkerRun) → i <
     HaveEnded i numbers old mid → HaveEnded (i + 1) numbers old new
 ends-next i numbers old mid new lt grown step h = record {
   journal =
-      ap (λ (l : List Entry). l ++ ends (drop (i + 1) numbers)) grown
-      ∙ (append_assoc mid.journal (entry.Ended (get_or numbers i 0) ∷ []) (ends (drop (i + 1)
-      numbers))
-      ∙ (ap (λ (l : List ℕ). mid.journal ++ ends l) (sym (drop_more numbers i 0 lt)) ∙ h.journal));
+      ap (λ (l : List Entry). l ++ ended_entries (drop (i + 1) numbers)) grown
+      ∙ (append_assoc mid.journal (entry.Ended (get_or numbers i 0) ∷ [])
+      (ended_entries (drop (i + 1) numbers))
+      ∙ (ap (λ (l : List ℕ). mid.journal ++ ended_entries l) (sym (drop_more numbers i 0 lt))
+      ∙ h.journal));
   view = λ setup who.
-      ap (λ (x : WorkerState). after_all setup who (state_view setup who x) (ends (drop (i + 1)
-      numbers))) step
-      ∙ (ap (λ (l : List ℕ). after_all setup who (run_view setup who mid) (ends l)) (sym
-      (drop_more numbers i 0 lt)) ∙ h.view setup who);
+      ap (λ (x : WorkerState). after_all setup who (state_view setup who x)
+      (ended_entries (drop (i + 1) numbers))) step
+      ∙ (ap (λ (l : List ℕ). after_all setup who (run_view setup who mid) (ended_entries l))
+      (sym (drop_more numbers i 0 lt)) ∙ h.view setup who);
   ended = let e = ap (λ (x : WorkerState). x.ended) step in omega (arith, e, h.ended);
 }
 
-pub ends-end : (setup : SetupView) (who : Worker) (w i : ℕ) (numbers : List ℕ) (old new : WorkerRun) →
+pub ends-end : (setup : SetupView) (who : Worker) (w i : ℕ) (numbers : List ℕ)
+    (old new : WorkerRun) →
     numbers ≡ lanes_in setup.job w → length numbers ≤ i → HaveEnded i numbers old new
     → IsGain setup who (end_block setup.job w) old new
-ends-end setup who w i numbers old new are le h = subst (λ (ns : List ℕ). IsGain setup who (ends
-    ns) old new) are (record {
-      journal = sym (append-nil new.journal) ∙ (ap (λ (l : List ℕ). new.journal ++ ends l) (sym
-          (drop_all i numbers le)) ∙ h.journal);
-      view = ap (λ (l : List ℕ). after_all setup who (run_view setup who new) (ends l)) (sym
-          (drop_all i numbers le)) ∙ h.view setup who;
+ends-end setup who w i numbers old new are le h =
+    subst (λ (ns : List ℕ). IsGain setup who (ended_entries ns) old new) are (record {
+      journal =
+          sym (append-nil new.journal)
+          ∙ (ap (λ (l : List ℕ). new.journal ++ ended_entries l) (sym (drop_all i numbers le))
+          ∙ h.journal);
+      view =
+          ap (λ (l : List ℕ). after_all setup who (run_view setup who new) (ended_entries l))
+          (sym (drop_all i numbers le))
+          ∙ h.view setup who;
     })
 
 -- ---- a turn

@@ -39,7 +39,9 @@ impl Inputs<'_> {
         Some((setup, rows))
     }
 
-    /// The run of the plain executor. Returns `None` if a reader refuses a text, or memory runs out.
+    /// The run of the plain executor.
+    ///
+    /// Returns `None` if a reader refuses a text, or memory runs out.
     pub fn run(&self, alloc: Global) -> Option<RunRecord> {
         let (setup, rows) = self.read(alloc)?;
         plain_run(alloc, setup, &rows).ok()

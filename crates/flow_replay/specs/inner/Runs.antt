@@ -86,13 +86,13 @@ abbrev pub turn_block : SetupView → ℕ → ℕ → List Entry
 turn_block setup request w =
     if covers setup request (nth_worker setup.job w).node then turn_entries setup request w else []
 
--- the ends of these lanes
-abbrev pub ends : List ℕ → List Entry
-ends lanes = map (λ (lane : ℕ). entry.Ended lane) lanes
+-- the entries with which these lanes end
+abbrev pub ended_entries : List ℕ → List Entry
+ended_entries lanes = map (λ (lane : ℕ). entry.Ended lane) lanes
 
 -- what a worker notes at the end: the end of each lane in
 abbrev pub end_block : JobView → ℕ → List Entry
-end_block job w = ends (lanes_in job w)
+end_block job w = ended_entries (lanes_in job w)
 
 -- ---- what is on the lanes
 
