@@ -171,7 +171,7 @@ fn push_header(job: Option<&Job>, out: &mut String) -> Result<(), AllocError> {
         return Ok(());
     };
     out.push_str("The header of this job is `source")?;
-    for column in job.columns.as_slice() {
+    for column in &job.columns {
         if !column.own {
             out.push(',')?;
             push_name(column.name.as_slice(), out)?;
@@ -213,7 +213,7 @@ fn push_column(job: &Job, number: u32, out: &mut String) -> Result<(), AllocErro
 // field.
 fn cell_of(job: &Job, column: u32) -> usize {
     let mut cell = 1usize;
-    for before in job.columns.as_slice().iter().take(column as usize) {
+    for before in job.columns.iter().take(column as usize) {
         if !before.own {
             cell = cell.saturating_add(1);
         }

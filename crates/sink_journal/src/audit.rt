@@ -361,7 +361,7 @@ fn met_fields(alloc: Global, worker: &[u8]) -> Result<Bytes, NoMemory>
 // How many records the audit of this feed and these journals has, counts and refusals left out.
 fn record_count(feeds: &Feeds, journals: &Journals) -> usize {
     let mut count = feeds.len();
-    for journal in journals.as_slice() {
+    for journal in journals {
         count = count.saturating_add(journal.len());
     }
     count

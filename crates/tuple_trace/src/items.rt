@@ -1,8 +1,13 @@
-ghost use Rattle.std.specs.Prelude.{◌≡◌, ◌<◌, ◌++◌, ◌∷◌, [], IsTrue, ◌↔◌, IfOk, OnOk, OnErr};
+ghost use Rattle.std.specs.Prelude.{◌≡◌, ◌<◌, ◌^◌, ◌++◌, ◌∷◌, [], IsTrue, ◌↔◌, IfOk, OnOk, OnErr};
 ghost use Rattle.std.specs.Prelude.{length, slice_set, take};
+ghost use Rattle.std.specs.Iterator.Runs.{EveryRun, ItemsAre, ItemsMapTo};
+ghost use Rattle.std.specs.Slice.Iter.{iter_rest, iter_steps};
+ghost use Rattle.std.specs.Global.{Global as Heap};
+ghost use Rattle.std.specs.Vec.Iter.{into_iter_items, into_iter_len, into_iter_steps};
 
 use std::alloc::{AllocError, AllocFailed, Global};
 use std::marker::Model;
+use std::{slice, vec};
 
 /// Memory ran out. The call that answers it says what it left.
 #[derive(Clone, Copy, Debug, PartialEq, Eq)]
@@ -67,6 +72,16 @@ impl<T> Items<T> {
         self.items.as_slice()
     }
 
+    /// An iterator over the items, in order.
+    pub fn iter(&self) -> slice::Iter<'_, T>
+        ensures rest { iter_rest result ≡ self.now }
+        ensures bound { length (iter_rest result) < 2 ^ 64 }
+        ensures runs { EveryRun (iter_steps {A = T})
+            (λ run. ItemsMapTo run (λ item. item.now) (iter_rest run.from)) }
+    {
+        self.items.iter()
+    }
+
     /// How many items there are.
     pub fn len(&self) -> usize
         ensures { result ≡ length self.now }
@@ -125,5 +140,35 @@ impl<T: Copy> Items<T> {
     {
         self.items.extend_from_slice(more)?;
         Ok(())
+    }
+}
+
+impl<'a, T> IntoIterator for &'a Items<T> {
+    type Item = &'a T;
+
+    type IntoIter = slice::Iter<'a, T>;
+
+    ghost into_iter_gives = { λ items iter. (iter_rest iter ≡ items.now)
+        × (length (iter_rest iter) < 2 ^ 64)
+        × EveryRun (iter_steps {A = T})
+        (λ run. ItemsMapTo run (λ item. item.now) (iter_rest run.from)) };
+
+    fn into_iter(self) -> slice::Iter<'a, T> {
+        self.iter()
+    }
+}
+
+impl<T: Drop> IntoIterator for Items<T> {
+    type Item = T;
+
+    type IntoIter = vec::IntoIter<T, Global>;
+
+    ghost into_iter_gives = { λ items iter. (into_iter_items iter ≡ items)
+        × (into_iter_len iter ≡ length items) × (into_iter_len iter < 2 ^ 64)
+        × EveryRun (into_iter_steps {X = T} {Z = Heap})
+        (λ run. ItemsAre run (into_iter_items run.from)) };
+
+    fn into_iter(self) -> vec::IntoIter<T, Global> {
+        self.into_vec().into_iter()
     }
 }

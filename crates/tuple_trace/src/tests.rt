@@ -135,9 +135,27 @@ fn bytes_are_well(alloc: Global) -> Result<bool, NoMemory> {
     Ok(was_empty && bytes.into_vec().as_slice() == b"fla".as_slice())
 }
 
+// The digits of a list, the first one first: by its iterator, over a reference, and given up.
+fn digits_in_order(items: Items<u8>) -> [u32; 3] {
+    let mut read = [0u32; 3];
+    for digit in items.iter() {
+        read[0] = read[0].wrapping_mul(10).wrapping_add((*digit).into());
+    }
+    for digit in &items {
+        read[1] = read[1].wrapping_mul(10).wrapping_add((*digit).into());
+    }
+    for digit in items {
+        read[2] = read[2].wrapping_mul(10).wrapping_add(digit.into());
+    }
+    read
+}
+
 fn items_are_well(alloc: Global) -> bool {
     match vec![in alloc; 1u8, 2] {
-        Ok(items) => Items::from_vec(items).as_slice() == [1, 2].as_slice(),
+        Ok(items) => {
+            let items = Items::from_vec(items);
+            items.as_slice() == [1, 2].as_slice() && digits_in_order(items) == [12, 12, 12]
+        }
         Err(_) => false,
     }
 }

@@ -14,7 +14,7 @@ pub fn is_lawful(ran: &Option<RunRecord>) -> bool {
     };
     let requests = ran.setup.requests() as u64;
     let mut lawful = true;
-    for journal in ran.journals.as_slice() {
+    for journal in &ran.journals {
         lawful &= is_lawful_for_each(journal.as_slice(), requests);
     }
     lawful

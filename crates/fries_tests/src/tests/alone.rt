@@ -106,7 +106,7 @@ fn push_alert(
     lines: &mut Bytes,
 ) -> Result<(), NoMemory> {
     lines.extend_from_slice(format!(in alloc; "{sink},{}", landing.row)?.as_bytes())?;
-    let columns = job.columns.as_slice().iter();
+    let columns = job.columns.iter();
     for (column, field) in columns.zip(landing.fields.as_slice()) {
         push_field(alloc, column.kind, field, lines)?;
     }
@@ -116,7 +116,7 @@ fn push_alert(
 /// The functions of a job, one for each node.
 fn funcs(alloc: Global, job: &Job) -> Result<FuncTable, NoMemory> {
     let mut table = FuncTable::new(alloc);
-    for node in job.nodes.as_slice() {
+    for node in &job.nodes {
         table.push(node.func.clone()?)?;
     }
     Ok(table)

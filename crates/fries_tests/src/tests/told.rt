@@ -27,7 +27,7 @@ pub fn tells_feed(alloc: Global, ran: &RunRecord, lines: &str) -> Result<bool, N
 /// Whether these are the lines of the turns of a record.
 pub fn tells_turns(alloc: Global, ran: &RunRecord, lines: &str) -> Result<bool, NoMemory> {
     let mut turns = Bytes::new(alloc);
-    for (worker, journal) in ran.journals.as_slice().iter().enumerate() {
+    for (worker, journal) in ran.journals.iter().enumerate() {
         push_turns(alloc, worker, journal.as_slice(), &mut turns)?;
     }
     Ok(turns.as_slice() == lines.as_bytes())

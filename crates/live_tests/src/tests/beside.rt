@@ -109,7 +109,7 @@ fn is_before_last(outcome: &Outcome) -> bool {
         return false;
     };
     let mut is_issued = false;
-    for feed in ran.feeds.as_slice() {
+    for feed in &ran.feeds {
         match feed {
             Feed::Issued(1) => is_issued = true,
             Feed::Fed(12) => return is_issued,

@@ -39,8 +39,8 @@ fn counts(ran: &RunRecord) -> [usize; 4] {
     let feeds = ran.feeds.as_slice();
     let stops = feeds.iter().filter(|feed| **feed == Feed::Stopped).count();
     let (mut ends, mut others) = (0usize, 0usize);
-    for journal in ran.journals.as_slice() {
-        for entry in journal.as_slice() {
+    for journal in &ran.journals {
+        for entry in journal {
             if matches!(entry, Entry::Ended { .. }) {
                 ends = ends.saturating_add(1);
             } else {

@@ -95,7 +95,7 @@ pub fn lines_of_outputs(alloc: Global, outputs: &[Output]) -> Option<Bytes> {
 }
 
 fn add_origin(alloc: Global, lines: &mut Bytes, tuple: &Tuple) -> Option<()> {
-    for birth in tuple.birth.as_slice() {
+    for birth in &tuple.birth {
         add_number(alloc, lines, b'+', (*birth).into())?;
     }
     add_number(alloc, lines, b'#', tuple.row)?;

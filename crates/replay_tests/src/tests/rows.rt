@@ -23,7 +23,7 @@ fn joined(alloc: Global, nodes: &str) -> Result<String, AllocError> {
 /// The functions of all nodes of a job.
 fn table(alloc: Global, job: &Job) -> Result<FuncTable, NoMemory> {
     let mut table = FuncTable::new(alloc);
-    for node in job.nodes.as_slice() {
+    for node in &job.nodes {
         table.push(node.func.clone()?)?;
     }
     Ok(table)
