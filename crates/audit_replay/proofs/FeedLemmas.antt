@@ -16,7 +16,7 @@ use Rattle.flow_model.specs.Feeding.{fed_put, fed_puts, row_at}
 use Rattle.flow_model.specs.Lanes.{is_same_lane, lanes}
 use Rattle.flow_model.specs.Replay.{Put, item_on, items_on}
 use Rattle.flow_model.proofs.LaneLemmas.{lane_self, same_lane, same_number}
-use Rattle.audit_replay.specs.Standing.{HasEnds, Holds, HoldsFeed, end_of, left_on}
+use Rattle.audit_replay.specs.Standing.{AreAtTheirEnd, Holds, HoldsFeed, end_of, left_on}
 use Rattle.audit_replay.proofs.StandingLemmas.{left_elsewhere, left_get, left_here}
 
 length_none : (n : ℕ) → length (replicate {A = List Item} n []) ≡ n
@@ -121,7 +121,7 @@ module _ (job : JobView) (rows : List Row) (feeds : List Feed) (i issued : ℕ) 
       few = let le = are.few in omega (arith, le);
     }
 
-pub fed_last : (job : JobView) (rows : List Row) (feeds : List Feed) (i issued : ℕ) (old new : List (List Item)) → AreFed job rows feeds i issued old → length feeds ≤ i → HasEnds job old new → HoldsFeed job rows feeds new
+pub fed_last : (job : JobView) (rows : List Row) (feeds : List Feed) (i issued : ℕ) (old new : List (List Item)) → AreFed job rows feeds i issued old → length feeds ≤ i → AreAtTheirEnd job old new → HoldsFeed job rows feeds new
 fed_last job rows feeds i issued old new are past ends = record {
   long = ends.long ∙ are.holds.long;
   each = λ n lane g none.
@@ -181,7 +181,7 @@ one_not_ended job n old mid lane are g some = record {
     no_end None some = absurd (some refl)
     no_end (Some s) some = refl
 
-pub all_ended : (job : JobView) (n : ℕ) (old new : List (List Item)) → AreEnded job n old new → length (lanes job) ≤ n → HasEnds job old new
+pub all_ended : (job : JobView) (n : ℕ) (old new : List (List Item)) → AreEnded job n old new → length (lanes job) ≤ n → AreAtTheirEnd job old new
 all_ended job n old new are le = record {
   long = are.long;
   each = λ k lane g. are.below k lane (let lt = slice_get_within (lanes job) k lane g in omega (arith, lt, le)) g;

@@ -31,7 +31,7 @@ end_of None = item.Last ∷ []
 end_of (Some sender) = []
 
 -- The ends of the feeder's lanes were put on them.
-pub record HasEnds (job : JobView) (old new : List (List Item)) : Type 0 where
+pub record AreAtTheirEnd (job : JobView) (old new : List (List Item)) : Type 0 where
   pub long : length new ≡ length old
   pub each :
       (n : ℕ) (lane : Lane) → slice_get (lanes job) n ≡ Some lane →

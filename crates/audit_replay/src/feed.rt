@@ -8,7 +8,7 @@ ghost use Rattle.flow_model.specs.Replay.{Put};
 ghost use Rattle.flow_model.specs.Setup.{setup_view};
 ghost use Rattle.flow_model.specs.declared.topology.Lane.{Lane as LaneIs};
 ghost use Rattle.flow_model.specs.Lanes.{lanes};
-ghost use Rattle.audit_replay.specs.Standing.{HasEnds, Holds, HoldsFeed};
+ghost use Rattle.audit_replay.specs.Standing.{AreAtTheirEnd, Holds, HoldsFeed};
 
 use crate::standing::Standing;
 use flow_model::{Setup, WorkerAt};
@@ -90,7 +90,7 @@ fn row_at(rows: &[Row], number: u64) -> Option<&Row>
 // Puts the end on each lane of the feeder.
 fn end(setup: &Setup, standing: &mut Standing) -> Result<(), NoMemory>
     requires { length standing.old ≡ length (lanes (setup_view setup.now).job) }
-    ensures { OnOk result (HasEnds (setup_view setup.now).job standing.old standing.new) }
+    ensures { OnOk result (AreAtTheirEnd (setup_view setup.now).job standing.old standing.new) }
 {
     for number in 0..standing.len() {
         if is_fed(setup, number) {

@@ -14,7 +14,7 @@ use Rattle.versions.specs.declared.request.Request.{Request}
 use Rattle.flow_model.specs.Begin.{Begin}
 use Rattle.flow_model.specs.SetupView.{SetupView}
 use Rattle.savepoint.specs.SaveReading.{save_of}
-use Rattle.call_steps.specs.Ends.{EndsAfterRun, EndsStoring, StopsStoring}
+use Rattle.call_steps.specs.Outcomes.{EndsAfterRun, EndsStoring, StopsStoring}
 use Rattle.payments.specs.World.{ShelfState, SinkState, World, world}
 use Rattle.call_steps.specs.Outside.{FileText, IsExcused, Prints, PrintsFault}
 use Rattle.report.specs.Faults.{limit_of}
@@ -215,9 +215,9 @@ excused_before old stored new answer shelf out excused =
 -- a call that came to storing texts and printing its lines is done, or excused
 pub stored_or_excused : (texts : List FileText) (lines : List ℕ) (old between new : World) (answer : Option Fault) →
     EndsStoring texts lines old between answer → PrintsFault answer between new → (answer ≡ None) ⊎ IsExcused old new answer
-stored_or_excused [] lines old between new answer ends report = done_or_excused lines old between new answer ends.prints report
-stored_or_excused (text ∷ later) lines old between new answer ends report =
-    elim ends [
+stored_or_excused [] lines old between new answer outcome report = done_or_excused lines old between new answer outcome.prints report
+stored_or_excused (text ∷ later) lines old between new answer outcome report =
+    elim outcome [
       | inl stops ↦ inr (storing_excused text old between new answer stops report.shelf)
       | inr (stored, stores, rest) ↦ excused_before old stored new answer stores.faults stores.out (stored_or_excused later lines stored between new answer rest report)
     ]
@@ -225,8 +225,8 @@ stored_or_excused (text ∷ later) lines old between new answer ends report =
 -- a call whose run is complete is done, or excused
 pub ran_or_excused : (texts : List FileText) (lines : List ℕ) (old between new : World) (answer : Option Fault) →
     EndsAfterRun texts lines old between answer → PrintsFault answer between new → (answer ≡ None) ⊎ IsExcused old new answer
-ran_or_excused texts lines old between new answer ends report =
-    elim ends [
+ran_or_excused texts lines old between new answer outcome report =
+    elim outcome [
       | inl stops ↦ inr (inr stops.answer_is)
-      | inr ends ↦ stored_or_excused texts lines old between new answer ends report
+      | inr outcome ↦ stored_or_excused texts lines old between new answer outcome report
     ]

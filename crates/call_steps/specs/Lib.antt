@@ -1,7 +1,7 @@
 pub mod FirstJob
 pub mod Outside
 pub mod Reading
-pub mod Ends
+pub mod Outcomes
 pub mod SetupFor
 pub mod Running
 pub mod Parts

@@ -18,7 +18,7 @@ use Rattle.flow_model.specs.declared.record.RunRecord.{RunRecord}
 use Rattle.savepoint.specs.Parts.{start_of}
 use Rattle.savepoint.specs.SaveText.{save_text}
 use Rattle.serial_order.specs.Serials.{serial_line, serials}
-use Rattle.call_steps.specs.Ends.{EndsAfterRun}
+use Rattle.call_steps.specs.Outcomes.{EndsAfterRun}
 use Rattle.report.specs.Lines.{alert_count, noted, refused_lines, row_count, summary_line}
 use Rattle.payments.specs.World.{World}
 use Rattle.call_steps.specs.Outside.{FileText}
@@ -119,7 +119,7 @@ pub record Runs (IsSo : Done → Type 0) (alerts : List ℕ) (audit save : Optio
     (from : Option Begin) (old new : World) (answer : Answer) : Type 0 where
   pub done : Done
   pub is_so : IsSo done
-  pub ends : EndsAfterRun (files_of alerts audit save done) (run_lines done) old new answer.fault
+  pub outcome : EndsAfterRun (files_of alerts audit save done) (run_lines done) old new answer.fault
   pub refused : answer.refused ≡ done.refused
   pub ran : answer.ran ≡ Some done.ran
   pub start : answer.start ≡ from

@@ -1,5 +1,5 @@
 ghost use Rattle.std.specs.Prelude.{◌≡◌};
-ghost use Rattle.call_steps.specs.Ends.{stopped as stopped_for};
+ghost use Rattle.call_steps.specs.Outcomes.{stopped as stopped_for};
 
 use flow_model::{RunRecord, Start};
 use report::Fault;

@@ -9,7 +9,7 @@ ghost use Rattle.flow_model.specs.Setup.{setup_view};
 ghost use Rattle.live_control.specs.Hearing.{IsHeard};
 ghost use Rattle.command_line.specs.Asked.{IsSize};
 ghost use Rattle.payments.specs.World.{world};
-ghost use Rattle.call_steps.specs.Ends.{EndsAfterRun};
+ghost use Rattle.call_steps.specs.Outcomes.{EndsAfterRun};
 ghost use Rattle.call_steps.specs.Live.{IsLiveRun, live_fault as live_fault_of};
 ghost use Rattle.call_steps.specs.Live.{live_lines as live_lines_of};
 ghost use Rattle.call_steps.specs.Parts.{HasWorkers};
@@ -163,7 +163,7 @@ pub fn leave_live<S: Shelf, O: Sink>(
     out: &mut O,
 ) -> Answer
     requires { HasWorkers live.done }
-    ensures ends { (written : Option FaultIs)
+    ensures outcome { (written : Option FaultIs)
         × EndsAfterRun (files_of names.entry.alerts.now (option_copied names.entry.audit)
         (option_copied names.entry.save) live.done) (live_lines_of live)
         (world (S.state shelf.old) (O.state out.old))

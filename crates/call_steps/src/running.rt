@@ -7,7 +7,7 @@ ghost use Rattle.job_file.specs.RequestSizes.{AreFew};
 ghost use Rattle.flow_model.specs.Record.{record_view};
 ghost use Rattle.flow_replay.specs.Order.{IsInOrder};
 ghost use Rattle.command_line.specs.Asked.{IsSize};
-ghost use Rattle.call_steps.specs.Ends.{EndsAfterRun};
+ghost use Rattle.call_steps.specs.Outcomes.{EndsAfterRun};
 ghost use Rattle.payments.specs.World.{world};
 ghost use Rattle.call_steps.specs.SetupFor.{AreSame};
 ghost use Rattle.call_steps.specs.Running.{audit_of, files_of, run_lines as run_lines_of, saved_of};
@@ -174,7 +174,7 @@ pub fn leave_run<S: Shelf, O: Sink>(
 ) -> Answer
     requires journals { length done.ran.journals ≡ worker_count done.ran.setup.job.nodes }
     requires states { length done.ran.states ≡ worker_count done.ran.setup.job.nodes }
-    ensures ends { EndsAfterRun
+    ensures outcome { EndsAfterRun
         (files_of names.entry.alerts.now (option_copied names.entry.audit)
         (option_copied names.entry.save) done) (run_lines_of done)
         (world (S.state shelf.old) (O.state out.old))

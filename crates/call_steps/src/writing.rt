@@ -1,7 +1,7 @@
 ghost use Rattle.std.specs.Prelude.{◌≡◌, ◌⊎◌, None, Some, IfErr, OnErr, OnOk};
 ghost use Rattle.std.specs.Result.{result_err};
 ghost use Rattle.payments.specs.Files.{HoldsProperPrefix, with_bytes};
-ghost use Rattle.call_steps.specs.Ends.{EndsStoring};
+ghost use Rattle.call_steps.specs.Outcomes.{EndsStoring};
 ghost use Rattle.payments.specs.World.{world};
 ghost use Rattle.call_steps.specs.Outside.{StoresNot};
 

@@ -7,7 +7,7 @@ use lib.ListN.{get_elem?}
 use Rattle.atomic_table.specs.Table.{Me, keeps, Allows, Splits, opening}
 use Rattle.atomic_table.proofs.Lists.{at_set, at_snoc}
 use Rattle.control_box.specs.declared.rule.View.{View}
-use Rattle.control_box.specs.Ends.{HasShownReady}
+use Rattle.control_box.specs.Endpoints.{HasShownReady}
 use Rattle.control_box.specs.Rule.{IsBox, LoadedPosted, LoadedTurned, OwnerKnows, PosterKnows, StoredPosted, StoredTurned, fresh, owner_side, poster_side}
 
 -- numbers that are at most m are at most a greater n

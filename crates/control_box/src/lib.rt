@@ -15,9 +15,9 @@
 //! ```
 #![tactic(auto)]
 
-mod ends;
+mod endpoints;
 mod rule;
 #[cfg(test)]
 mod tests;
 
-pub use ends::{Owner, Poster, make_box};
+pub use endpoints::{Owner, Poster, make_box};

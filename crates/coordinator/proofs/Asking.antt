@@ -6,7 +6,7 @@ use Rattle.std.proofs.lemmas.List.Quantifiers.{Any-push}
 use Rattle.std.proofs.lemmas.Option.{slice_get_within}
 use Rattle.std.proofs.Math.Logic.{∥∥₁_elim}
 use Rattle.std.proofs.Math.Bool.{Bool-set}
-use Rattle.control_box.specs.Ends.{HasShownReady, PosterIs}
+use Rattle.control_box.specs.Endpoints.{HasShownReady, PosterIs}
 use Rattle.cover_planner.specs.declared.cover.Plan.{Plan}
 use Rattle.flow_dag.proofs.MaskLemmas.{has-Has}
 use Rattle.flow_model.specs.Covers.{covers, heads, holds_node, is_head}

@@ -1,7 +1,7 @@
 -- What a turn's answer tells.
 use Rattle.std.proofs.Common.{◌≡◌, ◌≢◌, ◌∙◌, ◌↔◌, ◌+◌, ◌<◌, ℕ, zero, suc, arith, min, List, [], ◌∷◌, ◌++◌, inl, inr, refl, sym, subst, ap, true, false, length, map, set, Some, slice_get}
 use Rattle.std.proofs.lemmas.Option.{slice_get_within}
-use Rattle.control_box.specs.Ends.{PosterIs}
+use Rattle.control_box.specs.Endpoints.{PosterIs}
 use Rattle.std.proofs.lemmas.List.{length-map}
 use Rattle.sink_journal.specs.declared.journal.Feed.TheVariants.{Fed, Issued, Stopped}
 use Rattle.tuple_trace.specs.declared.row.Row.{Row}

@@ -1,7 +1,7 @@
 -- What the feeder does to the boxes of the workers.
 use Rattle.std.specs.Prelude.{◌≡◌, ℕ, true, ◌+◌, ◌-◌, ◌<◌, ◌≤◌, List, [], ◌∷◌, ◌++◌, length, Some}
 use Rattle.std.specs.Prelude.{slice_get, if◌then◌else◌}
-use Rattle.control_box.specs.Ends.{HasShownReady, PosterIs}
+use Rattle.control_box.specs.Endpoints.{HasShownReady, PosterIs}
 use Rattle.flow_model.specs.Covers.{covers, is_head}
 use Rattle.flow_model.specs.SetupView.{SetupView}
 use Rattle.flow_model.specs.Workers.{workers_in}

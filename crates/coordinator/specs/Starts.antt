@@ -1,6 +1,6 @@
 -- What a feeder begins with.
 use Rattle.std.specs.Prelude.{◌≡◌, ℕ, List, [], length, map, None, Some, slice_get}
-use Rattle.control_box.specs.Ends.{PosterIs}
+use Rattle.control_box.specs.Endpoints.{PosterIs}
 use Rattle.flow_dag.specs.declared.edge.Edge.{Edge}
 use Rattle.flow_dag.specs.declared.graph.Graph.{Graph}
 use Rattle.jobs.specs.JobView.{JobView}

@@ -1,6 +1,6 @@
 -- What contracts see of a feeder, of its boxes and of its lanes.
 use Rattle.std.specs.Prelude.{ℕ, Bool, List, Option, map}
-use Rattle.control_box.specs.Ends.{PosterIs}
+use Rattle.control_box.specs.Endpoints.{PosterIs}
 use Rattle.lane_core.specs.Lane.{LaneId}
 use Rattle.lane_core.specs.declared.form.Origin.{Origin}
 use Rattle.sink_journal.specs.declared.journal.Feed.{Feed}

@@ -1,7 +1,7 @@
 mod whole;
 
 ghost use Rattle.std.specs.Prelude.{◌≡◌, ℕ, [], IfOk, Some, length, slice_get};
-ghost use Rattle.control_box.specs.Ends.{PosterIs};
+ghost use Rattle.control_box.specs.Endpoints.{PosterIs};
 ghost use Rattle.jobs.specs.Nodes.{AreFromSources};
 ghost use Rattle.flow_model.specs.Begin.{Begin};
 ghost use Rattle.flow_model.specs.Setup.{setup_view};

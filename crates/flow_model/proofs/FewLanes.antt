@@ -141,7 +141,7 @@ module _ (job : JobView) (who : Worker) (law : IsLawful job) (is : IsWorker job 
   later i j x y g h from to lt =
       let l : i < length (take j job.edges) = let w = slice_get_within job.edges j y h in let m = length-take j job.edges in omega (arith, lt, w, m) in
       let at = get_or-take job.edges j i x lt ∙ get_or_from_slice_get job.edges i x x g in
-      IsRepeated-ports job.nodes job.edges j law.ends law.ports (y, h, (i, x, l, at, (from, to)))
+      IsRepeated-ports job.nodes job.edges j law.endpoints law.ports (y, h, (i, x, l, at, (from, to)))
 
   one_edge : (i j : ℕ) (x y : Edge) → slice_get job.edges i ≡ Some x → slice_get job.edges j ≡ Some y → x.from ≡ y.from → x.to ≡ y.to → i ≡ j
   one_edge i j x y g h from to =

@@ -39,7 +39,7 @@ pub record IsConnected (job : JobView) : Type 0 where
 
 pub inside_edge : (job : JobView) → IsLawful job → (i : ℕ) (edge : Edge) → slice_get job.edges i ≡ Some edge → IsInside (length job.nodes) edge
 inside_edge job is i edge g =
-    at_of_all (IsInside (length job.nodes)) edge job.edges is.ends (in_of_place edge job.edges i g)
+    at_of_all (IsInside (length job.nodes)) edge job.edges is.endpoints (in_of_place edge job.edges i g)
 
 -- ---- which nodes are entered
 

@@ -1,7 +1,7 @@
 -- The steps that keep the journal keep the law.
 use Rattle.std.proofs.Common.{◌≡◌, ℕ, ◌<◌, List, false, sym, ap, ◌∙◌, subst, Some, slice_get}
 use Rattle.std.specs.Prelude.{IfSome}
-use Rattle.control_box.specs.Ends.{OwnerIs}
+use Rattle.control_box.specs.Endpoints.{OwnerIs}
 use Rattle.flow_dag.specs.declared.graph.Graph.{Graph}
 use Rattle.keyed_state.specs.Counts.{Counts}
 use Rattle.lane_core.specs.Steady.{IsSteady}

@@ -3,7 +3,7 @@ use Rattle.std.proofs.Common.{◌≡◌, ◌∙◌, ◌⊎◌, inl, inr, ℕ, �
 use Rattle.std.specs.Prelude.{◌↔◌, IfSome, IsTrue}
 use Rattle.std.specs.List.{list_any}
 use Rattle.std.proofs.lemmas.Bool.Decides.{nat_tests}
-use Rattle.control_box.specs.Ends.{OwnerIs}
+use Rattle.control_box.specs.Endpoints.{OwnerIs}
 use Rattle.flow_dag.specs.Masks.{has}
 use Rattle.marker_align.specs.Decision.{decided, is_aligned, may_turn}
 use Rattle.marker_align.specs.Hands.{is_issued}

@@ -1,7 +1,7 @@
 -- What contracts see of a worker, and its law.
 use Rattle.std.specs.Prelude.{◌≡◌, ℕ, ◌<◌, ◌≤◌, IfSome, List, [], ◌++◌, Bool, true, false, length}
 use Rattle.std.specs.Prelude.{map, Option, Some, slice_get}
-use Rattle.control_box.specs.Ends.{OwnerIs}
+use Rattle.control_box.specs.Endpoints.{OwnerIs}
 use Rattle.flow_dag.specs.declared.edge.Edge.{Edge}
 use Rattle.flow_dag.specs.declared.graph.Graph.{Graph}
 use Rattle.jobs.specs.JobView.{JobView}

@@ -10,7 +10,7 @@ use Rattle.flow_dag.specs.Paths.{Reaches}
 use Rattle.jobs.specs.declared.fault.LawFault.{LawFault}
 use Rattle.jobs.specs.declared.fault.LawFault.TheVariants as fault
 use Rattle.jobs.specs.declared.fault.Named.TheVariants as named
-use Rattle.jobs.specs.Law.{HasColumnNames, HasColumns, HasEnds, HasNoCycle, HasNodeNames, HasPorts, HasShape, HasTables, IsRefused, has_columns_of, has_ports_of, has_table_of}
+use Rattle.jobs.specs.Law.{HasColumnNames, HasColumns, HasEndpoints, HasNoCycle, HasNodeNames, HasPorts, HasShape, HasTables, IsRefused, has_columns_of, has_ports_of, has_table_of}
 use Rattle.jobs.specs.Limits.{HasLimits, Oversize, first_oversize_of}
 use Rattle.jobs.specs.Names.{is_new_column, is_new_node}
 use Rattle.jobs.specs.Places.{EachPasses, IsFirstFailure}
@@ -99,7 +99,7 @@ module _ (job : JobView) where
       Checked (λ (size : Oversize). fault.Limit size.0 size.1) IsSize (HasLimits job)
       (Checked (fault.NameTwice named.Column) (IsFirstFailure (is_new_column job.columns) job.columns) (HasColumnNames job)
       (Checked (fault.NameTwice named.Node) (IsFirstFailure (is_new_node job.nodes) job.nodes) (HasNodeNames job)
-      (Checked fault.NoSuchEnd (IsFirstOutside (length job.nodes) job.edges) (HasEnds job)
+      (Checked fault.NoSuchEnd (IsFirstOutside (length job.nodes) job.edges) (HasEndpoints job)
       (Checked fault.Ports (IsFirstFailure (has_ports_of job) job.nodes) (HasPorts job) OfGraph))))
 
   -- a check of items one by one, with the checks after it

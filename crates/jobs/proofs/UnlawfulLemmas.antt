@@ -15,7 +15,7 @@ IsRefused-unlawful (fault.Limit which number) job plain law size = none-some (wh
 IsRefused-unlawful (fault.NameTwice named.Column i) job plain law (limits, ((x, at, fails), before)) = both_ways _ fails (law.column_names i x at)
 IsRefused-unlawful (fault.NameTwice named.Node i) job plain law (limits, columns, ((x, at, fails), before)) = both_ways _ fails (law.node_names i x at)
 IsRefused-unlawful (fault.NoSuchEnd i) job plain law (limits, columns, nodes, outside, before) =
-    IsOutside-inside (length job.nodes) job.edges i outside law.ends
+    IsOutside-inside (length job.nodes) job.edges i outside law.endpoints
 IsRefused-unlawful (fault.Ports v) job plain law (limits, columns, nodes, ends, ((x, at, fails), before)) = both_ways _ fails (law.ports v x at)
 IsRefused-unlawful (fault.Cycle v) job plain law (shape, path, least) = law.acyclic v path
 IsRefused-unlawful (fault.Column v) job plain law (shape, acyclic, ((x, at, fails), before)) = both_ways _ fails (law.columns v x at)

@@ -22,9 +22,9 @@ HasColumnNames job = EachPasses (is_new_column job.columns) job.columns
 abbrev pub HasNodeNames : JobView → Type 0
 HasNodeNames job = EachPasses (is_new_node job.nodes) job.nodes
 
--- both ends of each edge are nodes
-abbrev pub HasEnds : JobView → Type 0
-HasEnds job = All (IsInside (length job.nodes)) job.edges
+-- both endpoints of each edge are nodes
+abbrev pub HasEndpoints : JobView → Type 0
+HasEndpoints job = All (IsInside (length job.nodes)) job.edges
 
 -- the edges of the node are those of its kind
 abbrev pub has_ports_of : JobView → ℕ → NodeDef → Bool
@@ -56,14 +56,14 @@ HasTables job = EachPasses (has_table_of job) job.nodes
 
 -- sizes, names and edges are as they have to be
 abbrev pub HasShape : JobView → Type 0
-HasShape job = HasLimits job × HasColumnNames job × HasNodeNames job × HasEnds job × HasPorts job
+HasShape job = HasLimits job × HasColumnNames job × HasNodeNames job × HasEndpoints job × HasPorts job
 
 -- a lawful job
 pub record IsLawful (job : JobView) : Type 0 where
   pub limits : HasLimits job
   pub column_names : HasColumnNames job
   pub node_names : HasNodeNames job
-  pub ends : HasEnds job
+  pub endpoints : HasEndpoints job
   pub ports : HasPorts job
   pub acyclic : HasNoCycle job
   pub columns : HasColumns job
@@ -85,7 +85,7 @@ IsRefused (fault.NoSuchEnd i) job =
     × IsOutside (length job.nodes) job.edges i
     × All (IsInside (length job.nodes)) (take i job.edges)
 IsRefused (fault.Ports v) job =
-    HasLimits job × HasColumnNames job × HasNodeNames job × HasEnds job
+    HasLimits job × HasColumnNames job × HasNodeNames job × HasEndpoints job
     × IsFirstFailure (has_ports_of job) job.nodes v
 IsRefused (fault.Cycle v) job =
     HasShape job

@@ -16,12 +16,12 @@
 //! ```
 #![tactic(auto)]
 
-mod ends;
+mod endpoints;
 mod form;
 mod queue;
 #[cfg(test)]
 mod tests;
 
-pub use ends::{Rx, Tx};
+pub use endpoints::{Rx, Tx};
 pub use form::{Lanes, Left, Origin};
 pub use queue::{QueueLanes, QueueRx, QueueTx};

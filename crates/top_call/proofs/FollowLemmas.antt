@@ -30,7 +30,7 @@ use Rattle.call_steps.proofs.FileLemmas.{done_or_excused, follows_excused, follo
 
 pub follows_check : Excludes → HaveOneFault → (name : List ℕ) (old new : World) (answer : Answer) → AnswersCheck name old new answer → FollowsCheck name old new answer.fault
 follows_check excludes have name old new answer a =
-    elim a.ends [
+    elim a.outcome [
       | inl s ↦ subst (λ (x : Answer). FollowsCheck name old new x.fault) (sym s.answer_is) (record {
         job = follows_unread file.Job RefusesJob name old a.between new s.why (sole_job have) a.prints.shelf s.cause;
         done = λ job tells. inr (unread_excused file.Job (λ bytes. IsJobIn bytes job) RefusesJob name old a.between new s.why (no_job excludes job) tells a.prints.shelf s.cause);
@@ -44,7 +44,7 @@ follows_check excludes have name old new answer a =
 pub follows_first : (asked : FirstAsked) (old new : World) (answer : Answer) → AnswersFirst asked old new answer → FollowsFirst asked old new answer.fault
 follows_first asked old new answer a =
     let job = asked_job asked in
-    elim a.ends [
+    elim a.outcome [
       | inl s ↦ subst (λ (x : Answer). FollowsFirst asked old new x.fault) (sym s.answer_is) (record {
         payments = follows_unread file.Payments (RefusesRows job) asked.payments old a.between new s.why (sole_rows job) a.prints.shelf s.cause;
         done = λ rows tells. inr (unread_excused file.Payments (λ bytes. rows_of job bytes ≡ Ok rows) (RefusesRows job) asked.payments old a.between new s.why (no_rows job rows) tells a.prints.shelf s.cause);
@@ -53,7 +53,7 @@ follows_first asked old new answer a =
           let run = r.is_so in
           record {
             payments = follows_read file.Payments (λ bytes. rows_of job bytes ≡ Ok run.rows) (RefusesRows job) asked.payments old new answer.fault (no_rows job run.rows) run.of_rows;
-            done = λ rows tells. ran_or_excused (files_of asked.alerts None None r.done) (run_lines r.done) old a.between new answer.fault r.ends a.prints;
+            done = λ rows tells. ran_or_excused (files_of asked.alerts None None r.done) (run_lines r.done) old a.between new answer.fault r.outcome a.prints;
           }
     ]
 
@@ -93,7 +93,7 @@ follows_no_setup excludes have asked old between new why same none =
 
 pub follows_plan : Excludes → HaveOneFault → (asked : PlanAsked) (old new : World) (answer : Answer) → AnswersPlan asked old new answer → FollowsPlan asked old new answer.fault
 follows_plan excludes have asked old new answer a =
-    elim a.ends [
+    elim a.outcome [
       | inl s ↦ subst (λ (x : Answer). FollowsPlan asked old new x.fault) (sym s.answer_is) (follows_no_setup excludes have asked old a.between new s.why a.prints.shelf s.cause)
       | inr p ↦
           let of = p.of_files in
@@ -135,7 +135,7 @@ follows_no_run excludes have asked old between new why same none =
 
 pub follows_run : Excludes → HaveOneFault → (asked : RunAsked) (old new : World) (answer : Answer) → AnswersRun asked old new answer → FollowsRun asked old new answer.fault
 follows_run excludes have asked old new answer a =
-    elim a.ends [
+    elim a.outcome [
       | inl s ↦ subst (λ (x : Answer). FollowsRun asked old new x.fault) (sym s.answer_is) (follows_no_run excludes have asked old a.between new s.why a.prints.shelf s.cause)
       | inr r ↦
           let of = r.is_so in
@@ -146,7 +146,7 @@ follows_run excludes have asked old new answer a =
                 (subst (λ (j : JobView). AreRequestsOf old.shelf.files asked.plan.requests j of.requests) (same job tells) of.of_requests);
             payments = λ job requests tells more. follows_read file.Payments (λ bytes. rows_of job bytes ≡ Ok of.rows) (RefusesRows job) asked.payments old new answer.fault
                 (no_rows job of.rows) (subst (λ (j : JobView). AreRowsOf old.shelf.files asked.payments j of.rows) (same job tells) of.of_rows);
-            done = λ job requests rows tells more most. ran_or_excused (files_of asked.alerts (Some asked.audit) None r.done) (run_lines r.done) old a.between new answer.fault r.ends a.prints;
+            done = λ job requests rows tells more most. ran_or_excused (files_of asked.alerts (Some asked.audit) None r.done) (run_lines r.done) old a.between new answer.fault r.outcome a.prints;
           }
     ]
 
@@ -189,7 +189,7 @@ follows_not_made excludes have asked old between new why same none =
 
 pub follows_make : Excludes → HaveOneFault → (asked : MakeAsked) (old new : World) (answer : Answer) → AnswersMake asked old new answer → FollowsMake asked old new answer.fault
 follows_make excludes have asked old new answer a =
-    elim a.ends [
+    elim a.outcome [
       | inl s ↦ subst (λ (x : Answer). FollowsMake asked old new x.fault) (sym s.answer_is) (follows_not_made excludes have asked old a.between new s.why a.prints.shelf s.cause)
       | inr r ↦
           let of = r.is_so in

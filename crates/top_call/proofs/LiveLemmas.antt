@@ -6,7 +6,7 @@ use Rattle.tuple_trace.specs.Counts.{Rose}
 use Rattle.command_line.specs.Asked.{RunAsked}
 use Rattle.live_control.specs.Asking.{AsksIs}
 use Rattle.report.specs.declared.fault.Fault.{Fault}
-use Rattle.call_steps.specs.Ends.{EndsAfterRun}
+use Rattle.call_steps.specs.Outcomes.{EndsAfterRun}
 use Rattle.call_steps.specs.Live.{live_fault, live_lines}
 use Rattle.call_steps.specs.Outside.{FileText, IsExcused, PrintsFault}
 use Rattle.call_steps.specs.Running.{files_of}
@@ -26,19 +26,19 @@ also_live was now old new answer (inr excused) = inr (inr excused)
 
 written_live : (texts : List FileText) (lines : List ℕ) (was now : AsksIs) (old between new : World) (written answer : Option Fault) → answer ≡ written → EndsAfterRun texts lines old between written
     → PrintsFault answer between new → IsDoneLive was now old new answer
-written_live texts lines was now old between new written answer is ends prints =
-    also_live was now old new answer (ran_or_excused texts lines old between new answer (subst (EndsAfterRun texts lines old between) (sym is) ends) prints)
+written_live texts lines was now old between new written answer is outcome prints =
+    also_live was now old new answer (ran_or_excused texts lines old between new answer (subst (EndsAfterRun texts lines old between) (sym is) outcome) prints)
 
 ran_live : (texts : List FileText) (lines : List ℕ) (was now : AsksIs) (old between new : World) (failed : Bool) (written answer : Option Fault) → answer ≡ live_fault failed written
     → (failed ≡ true → Rose was.faults now.faults) → EndsAfterRun texts lines old between written → PrintsFault answer between new → IsDoneLive was now old new answer
-ran_live texts lines was now old between new true (Some why) answer is rose ends prints = written_live texts lines was now old between new (Some why) answer is ends prints
-ran_live texts lines was now old between new true None answer is rose ends prints = inr (inl (is, rose refl))
-ran_live texts lines was now old between new false (Some why) answer is rose ends prints = written_live texts lines was now old between new (Some why) answer is ends prints
-ran_live texts lines was now old between new false None answer is rose ends prints = written_live texts lines was now old between new None answer is ends prints
+ran_live texts lines was now old between new true (Some why) answer is rose outcome prints = written_live texts lines was now old between new (Some why) answer is outcome prints
+ran_live texts lines was now old between new true None answer is rose outcome prints = inr (inl (is, rose refl))
+ran_live texts lines was now old between new false (Some why) answer is rose outcome prints = written_live texts lines was now old between new (Some why) answer is outcome prints
+ran_live texts lines was now old between new false None answer is rose outcome prints = written_live texts lines was now old between new None answer is outcome prints
 
 pub follows_live : Excludes → HaveOneFault → (asked : RunAsked) (was now : AsksIs) (old new : World) (answer : Answer) → AnswersLive asked was now old new answer → FollowsLive asked was now old new answer.fault
 follows_live excludes have asked was now old new answer a =
-    elim a.ends [
+    elim a.outcome [
       | inl s ↦
           let run = follows_no_run excludes have asked old a.between new s.stops.why a.prints.shelf s.stops.cause in
           subst (λ (x : Answer). FollowsLive asked was now old new x.fault) (sym s.stops.answer_is) (record {
@@ -55,6 +55,6 @@ follows_live excludes have asked was now old new answer a =
             requests = all.requests;
             payments = all.payments;
             done = λ job requests rows tells more most.
-                ran_live (files_of asked.alerts (Some asked.audit) None r.live.done) (live_lines r.live) was now old a.between new r.live.heard.failed r.written answer.fault r.fault_is of.run.heard.failed r.ends a.prints;
+                ran_live (files_of asked.alerts (Some asked.audit) None r.live.done) (live_lines r.live) was now old a.between new r.live.heard.failed r.written answer.fault r.fault_is of.run.heard.failed r.outcome a.prints;
           }
     ]

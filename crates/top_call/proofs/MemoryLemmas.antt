@@ -7,7 +7,7 @@ use Rattle.command_line.specs.Help.{help_of, version_line}
 use Rattle.live_control.specs.Asking.{AsksIs}
 use Rattle.top_call.specs.Answers.{Answers, Follows}
 use Rattle.top_call.specs.Explain.{AnswersText}
-use Rattle.call_steps.specs.Ends.{Stops, stopped}
+use Rattle.call_steps.specs.Outcomes.{Stops, stopped}
 use Rattle.top_call.specs.First.{asked_job}
 use Rattle.call_steps.specs.declared.answer.Answer.{Answer}
 use Rattle.payments.specs.World.{World}
@@ -37,15 +37,15 @@ text_for_memory text old new answer is prints = record {
 
 -- any call may end so
 pub answers_memory : (asked : Asked) (asks : AsksIs) (old new : World) (answer : Answer) → answer ≡ stopped fault.NoMemory → PrintsFault answer.fault old new → Answers asked asks asks old new answer
-answers_memory (First asked) asks old new answer is prints = record { between = old; ends = inl (stops_for_memory _ old answer is refl); prints = prints }
-answers_memory (Check name) asks old new answer is prints = record { between = old; ends = inl (stops_for_memory _ old answer is refl); prints = prints }
-answers_memory (Plan asked) asks old new answer is prints = record { between = old; ends = inl (stops_for_memory _ old answer is (inl refl)); prints = prints }
-answers_memory (Run asked) asks old new answer is prints = record { between = old; ends = inl (stops_for_memory _ old answer is (inl (inl refl))); prints = prints }
-answers_memory (Make asked) asks old new answer is prints = record { between = old; ends = inl (stops_for_memory _ old answer is (inl refl)); prints = prints }
-answers_memory (Save asked) asks old new answer is prints = record { between = old; ends = inl (stops_for_memory _ old answer is (inl (inl refl))); prints = prints }
-answers_memory (Resume asked) asks old new answer is prints = record { between = old; ends = inl (stops_for_memory _ old answer is (inl (inl (inl refl)))); prints = prints }
-answers_memory (Live asked) asks old new answer is prints = record { between = old; ends = inl (record { stops = stops_for_memory _ old answer is (inl (inl refl)); asks = inl refl }); prints = prints }
-answers_memory (Verify asked) asks old new answer is prints = record { between = old; ends = inl (stops_for_memory _ old answer is (inl (inl (inl refl)))); prints = prints }
+answers_memory (First asked) asks old new answer is prints = record { between = old; outcome = inl (stops_for_memory _ old answer is refl); prints = prints }
+answers_memory (Check name) asks old new answer is prints = record { between = old; outcome = inl (stops_for_memory _ old answer is refl); prints = prints }
+answers_memory (Plan asked) asks old new answer is prints = record { between = old; outcome = inl (stops_for_memory _ old answer is (inl refl)); prints = prints }
+answers_memory (Run asked) asks old new answer is prints = record { between = old; outcome = inl (stops_for_memory _ old answer is (inl (inl refl))); prints = prints }
+answers_memory (Make asked) asks old new answer is prints = record { between = old; outcome = inl (stops_for_memory _ old answer is (inl refl)); prints = prints }
+answers_memory (Save asked) asks old new answer is prints = record { between = old; outcome = inl (stops_for_memory _ old answer is (inl (inl refl))); prints = prints }
+answers_memory (Resume asked) asks old new answer is prints = record { between = old; outcome = inl (stops_for_memory _ old answer is (inl (inl (inl refl)))); prints = prints }
+answers_memory (Live asked) asks old new answer is prints = record { between = old; outcome = inl (record { stops = stops_for_memory _ old answer is (inl (inl refl)); asks = inl refl }); prints = prints }
+answers_memory (Verify asked) asks old new answer is prints = record { between = old; outcome = inl (stops_for_memory _ old answer is (inl (inl (inl refl)))); prints = prints }
 answers_memory (Help about) asks old new answer is prints = text_for_memory (help_of about) old new answer is prints
 answers_memory Version asks old new answer is prints = text_for_memory version_line old new answer is prints
 

@@ -46,7 +46,7 @@ reads_all excludes asked old new answer read requested rows of_job of_requests o
 
 pub follows_save : Excludes → HaveOneFault → (asked : SaveAsked) (old new : World) (answer : Answer) → AnswersSave asked old new answer → FollowsSave asked old new answer.fault
 follows_save excludes have asked old new answer a =
-    elim a.ends [
+    elim a.outcome [
       | inl s ↦ subst (λ (x : Answer). FollowsSave asked old new x.fault) (sym s.answer_is) (follows_no_run excludes have asked.run old a.between new s.why a.prints.shelf s.cause)
       | inr r ↦
           let of = r.is_so in
@@ -56,7 +56,7 @@ follows_save excludes have asked old new answer a =
             requests = all.requests;
             payments = all.payments;
             done = λ job requests rows tells more most.
-                ran_or_excused (files_of asked.run.alerts (Some asked.run.audit) (Some asked.save) r.done) (run_lines r.done) old a.between new answer.fault r.ends a.prints;
+                ran_or_excused (files_of asked.run.alerts (Some asked.run.audit) (Some asked.save) r.done) (run_lines r.done) old a.between new answer.fault r.outcome a.prints;
           }
     ]
 
@@ -116,7 +116,7 @@ follows_no_start excludes asked old between new why same n =
 
 pub follows_resume : Excludes → HaveOneFault → (asked : ResumeAsked) (old new : World) (answer : Answer) → AnswersResume asked old new answer → FollowsResume asked old new answer.fault
 follows_resume excludes have asked old new answer a =
-    elim a.ends [
+    elim a.outcome [
       | inl s ↦ subst (λ (x : Answer). FollowsResume asked old new x.fault) (sym s.answer_is) (elim s.cause [
         | inl none ↦ follows_no_files excludes have asked old a.between new s.why a.prints.shelf none
         | inr none ↦ follows_no_start excludes asked old a.between new s.why a.prints.shelf none
@@ -135,6 +135,6 @@ follows_resume excludes have asked old new answer a =
                 (follows_read file.Save (λ bytes. save_of made (length rows) bytes ≡ Ok start) (RefusesSave made (length rows)) asked.save old new answer.fault (no_start made (length rows) start)
                 (subst (λ (x : List Row). IsStartOf old.shelf.files asked.save made (length x) start) so.0 of.of_save));
             done = λ job requests rows setup other tells more.
-                ran_or_excused (files_of asked.run.alerts (Some asked.run.audit) None r.done) (run_lines r.done) old a.between new answer.fault r.ends a.prints;
+                ran_or_excused (files_of asked.run.alerts (Some asked.run.audit) None r.done) (run_lines r.done) old a.between new answer.fault r.outcome a.prints;
           }
     ]

@@ -15,7 +15,7 @@ use Rattle.report.specs.declared.fault.FileIs.TheVariants as file
 use Rattle.tuple_trace.specs.Counts.{Rose}
 use Rattle.versions.specs.declared.in_order.Refused.{Refused}
 use Rattle.top_call.specs.Answers.{Answers}
-use Rattle.call_steps.specs.Ends.{EndsAfterRun, EndsStoring, Stops, StopsStoring, stopped}
+use Rattle.call_steps.specs.Outcomes.{EndsAfterRun, EndsStoring, Stops, StopsStoring, stopped}
 use Rattle.top_call.specs.Explain.{AnswersText}
 use Rattle.top_call.specs.First.{asked_job}
 use Rattle.top_call.specs.Make.{IsNotMade, MakesNoRows}
@@ -191,17 +191,17 @@ stops_own text old new answer sure later stops =
 
 storing_own : (texts : List FileText) (lines : List ℕ) (old new : World) (answer : Option Fault) → IsSure old → IsSure new →
     EndsStoring texts lines old new answer → IsOwn answer
-storing_own [] lines old new answer sure later ends = prints_own lines old.out new.out answer sure.out later.out ends.prints
-storing_own (text ∷ rest) lines old new answer sure later ends =
-    elim ends [
+storing_own [] lines old new answer sure later outcome = prints_own lines old.out new.out answer sure.out later.out outcome.prints
+storing_own (text ∷ rest) lines old new answer sure later outcome =
+    elim outcome [
       | inl stops ↦ stops_own text old new answer sure later stops
       | inr (stored, stores, more) ↦ storing_own rest lines stored new answer (same_sure old stored stores.faults stores.out sure) later more
     ]
 
 run_own : (texts : List FileText) (lines : List ℕ) (old new : World) (answer : Option Fault) → IsSure old → IsSure new →
     EndsAfterRun texts lines old new answer → IsOwn answer
-run_own texts lines old new answer sure later ends =
-    elim ends [
+run_own texts lines old new answer sure later outcome =
+    elim outcome [
       | inl stops ↦ no_memory_own answer stops.answer_is
       | inr stores ↦ storing_own texts lines old new answer sure later stores
     ]
@@ -234,57 +234,57 @@ live_own false None answer is own sure = subst IsOwn (sym is) tt
 answers_own : (asked : Asked) (was now : AsksIs) (old new : World) (answer : Answer) → Answers asked was now old new answer → IsSure old → IsSure new → was.faults ≡ 0 → now.faults ≡ 0 → IsOwn answer.fault
 answers_own (First asked) was now old new answer a sure later first last =
     let before = sure_before answer.fault a.between new a.prints later in
-    elim a.ends [
+    elim a.outcome [
       | inl s ↦ stopped_own _ old a.between answer s (unread_own file.Payments (RefusesRows (asked_job asked)) old.shelf.files asked.payments old a.between s.why (of_rows (asked_job asked)) sure before s.cause)
-      | inr r ↦ run_own (files_of asked.alerts None None r.done) (run_lines r.done) old a.between answer.fault sure before r.ends
+      | inr r ↦ run_own (files_of asked.alerts None None r.done) (run_lines r.done) old a.between answer.fault sure before r.outcome
     ]
 answers_own (Check name) was now old new answer a sure later first last =
     let before = sure_before answer.fault a.between new a.prints later in
-    elim a.ends [
+    elim a.outcome [
       | inl s ↦ stopped_own _ old a.between answer s (unread_own file.Job RefusesJob old.shelf.files name old a.between s.why of_job sure before s.cause)
       | inr p ↦ prints_own (sizes_line p.job) old.out a.between.out answer.fault sure.out before.out p.lines.prints
     ]
 answers_own (Plan asked) was now old new answer a sure later first last =
     let before = sure_before answer.fault a.between new a.prints later in
-    elim a.ends [
+    elim a.outcome [
       | inl s ↦ stopped_own _ old a.between answer s (no_setup_own asked old.shelf.files old a.between s.why sure before s.cause)
       | inr p ↦ prints_own (setup_lines p.setup) old.out a.between.out answer.fault sure.out before.out p.lines.prints
     ]
 answers_own (Run asked) was now old new answer a sure later first last =
     let before = sure_before answer.fault a.between new a.prints later in
-    elim a.ends [
+    elim a.outcome [
       | inl s ↦ stopped_own _ old a.between answer s (no_run_own asked old.shelf.files old a.between s.why sure before s.cause)
-      | inr r ↦ run_own (files_of asked.alerts (Some asked.audit) None r.done) (run_lines r.done) old a.between answer.fault sure before r.ends
+      | inr r ↦ run_own (files_of asked.alerts (Some asked.audit) None r.done) (run_lines r.done) old a.between answer.fault sure before r.outcome
     ]
 answers_own (Make asked) was now old new answer a sure later first last =
     let before = sure_before answer.fault a.between new a.prints later in
-    elim a.ends [
+    elim a.outcome [
       | inl s ↦ stopped_own _ old a.between answer s (not_made_own asked old.shelf.files old a.between s.why sure before s.cause)
       | inr r ↦ prints_own (run_lines r.done) old.out a.between.out answer.fault sure.out before.out r.lines.prints
     ]
 answers_own (Save asked) was now old new answer a sure later first last =
     let before = sure_before answer.fault a.between new a.prints later in
-    elim a.ends [
+    elim a.outcome [
       | inl s ↦ stopped_own _ old a.between answer s (no_run_own asked.run old.shelf.files old a.between s.why sure before s.cause)
-      | inr r ↦ run_own (files_of asked.run.alerts (Some asked.run.audit) (Some asked.save) r.done) (run_lines r.done) old a.between answer.fault sure before r.ends
+      | inr r ↦ run_own (files_of asked.run.alerts (Some asked.run.audit) (Some asked.save) r.done) (run_lines r.done) old a.between answer.fault sure before r.outcome
     ]
 answers_own (Resume asked) was now old new answer a sure later first last =
     let before = sure_before answer.fault a.between new a.prints later in
-    elim a.ends [
+    elim a.outcome [
       | inl s ↦ stopped_own _ old a.between answer s (no_resume_own asked old.shelf.files old a.between s.why sure before s.cause)
-      | inr (start, r) ↦ run_own (files_of asked.run.alerts (Some asked.run.audit) None r.done) (run_lines r.done) old a.between answer.fault sure before r.ends
+      | inr (start, r) ↦ run_own (files_of asked.run.alerts (Some asked.run.audit) None r.done) (run_lines r.done) old a.between answer.fault sure before r.outcome
     ]
 answers_own (Live asked) was now old new answer a sure later first last =
     let before = sure_before answer.fault a.between new a.prints later in
-    elim a.ends [
+    elim a.outcome [
       | inl s ↦ stopped_own _ old a.between answer s.stops (no_run_own asked old.shelf.files old a.between s.stops.why sure before s.stops.cause)
       | inr r ↦ live_own r.live.heard.failed r.written answer.fault r.fault_is
-          (run_own (files_of asked.alerts (Some asked.audit) None r.live.done) (live_lines r.live) old a.between r.written sure before r.ends)
+          (run_own (files_of asked.alerts (Some asked.audit) None r.live.done) (live_lines r.live) old a.between r.written sure before r.outcome)
           (λ e. not_risen was.faults now.faults first last (r.is_so.run.heard.failed e))
     ]
 answers_own (Verify asked) was now old new answer a sure later first last =
     let before = sure_before answer.fault a.between new a.prints later in
-    elim a.ends [
+    elim a.outcome [
       | inl s ↦ stopped_own _ old a.between answer s (not_verified_own asked old.shelf.files old a.between s.why sure before s.cause)
       | inr p ↦ prints_own (verified_lines p.done) old.out a.between.out answer.fault sure.out before.out p.lines.prints
     ]

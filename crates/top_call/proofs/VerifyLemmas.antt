@@ -87,7 +87,7 @@ follows_no_audit excludes asked old between new why same n =
 
 pub follows_verify : Excludes → HaveOneFault → (asked : VerifyAsked) (old new : World) (answer : Answer) → AnswersVerify asked old new answer → FollowsVerify asked old new answer.fault
 follows_verify excludes have asked old new answer a =
-    elim a.ends [
+    elim a.outcome [
       | inl s ↦ subst (λ (x : Answer). FollowsVerify asked old new x.fault) (sym s.answer_is) (elim s.cause [
         | inl none ↦ follows_no_rows excludes have asked old a.between new s.why a.prints.shelf none
         | inr none ↦ follows_no_audit excludes asked old a.between new s.why a.prints.shelf none

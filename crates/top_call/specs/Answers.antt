@@ -4,7 +4,7 @@ use Rattle.command_line.specs.Asked.{Asked, Check, First, Help, Live, Make, Plan
 use Rattle.command_line.specs.Asked.{Verify, Version}
 use Rattle.command_line.specs.Help.{help_of, version_line}
 use Rattle.top_call.specs.Check.{AnswersCheck, FollowsCheck}
-use Rattle.call_steps.specs.Ends.{stopped}
+use Rattle.call_steps.specs.Outcomes.{stopped}
 use Rattle.live_control.specs.Asking.{AsksIs}
 use Rattle.top_call.specs.Explain.{AnswersText, FollowsText}
 use Rattle.top_call.specs.First.{AnswersFirst, FollowsFirst}

@@ -1,7 +1,7 @@
 -- What a call of `check` answers, why, and what it leaves.
 use Rattle.std.specs.Prelude.{◌≡◌, ◌⊎◌, ℕ, List, [], Option, None}
 use Rattle.jobs.specs.JobView.{JobView}
-use Rattle.call_steps.specs.Ends.{PrintsLines, Stops}
+use Rattle.call_steps.specs.Outcomes.{PrintsLines, Stops}
 use Rattle.report.specs.Lines.{sizes_line}
 use Rattle.payments.specs.World.{World}
 use Rattle.call_steps.specs.Outside.{IsExcused, PrintsFault}
@@ -26,7 +26,7 @@ EndsCheck name old new answer = Stops (IsNoJob old.shelf.files name) old new ans
 -- what a call of `check` answers, leaves and prints
 pub record AnswersCheck (name : List ℕ) (old new : World) (answer : Answer) : Type 0 where
   pub between : World
-  pub ends : EndsCheck name old between answer
+  pub outcome : EndsCheck name old between answer
   pub prints : PrintsFault answer.fault between new
 
 -- the answer, seen from the job file

@@ -1,7 +1,7 @@
 -- What a call answers that only prints a text, as help or the version.
 use Rattle.std.specs.Prelude.{◌≡◌, ◌⊎◌, ℕ, List, [], Option, None}
 use Rattle.report.specs.declared.fault.Fault.{Fault}
-use Rattle.call_steps.specs.Ends.{PrintsLines}
+use Rattle.call_steps.specs.Outcomes.{PrintsLines}
 use Rattle.payments.specs.World.{World}
 use Rattle.call_steps.specs.Outside.{IsExcused, PrintsFault}
 use Rattle.call_steps.specs.declared.answer.Answer.{Answer}

@@ -9,7 +9,7 @@ use Rattle.flow_model.specs.Record.{record_view}
 use Rattle.flow_model.specs.Whole.{after_turn, before_turn, meets_row}
 use Rattle.flow_replay.specs.Order.{IsInOrder}
 use Rattle.command_line.specs.Asked.{FirstAsked}
-use Rattle.call_steps.specs.Ends.{Stops}
+use Rattle.call_steps.specs.Outcomes.{Stops}
 use Rattle.call_steps.specs.FirstJob.{first_job, first_request}
 use Rattle.call_steps.specs.SetupFor.{AreSame}
 use Rattle.payments.specs.World.{World}
@@ -66,7 +66,7 @@ EndsFirst asked old new answer =
 -- what a call of `first` answers, leaves and prints
 pub record AnswersFirst (asked : FirstAsked) (old new : World) (answer : Answer) : Type 0 where
   pub between : World
-  pub ends : EndsFirst asked old between answer
+  pub outcome : EndsFirst asked old between answer
   pub prints : PrintsFault answer.fault between new
 
 -- the answer, seen from the payments file

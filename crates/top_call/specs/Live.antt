@@ -11,7 +11,7 @@ use Rattle.live_control.specs.Asking.{AsksIs}
 use Rattle.report.specs.declared.fault.Fault.{Fault}
 use Rattle.report.specs.declared.fault.Fault.TheVariants as fault
 use Rattle.report.specs.declared.fault.FileIs.TheVariants as file
-use Rattle.call_steps.specs.Ends.{EndsAfterRun, Stops}
+use Rattle.call_steps.specs.Outcomes.{EndsAfterRun, Stops}
 use Rattle.call_steps.specs.Live.{IsLiveRun, live_fault, live_lines}
 use Rattle.call_steps.specs.Outside.{IsExcused, PrintsFault}
 use Rattle.call_steps.specs.Reading.{AreRequestsOf, AreRowsOf, FollowsJob, FollowsRequests}
@@ -45,7 +45,7 @@ pub record RunsLive (asked : RunAsked) (was now : AsksIs) (old new : World) (ans
   pub live : LiveDone
   pub is_so : IsLiveRunOfFiles asked old.shelf.files was now live
   pub written : Option Fault
-  pub ends :
+  pub outcome :
       EndsAfterRun (files_of asked.alerts (Some asked.audit) None live.done) (live_lines live) old
       new written
   pub fault_is : answer.fault ≡ live_fault live.heard.failed written
@@ -62,7 +62,7 @@ EndsLive asked was now old new answer =
 pub record AnswersLive (asked : RunAsked) (was now : AsksIs) (old new : World) (answer : Answer)
     : Type 0 where
   pub between : World
-  pub ends : EndsLive asked was now old between answer
+  pub outcome : EndsLive asked was now old between answer
   pub prints : PrintsFault answer.fault between new
 
 -- the answer is that of an input that failed, and the input counted a failure

@@ -10,7 +10,7 @@ use Rattle.payments.specs.declared.read.PFault.TheVariants as rows
 use Rattle.tuple_trace.specs.declared.row.Row.{Row}
 use Rattle.report.specs.declared.fault.Fault.{Fault}
 use Rattle.report.specs.declared.fault.Fault.TheVariants as fault
-use Rattle.call_steps.specs.Ends.{PrintsLines, Stops}
+use Rattle.call_steps.specs.Outcomes.{PrintsLines, Stops}
 use Rattle.payments.specs.World.{World}
 use Rattle.call_steps.specs.Outside.{IsExcused, PrintsFault}
 use Rattle.call_steps.specs.SetupFor.{AreSame}
@@ -60,7 +60,7 @@ EndsMake asked old new answer = Stops (IsNotMade asked old.shelf.files) old new 
 -- what a call of `make` answers, leaves and prints
 pub record AnswersMake (asked : MakeAsked) (old new : World) (answer : Answer) : Type 0 where
   pub between : World
-  pub ends : EndsMake asked old between answer
+  pub outcome : EndsMake asked old between answer
   pub prints : PrintsFault answer.fault between new
 
 -- the answer, seen from the job file: the rows are looked at if it holds a job

@@ -8,7 +8,7 @@ use Rattle.versions.specs.declared.request.Request.{Request}
 use Rattle.flow_model.specs.declared.setup.Setup.{Setup}
 use Rattle.command_line.specs.Asked.{PlanAsked}
 use Rattle.call_steps.specs.SetupFor.{AreSame, IsSetupFor}
-use Rattle.call_steps.specs.Ends.{PrintsLines, Stops}
+use Rattle.call_steps.specs.Outcomes.{PrintsLines, Stops}
 use Rattle.report.specs.Lines.{plan_lines, refused_lines}
 use Rattle.payments.specs.World.{World}
 use Rattle.call_steps.specs.Outside.{IsExcused, PrintsFault}
@@ -58,7 +58,7 @@ EndsPlan asked old new answer = Stops (IsNoSetup asked old.shelf.files) old new 
 -- what a call of `plan` answers, leaves and prints
 pub record AnswersPlan (asked : PlanAsked) (old new : World) (answer : Answer) : Type 0 where
   pub between : World
-  pub ends : EndsPlan asked old between answer
+  pub outcome : EndsPlan asked old between answer
   pub prints : PrintsFault answer.fault between new
 
 -- the answer, seen from the files: each is looked at where those before it hold what they should

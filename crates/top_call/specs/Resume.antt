@@ -11,7 +11,7 @@ use Rattle.flow_model.specs.Setup.{setup_view}
 use Rattle.flow_model.specs.declared.setup.Setup.{Setup}
 use Rattle.command_line.specs.Asked.{ResumeAsked}
 use Rattle.report.specs.declared.fault.Fault.{Fault}
-use Rattle.call_steps.specs.Ends.{Stops}
+use Rattle.call_steps.specs.Outcomes.{Stops}
 use Rattle.call_steps.specs.Outside.{IsExcused, PrintsFault}
 use Rattle.call_steps.specs.Parts.{IsRunFromStart}
 use Rattle.call_steps.specs.Reading.{AreRequestsOf, AreRowsOf, FollowsJob, FollowsRequests}
@@ -66,7 +66,7 @@ EndsResume asked old new answer =
 -- what a call of `resume` answers, leaves and prints
 pub record AnswersResume (asked : ResumeAsked) (old new : World) (answer : Answer) : Type 0 where
   pub between : World
-  pub ends : EndsResume asked old between answer
+  pub outcome : EndsResume asked old between answer
   pub prints : PrintsFault answer.fault between new
 
 -- the files tell a job, requests of it, and rows of it, of which this is the setup

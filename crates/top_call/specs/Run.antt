@@ -6,7 +6,7 @@ use Rattle.payments.specs.Files.{Files}
 use Rattle.tuple_trace.specs.declared.row.Row.{Row}
 use Rattle.versions.specs.declared.request.Request.{Request}
 use Rattle.command_line.specs.Asked.{PlanAsked, RunAsked}
-use Rattle.call_steps.specs.Ends.{Stops}
+use Rattle.call_steps.specs.Outcomes.{Stops}
 use Rattle.payments.specs.World.{World}
 use Rattle.call_steps.specs.Outside.{IsExcused, PrintsFault}
 use Rattle.call_steps.specs.SetupFor.{AreSame}
@@ -52,7 +52,7 @@ EndsRun asked old new answer = Stops (IsNoRun asked old.shelf.files) old new ans
 -- what a call of `run` answers, leaves and prints
 pub record AnswersRun (asked : RunAsked) (old new : World) (answer : Answer) : Type 0 where
   pub between : World
-  pub ends : EndsRun asked old between answer
+  pub outcome : EndsRun asked old between answer
   pub prints : PrintsFault answer.fault between new
 
 -- the answer, seen from the files: each is looked at where those before it hold what they should

@@ -7,7 +7,7 @@ use Rattle.tuple_trace.specs.declared.row.Row.{Row}
 use Rattle.versions.specs.declared.request.Request.{Request}
 use Rattle.command_line.specs.Asked.{SaveAsked}
 use Rattle.report.specs.declared.fault.Fault.{Fault}
-use Rattle.call_steps.specs.Ends.{Stops}
+use Rattle.call_steps.specs.Outcomes.{Stops}
 use Rattle.call_steps.specs.Outside.{PrintsFault}
 use Rattle.call_steps.specs.Parts.{IsFirstPart}
 use Rattle.call_steps.specs.Reading.{AreRequestsOf, AreRowsOf, IsJobOf}
@@ -37,7 +37,7 @@ EndsSave asked old new answer =
 -- what a call of `save` answers, leaves and prints
 pub record AnswersSave (asked : SaveAsked) (old new : World) (answer : Answer) : Type 0 where
   pub between : World
-  pub ends : EndsSave asked old between answer
+  pub outcome : EndsSave asked old between answer
   pub prints : PrintsFault answer.fault between new
 
 -- the answer, seen from the files, of which it reads the same as `run`

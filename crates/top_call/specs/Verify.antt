@@ -13,7 +13,7 @@ use Rattle.command_line.specs.Asked.{VerifyAsked}
 use Rattle.report.specs.declared.fault.Fault.{Fault}
 use Rattle.call_steps.specs.Audits.{FollowsAudit, HaveOneVerdict, IsAuditOf, IsNoAudit, TellsAudit}
 use Rattle.call_steps.specs.Audits.{verified_lines}
-use Rattle.call_steps.specs.Ends.{PrintsLines, Stops}
+use Rattle.call_steps.specs.Outcomes.{PrintsLines, Stops}
 use Rattle.call_steps.specs.Outside.{IsExcused, PrintsFault}
 use Rattle.call_steps.specs.Reading.{AreRequestsOf, AreRowsOf, FollowsJob, FollowsRequests}
 use Rattle.call_steps.specs.Reading.{FollowsRows, IsJobOf, TellsJob, TellsRequests, TellsRows}
@@ -74,7 +74,7 @@ EndsVerify asked old new answer =
 -- what a call of `verify` answers, leaves and prints
 pub record AnswersVerify (asked : VerifyAsked) (old new : World) (answer : Answer) : Type 0 where
   pub between : World
-  pub ends : EndsVerify asked old between answer
+  pub outcome : EndsVerify asked old between answer
   pub prints : PrintsFault answer.fault between new
 
 -- the audit's file is answered by what it holds, seen by the setup of the job and its requests

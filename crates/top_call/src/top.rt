@@ -7,7 +7,7 @@ ghost use Rattle.command_line.specs.Asked.{first_asked, make_asked, plan_asked, 
 ghost use Rattle.command_line.specs.Asked.{run_asked, save_asked};
 ghost use Rattle.command_line.specs.Words.{asked_of};
 ghost use Rattle.top_call.specs.Check.{AnswersCheck, FollowsCheck};
-ghost use Rattle.call_steps.specs.Ends.{stopped};
+ghost use Rattle.call_steps.specs.Outcomes.{stopped};
 ghost use Rattle.report.specs.FaultWords.{fault_line as fault_line_of};
 ghost use Rattle.report.specs.Faults.{status_for};
 ghost use Rattle.top_call.specs.Explain.{AnswersText, FollowsText};

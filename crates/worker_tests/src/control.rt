@@ -1,5 +1,5 @@
 ghost use Rattle.std.specs.Prelude.{◌≡◌};
-ghost use Rattle.control_box.specs.Ends.{PosterIs};
+ghost use Rattle.control_box.specs.Endpoints.{PosterIs};
 ghost use Rattle.flow_worker.specs.Pairs.{Each};
 
 use control_box::Poster;

@@ -29,7 +29,7 @@ returns-in_err-store_text g c =
     })))
 
 pub loop-text-preserved : goal.loop-text-preserved
-loop-text-preserved g c new answer ends =
+loop-text-preserved g c new answer outcome =
     let i = c.loop-text.text-index in
     let files : List FileText = c.args.texts.now.files.items in
     let text = c.text-item.result in
@@ -44,5 +44,5 @@ loop-text-preserved g c new answer ends =
     (rw here (inr (
       stored,
       record { files = whole.whole; faults = whole.counts; target = whole.target; out = refl },
-      ends,
+      outcome,
     )))

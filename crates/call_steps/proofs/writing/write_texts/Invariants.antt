@@ -1,6 +1,6 @@
 use Rattle.std.proofs.Common.{Option, drop}
 use Rattle.report.specs.declared.fault.Fault.{Fault}
-use Rattle.call_steps.specs.Ends.{EndsStoring}
+use Rattle.call_steps.specs.Outcomes.{EndsStoring}
 use Rattle.payments.specs.World.{World, world}
 use Rattle.call_steps.proofs.writing.write_texts.Given as goal
 

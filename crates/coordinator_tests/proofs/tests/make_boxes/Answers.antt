@@ -1,5 +1,5 @@
 use Rattle.std.proofs.Common.{◌≡◌, ◌∙◌, ◌+◌, ◌++◌, ◌∷◌, [], List, ap, arith, length, length-append}
-use Rattle.control_box.specs.Ends.{PosterIs}
+use Rattle.control_box.specs.Endpoints.{PosterIs}
 use Rattle.flow_ends.proofs.Crewing.{placed_more}
 use Rattle.coordinator_tests.proofs.tests.make_boxes.Goals as goal
 

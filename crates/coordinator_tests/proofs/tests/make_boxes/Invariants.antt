@@ -1,5 +1,5 @@
 use Rattle.std.proofs.Common.{◌≡◌, ℕ, [], Some, slice_get, length}
-use Rattle.control_box.specs.Ends.{PosterIs}
+use Rattle.control_box.specs.Endpoints.{PosterIs}
 use Rattle.coordinator_tests.proofs.tests.make_boxes.Given as goal
 
 -- as many boxes as workers so far, none of them used

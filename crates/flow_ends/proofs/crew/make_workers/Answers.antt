@@ -1,6 +1,6 @@
 use Rattle.std.proofs.Common.{◌≡◌, ◌∙◌, ◌++◌, ◌∷◌, [], ℕ, List, ap, arith, length, length-append, subst, sym}
 use Rattle.std.specs.Vec.Iter.{into_iter_items}
-use Rattle.control_box.specs.Ends.{PosterIs}
+use Rattle.control_box.specs.Endpoints.{PosterIs}
 use Rattle.flow_model.specs.Setup.{setup_view}
 use Rattle.flow_model.proofs.SizeLemmas.{workers-few}
 use Rattle.flow_worker.specs.Parts.{AreNewEndpoints, EndpointIs, endpoints}

@@ -1,6 +1,6 @@
 use Rattle.std.proofs.Common.{◌≡◌, ◌++◌, ℕ, [], map, length, Some, slice_get}
 use Rattle.std.specs.Vec.Iter.{into_iter_items, into_iter_len}
-use Rattle.control_box.specs.Ends.{PosterIs}
+use Rattle.control_box.specs.Endpoints.{PosterIs}
 use Rattle.flow_model.specs.Setup.{setup_view}
 use Rattle.flow_worker.specs.Worker.{IsWorker, WorkerIs}
 use Rattle.flow_ends.specs.Sides.{worker_side}

@@ -7,7 +7,7 @@ use Rattle.top_call.proofs.live.answer_live.Goals as goal
 pub returns-clause-answers : goal.returns-clause-answers
 returns-clause-answers g c = record {
   between = world (g.S.Shelf.state c.live_command-answer.new.shelf) (g.O.Sink.state c.live_command-answer.new.out);
-  ends = c.live_command-answer.ensures;
+  outcome = c.live_command-answer.ensures;
   prints = record { shelf = refl; line = c.report.ensures };
 }
 

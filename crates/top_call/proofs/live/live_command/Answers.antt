@@ -7,9 +7,9 @@ pub returns-in-Ok : goal.returns-in-Ok
 returns-in-Ok g c = inr (record {
   live = c.in-Ok.live;
   is_so = c.in-Ok.ensures.run;
-  written = c.leave_live.ensures.ends.0;
-  ends = rw (← c.in-Ok.ensures.kept) c.leave_live.ensures.ends.1;
-  fault_is = c.leave_live.ensures.ends.2;
+  written = c.leave_live.ensures.outcome.0;
+  outcome = rw (← c.in-Ok.ensures.kept) c.leave_live.ensures.outcome.1;
+  fault_is = c.leave_live.ensures.outcome.2;
   refused = c.leave_live.ensures.refused;
   ran = c.leave_live.ensures.ran;
   start = c.leave_live.ensures.start;

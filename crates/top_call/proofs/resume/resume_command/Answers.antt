@@ -9,7 +9,7 @@ returns-in-Ok g c =
       record {
         done = c.in-Ok.field-0.done;
         is_so = c.in-Ok.ensures.run;
-        ends = rw (← c.in-Ok.ensures.kept) ran.ends;
+        outcome = rw (← c.in-Ok.ensures.kept) ran.outcome;
         refused = ran.refused;
         ran = ran.ran;
         start = refl;

@@ -5,7 +5,7 @@ pub returns-in-Ok : goal.returns-in-Ok
 returns-in-Ok g c = inr (record {
   done = c.in-Ok.done;
   is_so = c.in-Ok.ensures.run;
-  ends = rw (← c.in-Ok.ensures.kept) c.leave_run.ensures.ends;
+  outcome = rw (← c.in-Ok.ensures.kept) c.leave_run.ensures.outcome;
   refused = c.leave_run.ensures.refused;
   ran = c.leave_run.ensures.ran;
   start = c.leave_run.ensures.start;

@@ -6,7 +6,7 @@ use Rattle.top_call.proofs.top.answer_check.Goals as goal
 pub returns-clause-answers : goal.returns-clause-answers
 returns-clause-answers g c = record {
   between = world (g.S.Shelf.state c.check_command-answer.new.shelf) (g.O.Sink.state c.check_command-answer.new.out);
-  ends = c.check_command-answer.ensures;
+  outcome = c.check_command-answer.ensures;
   prints = record { shelf = refl; line = c.report.ensures };
 }
 

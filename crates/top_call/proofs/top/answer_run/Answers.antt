@@ -7,7 +7,7 @@ use Rattle.top_call.proofs.top.answer_run.Goals as goal
 pub returns-clause-answers : goal.returns-clause-answers
 returns-clause-answers g c = record {
   between = world (g.S.Shelf.state c.run_command-answer.new.shelf) (g.O.Sink.state c.run_command-answer.new.out);
-  ends = c.run_command-answer.ensures;
+  outcome = c.run_command-answer.ensures;
   prints = record { shelf = refl; line = c.report.ensures };
 }
 

@@ -7,7 +7,7 @@ use Rattle.top_call.proofs.verify.answer_verify.Goals as goal
 pub returns-clause-answers : goal.returns-clause-answers
 returns-clause-answers g c = record {
   between = world (g.S.Shelf.state c.verify_command-answer.new.shelf) (g.O.Sink.state c.verify_command-answer.new.out);
-  ends = c.verify_command-answer.ensures;
+  outcome = c.verify_command-answer.ensures;
   prints = record { shelf = refl; line = c.report.ensures };
 }
 

@@ -1,5 +1,5 @@
 use Rattle.std.proofs.Common.{◌≡◌}
-use Rattle.control_box.specs.Ends.{PosterIs}
+use Rattle.control_box.specs.Endpoints.{PosterIs}
 use Rattle.flow_ends.proofs.Sorting.{each_placed}
 use Rattle.worker_tests.proofs.tests.by_hand.driven_of.Goals as goal
 

@@ -1,6 +1,6 @@
 use Rattle.std.proofs.Common.{rules, []}
 use Rattle.control_box.proofs.Steps.{opening-IsBox, sides-Splits}
-use Rattle.control_box.proofs.ends.make_box.Goals as goal
+use Rattle.control_box.proofs.endpoints.make_box.Goals as goal
 
 pub of_words-requires : goal.of_words-requires
 of_words-requires c = opening-IsBox []

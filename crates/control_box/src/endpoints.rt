@@ -1,6 +1,6 @@
 ghost use Rattle.std.specs.Prelude.{◌≡◌, ◌+◌, ◌<◌, ◌≤◌, ◌↔◌, ℕ, [], ◌∷◌, ◌++◌, All, IfOk, IsTrue};
 ghost use Rattle.std.specs.Bool.{OnTrue};
-ghost use Rattle.control_box.specs.Ends.{HasShownReady};
+ghost use Rattle.control_box.specs.Endpoints.{HasShownReady};
 
 use crate::rule::{
     LoadsPosted, LoadsTurned, POSTED, Sides, StoresPosted, StoresTurned, TURNED, View, Words,
@@ -21,7 +21,7 @@ pub struct Poster {
 impl Model for Poster {
     ghost use Rattle.std.specs.Prelude.{◌≡◌, true, []};
     ghost use Rattle.std.specs.Arc.{arc_value};
-    ghost use Rattle.control_box.specs.Ends.{PosterIs};
+    ghost use Rattle.control_box.specs.Endpoints.{PosterIs};
 
     ghost Value = { PosterIs };
 
@@ -47,7 +47,7 @@ pub struct Owner {
 impl Model for Owner {
     ghost use Rattle.std.specs.Prelude.{◌≡◌, true, []};
     ghost use Rattle.std.specs.Arc.{arc_value};
-    ghost use Rattle.control_box.specs.Ends.{OwnerIs};
+    ghost use Rattle.control_box.specs.Endpoints.{OwnerIs};
 
     ghost Value = { OwnerIs };
 
