@@ -134,7 +134,7 @@ is_live_turn setup rows released old new turn lo ln first s hears =
     let xs : List ℕ = released_rows released (length rows) (afters setup.requests) in
     record {
       law = λ begin law. law_kept setup rows released old new turn lo ln first s hears begin law;
-      ends = ends_kept setup xs rows old new turn s;
+      endpoints = ends_kept setup xs rows old new turn s;
       boxes = boxes_kept setup xs rows old new turn s;
       begun = begun_kept setup xs rows old new turn s;
       loads = loads_once (length setup.requests) released lo ln hears;

@@ -299,7 +299,7 @@ is_turn setup rows old new turn s =
     let xs : List ℕ = afters setup.requests in
     record {
       law = λ begin held. is_feeder setup begin rows new (keeps setup begin xs rows old new turn s held.feeding);
-      ends = ends_kept setup xs rows old new turn s;
+      endpoints = ends_kept setup xs rows old new turn s;
       boxes = boxes_kept setup xs rows old new turn s;
       begun = begun_kept setup xs rows old new turn s;
       loads = inl (loads_kept setup xs rows old new turn s);

@@ -73,7 +73,7 @@ pub record IsTurn (live : Bool) (setup : SetupView) (rows : List Row) (answer : 
     (old new : FeederIs) : Type 0 where
   pub law :
       (begin : Begin) → IsFeeder live setup begin rows old → IsFeeder live setup begin rows new
-  pub ends : map end_of new.outs ≡ map end_of old.outs
+  pub endpoints : map end_of new.outs ≡ map end_of old.outs
   pub boxes : SameBoxes old.boxes.posters new.boxes.posters
   pub begun : (new.begin_row ≡ old.begin_row) × (new.begin_turned ≡ old.begin_turned)
   pub loads : LoadsOnce old.loads new.loads

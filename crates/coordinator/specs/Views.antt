@@ -20,7 +20,7 @@ pub record OutIs : Type 0 where
 abbrev pub outs_of :
     {T : Type 0} → (T → LaneId) → (T → ℕ) → (T → Origin) → (T → ℕ) → (T → List Item) → (T → ℕ)
     → List T → List OutIs
-outs_of lane number origin capacity sent full ends =
+outs_of lane number origin capacity sent full endpoints =
     map (λ t. record {
       lane = lane t;
       number = number t;
@@ -28,7 +28,7 @@ outs_of lane number origin capacity sent full ends =
       capacity = capacity t;
       sent = sent t;
       full = full t;
-    }) ends
+    }) endpoints
 
 -- The boxes of all workers, in their order.
 pub record BoxesIs : Type 0 where

@@ -12,7 +12,7 @@ use tuple_trace::{Item, Tuple};
 /// The sending endpoints of the lanes of all sources.
 #[derive(Drop)]
 pub struct Outs<N, T: Tx<N>> {
-    ends: Vec<T>,
+    endpoints: Vec<T>,
     need: PhantomData<N>,
 }
 
@@ -23,16 +23,16 @@ impl<N, T: Tx<N>> Model for Outs<N, T> {
     ghost Value = { List OutIs };
 
     ghost view = { λ o. outs_of T.lane T.number T.origin T.capacity T.sent T.full
-        o.ends.items };
+        o.endpoints.items };
 }
 
 impl<N, T: Tx<N>> Outs<N, T> {
-    pub fn of(ends: Vec<T>) -> Outs<N, T>
+    pub fn of(endpoints: Vec<T>) -> Outs<N, T>
         ensures { result ≡ outs_of T.lane T.number T.origin T.capacity T.sent
-            T.full ends.items }
+            T.full endpoints.items }
     {
         Outs {
-            ends,
+            endpoints,
             need: PhantomData,
         }
     }
@@ -41,14 +41,14 @@ impl<N, T: Tx<N>> Outs<N, T> {
         ensures { self ≡ outs_of T.lane T.number T.origin T.capacity T.sent
             T.full result.items }
     {
-        let Outs { ends, .. } = self;
-        ends
+        let Outs { endpoints, .. } = self;
+        endpoints
     }
 
     pub fn len(&self) -> usize
         ensures { result ≡ length self.now }
     {
-        self.ends.len()
+        self.endpoints.len()
     }
 
     /// Puts an item on the lane at this place. A full lane hands it back.
@@ -62,7 +62,7 @@ impl<N, T: Tx<N>> Outs<N, T> {
             × (slice_get self.old place ≡ Some o)
             × (self.new ≡ slice_set self.old place (record o { full = n })) × Rose o.full n)) }
     {
-        self.ends[place].put(need, item)
+        self.endpoints[place].put(need, item)
     }
 
     /// Puts a tuple on the lane at this place. A full lane hands it back.

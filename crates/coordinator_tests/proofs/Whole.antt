@@ -45,11 +45,11 @@ still_crew setup begin workers later crew law same = record {
 pub over : (setup : SetupView) (rows : List Row) (workers later : List WorkerIs) (outs left : List OutIs) (feeder f : FeederIs) (feeds : List Feed) → IsCrew setup (at_first setup) workers → AreMatched (map worker_side workers) (map fed_end outs) → feeder.outs ≡ outs
     → Each (IsWorker setup (at_first setup)) later → Each IsDone later → map (λ (w : WorkerIs). w.number) later ≡ map (λ (w : WorkerIs). w.number) workers → map lane_ids later ≡ map lane_ids workers
     → IsFeeder false setup (at_first setup) rows f → f.stopped ≡ true → map end_of f.outs ≡ map end_of feeder.outs → feeds ≡ f.feeds → f.outs ≡ left → IsOver setup (at_first setup) rows later feeds left
-over setup rows workers later outs left feeder f feeds crew matched fed laws done number lanes law stopped ends feeds_are outs_are = record {
+over setup rows workers later outs left feeder f feeds crew matched fed laws done number lanes law stopped endpoints feeds_are outs_are = record {
   starts = length_mapped (λ (post : WorkerOf). empty) (workers_in setup.job);
   crew = still_crew setup (at_first setup) workers later crew laws number;
   done = done;
-  matched = matched_again workers later outs left lanes (ap (map end_of) (sym outs_are) ∙ (ends ∙ ap (map end_of) fed)) matched;
+  matched = matched_again workers later outs left lanes (ap (map end_of) (sym outs_are) ∙ (endpoints ∙ ap (map end_of) fed)) matched;
   feeder = f;
   feeding = law.feeding;
   stopped = stopped;

@@ -25,7 +25,7 @@ use Rattle.flow_worker.specs.Worker.{WorkerIs}
 use Rattle.coordinator.specs.Feeding.{AreRising, IsFeeder, IsFeeding, issue_rows, waits}
 use Rattle.coordinator.specs.Views.{FeederIs, OutIs, end_of}
 use Rattle.runners.specs.Crew.{AreWorkers, fixed_in, number_in}
-use Rattle.runner.specs.Runner.{EndIs, EndsIs, end_in, end_out}
+use Rattle.runner.specs.Runner.{EndIs, EndpointsIs, end_in, end_out}
 use Rattle.flow_ends.specs.Crews.{IsCrew}
 use Rattle.flow_ends.specs.Ended.{IsOver, fed_end, record_of, worked_of}
 use Rattle.flow_ends.specs.Sides.{AreMatched, lane_ids, worker_side}
@@ -39,8 +39,8 @@ use Rattle.flow_engine.proofs.Moving.{afters_are, feeding_moved}
 -- ---- what no turn changes
 
 -- the lanes of endpoints, with their numbers
-abbrev lanes_in : EndsIs → List (LaneId × ℕ) × List (LaneId × ℕ)
-lanes_in ends = (map (λ (end : EndIs). (end.lane, end.number)) ends.ins, map (λ (end : EndIs). (end.lane, end.number)) ends.outs)
+abbrev lanes_in : EndpointsIs → List (LaneId × ℕ) × List (LaneId × ℕ)
+lanes_in endpoints = (map (λ (end : EndIs). (end.lane, end.number)) endpoints.ins, map (λ (end : EndIs). (end.lane, end.number)) endpoints.outs)
 
 lanes_so : (w : WorkerIs) → lane_ids w ≡ lanes_in (fixed_in w).1
 lanes_so w =
@@ -49,13 +49,13 @@ lanes_so w =
     let outs : map at (map end_out w.outs) ≡ map (λ (out : LaneOutIs). (out.lane, out.number)) w.outs = map-map at end_out w.outs in
     rw (ins, outs) refl
 
-all_lanes : (ws : List WorkerIs) → map lane_ids ws ≡ map (λ (fixed : ℕ × EndsIs). lanes_in fixed.1) (map fixed_in ws)
+all_lanes : (ws : List WorkerIs) → map lane_ids ws ≡ map (λ (fixed : ℕ × EndpointsIs). lanes_in fixed.1) (map fixed_in ws)
 all_lanes [] = refl
 all_lanes (w ∷ ws) = rw (lanes_so w, all_lanes ws) refl
 
 -- workers with the same endpoints are on the same lanes
 pub same_lanes : (new old : List WorkerIs) → map fixed_in new ≡ map fixed_in old → map lane_ids new ≡ map lane_ids old
-same_lanes new old same = all_lanes new ∙ ap (map (λ (fixed : ℕ × EndsIs). lanes_in fixed.1)) same ∙ sym (all_lanes old)
+same_lanes new old same = all_lanes new ∙ ap (map (λ (fixed : ℕ × EndpointsIs). lanes_in fixed.1)) same ∙ sym (all_lanes old)
 
 same_many : (new old : List WorkerIs) → map fixed_in new ≡ map fixed_in old → length new ≡ length old
 same_many new old same = sym (length-map new fixed_in) ∙ (ap length same ∙ length-map old fixed_in)
@@ -92,7 +92,7 @@ pub record HasTurned (live : Bool) (setup : SetupView) (begin : Begin) (rows : L
   pub done : Each IsDone new
   pub same : map fixed_in new ≡ map fixed_in old
   pub law : IsFeeder live setup begin rows f
-  pub ends : map end_of f.outs ≡ map end_of fed
+  pub endpoints : map end_of f.outs ≡ map end_of fed
   pub stopped : f.stopped ≡ true
   pub feeds_are : feeds ≡ f.feeds
   pub outs_are : f.outs ≡ left
@@ -146,7 +146,7 @@ module _ (setup : SetupView) (begin : Begin) (rows : List Row) (old new : List W
     starts = starts_recorded live h.starts;
     crew = crew_recorded live read (to_crew setup begin new old h.same h.crew h.are);
     done = h.done;
-    matched = stay old new fed left (same_lanes new old h.same) (ap (map end_of) (sym h.outs_are) ∙ h.ends) h.matched;
+    matched = stay old new fed left (same_lanes new old h.same) (ap (map end_of) (sym h.outs_are) ∙ h.endpoints) h.matched;
     feeder = f;
     feeding = feeding_recorded live h;
     stopped = h.stopped;

@@ -71,7 +71,7 @@ module _ (setup : SetupView) (agrees : KeepsAgreement setup) (w v : WorkerIs) (l
   closed_turn result cause = record {
     law = λ begin h. keeps_puts setup begin w v p h;
     agreement = worker_agreement setup law.0 v agrees (keeps_puts setup law.0 w v p law.1);
-    ends = record {
+    endpoints = record {
       number = ap (λ (x : WorkerIs). x.number) p.rest;
       ins = subst (EachPair SameIn w.ins) (sym (ap (λ (x : WorkerIs). x.ins) p.rest)) (each_same SameIn w.ins same_in);
       outs = pairs_map Flushed SameOut w.outs v.outs (λ a b f. f.same) p.outs;
@@ -201,7 +201,7 @@ module _ (setup : SetupView) (agrees : KeepsAgreement setup) (keeps : KeepsStead
         record {
           law = λ begin h. keeps_memory setup begin w3 v m (law3 begin h);
           agreement = worker_agreement setup law.0 v agrees (keeps_memory setup law.0 w3 v m (law3 law.0 law.1));
-          ends = ends_then v (record {
+          endpoints = ends_then v (record {
             number = ap (λ (x : WorkerIs). x.number) m.rest;
             ins = subst (EachPair SameIn w3.ins) (sym (ap (λ (x : WorkerIs). x.ins) m.rest)) (each_same SameIn w3.ins same_in);
             outs = pairs_map SameButMemory SameOut w3.outs v.outs memory_same m.outs;
@@ -228,7 +228,7 @@ module _ (setup : SetupView) (agrees : KeepsAgreement setup) (keeps : KeepsStead
     held_turn result held cause = record {
       law = law3;
       agreement = worker_agreement setup law.0 w3 agrees (law3 law.0 law.1);
-      ends = ends3;
+      endpoints = ends3;
       overtakes = λ l t c. absurd (none_added w w3 (Met l t) journal3 c);
       at_post = λ ne m due q e head l. absurd (subst (λ (a : Act). IsHeld a w3) (head_turns due e head (same_poll m q l)) held);
       early = λ r due c. absurd (none_added w w3 (Turned r) journal3 c);
@@ -318,7 +318,7 @@ module _ (setup : SetupView) (agrees : KeepsAgreement setup) (keeps : KeepsStead
       did_turn result cause = record {
         law = law_v;
         agreement = worker_agreement setup law.0 v agrees (law_v law.0 law.1);
-        ends = ends_then v (ends_done setup h3.who w3.due act w3 v done);
+        endpoints = ends_then v (ends_done setup h3.who w3.due act w3 v done);
         overtakes = overtakes_v;
         at_post = λ ne. at_post_v;
         early = early_v;

@@ -120,7 +120,7 @@ pub record IsTurn (setup : SetupView) (result : turn_type.Turn) (w v : WorkerIs)
   pub law : (begin : Begin) → IsWorker setup begin w → IsWorker setup begin v
   -- the visits of the processed tuples agree with the turns
   pub agreement : Agreement setup v.journal
-  pub ends : SameEndpoints w v
+  pub endpoints : SameEndpoints w v
   pub overtakes : Overtakes w v
   pub at_post : result ≢ turn.NoMemory → TurnsAtPost w v
   pub early : NotEarly w v

@@ -7,7 +7,7 @@ use Rattle.std.proofs.lemmas.Bool.Decides.{nat_tests}
 use mathlib.Core.Option.{some, some-ne-none, some-injective}
 use lib.ListN.{get_elem?}
 use Rattle.crossbeam_queue.specs.Fifo.{Pushes, Pops, Forks, Merges, Learns}
-use Rattle.runner.specs.Runner.{RunnerIs, EndsIs}
+use Rattle.runner.specs.Runner.{RunnerIs, EndpointsIs}
 use Rattle.runner.specs.declared.rule.Tally.{Tally}
 use Rattle.runner.specs.Rule.{tally, one_if, up_to, times, without, numbers, Agrees, IsEachOnce}
 use Rattle.runner.proofs.Totals.{total_set, total_snoc, alone, each_set, each_snoc}
@@ -38,7 +38,7 @@ times-push y items x =
     let h = ap (times y) (map-append (λ (r : RunnerIs). r.number) items (x ∷ [])) in
     let k = times-append y (numbers items) (x.number ∷ []) in omega (arith, h, k)
 
-pub pushes : (charter : List EndsIs) (n port : ℕ) (v : Tally) (x : RunnerIs) → 0 < v.parts → 0 < times x.number v.list → Agrees charter x
+pub pushes : (charter : List EndpointsIs) (n port : ℕ) (v : Tally) (x : RunnerIs) → 0 < v.parts → 0 < times x.number v.list → Agrees charter x
     → Pushes (IsEachOnce charter) n port v x (λ w. w ≡ tally v.parts (without x.number v.list))
 pushes charter n port v x p h a items views _ k at =
     let w : Tally = tally v.parts (without x.number v.list) in (
@@ -56,7 +56,7 @@ pushes charter n port v x p h a items views _ k at =
       refl,
     )
 
-pub pops : (charter : List EndsIs) (port : ℕ) (v : Tally) → 0 < v.parts
+pub pops : (charter : List EndpointsIs) (port : ℕ) (v : Tally) → 0 < v.parts
     → Pops (IsEachOnce charter) port v (λ x w. (w ≡ tally v.parts (v.list ++ x.number ∷ [])) × Agrees charter x)
 pops charter port v p x items views k at =
     let w : Tally = tally v.parts (v.list ++ x.number ∷ []) in (
@@ -73,13 +73,13 @@ pops charter port v p x items views k at =
       (refl, All-head (Agrees charter) x items k.agree),
     )
 
-pub learns : (charter : List EndsIs) (port : ℕ) (v : Tally)
+pub learns : (charter : List EndpointsIs) (port : ℕ) (v : Tally)
     → Learns (IsEachOnce charter) port v (λ items. v.parts ≡ 16 → (x : ℕ) → times x (numbers items) + times x v.list ≡ one_if (nat_lt x (length charter)))
 learns charter port v items views k at full x =
     let a = alone (λ (u : Tally). u.parts) (λ (u : Tally). times x u.list) views port v at (k.parts ∙ sym full) (λ p u e z. ap (times x) (k.idle p u e z)) in
     let q = k.once x in omega (arith, a, q)
 
-pub forks : (charter : List EndsIs) (port : ℕ) (v : Tally) → 1 < v.parts → Forks (IsEachOnce charter) port v (tally (v.parts - 1) v.list) (tally 1 [])
+pub forks : (charter : List EndpointsIs) (port : ℕ) (v : Tally) → 1 < v.parts → Forks (IsEachOnce charter) port v (tally (v.parts - 1) v.list) (tally 1 [])
 forks charter port v p items views k at =
     let l : Tally = tally (v.parts - 1) v.list in let r : Tally = tally 1 [] in record {
       parts =
@@ -94,7 +94,7 @@ forks charter port v p items views k at =
       idle = each_snoc Idle (set views port l) r (λ z. refl) (each_set Idle views port l (λ z. absurd (omega (arith, z, p))) k.idle);
     }
 
-pub merges : (charter : List EndsIs) (port : ℕ) (v : Tally) (other : ℕ) (u : Tally) → 0 < v.parts
+pub merges : (charter : List EndpointsIs) (port : ℕ) (v : Tally) (other : ℕ) (u : Tally) → 0 < v.parts
     → Merges (IsEachOnce charter) port v other u (tally (v.parts + u.parts) (v.list ++ u.list)) (tally 0 [])
 merges charter port v other u p items views k at apart at' =
     let b : Tally = tally (v.parts + u.parts) (v.list ++ u.list) in let s : Tally = tally 0 [] in record {
@@ -121,11 +121,11 @@ times-up_to y (suc n) =
     let k = times-append y (up_to n) (n ∷ []) in
     let m = one_more y n in omega (arith, h, k, m)
 
-first_full : (charter : List EndsIs) (port : ℕ) (v : Tally) → get_elem? (tally 16 (up_to (length charter)) ∷ []) port ≡ some v → v.parts ≡ 0 → v.list ≡ []
+first_full : (charter : List EndpointsIs) (port : ℕ) (v : Tally) → get_elem? (tally 16 (up_to (length charter)) ∷ []) port ≡ some v → v.parts ≡ 0 → v.list ≡ []
 first_full charter zero v e z = let h : 16 ≡ v.parts = ap (λ (u : Tally). u.parts) (some-injective _ v e) in absurd (omega (arith, h, z))
 first_full charter (suc port) v e z = absurd (some-ne-none v (sym e))
 
-pub begins : (charter : List EndsIs) → IsEachOnce charter [] (tally 16 (up_to (length charter)) ∷ [])
+pub begins : (charter : List EndpointsIs) → IsEachOnce charter [] (tally 16 (up_to (length charter)) ∷ [])
 begins charter = record {
   parts = refl;
   once = λ y. let h = times-up_to y (length charter) in omega (arith, h);

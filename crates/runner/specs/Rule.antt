@@ -4,7 +4,7 @@ use Rattle.std.specs.Prelude.{◌∷◌, ◌++◌, map, length}
 use Rattle.std.specs.List.{All, slice_index_or}
 use mathlib.Core.Option.{some}
 use lib.ListN.{get_elem?}
-use Rattle.runner.specs.Runner.{EndsIs, RunnerIs}
+use Rattle.runner.specs.Runner.{EndpointsIs, RunnerIs}
 use Rattle.runner.specs.declared.rule.Tally.{Tally}
 
 abbrev pub tally : ℕ → List ℕ → Tally
@@ -37,23 +37,23 @@ abbrev pub numbers : List RunnerIs → List ℕ
 numbers rs = map (λ (r : RunnerIs). r.number) rs
 
 -- what no turn changes of a runner
-abbrev pub fixed_of : RunnerIs → ℕ × EndsIs
-fixed_of r = (r.number, r.ends)
+abbrev pub fixed_of : RunnerIs → ℕ × EndpointsIs
+fixed_of r = (r.number, r.endpoints)
 
 abbrev pub HasEnded : RunnerIs → Type 0
 HasEnded r = r.is_done ≡ true
 
 -- under the runner's number the charter has its endpoints
-abbrev pub Agrees : List EndsIs → RunnerIs → Type 0
+abbrev pub Agrees : List EndpointsIs → RunnerIs → Type 0
 Agrees charter r =
-    (r.number < length charter) × (slice_index_or charter r.number r.ends ≡ r.ends)
+    (r.number < length charter) × (slice_index_or charter r.number r.endpoints ≡ r.endpoints)
 
 -- each of the numbers below n is in the list once, and no other
 abbrev pub HasEachOf : ℕ → List ℕ → Type 0
 HasEachOf n list = (x : ℕ) → times x list ≡ one_if (nat_lt x n)
 
 -- a pass with all parts has each number once that isn't in the queue
-abbrev pub HasEachWith : List EndsIs → Tally → List RunnerIs → Type 0
+abbrev pub HasEachWith : List EndpointsIs → Tally → List RunnerIs → Type 0
 HasEachWith charter v items =
     v.parts ≡ 16
     → (x : ℕ) → times x (numbers items) + times x v.list ≡ one_if (nat_lt x (length charter))
@@ -65,7 +65,7 @@ IdleIsEmpty views =
 
 -- The queue and the passes together have each number once and 16 parts. Each runner in the queue
 -- agrees with the charter.
-pub record IsEachOnce (charter : List EndsIs) (items : List RunnerIs) (views : List Tally)
+pub record IsEachOnce (charter : List EndpointsIs) (items : List RunnerIs) (views : List Tally)
     : Type 0 where
   pub parts : total (λ v. v.parts) views ≡ 16
   pub once :
@@ -75,6 +75,6 @@ pub record IsEachOnce (charter : List EndsIs) (items : List RunnerIs) (views : L
   pub idle : IdleIsEmpty views
 
 -- These runners are those of a pass's list, and agree with the charter.
-pub record AreListed (charter : List EndsIs) (rs : List RunnerIs) (list : List ℕ) : Type 0 where
+pub record AreListed (charter : List EndpointsIs) (rs : List RunnerIs) (list : List ℕ) : Type 0 where
   pub same : (x : ℕ) → times x (numbers rs) ≡ times x list
   pub agree : All (Agrees charter) rs

@@ -21,17 +21,17 @@ abbrev pub end_out : LaneOutIs → EndIs
 end_out out = record { lane = out.lane; number = out.number; origin = out.origin }
 
 -- The endpoints of a worker, in the order of its lanes.
-pub record EndsIs : Type 0 where
+pub record EndpointsIs : Type 0 where
   pub ins : List EndIs
   pub outs : List EndIs
 
-abbrev pub ends_of : WorkerIs → EndsIs
-ends_of w = record { ins = map end_in w.ins; outs = map end_out w.outs }
+abbrev pub endpoints_of : WorkerIs → EndpointsIs
+endpoints_of w = record { ins = map end_in w.ins; outs = map end_out w.outs }
 
 -- A runner: the number and the endpoints of its worker, and whether that is done.
 pub record RunnerIs : Type 0 where
   pub number : ℕ
-  pub ends : EndsIs
+  pub endpoints : EndpointsIs
   pub is_done : Bool
 
 -- Each runner's worker has the law of a worker from the beginning on. The runner holds the setup,

@@ -18,13 +18,13 @@ pub trait Charter {
     ghost use Rattle.std.specs.Prelude.{List};
     ghost use Rattle.flow_model.specs.Begin.{Begin};
     ghost use Rattle.flow_model.specs.SetupView.{SetupView};
-    ghost use Rattle.runner.specs.Runner.{EndsIs};
+    ghost use Rattle.runner.specs.Runner.{EndpointsIs};
 
     ghost setup: { SetupView };
 
     ghost begin: { Begin };
 
-    ghost ends: { List EndsIs };
+    ghost endpoints: { List EndpointsIs };
 }
 
 impl Charter for Brand {
@@ -36,5 +36,5 @@ impl Charter for Brand {
 
     ghost begin = { record { row = 0; turned = 0; states = [] } };
 
-    ghost ends = { [] };
+    ghost endpoints = { [] };
 }

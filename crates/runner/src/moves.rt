@@ -21,12 +21,12 @@ pub fn take<'s, R: Wait, L: Lanes, C: Charter>(
     requires queue { IsSegPassOf queue.now pass.old }
     requires part { 0 < pass.old.me.view.client.parts }
     ensures queue { IsSegPassOf queue.now pass.new }
-    ensures agrees { IfSome result (Agrees C.ends) }
+    ensures agrees { IfSome result (Agrees C.endpoints) }
     ensures some { IfSome result (λ r. pass.new.me.view.client
         ≡ tally pass.old.me.view.client.parts (pass.old.me.view.client.list ++ r.number ∷ [])) }
     ensures none { IfNone result (pass.new.me.view.client ≡ pass.old.me.view.client) }
     ensures last { IfNone result (pass.old.me.view.client.parts ≡ 16
-        → HasEachOf (length C.ends) pass.new.me.view.client.list) }
+        → HasEachOf (length C.endpoints) pass.new.me.view.client.list) }
 {
     queue.pop_as::<Takes<C>, R>(rt, pass)
 }
@@ -42,7 +42,7 @@ pub fn give<'s, R: Wait, L: Lanes, C: Charter>(
     requires queue { IsSegPassOf queue.now pass.old }
     requires part { 0 < pass.old.me.view.client.parts }
     requires has { 0 < times runner.number pass.old.me.view.client.list }
-    requires charter { Agrees C.ends runner }
+    requires charter { Agrees C.endpoints runner }
     ensures queue { IsSegPassOf queue.now pass.new }
     ensures ok { OnOk result (pass.new.me.view.client ≡ tally pass.old.me.view.client.parts
         (without runner.entry.number pass.old.me.view.client.list)) }
@@ -88,7 +88,7 @@ pub fn open<'s, L: Lanes, C: Charter>(
     alloc: Global,
 ) -> Result<(Queue<'s, L, C>, SegPass<Runner<'s, L, C>, Tally>), AllocError>
     ensures queue { IfOk result (λ q. IsSegPassOf q.0 q.1) }
-    ensures first { IfOk result (λ q. q.1.me.view.client ≡ tally 16 (up_to (length C.ends))) }
+    ensures first { IfOk result (λ q. q.1.me.view.client ≡ tally 16 (up_to (length C.endpoints))) }
 {
     RuledSegQueue::<Runner<'s, L, C>, Tally, EachOnce<C>>::with_rule(alloc)
 }

@@ -40,7 +40,7 @@ pub fn part<'s, R: Wait, L: Lanes, G: Gate, C: Charter>(
     requires fresh { pass.me.view.client ≡ tally 1 [] }
     ensures queue { IsSegPassOf queue.now result.pass }
     ensures part { result.pass.me.view.client.parts ≡ 1 }
-    ensures listed { AreListed C.ends result.runners.items result.pass.me.view.client.list }
+    ensures listed { AreListed C.endpoints result.runners.items result.pass.me.view.client.list }
 {
     let mut kept = Vec::new(alloc);
     let mut held = false;
@@ -78,7 +78,7 @@ pub fn part_unless<'s, R: Wait, L: Lanes, G: Gate, C: Charter>(
     requires fresh { pass.me.view.client ≡ tally 1 [] }
     ensures queue { IsSegPassOf queue.now result.pass }
     ensures part { result.pass.me.view.client.parts ≡ 1 }
-    ensures listed { AreListed C.ends result.runners.items result.pass.me.view.client.list }
+    ensures listed { AreListed C.endpoints result.runners.items result.pass.me.view.client.list }
 {
     if refused.load(Ordering::SeqCst) {
         return untouched(alloc, queue, pass);
@@ -95,7 +95,7 @@ fn untouched<'s, L: Lanes, C: Charter>(
     requires fresh { pass.me.view.client ≡ tally 1 [] }
     ensures queue { IsSegPassOf queue.now result.pass }
     ensures part { result.pass.me.view.client.parts ≡ 1 }
-    ensures listed { AreListed C.ends result.runners.items result.pass.me.view.client.list }
+    ensures listed { AreListed C.endpoints result.runners.items result.pass.me.view.client.list }
 {
     let _ = queue;
     Held {
@@ -120,7 +120,7 @@ impl<'s, L: Lanes, C: Charter> Promise<Held<'s, L, C>> for PartPromise<'s, L, C>
     ghost kept_by = { λ p b.
         IsSegPassOf p.queue.value b.pass
         × (b.pass.me.view.client.parts ≡ 1)
-        × AreListed C.ends b.runners.items b.pass.me.view.client.list };
+        × AreListed C.endpoints b.runners.items b.pass.me.view.client.list };
 }
 
 /// What a thread begins with.
@@ -146,7 +146,7 @@ pub fn part_of<'q, 's: 'q, R: Wait, L: Lanes + 'q, G: Gate, C: Charter + 'q>(
     requires fresh { ticket.pass.me.view.client ≡ tally 1 [] }
     ensures queue { IsSegPassOf ticket.entry.queue.now result.pass }
     ensures part { result.pass.me.view.client.parts ≡ 1 }
-    ensures listed { AreListed C.ends result.runners.items result.pass.me.view.client.list }
+    ensures listed { AreListed C.endpoints result.runners.items result.pass.me.view.client.list }
 {
     let Ticket { queue, pass } = ticket;
     part_unless(rt, alloc, need, gate, stop, refused, queue, pass)
@@ -182,7 +182,7 @@ where
     ensures started { IfOk result (λ h. h.promise.queue.value ≡ ticket.entry.queue.now) }
     ensures here { IfErr result (λ b. IsSegPassOf ticket.entry.queue.now b.pass) }
     ensures part { IfErr result (λ b. b.pass.me.view.client.parts ≡ 1) }
-    ensures listed { IfErr result (λ b. AreListed C.ends b.runners.items
+    ensures listed { IfErr result (λ b. AreListed C.endpoints b.runners.items
         b.pass.me.view.client.list) }
 {
     let promise: PartPromise<'s, L, C> = PartPromise {
@@ -193,7 +193,7 @@ where
         requires fresh { ticket.pass.me.view.client ≡ tally 1 [] }
         ensures queue { IsSegPassOf ticket.entry.queue.now result.pass }
         ensures part { result.pass.me.view.client.parts ≡ 1 }
-        ensures listed { AreListed C.ends result.runners.items result.pass.me.view.client.list }
+        ensures listed { AreListed C.endpoints result.runners.items result.pass.me.view.client.list }
     { part_of(rt, alloc, need, gate, stop, refused, ticket) };
     match scope.spawn_with(promise, run) {
         Ok(handle) => Ok(handle),

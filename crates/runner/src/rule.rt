@@ -24,9 +24,9 @@ impl<'s, L: Lanes, C: Charter> Protocol<Runner<'s, L, C>, Tally> for EachOnce<C>
     ghost use Rattle.std.specs.Prelude.{length};
     ghost use Rattle.runner.specs.Rule.{tally, up_to, IsEachOnce};
 
-    ghost holds = { λ items views. IsEachOnce C.ends items views };
+    ghost holds = { λ items views. IsEachOnce C.endpoints items views };
 
-    ghost first = { tally 16 (up_to (length C.ends)) };
+    ghost first = { tally 16 (up_to (length C.endpoints)) };
 }
 
 /// The step of a pop.
@@ -38,13 +38,13 @@ impl<'s, L: Lanes, C: Charter> Outcome<Runner<'s, L, C>, Tally> for Takes<C> {
     ghost use Rattle.std.specs.Prelude.{◌++◌, ◌∷◌, []};
     ghost use Rattle.runner.specs.Rule.{tally, Agrees};
 
-    ghost then = { λ v x w. (w ≡ tally v.parts (v.list ++ x.number ∷ [])) × Agrees C.ends x };
+    ghost then = { λ v x w. (w ≡ tally v.parts (v.list ++ x.number ∷ [])) × Agrees C.endpoints x };
 }
 
 impl<'s, L: Lanes, C: Charter> Lesson<Runner<'s, L, C>, Tally> for Takes<C> {
     ghost use Rattle.runner.specs.Rule.{HasEachWith};
 
-    ghost fact = { λ v items. HasEachWith C.ends v items };
+    ghost fact = { λ v items. HasEachWith C.endpoints v items };
 }
 
 /// The step of a push.

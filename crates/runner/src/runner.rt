@@ -3,7 +3,7 @@ ghost use Rattle.flow_model.specs.Setup.{setup_view};
 ghost use Rattle.flow_worker.specs.declared.worker.Turn.TheVariants.{Done};
 ghost use Rattle.flow_worker.specs.Turning.{IsDone};
 ghost use Rattle.flow_worker.specs.Worker.{IsWorker};
-ghost use Rattle.runner.specs.Runner.{ends_of};
+ghost use Rattle.runner.specs.Runner.{endpoints_of};
 
 use crate::charter::Charter;
 use flow_model::Setup;
@@ -31,13 +31,13 @@ pub struct Runner<'s, L: Lanes, C: Charter> {
 
 impl<'s, L: Lanes, C: Charter> Model for Runner<'s, L, C> {
     ghost use Rattle.flow_model.specs.Setup.{setup_view};
-    ghost use Rattle.runner.specs.Runner.{IsRunner, RunnerIs, ends_of};
+    ghost use Rattle.runner.specs.Runner.{IsRunner, RunnerIs, endpoints_of};
 
     ghost Value = { RunnerIs };
 
     ghost view = { λ r. record {
       number = r.number;
-      ends = ends_of r.worker.value;
+      endpoints = endpoints_of r.worker.value;
       is_done = r.done;
     } };
 
@@ -59,7 +59,7 @@ impl<'s, L: Lanes, C: Charter> Runner<'s, L, C> {
         requires law { IsWorker (setup_view setup.now) C.begin worker }
         ensures { IfOk result (λ r. r ≡ record {
           number = number;
-          ends = ends_of worker;
+          endpoints = endpoints_of worker;
           is_done = false;
         }) }
     {
@@ -77,7 +77,7 @@ impl<'s, L: Lanes, C: Charter> Runner<'s, L, C> {
     /// [`Turn::Done`] at once, and [`Turn::NoMemory`] is the one error.
     pub fn turn<G: Gate>(&mut self, need: &mut L::Need, gate: &G) -> Turn
         ensures number { self.new.number ≡ self.old.number }
-        ensures ends { self.new.ends ≡ self.old.ends }
+        ensures endpoints { self.new.endpoints ≡ self.old.endpoints }
         ensures done { result ≡ Done → self.new.is_done ≡ true }
         ensures going { result ≢ Done → self.new.is_done ≡ false }
     {
@@ -94,7 +94,7 @@ impl<'s, L: Lanes, C: Charter> Runner<'s, L, C> {
     /// [`Turn::Idle`] if none moved, and [`Turn::NoMemory`] at once if memory runs out.
     pub fn visit<G: Gate>(&mut self, need: &mut L::Need, gate: &G) -> Turn
         ensures number { self.new.number ≡ self.old.number }
-        ensures ends { self.new.ends ≡ self.old.ends }
+        ensures endpoints { self.new.endpoints ≡ self.old.endpoints }
         ensures done { result ≡ Done → self.new.is_done ≡ true }
         ensures going { result ≢ Done → self.new.is_done ≡ false }
     {
@@ -121,7 +121,7 @@ impl<'s, L: Lanes, C: Charter> Runner<'s, L, C> {
     pub fn into_worker(self) -> Worker<L>
         requires { self.is_done ≡ true }
         ensures number { result.number ≡ self.entry.number }
-        ensures ends { ends_of result ≡ self.entry.ends }
+        ensures endpoints { endpoints_of result ≡ self.entry.endpoints }
         ensures law { IsWorker C.setup C.begin result }
         ensures done { IsDone result }
     {

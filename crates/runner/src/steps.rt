@@ -41,11 +41,11 @@ pub fn look<'s, R: Wait, L: Lanes, G: Gate, C: Charter>(
 ) -> Looked
     requires queue { IsSegPassOf queue.now pass.old }
     requires part { 0 < pass.old.me.view.client.parts }
-    requires listed { AreListed C.ends kept.old.items pass.old.me.view.client.list }
+    requires listed { AreListed C.endpoints kept.old.items pass.old.me.view.client.list }
     requires room { vec_len kept.old < vec_capacity kept.old }
     ensures queue { IsSegPassOf queue.now pass.new }
     ensures part { pass.new.me.view.client.parts ≡ pass.old.me.view.client.parts }
-    ensures listed { AreListed C.ends kept.new.items pass.new.me.view.client.list }
+    ensures listed { AreListed C.endpoints kept.new.items pass.new.me.view.client.list }
 {
     let Some(mut runner) = take(rt, queue, pass) else {
         return Looked::Empty;
@@ -75,12 +75,12 @@ fn put_back<'s, R: Wait, L: Lanes, C: Charter>(
 ) -> Looked
     requires queue { IsSegPassOf queue.now pass.old }
     requires part { 0 < pass.old.me.view.client.parts }
-    requires listed { AreListed C.ends (kept.old.items ++ runner ∷ [])
+    requires listed { AreListed C.endpoints (kept.old.items ++ runner ∷ [])
         pass.old.me.view.client.list }
     requires room { vec_len kept.old < vec_capacity kept.old }
     ensures queue { IsSegPassOf queue.now pass.new }
     ensures part { pass.new.me.view.client.parts ≡ pass.old.me.view.client.parts }
-    ensures listed { AreListed C.ends kept.new.items pass.new.me.view.client.list }
+    ensures listed { AreListed C.endpoints kept.new.items pass.new.me.view.client.list }
 {
     match give(rt, queue, pass, runner) {
         Ok(()) => answer,
@@ -103,11 +103,11 @@ fn look_if<'s, R: Wait, L: Lanes, G: Gate, C: Charter>(
 ) -> Looked
     requires queue { IsSegPassOf queue.now pass.old }
     requires part { 0 < pass.old.me.view.client.parts }
-    requires listed { AreListed C.ends kept.old.items pass.old.me.view.client.list }
+    requires listed { AreListed C.endpoints kept.old.items pass.old.me.view.client.list }
     requires room { vec_len kept.old < vec_capacity kept.old }
     ensures queue { IsSegPassOf queue.now pass.new }
     ensures part { pass.new.me.view.client.parts ≡ pass.old.me.view.client.parts }
-    ensures listed { AreListed C.ends kept.new.items pass.new.me.view.client.list }
+    ensures listed { AreListed C.endpoints kept.new.items pass.new.me.view.client.list }
 {
     if asked {
         look(rt, need, gate, queue, pass, kept)
@@ -192,10 +192,10 @@ pub fn step<'s, R: Wait, L: Lanes, G: Gate, C: Charter>(
 ) -> Stepped
     requires queue { IsSegPassOf queue.now pass.old }
     requires part { 0 < pass.old.me.view.client.parts }
-    requires listed { AreListed C.ends kept.old.items pass.old.me.view.client.list }
+    requires listed { AreListed C.endpoints kept.old.items pass.old.me.view.client.list }
     ensures queue { IsSegPassOf queue.now pass.new }
     ensures part { pass.new.me.view.client.parts ≡ pass.old.me.view.client.parts }
-    ensures listed { AreListed C.ends kept.new.items pass.new.me.view.client.list }
+    ensures listed { AreListed C.endpoints kept.new.items pass.new.me.view.client.list }
 {
     if kept.reserve(1).is_err() {
         return Stepped::NoMemory;

@@ -16,7 +16,7 @@ use Rattle.flow_worker.specs.Pairs.{Each}
 use Rattle.flow_worker.specs.Worker.{IsWorker, WorkerIs}
 use Rattle.runners.specs.Crew.{AreWorkers, fixed_in, number_in, runner_of}
 use Rattle.runner.specs.Rule.{Agrees, AreListed, fixed_of, numbers, times, without}
-use Rattle.runner.specs.Runner.{EndsIs, RunnerIs, ends_of}
+use Rattle.runner.specs.Runner.{EndpointsIs, RunnerIs, endpoints_of}
 use Rattle.runner.proofs.Bringing.{agreed, given, has}
 use Rattle.runner.proofs.Keeps.{last_and_rest}
 
@@ -24,20 +24,20 @@ pub numbers_runners : (ws : List WorkerIs) → numbers (map runner_of ws) ≡ ma
 numbers_runners [] = refl
 numbers_runners (w ∷ ws) = ap (λ xs. w.number ∷ xs) (numbers_runners ws)
 
-pub ends_runners : (ws : List WorkerIs) → map (λ (r : RunnerIs). r.ends) (map runner_of ws) ≡ map ends_of ws
+pub ends_runners : (ws : List WorkerIs) → map (λ (r : RunnerIs). r.endpoints) (map runner_of ws) ≡ map endpoints_of ws
 ends_runners [] = refl
-ends_runners (w ∷ ws) = ap (λ xs. ends_of w ∷ xs) (ends_runners ws)
+ends_runners (w ∷ ws) = ap (λ xs. endpoints_of w ∷ xs) (ends_runners ws)
 
 pub fixed_runners : (ws : List WorkerIs) → map fixed_of (map runner_of ws) ≡ map fixed_in ws
 fixed_runners [] = refl
 fixed_runners (w ∷ ws) = ap (λ xs. fixed_in w ∷ xs) (fixed_runners ws)
 
-numbers_fixed : (ws : List WorkerIs) → map number_in ws ≡ map (λ (p : ℕ × EndsIs). p.0) (map fixed_in ws)
+numbers_fixed : (ws : List WorkerIs) → map number_in ws ≡ map (λ (p : ℕ × EndpointsIs). p.0) (map fixed_in ws)
 numbers_fixed [] = refl
 numbers_fixed (w ∷ ws) = ap (λ xs. w.number ∷ xs) (numbers_fixed ws)
 
 pub same_numbers_in : (ws vs : List WorkerIs) → map fixed_in vs ≡ map fixed_in ws → map number_in vs ≡ map number_in ws
-same_numbers_in ws vs e = numbers_fixed vs ∙ (ap (map (λ (p : ℕ × EndsIs). p.0)) e ∙ sym (numbers_fixed ws))
+same_numbers_in ws vs e = numbers_fixed vs ∙ (ap (map (λ (p : ℕ × EndpointsIs). p.0)) e ∙ sym (numbers_fixed ws))
 
 -- numbers in order are those of the places
 pub number_at : (a : ℕ) (ws : List WorkerIs) (i : ℕ) (w : WorkerIs) → map number_in ws ≡ range_with_len a (length ws) → slice_get ws i ≡ Some w → w.number ≡ a + i
@@ -89,12 +89,12 @@ few_workers setup begin w law =
     let few = workers-few (job_view setup.job) setup.job.lawful in omega (arith, within, few)
 
 abbrev with_number : ℕ → WorkerIs → RunnerIs
-with_number k w = record { number = k; ends = ends_of w; is_done = false }
+with_number k w = record { number = k; endpoints = endpoints_of w; is_done = false }
 
-pub as_runner : (r : RunnerIs) (w : WorkerIs) (n : ℕ) → r ≡ record { number = n; ends = ends_of w; is_done = false } → n ≡ w.number → r ≡ runner_of w
+pub as_runner : (r : RunnerIs) (w : WorkerIs) (n : ℕ) → r ≡ record { number = n; endpoints = endpoints_of w; is_done = false } → n ≡ w.number → r ≡ runner_of w
 as_runner r w n e m = e ∙ ap (λ k. with_number k w) m
 
-module _ (charter : List EndsIs) where
+module _ (charter : List EndpointsIs) where
   more : (ws : List WorkerIs) (w : WorkerIs) (list : List ℕ) → AreListed charter (map runner_of (ws ++ w ∷ [])) list → AreListed charter (map runner_of ws ++ runner_of w ∷ []) list
   more ws w list b = let P : List RunnerIs → Type 0 = λ rs. AreListed charter rs list in subst P (map-append runner_of ws (w ∷ [])) b
 
@@ -135,10 +135,10 @@ workers_again setup begin ws vs was e law = record {
 }
   where
     long : length vs ≡ length ws
-    long = sym (length-map vs fixed_in) ∙ (ap (λ (ps : List (ℕ × EndsIs)). length ps) e ∙ length-map ws fixed_in)
+    long = sym (length-map vs fixed_in) ∙ (ap (λ (ps : List (ℕ × EndpointsIs)). length ps) e ∙ length-map ws fixed_in)
 
 -- one more worker is made of its runner
-pub fixed_more : (ws vs : List WorkerIs) (w : WorkerIs) (rs ss : List RunnerIs) (r : RunnerIs) (all : List (ℕ × EndsIs)) → vs ≡ ws ++ w ∷ [] → rs ≡ r ∷ ss → fixed_in w ≡ fixed_of r
+pub fixed_more : (ws vs : List WorkerIs) (w : WorkerIs) (rs ss : List RunnerIs) (r : RunnerIs) (all : List (ℕ × EndpointsIs)) → vs ≡ ws ++ w ∷ [] → rs ≡ r ∷ ss → fixed_in w ≡ fixed_of r
     → map fixed_in ws ++ map fixed_of rs ≡ all → map fixed_in vs ++ map fixed_of ss ≡ all
 fixed_more ws vs w rs ss r all e f same h =
     let front : map fixed_in vs ≡ map fixed_in ws ++ fixed_in w ∷ [] = ap (map fixed_in) e ∙ map-append fixed_in ws (w ∷ []) in

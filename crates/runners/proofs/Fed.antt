@@ -12,13 +12,13 @@ use Rattle.runners.specs.Crew.{HasFed}
 
 module _ {Seed Rest : Type 0} (live : Bool) (setup : SetupView) (begin : Begin) (rows : List Row) (kept : Seed → List Feed → Rest → Type 0) where
   pub fed_none : (f : FeederIs) (r : Rest) → IsFeeder live setup begin rows f → HasFed live setup begin rows kept f r f r
-  fed_none f r law = record { law = law; ends = refl; kept_is = λ seed k. k }
+  fed_none f r law = record { law = law; endpoints = refl; kept_is = λ seed k. k }
 
   pub fed_turn : (answer : FeedTurn) (f g h : FeederIs) (r s t : Rest) → HasFed live setup begin rows kept f r g s → IsTurn live setup rows answer g h
       → ((seed : Seed) → kept seed g.feeds s → kept seed h.feeds t) → HasFed live setup begin rows kept f r h t
   fed_turn answer f g h r s t was turn kept_on = record {
     law = turn.law begin was.law;
-    ends = turn.ends ∙ was.ends;
+    endpoints = turn.endpoints ∙ was.endpoints;
     kept_is = λ seed k. kept_on seed (was.kept_is seed k);
   }
 
@@ -26,6 +26,6 @@ module _ {Seed Rest : Type 0} (live : Bool) (setup : SetupView) (begin : Begin) 
   pub fed_more : (f g h : FeederIs) (r s t : Rest) → HasFed live setup begin rows kept f r g s → HasFed live setup begin rows kept g s h t → HasFed live setup begin rows kept f r h t
   fed_more f g h r s t was more = record {
     law = more.law;
-    ends = more.ends ∙ was.ends;
+    endpoints = more.endpoints ∙ was.endpoints;
     kept_is = λ seed k. more.kept_is seed (was.kept_is seed k);
   }

@@ -3,12 +3,12 @@ use Rattle.std.proofs.Common.{◌≡◌, ℕ, ◌<◌, ◌++◌, ◌∷◌, [], 
 use Rattle.std.specs.List.{All}
 use Rattle.std.proofs.lemmas.List.{map-append}
 use Rattle.std.proofs.lemmas.List.Elements.{All-append}
-use Rattle.runner.specs.Runner.{RunnerIs, EndsIs}
+use Rattle.runner.specs.Runner.{RunnerIs, EndpointsIs}
 use Rattle.runner.specs.Rule.{times, without, numbers, Agrees, AreListed}
 use Rattle.runner.proofs.Keeps.{times-append}
 use Rattle.runner.proofs.Bringing.{has, agreed, given, in_hand}
 
-module _ (charter : List EndsIs) where
+module _ (charter : List EndpointsIs) where
   pub united : (rs bs cs : List RunnerIs) (list more all : List ℕ) → cs ≡ rs ++ bs → all ≡ list ++ more → AreListed charter rs list → AreListed charter bs more → AreListed charter cs all
   united rs bs cs list more all e f a b = record {
     same = λ x.

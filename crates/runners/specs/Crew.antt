@@ -7,18 +7,18 @@ use Rattle.flow_model.specs.SetupView.{SetupView}
 use Rattle.flow_worker.specs.Worker.{IsWorker, WorkerIs}
 use Rattle.coordinator.specs.Feeding.{IsFeeder}
 use Rattle.coordinator.specs.Views.{FeederIs, end_of}
-use Rattle.runner.specs.Runner.{EndsIs, RunnerIs, ends_of}
+use Rattle.runner.specs.Runner.{EndpointsIs, RunnerIs, endpoints_of}
 
 abbrev pub number_in : WorkerIs → ℕ
 number_in w = w.number
 
 -- what no turn changes of a worker: its number and its endpoints
-abbrev pub fixed_in : WorkerIs → ℕ × EndsIs
-fixed_in w = (w.number, ends_of w)
+abbrev pub fixed_in : WorkerIs → ℕ × EndpointsIs
+fixed_in w = (w.number, endpoints_of w)
 
 -- the runner of a worker, before its first turn
 abbrev pub runner_of : WorkerIs → RunnerIs
-runner_of w = record { number = w.number; ends = ends_of w; is_done = false }
+runner_of w = record { number = w.number; endpoints = endpoints_of w; is_done = false }
 
 -- Workers in the order of their numbers, each with the law of a worker from the beginning on.
 pub record AreWorkers (setup : SetupView) (begin : Begin) (workers : List WorkerIs) : Type 0 where
@@ -34,5 +34,5 @@ pub record HasFed {Seed Rest : Type 0} (live : Bool) (setup : SetupView) (begin 
     (rows : List Row) (kept : Seed → List Feed → Rest → Type 0) (f : FeederIs) (rest : Rest)
     (g : FeederIs) (rest' : Rest) : Type 0 where
   pub law : IsFeeder live setup begin rows g
-  pub ends : map end_of g.outs ≡ map end_of f.outs
+  pub endpoints : map end_of g.outs ≡ map end_of f.outs
   pub kept_is : (seed : Seed) → kept seed f.feeds rest → kept seed g.feeds rest'

@@ -31,13 +31,13 @@ pub fn push_all<'s, R: Wait, L: Lanes, C: Charter>(
 ) -> Result<(), NoMemory>
     requires queue { IsSegPassOf queue.now pass.old }
     requires parts { pass.old.me.view.client.parts ≡ 16 }
-    requires listed { AreListed C.ends (map runner_of workers.items) pass.old.me.view.client.list }
+    requires listed { AreListed C.endpoints (map runner_of workers.items) pass.old.me.view.client.list }
     requires setup { setup_view setup.now ≡ C.setup }
     requires numbers { map number_in workers.items ≡ range_with_len 0 (length workers.items) }
     requires law { All (IsWorker (setup_view setup.now) C.begin) workers.items }
     ensures queue { IsSegPassOf queue.now pass.new }
     ensures parts { pass.new.me.view.client.parts ≡ 16 }
-    ensures listed { OnOk result (AreListed C.ends [] pass.new.me.view.client.list) }
+    ensures listed { OnOk result (AreListed C.endpoints [] pass.new.me.view.client.list) }
 {
     while let Some(worker) = workers.pop() {
         let number = workers.len() as u32;
@@ -58,9 +58,9 @@ pub fn drain<'s, R: Wait, L: Lanes, C: Charter>(
 ) -> Result<Vec<Runner<'s, L, C>>, NoMemory>
     requires queue { IsSegPassOf queue.now own.pass }
     requires parts { own.pass.me.view.client.parts ≡ 16 }
-    requires listed { AreListed C.ends own.runners.items own.pass.me.view.client.list }
-    ensures once { IfOk result (λ rs. HasEachOf (length C.ends) (numbers rs.items)) }
-    ensures agree { IfOk result (λ rs. All (Agrees C.ends) rs.items) }
+    requires listed { AreListed C.endpoints own.runners.items own.pass.me.view.client.list }
+    ensures once { IfOk result (λ rs. HasEachOf (length C.endpoints) (numbers rs.items)) }
+    ensures agree { IfOk result (λ rs. All (Agrees C.endpoints) rs.items) }
 {
     let Held {
         mut runners,

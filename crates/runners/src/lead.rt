@@ -44,13 +44,13 @@ pub fn lead<'s, R: Wait, L: Lanes, G: Gate, F: Feeding<L> + Drop, C: Charter>(
 ) -> Led<'s, L, F, C>
     requires queue { IsSegPassOf queue.now own.pass }
     requires some { 0 < own.pass.me.view.client.parts }
-    requires listed { AreListed C.ends own.runners.items own.pass.me.view.client.list }
+    requires listed { AreListed C.endpoints own.runners.items own.pass.me.view.client.list }
     requires feeder { IsFeeder F.LIVE (setup_view setup.now) C.begin rows.now (F.feeder feeder) }
     requires rows { AreFromSources (setup_view setup.now).job rows.now }
     ensures queue { IsSegPassOf queue.now result.own.pass }
     ensures parts { result.own.pass.me.view.client.parts
         ≡ own.entry.pass.me.view.client.parts }
-    ensures listed { AreListed C.ends result.own.runners.items
+    ensures listed { AreListed C.endpoints result.own.runners.items
         result.own.pass.me.view.client.list }
     ensures feeder { HasFed F.LIVE (setup_view setup.now) C.begin rows.now F.kept
         (F.feeder feeder) (F.rest feeder) (F.feeder result.feeder) (F.rest result.feeder) }

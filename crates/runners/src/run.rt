@@ -9,7 +9,7 @@ ghost use Rattle.flow_worker.specs.Worker.{IsWorker};
 ghost use Rattle.coordinator.specs.Feeding.{IsFeeder};
 ghost use Rattle.runners.specs.Crew.{AreWorkers, HasFed, fixed_in, number_in, runner_of};
 ghost use Rattle.runner.specs.Rule.{Agrees, AreListed, HasEachOf, HasEnded, numbers};
-ghost use Rattle.runner.specs.Runner.{ends_of};
+ghost use Rattle.runner.specs.Runner.{endpoints_of};
 
 use crate::crew::{drain, push_all, rounds, sort_by_number, to_workers};
 use crate::lead::{Led, lead};
@@ -104,7 +104,7 @@ where
     requires some { 1 ≤ threads }
     requires few { threads ≤ 16 }
     requires setup { setup_view setup.now ≡ C.setup }
-    requires ends { C.ends ≡ map ends_of workers.items }
+    requires endpoints { C.endpoints ≡ map endpoints_of workers.items }
     requires numbers { map number_in workers.items ≡ range_with_len 0 (length workers.items) }
     requires law { All (IsWorker (setup_view setup.now) C.begin) workers.items }
     requires feeder { IsFeeder F.LIVE (setup_view setup.now) C.begin rows.now (F.feeder feeder) }
@@ -153,14 +153,14 @@ where
     requires few { threads ≤ 16 }
     requires queue { IsSegPassOf queue.now pass }
     requires parts { pass.me.view.client.parts ≡ 16 }
-    requires listed { AreListed C.ends (map runner_of workers.items) pass.me.view.client.list }
+    requires listed { AreListed C.endpoints (map runner_of workers.items) pass.me.view.client.list }
     requires setup { setup_view setup.now ≡ C.setup }
     requires numbers { map number_in workers.items ≡ range_with_len 0 (length workers.items) }
     requires law { All (IsWorker (setup_view setup.now) C.begin) workers.items }
     requires feeder { IsFeeder F.LIVE (setup_view setup.now) C.begin rows.now (F.feeder feeder) }
     requires rows { AreFromSources (setup_view setup.now).job rows.now }
-    ensures once { IfOk result (λ r. HasEachOf (length C.ends) (numbers r.runners.items)) }
-    ensures agree { IfOk result (λ r. All (Agrees C.ends) r.runners.items) }
+    ensures once { IfOk result (λ r. HasEachOf (length C.endpoints) (numbers r.runners.items)) }
+    ensures agree { IfOk result (λ r. All (Agrees C.endpoints) r.runners.items) }
     ensures done { IfOk result (λ r. All HasEnded r.runners.items) }
     ensures feeder { IfOk result (λ r. HasFed F.LIVE (setup_view setup.now) C.begin rows.now F.kept
         (F.feeder feeder) (F.rest feeder) (F.feeder r.feeder) (F.rest r.feeder)) }
@@ -196,11 +196,11 @@ where
     requires few { threads ≤ 16 }
     requires queue { IsSegPassOf queue.now own.pass }
     requires parts { own.pass.me.view.client.parts ≡ 16 }
-    requires listed { AreListed C.ends own.runners.items own.pass.me.view.client.list }
+    requires listed { AreListed C.endpoints own.runners.items own.pass.me.view.client.list }
     requires feeder { IsFeeder F.LIVE (setup_view setup.now) C.begin rows.now (F.feeder feeder) }
     requires rows { AreFromSources (setup_view setup.now).job rows.now }
-    ensures once { IfOk result (λ r. HasEachOf (length C.ends) (numbers r.runners.items)) }
-    ensures agree { IfOk result (λ r. All (Agrees C.ends) r.runners.items) }
+    ensures once { IfOk result (λ r. HasEachOf (length C.endpoints) (numbers r.runners.items)) }
+    ensures agree { IfOk result (λ r. All (Agrees C.endpoints) r.runners.items) }
     ensures done { IfOk result (λ r. All HasEnded r.runners.items) }
     ensures feeder { IfOk result (λ r. HasFed F.LIVE (setup_view setup.now) C.begin rows.now F.kept
         (F.feeder feeder) (F.rest feeder) (F.feeder r.feeder) (F.rest r.feeder)) }
@@ -217,13 +217,13 @@ where
             requires queue { IsSegPassOf load.queue.now load.own.pass }
             requires words { length words.now ≤ 15 }
             requires parts { load.own.pass.me.view.client.parts ≡ 16 }
-            requires listed { AreListed C.ends load.own.runners.items
+            requires listed { AreListed C.endpoints load.own.runners.items
                 load.own.pass.me.view.client.list }
             requires feeder { IsFeeder F.LIVE (setup_view setup.now) C.begin rows.now
                 (F.feeder load.feeder) }
             requires rows { AreFromSources (setup_view setup.now).job rows.now }
-            ensures once { IfOk result (λ r. HasEachOf (length C.ends) (numbers r.runners.items)) }
-            ensures agree { IfOk result (λ r. All (Agrees C.ends) r.runners.items) }
+            ensures once { IfOk result (λ r. HasEachOf (length C.endpoints) (numbers r.runners.items)) }
+            ensures agree { IfOk result (λ r. All (Agrees C.endpoints) r.runners.items) }
             ensures done { IfOk result (λ r. All HasEnded r.runners.items) }
             ensures feeder { IfOk result (λ r. HasFed F.LIVE (setup_view setup.entry.now) C.begin
                 rows.entry.now F.kept (F.feeder load.entry.feeder) (F.rest load.entry.feeder)
@@ -267,12 +267,12 @@ where
     requires queue { IsSegPassOf load.queue.now load.own.pass }
     requires words { length words.now ≤ 15 }
     requires parts { load.own.pass.me.view.client.parts ≡ 16 }
-    requires listed { AreListed C.ends load.own.runners.items load.own.pass.me.view.client.list }
+    requires listed { AreListed C.endpoints load.own.runners.items load.own.pass.me.view.client.list }
     requires feeder { IsFeeder F.LIVE (setup_view setup.now) C.begin rows.now
         (F.feeder load.feeder) }
     requires rows { AreFromSources (setup_view setup.now).job rows.now }
-    ensures once { IfOk result (λ r. HasEachOf (length C.ends) (numbers r.runners.items)) }
-    ensures agree { IfOk result (λ r. All (Agrees C.ends) r.runners.items) }
+    ensures once { IfOk result (λ r. HasEachOf (length C.endpoints) (numbers r.runners.items)) }
+    ensures agree { IfOk result (λ r. All (Agrees C.endpoints) r.runners.items) }
     ensures done { IfOk result (λ r. All HasEnded r.runners.items) }
     ensures feeder { IfOk result (λ r. HasFed F.LIVE (setup_view setup.now) C.begin rows.now F.kept
         (F.feeder load.entry.feeder) (F.rest load.entry.feeder) (F.feeder r.feeder)

@@ -23,12 +23,12 @@ pub fn take_in<'s, L: Lanes, C: Charter>(
 ) -> Result<Held<'s, L, C>, NoMemory>
     requires queue { IsSegPassOf queue.now own.pass × IsSegPassOf queue.now back.pass }
     requires some { 0 < own.pass.me.view.client.parts }
-    requires own { AreListed C.ends own.runners.items own.pass.me.view.client.list }
-    requires back { AreListed C.ends back.runners.items back.pass.me.view.client.list }
+    requires own { AreListed C.endpoints own.runners.items own.pass.me.view.client.list }
+    requires back { AreListed C.endpoints back.runners.items back.pass.me.view.client.list }
     ensures queue { IfOk result (λ b. IsSegPassOf queue.now b.pass) }
     ensures parts { IfOk result (λ b. b.pass.me.view.client.parts
         ≡ own.entry.pass.me.view.client.parts + back.entry.pass.me.view.client.parts) }
-    ensures listed { IfOk result (λ b. AreListed C.ends b.runners.items
+    ensures listed { IfOk result (λ b. AreListed C.endpoints b.runners.items
         b.pass.me.view.client.list) }
 {
     let Held {
@@ -74,12 +74,12 @@ where
     requires queue { IsSegPassOf queue.now own.pass }
     requires words { length words.now ≤ 15 }
     requires parts { own.pass.me.view.client.parts ≡ 16 }
-    requires listed { AreListed C.ends own.runners.items own.pass.me.view.client.list }
+    requires listed { AreListed C.endpoints own.runners.items own.pass.me.view.client.list }
     requires handles { handles.items ≡ [] }
     ensures queue { IfOk result (λ r. IsSegPassOf queue.now r.0.pass) }
     ensures some { IfOk result (λ r. 0 < r.0.pass.me.view.client.parts) }
     ensures parts { IfOk result (λ r. r.0.pass.me.view.client.parts + vec_len r.1 ≡ 16) }
-    ensures listed { IfOk result (λ r. AreListed C.ends r.0.runners.items
+    ensures listed { IfOk result (λ r. AreListed C.endpoints r.0.runners.items
         r.0.pass.me.view.client.list) }
     ensures handles { IfOk result (λ r. All (λ h. h.promise.queue.value ≡ queue.now) r.1.items) }
 {
@@ -110,18 +110,18 @@ fn placed<'s, L: Lanes, C: Charter>(
     requires queue { IsSegPassOf queue.now own.pass }
     requires some { 0 < own.pass.me.view.client.parts }
     requires room { vec_len handles < vec_capacity handles }
-    requires listed { AreListed C.ends own.runners.items own.pass.me.view.client.list }
+    requires listed { AreListed C.endpoints own.runners.items own.pass.me.view.client.list }
     requires handles { All (λ h. h.promise.queue.value ≡ queue.now) handles.items }
     requires started { IfOk started (λ h. h.promise.queue.value ≡ queue.now) }
     requires back { IfErr started (λ b. IsSegPassOf queue.now b.pass) }
     requires part { IfErr started (λ b. b.pass.me.view.client.parts ≡ 1) }
-    requires theirs { IfErr started (λ b. AreListed C.ends b.runners.items
+    requires theirs { IfErr started (λ b. AreListed C.endpoints b.runners.items
         b.pass.me.view.client.list) }
     ensures queue { IfOk result (λ r. IsSegPassOf queue.now r.0.pass) }
     ensures parts { IfOk result (λ r. r.0.pass.me.view.client.parts + vec_len r.1
         ≡ own.entry.pass.me.view.client.parts + vec_len handles.entry + 1) }
     ensures few { IfOk result (λ r. vec_len r.1 ≤ vec_len handles.entry + 1) }
-    ensures listed { IfOk result (λ r. AreListed C.ends r.0.runners.items
+    ensures listed { IfOk result (λ r. AreListed C.endpoints r.0.runners.items
         r.0.pass.me.view.client.list) }
     ensures handles { IfOk result (λ r. All (λ h. h.promise.queue.value ≡ queue.now) r.1.items) }
 {
@@ -147,11 +147,11 @@ pub fn join_all<'s, R: Threads, L: Lanes, C: Charter>(
     requires queue { IsSegPassOf queue.now own.pass }
     requires some { 0 < own.pass.me.view.client.parts }
     requires parts { own.pass.me.view.client.parts + vec_len handles ≡ 16 }
-    requires listed { AreListed C.ends own.runners.items own.pass.me.view.client.list }
+    requires listed { AreListed C.endpoints own.runners.items own.pass.me.view.client.list }
     requires handles { All (λ h. h.promise.queue.value ≡ queue.now) handles.items }
     ensures queue { IfOk result (λ b. IsSegPassOf queue.now b.pass) }
     ensures parts { IfOk result (λ b. b.pass.me.view.client.parts ≡ 16) }
-    ensures listed { IfOk result (λ b. AreListed C.ends b.runners.items
+    ensures listed { IfOk result (λ b. AreListed C.endpoints b.runners.items
         b.pass.me.view.client.list) }
 {
     while let Some(handle) = handles.pop() {

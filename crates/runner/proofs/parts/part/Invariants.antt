@@ -7,5 +7,5 @@ abbrev pub invariant-loop : goal.invariant-loop
 invariant-loop g l = record {
   queue : IsSegPassOf l.queue l.pass;
   part : l.pass.me.view.client.parts ≡ 1;
-  listed : AreListed g.C.Charter.ends l.kept.items l.pass.me.view.client.list;
+  listed : AreListed g.C.Charter.endpoints l.kept.items l.pass.me.view.client.list;
 }

@@ -8,5 +8,5 @@ loop-preserved g c =
     let was = c.loop.invariant in let took = c.in-Some-take.ensures in record {
       queue = c.take.ensures.queue;
       parts = search rules;
-      listed = taken g.C.Charter.ends _ _ _ _ _ c.in-Some-take.runner c.reserve.ensures.items c.push_reserved.ensures.items (ap (λ (h : Tally). h.list) took.some) took.agrees was.listed;
+      listed = taken g.C.Charter.endpoints _ _ _ _ _ c.in-Some-take.runner c.reserve.ensures.items c.push_reserved.ensures.items (ap (λ (h : Tally). h.list) took.some) took.agrees was.listed;
     }

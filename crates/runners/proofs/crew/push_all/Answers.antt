@@ -22,13 +22,13 @@ new-requires-clause-law g c κs within = (law_last _ g.C.Charter.begin _ _ c.in-
 pub give-requires-clause-has : goal.give-requires-clause-has
 give-requires-clause-has g c κs within =
     let last = (numbers_last _ _ c.in-Some.worker c.in-Some.ensures.items c.loop-worker.invariant.numbers).1 in
-    named_last g.C.Charter.ends _ _ c.in-Some.worker c.in_ok-runner.runner _ c.in-Some.ensures.items
+    named_last g.C.Charter.endpoints _ _ c.in-Some.worker c.in_ok-runner.runner _ c.in-Some.ensures.items
     (as_runner c.in_ok-runner.runner c.in-Some.worker c.len-number.result c.in_ok-runner.ensures (omega (arith, last, c.len-number.ensures))) c.loop-worker.invariant.listed
 
 pub give-requires-clause-charter : goal.give-requires-clause-charter
 give-requires-clause-charter g c κs within =
     let last = (numbers_last _ _ c.in-Some.worker c.in-Some.ensures.items c.loop-worker.invariant.numbers).1 in
-    agreed_last g.C.Charter.ends _ _ c.in-Some.worker c.in_ok-runner.runner _ c.in-Some.ensures.items
+    agreed_last g.C.Charter.endpoints _ _ c.in-Some.worker c.in_ok-runner.runner _ c.in-Some.ensures.items
     (as_runner c.in_ok-runner.runner c.in-Some.worker c.len-number.result c.in_ok-runner.ensures (omega (arith, last, c.len-number.ensures))) c.loop-worker.invariant.listed
 
 pub loop-worker-preserved : goal.loop-worker-preserved
@@ -39,7 +39,7 @@ loop-worker-preserved g c =
     let gave = c.in-Ok.ensures.ok in record {
       queue = c.give.ensures.queue;
       parts = ap (λ (t : Tally). t.parts) gave ∙ was.parts;
-      listed = pushed g.C.Charter.ends _ _ c.in-Some.worker c.in_ok-runner.runner _ _ c.in-Some.ensures.items (as_runner c.in_ok-runner.runner c.in-Some.worker c.len-number.result c.in_ok-runner.ensures (omega (arith, last, c.len-number.ensures))) (ap (λ (t : Tally). t.list) gave) was.listed;
+      listed = pushed g.C.Charter.endpoints _ _ c.in-Some.worker c.in_ok-runner.runner _ _ c.in-Some.ensures.items (as_runner c.in_ok-runner.runner c.in-Some.worker c.len-number.result c.in_ok-runner.ensures (omega (arith, last, c.len-number.ensures))) (ap (λ (t : Tally). t.list) gave) was.listed;
       numbers = rest.0;
       law = (law_last _ g.C.Charter.begin _ _ c.in-Some.worker c.in-Some.ensures.items was.law).0;
     }

@@ -11,7 +11,7 @@ abbrev pub invariant-loop-worker : goal.invariant-loop-worker
 invariant-loop-worker g l = record {
   queue : IsSegPassOf l.queue l.pass;
   parts : l.pass.me.view.client.parts ≡ 16;
-  listed : AreListed g.C.Charter.ends (map runner_of l.workers.items) l.pass.me.view.client.list;
+  listed : AreListed g.C.Charter.endpoints (map runner_of l.workers.items) l.pass.me.view.client.list;
   numbers : map number_in l.workers.items ≡ range_with_len 0 (length l.workers.items);
   law : All (IsWorker (setup_view l.setup) g.C.Charter.begin) l.workers.items;
 }

@@ -23,7 +23,7 @@ loop-runner-preserved g c =
       counted = omega (arith, next.1, fewer, was.counted);
       room = omega (arith, fewer, long, longer, c.push_reserved.ensures.capacity, was.room);
       ended = all_rest HasEnded _ rest c.in-Some.runner next.0 was.ended;
-      fixed = fixed_more ws _ c.into_worker.result _ rest c.in-Some.runner _ pushed next.0 (ap₂ (λ a b. (a, b)) made.number made.ends) was.fixed;
+      fixed = fixed_more ws _ c.into_worker.result _ rest c.in-Some.runner _ pushed next.0 (ap₂ (λ a b. (a, b)) made.number made.endpoints) was.fixed;
       law = all_more (IsWorker g.C.Charter.setup g.C.Charter.begin) ws _ c.into_worker.result pushed was.law made.law;
       done = all_more IsDone ws _ c.into_worker.result pushed was.done made.done;
     }

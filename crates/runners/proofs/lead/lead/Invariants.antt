@@ -9,6 +9,6 @@ abbrev pub invariant-loop : goal.invariant-loop
 invariant-loop g l = record {
   queue : IsSegPassOf l.queue l.pass;
   parts : l.pass.me.view.client.parts ≡ l.fn.own.pass.me.view.client.parts;
-  listed : AreListed g.C.Charter.ends l.kept.items l.pass.me.view.client.list;
+  listed : AreListed g.C.Charter.endpoints l.kept.items l.pass.me.view.client.list;
   fed : HasFed g.F.Feeding.LIVE (setup_view l.setup) g.C.Charter.begin l.rows g.F.Feeding.kept (g.F.Feeding.feeder l.fn.feeder) (g.F.Feeding.rest l.fn.feeder) (g.F.Feeding.feeder l.feeder) (g.F.Feeding.rest l.feeder);
 }

@@ -7,4 +7,4 @@ pub returns-clause-once : goal.returns-clause-once
 returns-clause-once g c = λ x. ap (times x) (same_numbers _ _ c.in_ok-runners.ensures.fixed) ∙ c.in_ok-all.ensures.once x
 
 pub returns-clause-agree : goal.returns-clause-agree
-returns-clause-agree g c = same_agree g.C.Charter.ends _ _ c.in_ok-runners.ensures.fixed c.in_ok-all.ensures.agree
+returns-clause-agree g c = same_agree g.C.Charter.endpoints _ _ c.in_ok-runners.ensures.fixed c.in_ok-all.ensures.agree

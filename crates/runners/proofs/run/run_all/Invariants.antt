@@ -1,6 +1,6 @@
 use Rattle.std.proofs.Common.{map}
 use Rattle.flow_model.specs.Setup.{setup_view}
-use Rattle.runner.specs.Runner.{ends_of}
+use Rattle.runner.specs.Runner.{endpoints_of}
 use Rattle.runners.proofs.run.run_all.Given as goal
 
 -- the charter of a run: its setup, its beginning, and the endpoints of its workers
@@ -8,5 +8,5 @@ abbrev pub ghosts-under : goal.ghosts-under
 ghosts-under g a = record {
   setup = setup_view a.setup.now;
   begin = g.B.Beginning.begin;
-  ends = map ends_of a.workers.items;
+  endpoints = map endpoints_of a.workers.items;
 }

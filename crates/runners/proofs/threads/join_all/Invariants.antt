@@ -9,7 +9,7 @@ invariant-loop-handle g l = record {
   queue : IsSegPassOf l.queue l.own.pass;
   some : 0 < l.own.pass.me.view.client.parts;
   parts : l.own.pass.me.view.client.parts + vec_len l.handles ≡ 16;
-  listed : AreListed g.C.Charter.ends l.own.runners.items l.own.pass.me.view.client.list;
+  listed : AreListed g.C.Charter.endpoints l.own.runners.items l.own.pass.me.view.client.list;
   handles : All (λ h. h.promise.queue.value ≡ l.queue) l.handles.items;
 }
 

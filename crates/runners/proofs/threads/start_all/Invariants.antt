@@ -9,6 +9,6 @@ invariant-loop-word g l = record {
   queue : IsSegPassOf l.queue l.own.pass;
   parts : l.own.pass.me.view.client.parts + vec_len l.handles ≡ 16;
   few : vec_len l.handles ≤ l.word-index;
-  listed : AreListed g.C.Charter.ends l.own.runners.items l.own.pass.me.view.client.list;
+  listed : AreListed g.C.Charter.endpoints l.own.runners.items l.own.pass.me.view.client.list;
   handles : All (λ h. h.promise.queue.value ≡ l.queue) l.handles.items;
 }

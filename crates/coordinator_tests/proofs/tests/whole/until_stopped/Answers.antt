@@ -10,5 +10,5 @@ returns-in-Done-clause-law g c =
 pub loop-turn-preserved : goal.loop-turn-preserved
 loop-turn-preserved g c = record {
   law = c.turn.ensures.turn.law (at_first (setup_view c.args.setup.now)) c.loop-turn.invariant.law;
-  ends = c.turn.ensures.turn.ends ∙ c.loop-turn.invariant.ends;
+  endpoints = c.turn.ensures.turn.endpoints ∙ c.loop-turn.invariant.endpoints;
 }

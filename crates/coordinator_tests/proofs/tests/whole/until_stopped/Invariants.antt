@@ -9,5 +9,5 @@ use Rattle.coordinator_tests.proofs.tests.whole.until_stopped.Given as goal
 abbrev pub invariant-loop-turn : goal.invariant-loop-turn
 invariant-loop-turn g l = record {
   law : IsFeeder false (setup_view l.setup) (at_first (setup_view l.setup)) l.rows l.feeder;
-  ends : map end_of l.feeder.outs ≡ map end_of l.fn.feeder.outs;
+  endpoints : map end_of l.feeder.outs ≡ map end_of l.fn.feeder.outs;
 }

@@ -20,7 +20,7 @@ end_run-requires-clause-over g c κs within =
       c.args.rows.now,
       refl,
       over setup c.args.rows.now made.field-0.workers.items c.in-Some-all_done.workers.items _ _ c.in_ok-feeder.feeder c.in-Some.feeder c.finish-parts.result.0.feeds made.ensures.workers made.ensures.matched c.in_ok-feeder.ensures.outs
-          done.law done.done done.number done.lanes c.in-Some.ensures.law c.in-Some.ensures.stopped c.in-Some.ensures.ends c.finish-parts.ensures.feeds c.finish-parts.ensures.outs,
+          done.law done.done done.number done.lanes c.in-Some.ensures.law c.in-Some.ensures.stopped c.in-Some.ensures.endpoints c.finish-parts.ensures.feeds c.finish-parts.ensures.outs,
     )
 
 pub returns : goal.returns
@@ -30,4 +30,4 @@ returns g c =
     let done = c.in-Some-all_done.ensures in
     c.in_ok-ended.ensures.run setup (at_first setup) c.args.rows.now refl
     (over setup c.args.rows.now made.field-0.workers.items c.in-Some-all_done.workers.items _ _ c.in_ok-feeder.feeder c.in-Some.feeder c.finish-parts.result.0.feeds made.ensures.workers made.ensures.matched c.in_ok-feeder.ensures.outs
-    done.law done.done done.number done.lanes c.in-Some.ensures.law c.in-Some.ensures.stopped c.in-Some.ensures.ends c.finish-parts.ensures.feeds c.finish-parts.ensures.outs)
+    done.law done.done done.number done.lanes c.in-Some.ensures.law c.in-Some.ensures.stopped c.in-Some.ensures.endpoints c.finish-parts.ensures.feeds c.finish-parts.ensures.outs)
