@@ -42,7 +42,7 @@ fn push_due(
     ensures feeds { OnOk result (feeds.new ≡ feeds.old
         ++ issues (setup_view setup.now) rows row issued) }
 {
-    let count = setup.requests();
+    let count = setup.request_count();
     for place in issued..count {
         let request = place as u64 + 1;
         if setup.after(request).min(rows) > row {

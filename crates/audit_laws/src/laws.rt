@@ -101,7 +101,7 @@ pub fn lines_of_runs_have_form(setup: &Setup, rows: &Rows)
         IsRun (setup_view setup.now) rows.now ran → HasForm refused ran }
 {
     let _numbered = rows.as_slice();
-    let _request_count = setup.requests();
+    let _request_count = setup.request_count();
     let _plan_count = setup.plans.len();
 }
 

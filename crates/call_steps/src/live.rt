@@ -70,7 +70,7 @@ where
     ensures workers { IfOk result (λ live. HasWorkers live.done) }
 {
     let setup = setup_of(alloc, job, requests, false)?;
-    let most = setup.requests() as u32;
+    let most = setup.request_count() as u32;
     let (mut teller, inbox) = line(alloc)?;
     let (flown, heard) = run_beside(
         rt,

@@ -313,7 +313,12 @@ fn serial_lines(alloc: Global, done: &Done) -> Result<Bytes, NoMemory>
     if !done.ran.setup.ordered {
         return Ok(lines);
     }
-    push_serial_line(alloc, &done.serial, done.ran.setup.requests(), &mut lines)?;
+    push_serial_line(
+        alloc,
+        &done.serial,
+        done.ran.setup.request_count(),
+        &mut lines,
+    )?;
     Ok(lines)
 }
 

@@ -120,7 +120,7 @@ impl<N, T: Tx<N> + Drop> FeederState<N, T> {
         requires rows { AreFromSources (setup_view setup.now).job rows.now }
         ensures { IsTurn false (setup_view setup.now) rows.now result self.old self.new }
     {
-        let _requests = setup.requests();
+        let _requests = setup.request_count();
         self.step(need, setup, rows, gate, u64::MAX)
     }
 
@@ -194,7 +194,7 @@ impl<N, T: Tx<N> + Drop> FeederState<N, T> {
         ensures undue { result ≡ false → IsAhead (released_rows released rows
             (afters (setup_view setup.now).requests)) rows self.now.row self.now.issued }
     {
-        if self.issued >= setup.requests() {
+        if self.issued >= setup.request_count() {
             return false;
         }
         self.row_waited_for(setup, rows as u64, released)
@@ -224,7 +224,7 @@ impl<N, T: Tx<N> + Drop> FeederState<N, T> {
         if self.feeds.reserve(1).is_err() {
             return FeedTurn::NoMemory;
         }
-        let _requests = setup.requests();
+        let _requests = setup.request_count();
         if !self.boxes.are_ready() {
             return FeedTurn::Idle;
         }

@@ -38,7 +38,7 @@ pub fn the_law_goes_on()
 /// brings it, and no marker stands anywhere else; at a head no tuple that was fed under the next
 /// request comes before its turn; and the ends stand together at the end, of each lane once, when
 /// every request is turned.
-pub fn lawful_journals_have_four_points()
+pub fn lawful_journals_have_points()
     ensures { (duties : Duties) (journal : List EntryIs)
         → IsLawful duties journal ↔ HasPoints duties journal }
 {}

@@ -43,7 +43,7 @@ pub use examples::{
     payments_have_an_order, requests_wait_for_their_rows, two_ways_are_a_run,
 };
 pub use in_force::InForce;
-pub use journals::{lawful_journals_have_four_points, replays_go_on, the_law_goes_on};
+pub use journals::{lawful_journals_have_points, replays_go_on, the_law_goes_on};
 pub use landing::{Landing, Landings};
 pub use laws::{
     changed_nodes_are_asked, heads_are_unentered, plans_are_least, requests_keep_kinds,

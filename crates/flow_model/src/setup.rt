@@ -119,7 +119,7 @@ impl Setup {
     }
 
     /// How many requests were accepted. Takes no memory.
-    pub fn requests(&self) -> usize
+    pub fn request_count(&self) -> usize
         ensures { result ≡ length (setup_view self.now).requests }
     {
         self.judged.accepted.len()

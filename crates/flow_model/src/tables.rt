@@ -21,7 +21,7 @@ pub fn workers_of(alloc: Global, job: &Job) -> Result<Items<WorkerAt>, NoMemory>
 {
     let mut workers = Items::new(alloc);
     for (node, def) in job.nodes.as_slice().iter().enumerate() {
-        push_workers(&mut workers, node as u32, def.journals())?;
+        push_workers(&mut workers, node as u32, def.journal_count())?;
     }
     Ok(workers)
 }
@@ -105,7 +105,7 @@ fn first_worker(job: &Job, node: u32) -> u32
 {
     let mut first = 0;
     for def in &job.nodes.as_slice()[..node as usize] {
-        first += def.journals();
+        first += def.journal_count();
     }
     first
 }
@@ -115,7 +115,7 @@ fn receiver_count(job: &Job, node: u32) -> u32
     requires { node < length (job_view job.now).nodes }
     ensures { result ≡ length (workers_at_node (job_view job.now) node) }
 {
-    job.nodes.as_slice()[node as usize].journals()
+    job.nodes.as_slice()[node as usize].journal_count()
 }
 
 // How many send from a node.
@@ -127,7 +127,7 @@ fn sender_count(job: &Job, node: u32) -> u32
     if is_source(&def.func) {
         1
     } else {
-        def.journals()
+        def.journal_count()
     }
 }
 

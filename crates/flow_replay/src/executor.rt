@@ -63,7 +63,7 @@ impl Executor {
             self.old.runs.items self.new.runs.items) }
         ensures same { OnOk result (self.new.setup ≡ self.old.setup) }
     {
-        for place in self.issued..self.setup.requests() {
+        for place in self.issued..self.setup.request_count() {
             let request = place as u64 + 1;
             if self.setup.after(request).min(rows) > row {
                 return Ok(());

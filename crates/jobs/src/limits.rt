@@ -152,7 +152,7 @@ pub fn all_workers(nodes: &[NodeDef]) -> u64
 {
     let mut sum = 0u64;
     for node in nodes {
-        sum += u64::from(node.journals());
+        sum += u64::from(node.journal_count());
     }
     sum
 }

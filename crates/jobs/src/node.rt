@@ -8,7 +8,7 @@ use crate::{Followers, Func, NodeDef, Shape};
 impl NodeDef {
     /// How many workers the node has that keep a journal: none for a source, which the feeder
     /// plays. Takes no memory.
-    pub fn journals(&self) -> u32
+    pub fn journal_count(&self) -> u32
         ensures { result ≡ workers_of self.now }
     {
         if self.func.kind().row().entered {

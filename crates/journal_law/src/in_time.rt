@@ -16,7 +16,7 @@ pub(crate) fn is_fed_before(setup: &Setup, rows: u64, row: u64, request: u64) ->
     if request == 0 {
         return false;
     }
-    if request > setup.requests() as u64 {
+    if request > setup.request_count() as u64 {
         return true;
     }
     let after = setup.after(request);

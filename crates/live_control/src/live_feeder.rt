@@ -84,7 +84,7 @@ impl<L: Lanes> Feeding<L> for LiveFeeder<L> {
         rows: &Rows,
         gate: &G,
     ) -> FeedTurn {
-        let released = released(&mut self.inbox, setup.requests() as u64);
+        let released = released(&mut self.inbox, setup.request_count() as u64);
         self.state.live_turn(need, setup, rows, gate, released)
     }
 

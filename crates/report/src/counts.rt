@@ -27,7 +27,7 @@ pub fn alert_count(job: &Job, journals: &[Journal]) -> Result<usize, NoMemory>
     let mut count = 0;
     let mut rest = journals;
     for node in job.nodes.as_slice() {
-        let (own, later) = rest.split_at(node.journals() as usize);
+        let (own, later) = rest.split_at(node.journal_count() as usize);
         count = sum(count, met_by(&node.func, own)?)?;
         rest = later;
     }

@@ -16,7 +16,7 @@ pub fn start_of(alloc: Global, ran: &RunRecord, rows: u64) -> Result<Start, NoMe
 {
     Ok(Start {
         row: rows,
-        turned: ran.setup.requests() as u64,
+        turned: ran.setup.request_count() as u64,
         states: copies(alloc, ran.states.as_slice())?,
     })
 }

@@ -36,7 +36,7 @@ fn by_node(alloc: Global, job: &Job, start: &Start) -> Result<Bytes, NoMemory>
     save.write_head(start.row, start.turned)?;
     let mut states = start.states.as_slice();
     for node in job.nodes.as_slice() {
-        let (own, later) = states.split_at(node.journals() as usize);
+        let (own, later) = states.split_at(node.journal_count() as usize);
         save.write_node(node.name.as_slice(), own)?;
         states = later;
     }

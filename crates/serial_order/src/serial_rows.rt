@@ -26,7 +26,7 @@ pub fn serial(alloc: Global, ran: &RunRecord, rows: &Rows) -> Result<Serial, NoM
 {
     let listed = rows.as_slice();
     let mut numbers = zeros(alloc, listed.len())?;
-    for place in 0..ran.setup.requests() {
+    for place in 0..ran.setup.request_count() {
         number_new(ran, place as u64 + 1, &mut numbers);
     }
     Ok(numbers)

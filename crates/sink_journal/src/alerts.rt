@@ -29,7 +29,7 @@ pub fn alerts_text(alloc: Global, job: &Job, journals: &Journals) -> Result<Byte
     write_header(&mut lines, columns)?;
     let mut rest = journals.as_slice();
     for node in job.nodes.as_slice() {
-        let (own, later) = rest.split_at(node.journals() as usize);
+        let (own, later) = rest.split_at(node.journal_count() as usize);
         write_node(alloc, &mut lines, columns, node, own)?;
         rest = later;
     }

@@ -70,7 +70,7 @@ pub fn audit_text(
     let mut journals = journals.as_slice();
     let mut states = states.as_slice();
     for node in job.nodes.as_slice() {
-        let workers = node.journals() as usize;
+        let workers = node.journal_count() as usize;
         let (own_journals, later_journals) = journals.split_at(workers);
         let (own_states, later_states) = states.split_at(workers);
         audit.write_node(node.name.as_slice(), own_journals, own_states)?;

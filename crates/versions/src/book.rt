@@ -61,7 +61,7 @@ impl Book {
     }
 
     /// How many nodes there are.
-    pub fn nodes(&self) -> usize
+    pub fn node_count(&self) -> usize
         ensures { result ≡ length self.now }
     {
         self.entries.len()

@@ -12,7 +12,7 @@ pub fn is_lawful(ran: &Option<RunRecord>) -> bool {
     let Some(ran) = ran else {
         return false;
     };
-    let requests = ran.setup.requests() as u64;
+    let requests = ran.setup.request_count() as u64;
     let mut lawful = true;
     for journal in &ran.journals {
         lawful &= is_lawful_for_each(journal.as_slice(), requests);

@@ -109,7 +109,7 @@ fn verdicts(book: &Book, job: &Job, request: &Request) -> Option<[Result<(), QFa
 
 /// The version of node 3 in a book, and the key that it counts by there.
 fn tally_in(book: &Book) -> Option<(u64, u32)> {
-    if book.nodes() <= 3 {
+    if book.node_count() <= 3 {
         return None;
     }
     match book.func(3) {
@@ -126,7 +126,7 @@ fn begins_with_the_job(alloc: Global, job: &Job, request: &Request) -> bool {
     let (Ok(book), Ok(request)) = (book.copy(), request.copy(alloc)) else {
         return false;
     };
-    book.nodes() == 9
+    book.node_count() == 9
         && tally_in(&book) == Some((0, 0))
         && verdicts(&book, job, &request) == Some([Ok(()), Err(QFault::Backwards(1))])
 }

@@ -28,7 +28,7 @@ fn told(node: &NodeDef) -> Told {
         is_free(&node.func),
         fan_out(&node.func),
         node.roof,
-        node.journals(),
+        node.journal_count(),
     )
 }
 

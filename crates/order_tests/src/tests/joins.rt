@@ -78,7 +78,7 @@ fn a_run_is_joined_to_its_end(rt: HostRuntime) {
 /// How many requests and plans are left of a setup with one request.
 fn left(alloc: Global) -> Option<(usize, usize)> {
     let setup = first_of(inputs(AFTER_4).setup(alloc)?, 0);
-    Some((setup.requests(), setup.plans.len()))
+    Some((setup.request_count(), setup.plans.len()))
 }
 
 #[test]

@@ -12,7 +12,7 @@ fn tells(alloc: Global, ran: &RunRecord, wanted: &str) -> Result<bool, NoMemory>
     let rows = rows_of(alloc, &ran.setup.job, PAYMENTS).ok_or(NoMemory)?;
     let order = serial(alloc, ran, &rows)?;
     let mut line = Bytes::new(alloc);
-    push_serial_line(alloc, &order, ran.setup.requests(), &mut line)?;
+    push_serial_line(alloc, &order, ran.setup.request_count(), &mut line)?;
     Ok(line.as_slice() == wanted.as_bytes())
 }
 

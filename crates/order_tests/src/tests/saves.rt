@@ -25,7 +25,7 @@ fn first_run(alloc: Global) -> Option<RunRecord> {
 fn first_setup(alloc: Global) -> Option<Setup> {
     let setup = inputs(AFTER_4_AND_8).setup(alloc)?;
     let issued = issued_up_to(&setup, 8, 10);
-    if issued > setup.requests() as u64 {
+    if issued > setup.request_count() as u64 {
         return None;
     }
     Some(first_of(setup, issued))

@@ -10,7 +10,7 @@ fn setup(alloc: Global, requests: &str, ordered: bool) -> Option<Setup> {
 
 /// Whether request 1 covers both filters alone, and the first is its head.
 fn covers_both(setup: &Setup) -> bool {
-    if setup.requests() != 1 || setup.workers() != 3 {
+    if setup.request_count() != 1 || setup.workers() != 3 {
         return false;
     }
     for worker in 0..3 {

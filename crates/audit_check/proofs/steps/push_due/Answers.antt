@@ -47,6 +47,6 @@ returns-clause-waits c =
     let place = c.loop-place.place in
     let long = length-map setup.requests (λ (request : Request). request.after) in
     let few = c.loop-place.invariant.due.few in
-    let end : length (afters setup.requests) ≤ place = omega (arith, c.loop-place-test.false, c.requests-count.ensures, long) in
-    let same : place ≡ c.requests-count.result = omega (arith, end, few, c.requests-count.ensures, long) in
+    let end : length (afters setup.requests) ≤ place = omega (arith, c.loop-place-test.false, c.request_count-count.ensures, long) in
+    let same : place ≡ c.request_count-count.result = omega (arith, end, few, c.request_count-count.ensures, long) in
     subst (λ n. AreIssuedBefore (afters setup.requests) c.args.rows (c.args.row + 1) n) same (due_ends (afters setup.requests) c.args.rows c.args.row place end c.loop-place.invariant.due)

@@ -12,7 +12,7 @@ use Rattle.call_steps.proofs.live.run_live.Goals as goal
 
 pub overflow_cast-most : goal.overflow_cast-most
 overflow_cast-most g c =
-    let many = c.requests-most.ensures in
+    let many = c.request_count-most.ensures in
     let same = ap (λ (l : List Request). length l) c.in_ok-setup.ensures.accepted in
     let few = few_accepted (job_view c.args.job) c.args.requests.now in
     let all = c.requires.few.count in
@@ -20,7 +20,7 @@ overflow_cast-most g c =
 
 pub run_beside-flown-requires-clause-most : goal.run_beside-flown-requires-clause-most
 run_beside-flown-requires-clause-most g c κs within =
-    let many = c.requests-most.ensures in
+    let many = c.request_count-most.ensures in
     let same = ap (λ (l : List Request). length l) c.in_ok-setup.ensures.accepted in
     let few = few_accepted (job_view c.args.job) c.args.requests.now in
     let all = c.requires.few.count in
@@ -36,7 +36,7 @@ returns-clause-run g c =
     } in
     let same : c.in_ok-ran.ran.setup ≡ c.in_ok-flown.flown.setup = ap (λ (r : RunRecord). r.setup) c.in_ok-ran.ensures in
     let heard = subst (λ n. IsHeard n (g.Q.Asks.state c.args.asks.now) (g.Q.Asks.state c.run_beside-flown.new.asks) c.run_beside-flown.result.1)
-    (c.requests-most.ensures ∙ ap (λ (l : List Request). length l) c.in_ok-setup.ensures.accepted) c.run_beside-flown.ensures.heard in
+    (c.request_count-most.ensures ∙ ap (λ (l : List Request). length l) c.in_ok-setup.ensures.accepted) c.run_beside-flown.ensures.heard in
     let reached : last_load c.in_ok-flown.inbox.loads ≤ c.run_beside-flown.result.1.releases =
     (let a = c.meet-met.ensures.last in let b = c.meet-met.ensures.told in let le = c.meet-met.ensures.reached in let e = ap (λ (t : TellerIs). t.told) c.run_beside-flown.ensures.told in omega (arith, a, b, le, e)) in
     live_of (job_view c.args.job) c.args.requests.now c.args.rows.now c.in_ok-setup.setup c.in_ok-flown.flown.setup c.in_ok-teller.inbox c.in_ok-flown.inbox c.in_ok-flown.flown.feeds c.in_ok-flown.flown.crew.items

@@ -8,5 +8,5 @@ use Rattle.flow_model.proofs.tables.workers_of.Goals as goal
 pub loop-node-preserved : goal.loop-node-preserved
 loop-node-preserved c =
     let item = item_read c.as_slice-def-items.result.now c.args.job.now.nodes c.loop-node.node c.def-item.result c.as_slice-def-items.ensures (omega (arith, c.loop-node-test.true, ap length c.as_slice-def-items.ensures)) c.def-item.is in
-    workers-next c.args.job.now.nodes c.loop-node.node c.journals.result c.def-item.result c.loop-node.workers c.push_workers.new.workers (map worker_of (workers_in (job_view c.args.job.now))) item c.journals.ensures
+    workers-next c.args.job.now.nodes c.loop-node.node c.journal_count.result c.def-item.result c.loop-node.workers c.push_workers.new.workers (map worker_of (workers_in (job_view c.args.job.now))) item c.journal_count.ensures
     c.in_ok-push_workers.ensures c.loop-node.invariant

@@ -3,10 +3,10 @@ use Rattle.std.proofs.lemmas.Bool.{le-leb, leb-true}
 use Rattle.journal_law.proofs.FedLemmas.{by_row, too_many}
 use Rattle.journal_law.proofs.in_time.is_fed_before.Goals as goal
 
-pub returns-then-request-requests : goal.returns-then-request-requests
-returns-then-request-requests c =
+pub returns-then-request-request_count : goal.returns-then-request-request_count
+returns-then-request-request_count c =
     let above = c.if-request-eq0.false in
-    let less = too_many c.args.setup.now c.args.rows c.args.row (c.args.request - 1) c.args.request (omega (arith, c.if-request-requests.true, c.requests.ensures)) (omega (arith, above)) in
+    let less = too_many c.args.setup.now c.args.rows c.args.row (c.args.request - 1) c.args.request (omega (arith, c.if-request-request_count.true, c.request_count.ensures)) (omega (arith, above)) in
     (λ t. less, λ l. refl)
 
 pub returns-then-row-rows : goal.returns-then-row-rows

@@ -19,7 +19,7 @@ are_ready-requires-clause-few g c =
     let within = c.requires.left in
     let same : c.self.inside.issued ≡ c.args.self.now.issued = ap (λ f. f.issued) c.self.view_is in
     few_covered setup c.self.inside.begin_turned c.self.inside.issued c.self.inside.boxes (boxes_of _ _ _ _ _ _ c.self.view_is c.requires.law.2)
-    (omega (arith, within, same, length-map setup.requests (λ (request : Request). request.after), c.requests-requests.ensures, c.requests-requests.type_inv))
+    (omega (arith, within, same, length-map setup.requests (λ (request : Request). request.after), c.request_count-requests.ensures, c.request_count-requests.type_inv))
 
 pub are_ready-requires-clause-ready : goal.are_ready-requires-clause-ready
 are_ready-requires-clause-ready g c = (boxes_of _ _ _ _ _ _ c.self.view_is c.requires.law.2).ready_are
@@ -35,7 +35,7 @@ overflow_add-request g c =
     let setup = setup_view c.args.setup.now in
     let within = c.requires.left in
     let same : c.self.inside.issued ≡ c.args.self.now.issued = ap (λ f. f.issued) c.self.view_is in
-    omega (arith, within, same, length-map setup.requests (λ (request : Request). request.after), c.requests-requests.ensures, c.requests-requests.type_inv)
+    omega (arith, within, same, length-map setup.requests (λ (request : Request). request.after), c.request_count-requests.ensures, c.request_count-requests.type_inv)
 
 pub post-requires-clause-boxes : goal.post-requires-clause-boxes
 post-requires-clause-boxes g c =
@@ -55,7 +55,7 @@ post-requires-clause-few g c =
     few_covered setup c.self.inside.begin_turned c.self.inside.issued c.are_ready.new.self
     (asked_boxes_are setup c.self.inside.begin_turned c.self.inside.issued c.self.inside.boxes c.are_ready.new.self (boxes_of _ _ _ _ _ _ c.self.view_is c.requires.law.2)
     c.are_ready.ensures.covered c.are_ready.ensures.boxes c.are_ready.ensures.workers_in c.are_ready.ensures.within c.are_ready.ensures.ready)
-    (omega (arith, within, same, length-map setup.requests (λ (request : Request). request.after), c.requests-requests.ensures, c.requests-requests.type_inv))
+    (omega (arith, within, same, length-map setup.requests (λ (request : Request). request.after), c.request_count-requests.ensures, c.request_count-requests.type_inv))
 
 pub post-requires-clause-ready : goal.post-requires-clause-ready
 post-requires-clause-ready g c =
@@ -69,7 +69,7 @@ overflow_add-self g c =
     let setup = setup_view c.args.setup.now in
     let within = c.requires.left in
     let same : c.self.inside.issued ≡ c.args.self.now.issued = ap (λ f. f.issued) c.self.view_is in
-    omega (arith, within, same, length-map setup.requests (λ (request : Request). request.after), c.requests-requests.ensures, c.requests-requests.type_inv)
+    omega (arith, within, same, length-map setup.requests (λ (request : Request). request.after), c.request_count-requests.ensures, c.request_count-requests.type_inv)
 
 pub returns : goal.returns
 returns g c =

@@ -14,6 +14,6 @@ step-requires-clause-law g c = (c.requires.law.0, afters (setup_view c.args.setu
 pub returns : goal.returns
 returns g c =
     let setup = setup_view c.args.setup.now in
-    let few : length (afters setup.requests) ≤ 2 ^ 64 - 1 = omega (arith, length-map setup.requests (λ (request : Request). request.after), c.requests-requests.ensures, c.requests-requests.type_inv) in
+    let few : length (afters setup.requests) ≤ 2 ^ 64 - 1 = omega (arith, length-map setup.requests (λ (request : Request). request.after), c.request_count-requests.ensures, c.request_count-requests.type_inv) in
     is_turn setup c.args.rows.now c.args.self.now c.step.new.self c.step.result
     (subst (λ (xs : List ℕ). Steps setup xs c.args.rows.now c.args.self.now c.step.new.self c.step.result) (all_released (2 ^ 64 - 1) (length c.args.rows.now) (afters setup.requests) few) c.step.ensures)

@@ -83,7 +83,7 @@ loop-place-preserved c =
           (sym pushed)
           (issue_step setup fed c.loop-place.self.feeds place c.loop-place.self.runs.items
           now.runs.items (covered kept)
-          (omega (arith, c.loop-place-test.true, c.requests-place-end.ensures, planned))
+          (omega (arith, c.loop-place-test.true, c.request_count-place-end.ensures, planned))
           (h.far fed f) gain);
       sorted = λ s.
           turn_sorted setup c.args.rows c.args.row place request.0 c.loop-place.self.runs.items
@@ -98,7 +98,7 @@ returns-clause-issued c =
     let h = c.loop-place.invariant in
     let long = length-map setup.requests (λ (request : Request). request.after) in
     let end : length (afters setup.requests) ≤ place =
-    omega (arith, c.loop-place-test.false, c.requests-place-end.ensures, long) in
+    omega (arith, c.loop-place-test.false, c.request_count-place-end.ensures, long) in
     subst (λ (n : ℕ). AreIssued setup c.args.rows c.args.row c.args.self.now.issued n
     c.args.self.now.feeds c.loop-place.self.feeds c.args.self.now.runs.items
     c.loop-place.self.runs.items) (sym h.at) (record {
