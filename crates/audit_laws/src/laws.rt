@@ -116,7 +116,7 @@ pub fn texts_of_runs_have_no_fault(setup: &Setup, rows: &Rows)
     lines_of_runs_have_form(setup, rows);
 }
 
-/// No text has two faults. So the contract of a checker fixes its answer, but for out of memory.
+/// No text has two faults. So the contract of a checker fixes its answer, out of memory aside.
 pub fn texts_have_one_fault(setup: &Setup)
     ensures { (rows : List RowIs) (refused : List NotedIs) (text : List ℕ) (f g : FaultIs) →
         f ≢ TheFault.NoMemory → g ≢ TheFault.NoMemory →

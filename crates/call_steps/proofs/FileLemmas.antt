@@ -16,7 +16,7 @@ use Rattle.flow_model.specs.SetupView.{SetupView}
 use Rattle.savepoint.specs.SaveReading.{save_of}
 use Rattle.call_steps.specs.Outcomes.{EndsAfterRun, EndsStoring, StopsStoring}
 use Rattle.payments.specs.World.{ShelfState, SinkState, World, world}
-use Rattle.call_steps.specs.Outside.{FileText, IsExcused, Prints, PrintsFault}
+use Rattle.call_steps.specs.Effects.{FileText, IsExcused, Prints, PrintsFault}
 use Rattle.report.specs.Faults.{limit_of}
 use Rattle.call_steps.specs.Reading.{AreRequestsOf, AreRowsOf, FollowsFile, FollowsStart, HasRead, IsJobOf, IsRead, IsUnread, RefusesJob, RefusesRequests, RefusesRows, RefusesSave, Tells, TellsJob, TellsRequests, TellsRows, TellsStart}
 use Rattle.report.specs.declared.fault.Fault.{Fault}

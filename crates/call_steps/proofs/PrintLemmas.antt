@@ -4,7 +4,7 @@ use Rattle.std.specs.Prelude.{option_map}
 use Rattle.payments.specs.Causes.{GainsPrefix, GainsProperPrefix}
 use Rattle.payments.specs.World.{SinkState}
 use Rattle.tuple_trace.specs.Counts.{Rose}
-use Rattle.call_steps.specs.Outside.{Prints}
+use Rattle.call_steps.specs.Effects.{Prints}
 use Rattle.report.specs.FaultWords.{fault_line}
 use Rattle.report.specs.declared.fault.Fault.{Fault}
 use Rattle.report.specs.declared.fault.Fault.TheVariants as fault

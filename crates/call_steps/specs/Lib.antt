@@ -1,5 +1,5 @@
 pub mod FirstJob
-pub mod Outside
+pub mod Effects
 pub mod Reading
 pub mod Outcomes
 pub mod SetupFor

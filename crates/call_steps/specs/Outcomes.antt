@@ -2,7 +2,7 @@
 use Rattle.std.specs.Prelude.{◌≡◌, ◌⊎◌, ◌∷◌, ℕ, List, [], Option, None, Some}
 use Rattle.payments.specs.Causes.{Faults}
 use Rattle.payments.specs.World.{World}
-use Rattle.call_steps.specs.Outside.{FileText, Prints, StoresNot, StoresPart, StoresWhole}
+use Rattle.call_steps.specs.Effects.{FileText, Prints, StoresNot, StoresPart, StoresWhole}
 use Rattle.call_steps.specs.declared.answer.Answer.{Answer}
 use Rattle.report.specs.declared.fault.Fault.{Fault}
 use Rattle.report.specs.declared.fault.Fault.TheVariants as fault

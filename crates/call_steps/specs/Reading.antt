@@ -18,7 +18,7 @@ use Rattle.savepoint.specs.SaveReading.{save_of}
 use Rattle.savepoint.specs.declared.fault.SaveFault.TheVariants as save
 use Rattle.report.specs.Faults.{limit_of}
 use Rattle.payments.specs.World.{World}
-use Rattle.call_steps.specs.Outside.{IsExcused}
+use Rattle.call_steps.specs.Effects.{IsExcused}
 use Rattle.report.specs.declared.fault.Fault.{Fault}
 use Rattle.report.specs.declared.fault.Fault.TheVariants as fault
 use Rattle.report.specs.declared.fault.FileIs.{FileIs}

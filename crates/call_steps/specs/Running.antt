@@ -21,7 +21,7 @@ use Rattle.serial_order.specs.Serials.{serial_line, serials}
 use Rattle.call_steps.specs.Outcomes.{EndsAfterRun}
 use Rattle.report.specs.Lines.{alert_count, noted, refused_lines, row_count, summary_line}
 use Rattle.payments.specs.World.{World}
-use Rattle.call_steps.specs.Outside.{FileText}
+use Rattle.call_steps.specs.Effects.{FileText}
 use Rattle.call_steps.specs.SetupFor.{IsSetupFor}
 use Rattle.call_steps.specs.declared.answer.Answer.{Answer}
 use Rattle.report.specs.declared.fault.FileIs.TheVariants as file

@@ -1,6 +1,6 @@
 ghost use Rattle.std.specs.Prelude.{◌≡◌, ℕ, IfOk, List, string_bytes};
 ghost use Rattle.std.specs.Result.{result_err};
-ghost use Rattle.call_steps.specs.Outside.{Prints};
+ghost use Rattle.call_steps.specs.Effects.{Prints};
 
 use payments::{Sink, SinkFault, write_all};
 use report::{Fault, FileIs};

@@ -3,7 +3,7 @@ ghost use Rattle.std.specs.Result.{result_err};
 ghost use Rattle.payments.specs.Files.{HoldsProperPrefix, with_bytes};
 ghost use Rattle.call_steps.specs.Outcomes.{EndsStoring};
 ghost use Rattle.payments.specs.World.{world};
-ghost use Rattle.call_steps.specs.Outside.{StoresNot};
+ghost use Rattle.call_steps.specs.Effects.{StoresNot};
 
 use crate::printing::print;
 use payments::{Shelf, ShelfFault, Sink, store};
@@ -21,7 +21,7 @@ pub struct FileText<'a> {
 }
 
 impl<'a> Model for FileText<'a> {
-    ghost use Rattle.call_steps.specs.Outside.{FileText};
+    ghost use Rattle.call_steps.specs.Effects.{FileText};
 
     ghost Value = { FileText };
 

@@ -1,4 +1,4 @@
--- Which entry came of which: chains of entries, and how two of them part.
+-- Which entry descends from which: chains of entries, and how two of them part.
 use Rattle.std.proofs.Common.{◌≡◌, ◌∙◌, ◌≢◌, ◌<◌, ◌+◌, ◌++◌, ℕ, List, [], ◌∷◌, ◌⊎◌, inl, inr, refl, sym, subst, ap, arith, length, take, flat_map, Some, slice_get, append_assoc, append-nil}
 use Rattle.std.proofs.lemmas.Bool.{cases_eq, eq-eqb}
 use Rattle.flow_dag.specs.Edges.{HasEdge}
@@ -62,7 +62,7 @@ sent_before ran lane p = length (flat_map (put_then ran.setup (worker_no ran.set
 abbrev pub put_before : Lane → ℕ → List Put → ℕ
 put_before lane k ps = length (items_on lane (take k ps))
 
--- ---- who came of whom
+-- ---- who descends from whom
 
 -- what is met at c was put at p, and was delivered to c by this lane
 pub record Child (ran : Ran) (p c : Address) : Type 0 where
@@ -180,7 +180,7 @@ parted ran p a b c d differ = record { first = c; second = d; same_moment = one;
 
 -- ---- chains
 
--- each of these came of the one before it, from p down to c
+-- each of these is a child of the one before it, from p down to c
 abbrev pub IsChain : Ran → Address → List Address → Address → Type 0
 IsChain ran p [] c = p ≡ c
 IsChain ran p (a ∷ more) c = Child ran p a × IsChain ran a more c
@@ -189,7 +189,7 @@ pub chain_push : (ran : Ran) (p c d : Address) (chain : List Address) → IsChai
 chain_push ran p c d [] h k = (subst (λ x. Child ran x d) (sym h) k, refl)
 chain_push ran p c d (a ∷ chain) h k = (h.0, chain_push ran a c d chain h.1 k)
 
--- what a later tuple has of an earlier one that it came of
+-- what a later tuple has of an ancestor
 pub record Passed (t u : Tuple) : Type 0 where
   pub row : u.row ≡ t.row
   pub issued : u.issued ≡ t.issued
@@ -238,7 +238,7 @@ passed ran p c (a ∷ chain) t u h m n =
     let e : (born ran p a k).tuple ≡ t = meets_one ran p (born ran p a k).tuple t (born ran p a k).meets m in
     passed_then t k.tuple u (subst (λ x. Passed x k.tuple) e (passed_child ran p a k)) (passed ran a c chain k.tuple u h.1 (k.n, k.met) n)
 
--- the visit at p is in the trace of what came of it
+-- the visit at p is in the trace of its descendants
 pub visit_of : (ran : Ran) (p a c : Address) (chain : List Address) (u : Tuple) (k : Child ran p a) → IsChain ran a chain c → Meets ran c u
     → IsIn (visit_at (worker_no ran.setup p.worker) k.moment.view) u.trace
 visit_of ran p a c chain u k h n =

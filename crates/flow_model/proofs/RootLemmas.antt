@@ -1,4 +1,4 @@
--- Every entry that meets a tuple came of the entry that first met its row, and that one is alone.
+-- Every entry that meets a tuple descends from the entry that first met its row, and that one is alone.
 use Rattle.std.proofs.Common.{◌≡◌, ◌∙◌, ◌<◌, ◌+◌, ◌-◌, ◌++◌, ◌==◌, ℕ, zero, suc, List, [], ◌∷◌, ◌⊎◌, inl, inr, refl, sym, subst, ap, arith, true, false, Bool, cond, length, min, flat_map, drop, take, nat_le, Some, None, Option, slice_get}
 use Rattle.std.proofs.lemmas.Bool.{eq-eqb}
 use Rattle.flow_dag.specs.Edges.{HasEdge}
@@ -247,7 +247,7 @@ module _ (rows : List Row) (ran : Ran) (g : Running rows ran) where
       (met_on_lane (duties_of ran c.worker) (start_of ran c.worker) (journal_of ran c.worker) m.0 t
       (execution rows ran g c.worker lt) (in_of_place (entry.Met m.0 t) (journal_of ran c.worker) c.entry m.1))
 
-  -- an entry came of the feeder, or of an entry of the sender
+  -- an entry comes from the feeder, or from an entry of the sender
   pub came_from : (c : Address) (t : Tuple) → (lt : HasWorker ran c.worker) → (m : Meets ran c t) → Root rows ran c ⊎ Parent ran c (lane_of_met c t lt m).edge.from
   came_from c t lt m = go (lane_of_met c t lt m)
     where

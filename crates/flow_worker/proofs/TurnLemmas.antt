@@ -193,7 +193,7 @@ module _ (setup : SetupView) (agrees : KeepsAgreement setup) (keeps : KeepsStead
         let may : may_turn (hands w3) due posted ≡ true = rw (head, yes) refl in
         subst (λ (o : Option Due). decided (hands w3) o posted w3.next ≡ Turn due.request) (sym (due3 ∙ e)) (turn_first (hands w3) due posted w3.next may)
 
-    -- ---- want of memory
+    -- ---- out of memory
 
     pub starved_turn : (v : WorkerIs) → MemoryOnly w3 v → IsTurn setup turn.NoMemory w v
     starved_turn v m =

@@ -44,7 +44,7 @@ Excludes =
     (bytes : List ℕ) (f : JobFault) (job : JobView) → f ≢ fault.NoMemory → IsFaultIn bytes f →
     IsJobIn bytes job → ⊥
 
--- no file has two faults, but for want of memory
+-- no file has two faults, out of memory aside
 abbrev pub HaveOneFault : Type 0
 HaveOneFault =
     (bytes : List ℕ) (f g : JobFault) → f ≢ fault.NoMemory → g ≢ fault.NoMemory →

@@ -46,7 +46,7 @@ pub fn faulty_is_no_job()
     ensures { Excludes }
 {}
 
-/// A file has one first fault alone, but for want of memory.
+/// A file has one first fault alone, out of memory aside.
 pub fn files_have_one_fault()
     ensures { HaveOneFault }
 {}

@@ -71,7 +71,7 @@ pub record IsLawful (job : JobView) : Type 0 where
   pub weight : weight job ≤ 1024
 
 -- what a fault says of the job: it stands, at the first place that has it, and none of the faults
--- above it does. Want of memory says nothing
+-- above it does. Out of memory says nothing
 abbrev pub IsRefused : LawFault → JobView → Type 0
 IsRefused (fault.Limit which number) job = first_oversize_of job ≡ Some (which, number)
 IsRefused (fault.NameTwice named.Column i) job =
@@ -109,11 +109,11 @@ IsRefused (fault.Weight number) job =
     × (1024 < number)
 IsRefused fault.NoMemory job = ⊤
 
--- no job is both lawful and refused, but for want of memory
+-- no job is both lawful and refused, out of memory aside
 abbrev pub Excludes : Type 0
 Excludes = (f : LawFault) (job : JobView) → f ≢ fault.NoMemory → IsLawful job → IsRefused f job → ⊥
 
--- no job is refused for two faults, but for want of memory
+-- no job is refused for two faults, out of memory aside
 abbrev pub HaveOneFault : Type 0
 HaveOneFault =
     (f g : LawFault) (job : JobView) → f ≢ fault.NoMemory → g ≢ fault.NoMemory →

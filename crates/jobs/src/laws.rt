@@ -14,12 +14,12 @@ ghost use Rattle.jobs.specs.Weights.{HasSettledWeights};
 
 use crate::Job;
 
-/// No job is both lawful and refused, but for want of memory.
+/// No job is both lawful and refused, out of memory aside.
 pub fn refused_is_unlawful()
     ensures { Excludes }
 {}
 
-/// A job is refused for one fault alone, but for want of memory: no two faults are said of the same
+/// A job is refused for one fault alone, out of memory aside: no two faults are said of the same
 /// parts.
 pub fn jobs_have_one_fault()
     ensures { HaveOneFault }

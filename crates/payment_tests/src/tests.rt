@@ -4,6 +4,6 @@ mod audit;
 mod cases;
 mod fixtures;
 mod made;
-mod outside;
 mod rows;
+mod shelves;
 mod sure;

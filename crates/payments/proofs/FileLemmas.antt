@@ -9,7 +9,7 @@ use Rattle.std.specs.Cmp.Lexicographic.{slice_cmp, pointwise, nat_list_cmp_total
 use Rattle.std.specs.FinMap as map
 use Rattle.payments.specs.Memory.{entries_of, open_name, stored_files}
 use Rattle.payments.specs.declared.memory.File.{File}
-use Rattle.payments.specs.declared.outside.ShelfFault.{ShelfFault}
+use Rattle.payments.specs.declared.shelf.ShelfFault.{ShelfFault}
 use Rattle.payments.proofs.Rest.{drop-item}
 use Rattle.payments.specs.Files.{Files, with_bytes, with_more}
 

@@ -1,10 +1,10 @@
 -- What a call on the outside leaves of the counts of faults.
 use Rattle.std.specs.Prelude.{◌≡◌, ◌<◌, ◌++◌, length, option_map, ℕ, List, Option, Some, Result, Ok, Err}
 use Rattle.tuple_trace.specs.Counts.{Rose}
-use Rattle.payments.specs.declared.outside.ShelfFault.{ShelfFault}
-use Rattle.payments.specs.declared.outside.ShelfFault.TheVariants as shelf
-use Rattle.payments.specs.declared.outside.SinkFault.{SinkFault}
-use Rattle.payments.specs.declared.outside.SinkFault.TheVariants as sink
+use Rattle.payments.specs.declared.shelf.ShelfFault.{ShelfFault}
+use Rattle.payments.specs.declared.shelf.ShelfFault.TheVariants as shelf
+use Rattle.payments.specs.declared.shelf.SinkFault.{SinkFault}
+use Rattle.payments.specs.declared.shelf.SinkFault.TheVariants as sink
 
 -- how many reads and writes have failed, and the file of the latest failure
 pub record Faults : Type 0 where

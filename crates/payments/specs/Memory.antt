@@ -8,10 +8,10 @@ use Rattle.payments.specs.World.{ShelfState, SinkState}
 use Rattle.payments.specs.declared.memory.File.{File}
 use Rattle.payments.specs.declared.memory.MemoryShelf.{MemoryShelf}
 use Rattle.payments.specs.declared.memory.MemorySink.{MemorySink}
-use Rattle.payments.specs.declared.outside.ShelfFault.{ShelfFault}
-use Rattle.payments.specs.declared.outside.ShelfFault.TheVariants as shelf_fault
-use Rattle.payments.specs.declared.outside.SinkFault.{SinkFault}
-use Rattle.payments.specs.declared.outside.SinkFault.TheVariants as sink_fault
+use Rattle.payments.specs.declared.shelf.ShelfFault.{ShelfFault}
+use Rattle.payments.specs.declared.shelf.ShelfFault.TheVariants as shelf_fault
+use Rattle.payments.specs.declared.shelf.SinkFault.{SinkFault}
+use Rattle.payments.specs.declared.shelf.SinkFault.TheVariants as sink_fault
 
 -- a file as a name and its bytes
 abbrev pub entry_of : File → List ℕ × List ℕ

@@ -16,7 +16,7 @@ use Rattle.top_call.specs.First.{AnswersFirst, FollowsFirst, asked_job}
 use Rattle.report.specs.Lines.{sizes_line}
 use Rattle.call_steps.specs.declared.answer.Answer.{Answer}
 use Rattle.payments.specs.World.{World}
-use Rattle.call_steps.specs.Outside.{IsExcused}
+use Rattle.call_steps.specs.Effects.{IsExcused}
 use Rattle.top_call.specs.Plan.{AnswersPlan, FollowsPlan, IsNoSetup, setup_lines}
 use Rattle.top_call.specs.Run.{AnswersRun, FollowsRun, IsNoRun}
 use Rattle.call_steps.specs.Running.{files_of, run_lines}

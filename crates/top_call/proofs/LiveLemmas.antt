@@ -8,7 +8,7 @@ use Rattle.live_control.specs.Asking.{AsksIs}
 use Rattle.report.specs.declared.fault.Fault.{Fault}
 use Rattle.call_steps.specs.Outcomes.{EndsAfterRun}
 use Rattle.call_steps.specs.Live.{live_fault, live_lines}
-use Rattle.call_steps.specs.Outside.{FileText, IsExcused, PrintsFault}
+use Rattle.call_steps.specs.Effects.{FileText, IsExcused, PrintsFault}
 use Rattle.call_steps.specs.Running.{files_of}
 use Rattle.call_steps.specs.declared.answer.Answer.{Answer}
 use Rattle.call_steps.proofs.FileLemmas.{ran_or_excused}

@@ -11,7 +11,7 @@ use Rattle.call_steps.specs.Outcomes.{Stops, stopped}
 use Rattle.top_call.specs.First.{asked_job}
 use Rattle.call_steps.specs.declared.answer.Answer.{Answer}
 use Rattle.payments.specs.World.{World}
-use Rattle.call_steps.specs.Outside.{IsExcused, PrintsFault}
+use Rattle.call_steps.specs.Effects.{IsExcused, PrintsFault}
 use Rattle.flow_model.specs.Setup.{setup_view}
 use Rattle.call_steps.specs.Reading.{RefusesJob, RefusesRequests, RefusesRows, RefusesSave}
 use Rattle.report.specs.declared.fault.Fault.{Fault}

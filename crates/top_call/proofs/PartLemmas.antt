@@ -8,7 +8,7 @@ use Rattle.versions.specs.declared.request.Request.{Request}
 use Rattle.command_line.specs.Asked.{ResumeAsked, RunAsked, SaveAsked}
 use Rattle.call_steps.specs.declared.answer.Answer.{Answer}
 use Rattle.payments.specs.World.{World}
-use Rattle.call_steps.specs.Outside.{IsExcused}
+use Rattle.call_steps.specs.Effects.{IsExcused}
 use Rattle.top_call.specs.Run.{IsNoRun}
 use Rattle.top_call.specs.Save.{AnswersSave, FollowsSave}
 use Rattle.top_call.specs.Resume.{AnswersResume, FollowsResume, HasNoStart, TellsSetup}

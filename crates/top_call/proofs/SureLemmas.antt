@@ -20,7 +20,7 @@ use Rattle.top_call.specs.Explain.{AnswersText}
 use Rattle.top_call.specs.First.{asked_job}
 use Rattle.top_call.specs.Make.{IsNotMade, MakesNoRows}
 use Rattle.payments.specs.World.{ShelfState, SinkState, World}
-use Rattle.call_steps.specs.Outside.{FileText, Prints, PrintsFault, PrintsReport}
+use Rattle.call_steps.specs.Effects.{FileText, Prints, PrintsFault, PrintsReport}
 use Rattle.top_call.specs.Plan.{IsNoSetup, setup_lines}
 use Rattle.call_steps.specs.Reading.{IsUnread, RefusesJob, RefusesRequests, RefusesRows, RefusesSave}
 use Rattle.top_call.specs.Run.{HasNoRows, IsNoRun}

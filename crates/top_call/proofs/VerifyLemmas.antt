@@ -12,7 +12,7 @@ use Rattle.command_line.specs.Asked.{RunAsked, VerifyAsked}
 use Rattle.report.specs.declared.fault.Fault.{Fault}
 use Rattle.report.specs.declared.fault.FileIs.TheVariants as file
 use Rattle.call_steps.specs.Audits.{IsAudited, RefusesAudit, verified_lines}
-use Rattle.call_steps.specs.Outside.{IsExcused}
+use Rattle.call_steps.specs.Effects.{IsExcused}
 use Rattle.call_steps.specs.Reading.{AreRequestsOf, AreRowsOf, IsJobOf, TellsJob, TellsRequests, TellsRows}
 use Rattle.call_steps.specs.SetupFor.{AreSame, IsSetupFor}
 use Rattle.call_steps.specs.declared.answer.Answer.{Answer}

@@ -11,7 +11,7 @@ use Rattle.top_call.specs.First.{AnswersFirst, FollowsFirst}
 use Rattle.top_call.specs.Live.{AnswersLive, FollowsLive}
 use Rattle.top_call.specs.Make.{AnswersMake, FollowsMake}
 use Rattle.payments.specs.World.{World}
-use Rattle.call_steps.specs.Outside.{PrintsFault}
+use Rattle.call_steps.specs.Effects.{PrintsFault}
 use Rattle.top_call.specs.Plan.{AnswersPlan, FollowsPlan}
 use Rattle.top_call.specs.Resume.{AnswersResume, FollowsResume}
 use Rattle.top_call.specs.Run.{AnswersRun, FollowsRun}

@@ -4,7 +4,7 @@ use Rattle.jobs.specs.JobView.{JobView}
 use Rattle.call_steps.specs.Outcomes.{PrintsLines, Stops}
 use Rattle.report.specs.Lines.{sizes_line}
 use Rattle.payments.specs.World.{World}
-use Rattle.call_steps.specs.Outside.{IsExcused, PrintsFault}
+use Rattle.call_steps.specs.Effects.{IsExcused, PrintsFault}
 use Rattle.call_steps.specs.Reading.{FollowsJob, IsJobOf, IsNoJob, TellsJob}
 use Rattle.call_steps.specs.declared.answer.Answer.{Answer}
 use Rattle.report.specs.declared.fault.Fault.{Fault}

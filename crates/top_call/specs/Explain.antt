@@ -3,7 +3,7 @@ use Rattle.std.specs.Prelude.{◌≡◌, ◌⊎◌, ℕ, List, [], Option, None}
 use Rattle.report.specs.declared.fault.Fault.{Fault}
 use Rattle.call_steps.specs.Outcomes.{PrintsLines}
 use Rattle.payments.specs.World.{World}
-use Rattle.call_steps.specs.Outside.{IsExcused, PrintsFault}
+use Rattle.call_steps.specs.Effects.{IsExcused, PrintsFault}
 use Rattle.call_steps.specs.declared.answer.Answer.{Answer}
 
 -- it came to printing the text; it read and changed no file, and ran nothing

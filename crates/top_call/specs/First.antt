@@ -13,7 +13,7 @@ use Rattle.call_steps.specs.Outcomes.{Stops}
 use Rattle.call_steps.specs.FirstJob.{first_job, first_request}
 use Rattle.call_steps.specs.SetupFor.{AreSame}
 use Rattle.payments.specs.World.{World}
-use Rattle.call_steps.specs.Outside.{IsExcused, PrintsFault}
+use Rattle.call_steps.specs.Effects.{IsExcused, PrintsFault}
 use Rattle.call_steps.specs.Reading.{AreNoRows, AreRowsOf, FollowsRows, TellsRows}
 use Rattle.call_steps.specs.Running.{IsRunOf, Runs}
 use Rattle.call_steps.specs.declared.answer.Answer.{Answer}

@@ -12,7 +12,7 @@ use Rattle.report.specs.declared.fault.Fault.{Fault}
 use Rattle.report.specs.declared.fault.Fault.TheVariants as fault
 use Rattle.call_steps.specs.Outcomes.{PrintsLines, Stops}
 use Rattle.payments.specs.World.{World}
-use Rattle.call_steps.specs.Outside.{IsExcused, PrintsFault}
+use Rattle.call_steps.specs.Effects.{IsExcused, PrintsFault}
 use Rattle.call_steps.specs.SetupFor.{AreSame}
 use Rattle.call_steps.specs.Reading.{FollowsJob, IsJobOf, IsNoJob, TellsJob}
 use Rattle.call_steps.specs.Running.{IsRunOf, run_lines}

@@ -11,7 +11,7 @@ use Rattle.call_steps.specs.SetupFor.{AreSame, IsSetupFor}
 use Rattle.call_steps.specs.Outcomes.{PrintsLines, Stops}
 use Rattle.report.specs.Lines.{plan_lines, refused_lines}
 use Rattle.payments.specs.World.{World}
-use Rattle.call_steps.specs.Outside.{IsExcused, PrintsFault}
+use Rattle.call_steps.specs.Effects.{IsExcused, PrintsFault}
 use Rattle.call_steps.specs.Reading.{AreNoRequests, AreRequestsOf, FollowsJob, FollowsRequests}
 use Rattle.call_steps.specs.Reading.{IsJobOf, IsNoJob, TellsJob, TellsRequests}
 use Rattle.call_steps.specs.declared.answer.Answer.{Answer}

@@ -12,7 +12,7 @@ use Rattle.flow_model.specs.declared.setup.Setup.{Setup}
 use Rattle.command_line.specs.Asked.{ResumeAsked}
 use Rattle.report.specs.declared.fault.Fault.{Fault}
 use Rattle.call_steps.specs.Outcomes.{Stops}
-use Rattle.call_steps.specs.Outside.{IsExcused, PrintsFault}
+use Rattle.call_steps.specs.Effects.{IsExcused, PrintsFault}
 use Rattle.call_steps.specs.Parts.{IsRunFromStart}
 use Rattle.call_steps.specs.Reading.{AreRequestsOf, AreRowsOf, FollowsJob, FollowsRequests}
 use Rattle.call_steps.specs.Reading.{FollowsRows, FollowsStart, IsJobOf, IsNoStart, IsStartOf}

@@ -8,7 +8,7 @@ use Rattle.versions.specs.declared.request.Request.{Request}
 use Rattle.command_line.specs.Asked.{PlanAsked, RunAsked}
 use Rattle.call_steps.specs.Outcomes.{Stops}
 use Rattle.payments.specs.World.{World}
-use Rattle.call_steps.specs.Outside.{IsExcused, PrintsFault}
+use Rattle.call_steps.specs.Effects.{IsExcused, PrintsFault}
 use Rattle.call_steps.specs.SetupFor.{AreSame}
 use Rattle.top_call.specs.Plan.{IsNoSetup}
 use Rattle.call_steps.specs.Reading.{AreNoRows, AreRequestsOf, AreRowsOf, FollowsJob}

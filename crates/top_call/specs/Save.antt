@@ -8,7 +8,7 @@ use Rattle.versions.specs.declared.request.Request.{Request}
 use Rattle.command_line.specs.Asked.{SaveAsked}
 use Rattle.report.specs.declared.fault.Fault.{Fault}
 use Rattle.call_steps.specs.Outcomes.{Stops}
-use Rattle.call_steps.specs.Outside.{PrintsFault}
+use Rattle.call_steps.specs.Effects.{PrintsFault}
 use Rattle.call_steps.specs.Parts.{IsFirstPart}
 use Rattle.call_steps.specs.Reading.{AreRequestsOf, AreRowsOf, IsJobOf}
 use Rattle.call_steps.specs.Running.{Runs}

@@ -14,7 +14,7 @@ use Rattle.report.specs.declared.fault.Fault.{Fault}
 use Rattle.call_steps.specs.Audits.{FollowsAudit, HaveOneVerdict, IsAuditOf, IsNoAudit, TellsAudit}
 use Rattle.call_steps.specs.Audits.{verified_lines}
 use Rattle.call_steps.specs.Outcomes.{PrintsLines, Stops}
-use Rattle.call_steps.specs.Outside.{IsExcused, PrintsFault}
+use Rattle.call_steps.specs.Effects.{IsExcused, PrintsFault}
 use Rattle.call_steps.specs.Reading.{AreRequestsOf, AreRowsOf, FollowsJob, FollowsRequests}
 use Rattle.call_steps.specs.Reading.{FollowsRows, IsJobOf, TellsJob, TellsRequests, TellsRows}
 use Rattle.call_steps.specs.Running.{IsRunOf}

@@ -3,7 +3,7 @@ ghost use Rattle.jobs.specs.Job.{job_view};
 ghost use Rattle.top_call.specs.Check.{EndsCheck};
 ghost use Rattle.report.specs.Lines.{sizes_line as sizes_line_of};
 ghost use Rattle.payments.specs.World.{world};
-ghost use Rattle.call_steps.specs.Outside.{Prints};
+ghost use Rattle.call_steps.specs.Effects.{Prints};
 
 use call_steps::{Answer, job_in, print_made};
 use jobs::Job;

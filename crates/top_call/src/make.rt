@@ -6,7 +6,7 @@ ghost use Rattle.jobs.specs.Nodes.{AreFromSources, worker_count};
 ghost use Rattle.payments.specs.Made.{made_rows};
 ghost use Rattle.top_call.specs.Make.{EndsMake, IsMadeRun, IsNotMade, MakesNoRows};
 ghost use Rattle.payments.specs.World.{world};
-ghost use Rattle.call_steps.specs.Outside.{Prints};
+ghost use Rattle.call_steps.specs.Effects.{Prints};
 ghost use Rattle.call_steps.specs.Running.{run_lines as run_lines_of};
 
 use call_steps::{Answer, Done, job_in, print, run_lines, run_on_threads};

@@ -2,7 +2,7 @@ ghost use Rattle.std.specs.Prelude.{◌≡◌, IfOk, IfErr, OnOk};
 ghost use Rattle.std.specs.Result.{result_err};
 ghost use Rattle.command_line.specs.Asked.{plan_asked};
 ghost use Rattle.payments.specs.World.{world};
-ghost use Rattle.call_steps.specs.Outside.{Prints};
+ghost use Rattle.call_steps.specs.Effects.{Prints};
 ghost use Rattle.top_call.specs.Plan.{EndsPlan, IsNoSetup, IsSetupOf};
 ghost use Rattle.top_call.specs.Plan.{setup_lines as setup_lines_of};
 

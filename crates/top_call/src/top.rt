@@ -14,7 +14,7 @@ ghost use Rattle.top_call.specs.Explain.{AnswersText, FollowsText};
 ghost use Rattle.top_call.specs.First.{AnswersFirst, FollowsFirst};
 ghost use Rattle.top_call.specs.Make.{AnswersMake, FollowsMake};
 ghost use Rattle.payments.specs.World.{world};
-ghost use Rattle.call_steps.specs.Outside.{Prints, PrintsReport};
+ghost use Rattle.call_steps.specs.Effects.{Prints, PrintsReport};
 ghost use Rattle.top_call.specs.Plan.{AnswersPlan, FollowsPlan};
 ghost use Rattle.top_call.specs.Resume.{AnswersResume, FollowsResume};
 ghost use Rattle.top_call.specs.Run.{AnswersRun, FollowsRun};

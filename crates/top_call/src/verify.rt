@@ -4,7 +4,7 @@ ghost use Rattle.jobs.specs.Nodes.{worker_count};
 ghost use Rattle.command_line.specs.Asked.{verify_asked};
 ghost use Rattle.payments.specs.World.{world};
 ghost use Rattle.call_steps.specs.Audits.{verified_lines as verified_lines_of};
-ghost use Rattle.call_steps.specs.Outside.{Prints};
+ghost use Rattle.call_steps.specs.Effects.{Prints};
 ghost use Rattle.top_call.specs.Verify.{AnswersVerify, EndsVerify, FollowsVerify, IsNotVerified};
 ghost use Rattle.top_call.specs.Verify.{IsVerifiedRun};
 

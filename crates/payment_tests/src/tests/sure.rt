@@ -1,5 +1,5 @@
 // A shelf and a sink that never fail.
-use super::outside::{reads, refuses, word};
+use super::shelves::{reads, refuses, word};
 use payments::{Shelf, ShelfFault, Sink, SinkFault, SureShelf, SureSink, store, write_all};
 use std::alloc::Global;
 use tuple_trace::{Bytes, Word};

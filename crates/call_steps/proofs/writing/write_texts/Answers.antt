@@ -3,7 +3,7 @@ use Rattle.std.specs.Result.{result_err}
 use Rattle.std.proofs.lemmas.List.{drop_more}
 use Rattle.std.proofs.lemmas.Result.{err_from_is_err_and}
 use Rattle.payments.specs.World.{world}
-use Rattle.call_steps.specs.Outside.{FileText}
+use Rattle.call_steps.specs.Effects.{FileText}
 use Rattle.call_steps.proofs.writing.write_texts.Goals as goal
 
 pub returns-in_err-store_text : goal.returns-in_err-store_text

@@ -49,7 +49,7 @@ StoresNot is name old new why = ((why ≡ fault.Write is) × WriteFailed (Some n
 -- ---- what is printed
 
 -- What printing a text comes to: it is written whole, or what stopped it left a prefix of it, and
--- not all of it. Want of memory may also come before any of it is printed.
+-- not all of it. Memory may also run out before any of it is printed.
 abbrev pub Prints : List ℕ → SinkState → SinkState → Option Fault → Type 0
 Prints text old new None = (new.written ≡ option_map (λ written. written ++ text) old.written)
     × (new.faults ≡ old.faults)

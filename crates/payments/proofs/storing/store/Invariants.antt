@@ -1,6 +1,6 @@
 use Rattle.std.proofs.Common.{◌≡◌, ℕ, List, ◌++◌, length, Some}
 use Rattle.payments.specs.Files.{with_bytes}
-use Rattle.payments.proofs.whole.store.Given as goal
+use Rattle.payments.proofs.storing.store.Given as goal
 
 abbrev pub invariant-loop-rest : goal.invariant-loop-rest
 invariant-loop-rest g l = record {

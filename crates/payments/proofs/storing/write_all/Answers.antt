@@ -1,6 +1,6 @@
 use Rattle.std.proofs.Common.{◌++◌, take, ◌∙◌}
 use Rattle.payments.proofs.FileLemmas.{append-take, option_map-append}
-use Rattle.payments.proofs.whole.write_all.Goals as goal
+use Rattle.payments.proofs.storing.write_all.Goals as goal
 
 pub loop-left-preserved : goal.loop-left-preserved
 loop-left-preserved g c =

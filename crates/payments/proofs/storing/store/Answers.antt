@@ -1,6 +1,6 @@
 use Rattle.std.proofs.Common.{◌++◌, take, ◌∙◌}
 use Rattle.payments.proofs.FileLemmas.{with_more-with_bytes, append-take}
-use Rattle.payments.proofs.whole.store.Goals as goal
+use Rattle.payments.proofs.storing.store.Goals as goal
 
 pub loop-rest-preserved : goal.loop-rest-preserved
 loop-rest-preserved g c =
