@@ -26,7 +26,7 @@ pub fn feed_of_rows(alloc: Global, setup: &Setup, rows: &Rows) -> Result<Feeds, 
     Ok(feeds)
 }
 
-// Appends the requests that wait for this row, of so many rows, if the first ones were issued
+// Appends the requests that wait for this row, of `rows` rows, if the first ones were issued
 // before. Returns how many are issued then.
 fn push_due(
     setup: &Setup,

@@ -39,7 +39,7 @@ pub struct Told {
 }
 
 impl Told {
-    /// Nothing of so many workers.
+    /// Told of `workers` workers, so far nothing.
     pub(crate) fn empty(alloc: Global, workers: u32) -> Result<Told, NoMemory>
         ensures { IfOk result (Tells workers []) }
     {

@@ -28,7 +28,7 @@ impl<'a> Model for ByLane<'a> {
 }
 
 impl<'a> ByLane<'a> {
-    /// The entries of a journal, for so many lanes.
+    /// The entries of a journal, by the numbers of the lanes.
     pub(crate) fn of(
         alloc: Global,
         lanes: usize,

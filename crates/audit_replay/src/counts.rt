@@ -9,7 +9,7 @@ use audit_laws::AuditFault;
 use keyed_state::Keyed;
 use tuple_trace::Items;
 
-/// Whether the counts that an audit tells of each of so many workers are these.
+/// Whether the counts that an audit tells of each worker are these.
 ///
 /// # Errors
 ///

@@ -40,7 +40,7 @@ pub(crate) fn fed_lanes(
     Ok(standing)
 }
 
-// Puts the tuple of a row on its lane, after so many requests were issued.
+// Puts the tuple of a row on its lane, after `issued` requests were issued.
 fn feed(
     setup: &Setup,
     standing: &mut Standing,

@@ -24,7 +24,7 @@ impl Model for Standing {
 }
 
 impl Standing {
-    /// No item on any of so many lanes.
+    /// No item on any of `lanes` lanes.
     pub(crate) fn empty(alloc: Global, lanes: usize) -> Result<Standing, NoMemory>
         ensures { IfOk result (λ standing. standing ≡ replicate lanes []) }
     {

@@ -27,15 +27,15 @@ pub record AreReleased (rows : ℕ) (feeds : List Feed) (accepted kept : List Re
   pub kept_are : kept ≡ with_afters (issue_rows 0 feeds) accepted
   pub not_early : NoneIsEarly rows accepted kept
 
--- a request is issued before the last row only if there are so many releases
+-- a request is issued before the last row only if it was released
 abbrev pub AreIssuedReleased : ℕ → List Feed → Type 0
 AreIssuedReleased releases feeds =
     (before after : List Feed) (r n : ℕ) → feeds ≡ before ++ feed.Issued r ∷ after
     → Contains after (feed.Fed n) → r ≤ releases
 
 -- The rows were run by the setup of the job and its requests, with rows for these that their
--- releases left them. The reader took what it takes for so many requests, and a request was issued
--- before the last row only if the reader had taken so many line feeds.
+-- releases left them. The reader took what it takes for these requests, and a request was issued
+-- before the last row only if the reader had taken its line feed.
 pub record IsLiveRun (job : JobView) (requests : List Request) (rows : List Row) (was now : AsksIs)
     (live : LiveDone) : Type 0 where
   pub run :

@@ -52,7 +52,7 @@ abbrev pub AreRowsOf : Option Files → List ℕ → JobView → List Row → Ty
 AreRowsOf files name job rows = HasRead file.Payments
     (λ bytes. rows_of job bytes ≡ Ok rows) files name
 
--- the beginning is that of the savepoint's file, for this setup and so many rows
+-- the beginning is that of the savepoint's file, for this setup and this number of rows
 abbrev pub IsStartOf : Option Files → List ℕ → SetupView → ℕ → Begin → Type 0
 IsStartOf files name setup rows start = HasRead file.Save
     (λ bytes. save_of setup rows bytes ≡ Ok start) files name
@@ -76,7 +76,7 @@ RefusesRows job (fault.Payments code) bytes = (code ≢ rows.NoMemory)
     × (rows_of job bytes ≡ Err code)
 RefusesRows job _ bytes = ⊥
 
--- the bytes are no savepoint of the setup and so many rows, for this fault
+-- the bytes are no savepoint of the setup and this number of rows, for this fault
 abbrev pub RefusesSave : SetupView → ℕ → Fault → List ℕ → Type 0
 RefusesSave setup rows (fault.Save code) bytes = (code ≢ save.NoMemory)
     × (save_of setup rows bytes ≡ Err code)

@@ -20,7 +20,7 @@ const BIG: u32 = 1;
 /// The place of the column `amount`.
 const AMOUNT: u32 = 2;
 
-/// The job of the command `first`: payments enter by `card`, those of at least so many cents pass
+/// The job of the command `first`: payments enter by `card`, those of at least this amount pass
 /// `big`, and `alerts` shows them.
 pub fn first_job(alloc: Global, least: i64) -> Result<Job, NoMemory>
     ensures { IfOk result (λ job. job_view job ≡ first_job_of least) }
@@ -65,7 +65,7 @@ pub fn first_requests(alloc: Global, first: &First) -> Result<Requests, NoMemory
     Ok(Requests::from_vec(Vec::from_array(alloc, [request])?))
 }
 
-// The function of `big` that lets amounts from so many cents on pass.
+// The function of `big` that lets amounts from `least` cents on pass.
 fn at_least(alloc: Global, least: i64) -> Result<Func, NoMemory>
     ensures { IfOk result (λ func. func ≡ at_least_of least) }
 {

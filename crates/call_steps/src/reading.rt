@@ -72,7 +72,7 @@ pub fn rows_in<S: Shelf>(
     Ok(read_rows(alloc, job, bytes.as_slice())?)
 }
 
-/// Where a run goes on by a savepoint's file, with this setup and so many rows in all.
+/// Where a run goes on by a savepoint's file, with this setup and this number of rows.
 pub fn start_in<S: Shelf>(
     alloc: Global,
     setup: &Setup,

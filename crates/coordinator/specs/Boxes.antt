@@ -34,7 +34,7 @@ SameLoads old new =
     (w : ℕ) (p q : PosterIs) → slice_get old w ≡ Some p → slice_get new w ≡ Some q
     → q.loads ≡ p.loads
 
--- the first k boxes have shown last that their workers turned so many covering requests
+-- the first k boxes have shown last that their workers turned this number of covering requests
 abbrev pub AreReady : List ℕ → ℕ → List PosterIs → Type 0
 AreReady covered k posters =
     (w n : ℕ) (p : PosterIs) → w < k → slice_get covered w ≡ Some n → slice_get posters w ≡ Some p
@@ -53,7 +53,7 @@ AreCountedWith setup request old new =
     × ((w m n : ℕ) → slice_get old w ≡ Some m → slice_get new w ≡ Some n
     → n ≡ (if covers setup request (node_at setup w) then m + 1 else m))
 
--- each box has shown that its worker turned so many covering requests, and has no later post
+-- each box has shown that its worker turned this many covering requests, and has no later post
 abbrev pub AreReached : List ℕ → List PosterIs → Type 0
 AreReached covered posters =
     (w n : ℕ) (p : PosterIs) → slice_get covered w ≡ Some n → slice_get posters w ≡ Some p

@@ -25,7 +25,7 @@ use Rattle.coordinator.specs.Views.{FeederIs, OutIs}
 abbrev pub fed_lanes : JobView → List Lane
 fed_lanes job = filter (λ (lane : Lane). is_same_sender None lane.sender) (lanes job)
 
--- For each of these lanes, how many earlier ones begin at a source, if so many come before them.
+-- For each of these lanes, how many earlier ones begin at a source.
 -- It is the place of a lane of a source among the lanes of the sources.
 abbrev pub places_after : ℕ → List Lane → List ℕ
 places_after k [] = []

@@ -124,7 +124,7 @@ impl<N, T: Tx<N> + Drop> FeederState<N, T> {
         self.step(need, setup, rows, gate, u64::MAX)
     }
 
-    /// One turn of a live feeder that began at the first row, if so many requests are released.
+    /// One turn of a live feeder that began at the first row, if `released` requests are released.
     pub fn live_turn<G: Gate>(
         &mut self,
         need: &mut N,

@@ -55,7 +55,7 @@ change = [{ node = "big", from = 0, kind = "filter", when = [["amount", ">=", 50
 
 type Boxes = (Vec<Poster>, Vec<Owner>);
 
-/// New boxes for so many workers.
+/// New boxes, one for each worker.
 fn make_boxes(alloc: Global, workers: u32) -> Result<Boxes, NoMemory>
     ensures many { IfOk result (λ boxes. length boxes.0.items ≡ workers) }
     ensures unused { IfOk result (λ boxes. (w : ℕ) (p : PosterIs)
@@ -80,7 +80,7 @@ fn acknowledge(owner: &mut Owner) {
     }
 }
 
-/// The feed of a feeder that stops within so many turns. After each turn each owner turns what is
+/// The feed of a feeder that stops within `turns` turns. After each turn each owner turns what is
 /// posted to it.
 fn feed_of<L: Lanes, F: Feeding<L> + Drop>(
     mut feeder: F,

@@ -61,7 +61,7 @@ fn issue_rows(alloc: Global, feeds: &Feeds) -> Result<Vec<u64>, NoMemory>
     Ok(waits)
 }
 
-// Notes an entry of a feed after so many rows: a request gets their number. Returns how many rows
+// Notes an entry of a feed after `fed` rows: a request gets their number. Returns how many rows
 // there are then.
 fn note(feed: Feed, fed: u64, waits: &mut Vec<u64>) -> Result<u64, NoMemory>
     requires { fed < 18446744073709551615 }

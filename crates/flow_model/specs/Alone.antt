@@ -53,7 +53,7 @@ lands_by job lands node (Some func) tuple =
     (first_on node output.port (enumerate_from 0 job.edges)) output.tuple) (
     step job (bare_visit node) func empty tuple).1
 
--- what a tuple at a node makes at the sinks, over at most so many nodes, each with the function of
+-- what a tuple at a node makes at the sinks, over at most `nodes` nodes, each with the function of
 -- the table
 abbrev pub lands : JobView → (ℕ → Option Func) → ℕ → ℕ → Tuple → List Landing
 lands job table zero node tuple = []
@@ -66,7 +66,7 @@ abbrev pub alone : JobView → (ℕ → Option Func) → Row → List Landing
 alone job table row = onward (lands job table (length job.nodes))
     (first_on row.source 0 (enumerate_from 0 job.edges)) row.tuple
 
--- the function of a node, given at first, after so many requests, of those at which the row is new
+-- the function of a node, given at first, after those of the first requests at which the row is new
 abbrev pub func_for : Ran → ℕ → ℕ → Func → ℕ → Func
 func_for ran row node func zero = func
 func_for ran row node func (suc r) =

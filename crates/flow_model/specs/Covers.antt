@@ -37,6 +37,6 @@ abbrev pub holds_asked : Option Plan → ℕ → Bool
 holds_asked None node = false
 holds_asked (Some plan) node = has plan.asked node
 
--- the plan of the request was made for the node: so it is for every node that the request changes
+-- the plan of the request was made for the node, as for every node that the request changes
 abbrev pub asks : SetupView → ℕ → ℕ → Bool
 asks setup request node = holds_asked (plan_of setup request) node

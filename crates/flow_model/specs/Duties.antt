@@ -5,7 +5,7 @@ use Rattle.flow_model.specs.Covers.{covers, is_head}
 use Rattle.flow_model.specs.Lanes.{lanes_in, marked_lanes}
 use Rattle.flow_model.specs.Law.{Duties}
 
--- so many numbers from this one on
+-- the numbers from this one on, `count` of them
 abbrev pub numbers_from : ℕ → ℕ → List ℕ
 numbers_from first zero = []
 numbers_from first (suc count) = first ∷ numbers_from (first + 1) count

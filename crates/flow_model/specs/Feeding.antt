@@ -28,15 +28,15 @@ issued_after row rows r afters = issued_where (λ after. after == row) rows r af
 abbrev pub issued_at_first : ℕ → ℕ → ℕ → List ℕ → List Feed
 issued_at_first row rows r afters = issued_where (λ after. nat_le after row) rows r afters
 
--- what the feeder does after this row, with so many rows left
+-- what the feeder does after this row, with `left` rows left
 abbrev pub feed_after : List ℕ → ℕ → ℕ → ℕ → ℕ → List Feed
 feed_after afters r row rows zero = feed.Stopped ∷ []
 feed_after afters r row rows (suc left) = feed.Fed (row + 1) ∷
     (issued_after (row + 1) rows r afters ++ feed_after afters r (row + 1) rows left)
 
--- the feed of so many rows, from the row on that follows this one, where so many requests were
--- issued before: each row in order, each request directly after the row that it waits for, or at
--- the front where that was fed before, and then the end
+-- the feed of the rows that follow this one, if `issued` requests were issued before: each row in
+-- order, each request directly after the row that it waits for, or at the front if that was fed
+-- before, and then the end
 abbrev pub feed_from : ℕ → ℕ → List ℕ → ℕ → List Feed
 feed_from row issued afters rows =
     issued_at_first row rows (issued + 1) (drop issued afters)
@@ -47,7 +47,7 @@ abbrev pub row_at : List Row → ℕ → Option Row
 row_at rows zero = None
 row_at rows (suc place) = slice_get rows place
 
--- the tuple of a row that is fed after so many requests were issued
+-- the tuple of a row that is fed after `issued` requests were issued
 abbrev pub fed_tuple : ℕ → Row → Tuple
 fed_tuple issued row = record row.tuple { issued = issued }
 
@@ -60,7 +60,7 @@ fed_put job issued (Some row) =
       item = item.Carry (fed_tuple issued row);
     } ∷ []
 
--- what the feeder puts on its lanes, after so many requests were issued
+-- what the feeder puts on its lanes, after `issued` requests were issued
 abbrev pub fed_puts : JobView → List Row → ℕ → List Feed → List Put
 fed_puts job rows issued [] = []
 fed_puts job rows issued (feed.Fed number ∷ more) =

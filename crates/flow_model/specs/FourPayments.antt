@@ -64,7 +64,7 @@ four_setup = setup_view_of chain (falls_after 2 ∷ []) (filter_alone ∷ []) 0 
 abbrev pub filter_worker : Worker
 filter_worker = record { number = 0; node = 1; place = 0; func = at_least (pos 10000) }
 
--- a payment that was fed under so many requests, with this trace
+-- a payment that was fed under `issued` requests, with this trace
 abbrev pub payment : ℕ → ℤ → ℕ → List Visit → Tuple
 payment row cents issued trace = record {
   row = row;

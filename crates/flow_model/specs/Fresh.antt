@@ -14,7 +14,7 @@ use Rattle.flow_model.specs.Duties.{duties}
 use Rattle.flow_model.specs.Whole.{before_turn, met_tuples}
 use Rattle.flow_model.specs.Workers.{workers_in}
 
--- the row is at most the one after which the request is issued, of so many rows
+-- the row is at most the one after which the request is issued
 abbrev pub IsUpTo : ℕ → Option Request → ℕ → Type 0
 IsUpTo rows None row = ⊥
 IsUpTo rows (Some request) row = row ≤ min request.after rows
@@ -33,14 +33,14 @@ IsFreshAt setup rows who progress (entry.Marked lane request) = ⊤
 IsFreshAt setup rows who progress (entry.Turned request) = ⊤
 IsFreshAt setup rows who progress (entry.Ended lane) = ⊤
 
--- so it is at each entry, from this progress on
+-- each tuple is met in time, from this progress on
 abbrev pub AreFreshFrom : SetupView → ℕ → Worker → Progress → List Entry → Type 0
 AreFreshFrom setup rows who progress [] = ⊤
 AreFreshFrom setup rows who progress (entry ∷ more) =
     IsFreshAt setup rows who progress entry × AreFreshFrom setup rows who
     (after_entry progress entry) more
 
--- so it is at each worker
+-- each worker meets its tuples in time
 abbrev pub IsFresh : ℕ → Ran → Type 0
 IsFresh rows ran =
     (w : ℕ) (who : Worker) (journal : List Entry)

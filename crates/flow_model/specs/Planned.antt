@@ -47,7 +47,7 @@ abbrev pub IsPlanBy : JobView → ℕ → Plan → Type 0
 IsPlanBy job splits plan = IsPlan job.edges (Has splits)
     (λ (node : ℕ). IsTrue (copies_at job.nodes node)) plan.asked plan
 
--- so it is, and it asks every node that the request changes
+-- the plan is that, and it asks every node that the request changes
 pub record IsPlanFor (job : JobView) (splits : ℕ) (request : Request) (plan : Plan) : Type 0 where
   pub planned : IsPlanBy job splits plan
   pub asked : (node : ℕ) → IsTrue (is_named request.changes node) → Has plan.asked node

@@ -43,7 +43,7 @@ fn job_splits(nodes: &[NodeDef]) -> u64
     mask
 }
 
-/// The nodes that these changes make splits, of so many nodes.
+/// The nodes that these changes make splits, of `count` nodes.
 fn made_splits(count: u32, changes: &[Change]) -> u64
     requires count { count ≤ 64 }
     requires inside { All (λ (change : ChangeIs). change.node < count) changes.now }
@@ -74,7 +74,7 @@ pub fn copies(nodes: &[NodeDef]) -> u64
     mask
 }
 
-/// The nodes that the changes name, of so many nodes.
+/// The nodes that the changes name, of `count` nodes.
 pub fn changed(count: u32, changes: &[Change]) -> u64
     requires count { count ≤ 64 }
     requires inside { All (λ (change : ChangeIs). change.node < count) changes.now }

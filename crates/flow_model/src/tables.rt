@@ -131,7 +131,7 @@ fn sender_count(job: &Job, node: u32) -> u32
     }
 }
 
-/// The numbers of the lanes into each worker, of so many workers.
+/// The numbers of the lanes into each worker.
 pub fn numbers_in_each(
     alloc: Global,
     workers: usize,
@@ -161,7 +161,7 @@ fn numbers_in(alloc: Global, all: &[Lane], worker: u32) -> Result<LaneNumbers, N
     Ok(numbers)
 }
 
-/// The numbers of the lanes out of each worker, of so many workers.
+/// The numbers of the lanes out of each worker.
 pub fn numbers_out_each(
     alloc: Global,
     workers: usize,

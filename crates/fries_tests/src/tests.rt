@@ -54,7 +54,7 @@ pub enum Wanted<'a> {
     Something,
     /// It holds this text.
     Text(&'a str),
-    /// It holds the first bytes of this text, so many.
+    /// It holds the first bytes of this text, in this number.
     Part(&'a str, usize),
     /// It holds the alerts of rows that are sent by themselves.
     Alone(ByThemselves<'a>),

@@ -28,7 +28,7 @@ const ALERTS: usize = 4;
 
 const AUDIT: usize = 5;
 
-/// A text: how it begins, a piece that stands so many times then, and the rest.
+/// A text: how it begins, a piece that is repeated `times` times, and the rest.
 #[derive(Clone, Copy)]
 pub struct Text<'a> {
     pub head: &'a [u8],
@@ -204,7 +204,7 @@ where
 /// Calls of which each has a number.
 #[derive(Clone, Copy)]
 pub enum Tried {
-    /// The call of the shelf with this number fails, where an append takes at most so many bytes.
+    /// The call of the shelf with this number fails, where an append takes at most `step` bytes.
     Failing { step: usize },
     /// So many bytes are left of a file.
     Cut(Cuts),

@@ -19,7 +19,7 @@ line_feeds (byte ∷ more) = releases_of byte + line_feeds more
 abbrev pub most_bytes : ℕ
 most_bytes = 1048576
 
--- What a reader of at most so many releases took. `taken` are its bytes, of which each line feed is
+-- What a reader of at most `most` releases took. `taken` are its bytes, of which each line feed is
 -- a release. Before the last of them there were too few line feeds. A reader that hasn't failed
 -- took enough line feeds, or the most bytes, or left nothing.
 pub record IsHeard (most : ℕ) (old new : AsksIs) (heard : Heard) : Type 0 where

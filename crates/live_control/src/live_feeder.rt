@@ -95,7 +95,7 @@ impl<L: Lanes> Feeding<L> for LiveFeeder<L> {
     }
 }
 
-// How many of so many requests are released. It loads the number, unless earlier loads show that
+// How many of `requests` requests are released. It loads the number, unless earlier loads show that
 // all are released.
 fn released(inbox: &mut Inbox, requests: u64) -> u64
     ensures line { inbox.new.line ≡ inbox.old.line }

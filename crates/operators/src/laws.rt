@@ -26,7 +26,7 @@ pub fn outputs_leave_by_edges()
     ensures { PortsHaveEdges }
 {}
 
-/// And two outputs for one tuple have different births.
+/// Two outputs for one tuple have different births.
 pub fn outputs_are_told_apart()
     ensures { OutputsArePeers }
 {}

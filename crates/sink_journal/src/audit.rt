@@ -96,7 +96,7 @@ impl Model for Audit {
 }
 
 impl Audit {
-    // No records. Room is made for about so many, if there is memory.
+    // No records. Room is made for about `records` of them, if there is memory.
     fn new(alloc: Global, records: usize) -> Self
         ensures { result ≡ [] }
     {

@@ -33,7 +33,7 @@ impl Model for Lines {
 }
 
 impl Lines {
-    /// An empty text, with memory for so many bytes if there is that much.
+    /// An empty text, with memory for `bytes` bytes if there is that much.
     pub(crate) fn with_room(alloc: Global, bytes: usize) -> Self
         ensures { result ≡ [] }
     {

@@ -36,7 +36,7 @@ pub record IsMetAfter (journal : List Entry) (request row : ℕ) : Type 0 where
   pub before : meets_row row (before_turn request journal) ≡ false
   pub after : meets_row row (after_turn request journal) ≡ true
 
--- of so many rows, those up to `last` are met before the turn of the request, and the later ones
+-- the rows up to `last` are met before the turn of the request, and the later ones
 -- after it
 pub record TurnsAfterRow (journal : List Entry) (request last rows : ℕ) : Type 0 where
   pub old : (row : ℕ) → 1 ≤ row → row ≤ rows → row ≤ last → IsMetBefore journal request row

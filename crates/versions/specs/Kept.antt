@@ -16,7 +16,7 @@ KeepsKind job change =
     (node : NodeDef) → slice_get job.nodes change.node ≡ Some node →
     IsTrue (may_replace node.func change.func node.roof (leaves_once job.edges change.node))
 
--- so it is with each change of the requests
+-- each change of the requests keeps the kind of its node
 abbrev pub KeepKinds : JobView → List Request → Type 0
 KeepKinds job requests = All (λ (request : Request). All (KeepsKind job) request.changes) requests
 
@@ -29,7 +29,7 @@ AreInOrder row (request ∷ later) = (row ≤ request.after) × AreInOrder reque
 abbrev pub CarriesWell : Request → Type 0
 CarriesWell request = All (λ (change : Change). CanCarry change.carry) request.changes
 
--- so it is with each change of the requests
+-- each request carries counts as it may
 abbrev pub CarryWell : List Request → Type 0
 CarryWell requests = All CarriesWell requests
 

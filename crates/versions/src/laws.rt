@@ -26,13 +26,13 @@ pub fn accepted_requests_keep_kinds()
         → KeepKinds job requests }
 {}
 
-/// And none of them waits for an earlier row than the one before it.
+/// None of them waits for an earlier row than the one before it.
 pub fn accepted_requests_are_in_order()
     ensures { (job : JobView) (requests : List RequestIs) → AreAccepted job requests
         → AreInOrder 0 requests }
 {}
 
-/// And none of their changes divides counts by less than 1.
+/// None of their changes divides counts by less than 1.
 pub fn accepted_requests_carry_well()
     ensures { (job : JobView) (requests : List RequestIs) → AreAccepted job requests
         → CarryWell requests }

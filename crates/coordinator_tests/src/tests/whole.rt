@@ -22,7 +22,7 @@ use sink_journal::Feed;
 use std::alloc::Global;
 use tuple_trace::{NoMemory, OpenGate, Rows};
 
-/// Lets the feeder take turns until it has stopped, but at most so many.
+/// Lets the feeder take turns until it has stopped, but at most `turns`.
 fn until_stopped<L: Lanes>(
     feeder: Feeder<L>,
     need: &mut L::Need,
@@ -48,7 +48,7 @@ fn until_stopped<L: Lanes>(
     None
 }
 
-/// Lets a worker take turns until it is done, but at most so many.
+/// Lets a worker take turns until it is done, but at most `turns`.
 fn until_done<L: Lanes>(
     worker: Worker<L>,
     need: &mut L::Need,
@@ -102,7 +102,7 @@ fn all_done<L: Lanes>(
 
 type Whole<L> = Option<Ended<L>>;
 
-/// What a whole run leaves, if so many turns of each are enough.
+/// What a whole run leaves, if `turns` turns of each are enough.
 fn whole<L: Lanes>(
     alloc: Global,
     form: &L,

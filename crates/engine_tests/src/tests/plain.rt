@@ -114,7 +114,7 @@ fn wide() -> Input<'static> {
     }
 }
 
-/// Whether so many runs leave what the plain executor does.
+/// Whether each of `runs` runs leaves what the plain executor does.
 fn are_same<R>(rt: &R, alloc: Global, input: Input<'_>, runs: u32) -> Result<bool, NoMemory>
 where
     R: Threads + Wait + Copy + Send + Sync + 'static,

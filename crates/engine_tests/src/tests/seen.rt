@@ -37,7 +37,7 @@ pub enum Alerts<'a> {
 #[derive(Clone, Copy)]
 pub enum Audit<'a> {
     Any,
-    /// It has so many lines. This text is left of it without those of the workers of these nodes.
+    /// It has `lines` lines. This text is left of it without those of the workers of these nodes.
     Without {
         nodes: &'a [&'a str],
         lines: usize,
@@ -57,7 +57,7 @@ pub struct Seen {
 }
 
 impl Seen {
-    /// Whether the call left what was wanted, and worker 0 turned after so many tuples.
+    /// Whether the call left what was wanted, and worker 0 turned after `least` to `most` tuples.
     pub fn has_met(&self, least: u64, most: u64) -> bool {
         match self.met[0] {
             Some(met) => self.is_wanted && least <= met && met <= most,

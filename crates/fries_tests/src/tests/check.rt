@@ -108,7 +108,7 @@ fn missing_and_cut_files(rt: HostRuntime) {
     assert!(rt; feeds_leave(&rt, rt.alloc(), 1_048_577, long), "too long");
 }
 
-/// Whether a job file of so many line feeds leaves this.
+/// Whether a job file of this number of line feeds leaves this.
 fn feeds_leave<R>(rt: &R, alloc: Global, count: usize, left: Left<'_>) -> bool
 where
     R: Threads + Wait + Copy + Send + Sync + 'static,

@@ -46,7 +46,7 @@ const PAYMENT_FILE: Cuts = Cuts {
 };
 
 impl Cuts {
-    /// What a call finds if so many bytes of the file are left.
+    /// What a call finds if `end` bytes of the file are left.
     pub fn around_at(self, end: usize) -> Around<'static> {
         let left = Text::of(self.text.as_bytes().get(..end).unwrap_or(&[]));
         match self.file {
@@ -67,7 +67,7 @@ impl Cuts {
         }
     }
 
-    /// The status if so many bytes are left.
+    /// The status if `end` bytes are left.
     pub fn status_at(self, end: usize) -> u8 {
         for (least, most, status) in self.whole {
             if *least <= end && end <= *most {

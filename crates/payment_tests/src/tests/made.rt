@@ -29,7 +29,7 @@ fn rows_are_made_by_draws(rt: HostRuntime) {
     assert!(rt; are(one, FIRST_OF_ONE_SOURCE));
 }
 
-// The fault of so many rows for a job of weight 4, if they have one: two sources lead to two nodes.
+// The fault of `rows` rows for a job of weight 4, if they have one: two sources lead to two nodes.
 fn fault_of(alloc: Global, rows: u64) -> Option<PFault> {
     let job = job_of(alloc, PLAIN, TWO_SOURCES)?;
     make_rows(alloc, &job, 0, rows).err()

@@ -276,7 +276,7 @@ from = \"b\"
 to = \"alerts\"
 ";
 
-// A header, so many rows, and one more line.
+// A header, `rows` rows, and one more line.
 fn heavy_text(alloc: Global, rows: usize, last: &[u8]) -> Option<Bytes> {
     let mut text = Bytes::from_slice(alloc, b"source\n").ok()?;
     for _ in 0..rows {
@@ -286,7 +286,7 @@ fn heavy_text(alloc: Global, rows: usize, last: &[u8]) -> Option<Bytes> {
     Some(text)
 }
 
-// The answer to so many rows and one more line.
+// The answer to `rows` rows and one more line.
 fn heavy_answer(alloc: Global, rows: usize, last: &[u8]) -> Option<Result<usize, PFault>> {
     let job = job_of(alloc, "\"tags:text:own\"", HEAVY)?;
     let text = heavy_text(alloc, rows, last)?;

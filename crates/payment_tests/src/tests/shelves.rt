@@ -19,7 +19,7 @@ fn holds(shelf: &MemoryShelf, name: &Word, text: &[u8]) -> bool {
     }
 }
 
-// Whether a read of so many bytes answers this text.
+// Whether a read of at most `limit` bytes answers this text.
 pub fn reads<S: Shelf>(shelf: &mut S, alloc: Global, name: &Word, limit: u64, text: &[u8]) -> bool {
     match shelf.read_all(alloc, name, limit) {
         Ok(bytes) => bytes.as_slice() == text,
@@ -27,7 +27,7 @@ pub fn reads<S: Shelf>(shelf: &mut S, alloc: Global, name: &Word, limit: u64, te
     }
 }
 
-// Whether a read of so many bytes is refused for this fault.
+// Whether a read of at most `limit` bytes is refused for this fault.
 pub fn refuses<S: Shelf>(
     shelf: &mut S,
     alloc: Global,
