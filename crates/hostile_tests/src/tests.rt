@@ -109,7 +109,7 @@ impl<'a> Left<'a> {
     }
 
     /// This status. Alerts, which are written first, are there exactly if the call was done.
-    pub fn ends(status: u8) -> Self {
+    pub fn with_status(status: u8) -> Self {
         Left {
             status,
             has_run: None,
@@ -232,8 +232,8 @@ impl Tried {
     fn left(self, number: usize) -> Left<'static> {
         match self {
             Tried::Failing { step } => calls::left_at(number, step),
-            Tried::Cut(cuts) => Left::ends(cuts.status_at(number)),
-            Tried::Changed(byte) => Left::ends(changed::status_at(number, byte)),
+            Tried::Cut(cuts) => Left::with_status(cuts.status_at(number)),
+            Tried::Changed(byte) => Left::with_status(changed::status_at(number, byte)),
         }
     }
 }

@@ -17,7 +17,7 @@ use std::sync::Wait;
 use std::thread::Threads;
 use top_call::Outcome;
 use tuple_trace::{NoMemory, OpenGate};
-use whole_calls::{call, file, put_text, words_in};
+use whole_calls::{call, file, put_text, say, words_in};
 
 /// The texts of the files that both commands read.
 #[derive(Clone, Copy)]
@@ -57,38 +57,16 @@ where
     let Ok(mut shelf) = shelf_of(alloc, around) else {
         return false;
     };
-    ends(rt, alloc, line, &mut shelf, left) && are_left(alloc, &shelf, left.after)
-}
-
-// What a call answers, and what it prints.
-#[derive(Drop)]
-struct Answered {
-    outcome: Outcome,
-    out: MemorySink,
-}
-
-fn called<R>(
-    rt: &R,
-    alloc: Global,
-    line: &str,
-    shelf: &mut MemoryShelf,
-) -> Result<Answered, NoMemory>
-where
-    R: Threads + Wait + Copy + Send + Sync + 'static,
-{
-    let words = words_in(alloc, line)?;
-    let mut out = MemorySink::new(alloc, Calls::new(alloc));
-    let outcome = call(rt, alloc, &words, shelf, &mut out, &OpenGate);
-    Ok(Answered { outcome, out })
+    says(rt, alloc, line, &mut shelf, left) && are_left(alloc, &shelf, left.after)
 }
 
 // Whether a call has this status, and prints this.
-fn ends<R>(rt: &R, alloc: Global, line: &str, shelf: &mut MemoryShelf, left: Left<'_>) -> bool
+fn says<R>(rt: &R, alloc: Global, line: &str, shelf: &mut MemoryShelf, left: Left<'_>) -> bool
 where
     R: Threads + Wait + Copy + Send + Sync + 'static,
 {
-    match called(rt, alloc, line, shelf) {
-        Ok(it) => it.outcome.status == left.status && it.out.written() == left.out.as_bytes(),
+    match words_in(alloc, line) {
+        Ok(words) => say(rt, alloc, &words, shelf).is(left.status, left.out),
         Err(_) => false,
     }
 }
@@ -98,8 +76,8 @@ pub fn is_done<R>(rt: &R, alloc: Global, line: &str, shelf: &mut MemoryShelf) ->
 where
     R: Threads + Wait + Copy + Send + Sync + 'static,
 {
-    match called(rt, alloc, line, shelf) {
-        Ok(it) => it.outcome.status == 0 || it.outcome.status == 8,
+    match words_in(alloc, line) {
+        Ok(words) => say(rt, alloc, &words, shelf).is_done(),
         Err(_) => false,
     }
 }
@@ -109,8 +87,9 @@ pub fn record_of<R>(rt: &R, alloc: Global, line: &str, shelf: &mut MemoryShelf) 
 where
     R: Threads + Wait + Copy + Send + Sync + 'static,
 {
-    match called(rt, alloc, line, shelf) {
-        Ok(it) => ran_of(it.outcome),
+    let mut out = MemorySink::new(alloc, Calls::new(alloc));
+    match words_in(alloc, line) {
+        Ok(words) => ran_of(call(rt, alloc, &words, shelf, &mut out, &OpenGate)),
         Err(_) => None,
     }
 }

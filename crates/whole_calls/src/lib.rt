@@ -7,8 +7,7 @@
 //! let mut shelf = MemoryShelf::new(alloc, 16, Calls::new(alloc));
 //! put_text(alloc, "job.toml", JOB, &mut shelf)?;
 //! let words = words_in(alloc, "check job.toml")?;
-//! let mut out = MemorySink::new(alloc, Calls::new(alloc));
-//! let outcome = call(rt, alloc, &words, &mut shelf, &mut out, &OpenGate);
+//! assert!(rt; say(rt, alloc, &words, &mut shelf).is(0, "nodes 3 edges 2 workers 2 weight 2\n"));
 //! ```
 #![tactic(auto)]
 
@@ -18,7 +17,7 @@ use std::alloc::Global;
 use std::sync::Wait;
 use std::thread::Threads;
 use top_call::{Outcome, fries};
-use tuple_trace::{Bytes, Gate, NoMemory, Word};
+use tuple_trace::{Bytes, Gate, NoMemory, OpenGate, Word};
 
 /// Calls `fries` with these words. The input that releases live requests is empty.
 pub fn call<R, G>(
@@ -53,6 +52,38 @@ where
     Q: Asks,
 {
     fries(rt, alloc, words, shelf, out, asks, gate)
+}
+
+/// What a call ended with, and what it printed.
+#[derive(Drop)]
+pub struct Said {
+    pub status: u8,
+    pub out: MemorySink,
+}
+
+impl Said {
+    /// Whether the call had this status, and printed this.
+    pub fn is(&self, status: u8, printed: &str) -> bool {
+        self.status == status && self.out.written() == printed.as_bytes()
+    }
+
+    /// Whether the call was done, with requests refused or not.
+    pub fn is_done(&self) -> bool {
+        self.status == 0 || self.status == 8
+    }
+}
+
+/// Calls `fries` with these words, and gives its record up. No write to the output fails.
+pub fn say<R>(rt: &R, alloc: Global, words: &[Word], shelf: &mut MemoryShelf) -> Said
+where
+    R: Threads + Wait + Copy + Send + Sync + 'static,
+{
+    let mut out = MemorySink::new(alloc, Calls::new(alloc));
+    let outcome = call(rt, alloc, words, shelf, &mut out, &OpenGate);
+    Said {
+        status: outcome.status,
+        out,
+    }
 }
 
 /// Returns the words of a line, which has one space between two. An empty line has none. The one

@@ -2,36 +2,23 @@
 use crate::tests::random::Case;
 use crate::tests::texts::{CHAIN, PAYMENTS, PAYMENTS_REQUESTS, TEN_PAYMENTS};
 use crate::tests::{AUDIT, Input, bytes_of, shelf_of};
-use payments::{Calls, MemoryShelf, MemorySink};
+use payments::MemoryShelf;
 use std::alloc::Global;
 use std::str;
 use std::sync::Wait;
 use std::thread::Threads;
-use tuple_trace::{NoMemory, OpenGate};
-use whole_calls::{call, file, put_text, words_of};
+use tuple_trace::NoMemory;
+use whole_calls::{Said, file, put_text, say, words_of};
 
-/// What a call ended with, and what it printed.
-#[derive(Drop)]
-struct Said {
-    status: u8,
-    out: MemorySink,
-}
+const VERIFY: [&str; 5] = ["verify", "job.toml", "requests.toml", "payments.csv", AUDIT];
 
-// Calls the program over these files with the words of `run` or of `verify`.
-fn say<R>(rt: &R, alloc: Global, words: &[&str], shelf: &mut MemoryShelf) -> Result<Said, NoMemory>
+// Calls `verify` over these files.
+fn verify<R>(rt: &R, alloc: Global, shelf: &mut MemoryShelf) -> Result<Said, NoMemory>
 where
     R: Threads + Wait + Copy + Send + Sync + 'static,
 {
-    let words = words_of(alloc, words)?;
-    let mut out = MemorySink::new(alloc, Calls::new(alloc));
-    let outcome = call(rt, alloc, &words, shelf, &mut out, &OpenGate);
-    Ok(Said {
-        status: outcome.status,
-        out,
-    })
+    Ok(say(rt, alloc, &words_of(alloc, &VERIFY)?, shelf))
 }
-
-const VERIFY: [&str; 5] = ["verify", "job.toml", "requests.toml", "payments.csv", AUDIT];
 
 fn run_with<R>(rt: &R, alloc: Global, input: Input<'_>, shelf: &mut MemoryShelf) -> bool
 where
@@ -49,8 +36,8 @@ where
         "--capacity",
         input.capacity,
     ];
-    match say(rt, alloc, &words, shelf) {
-        Ok(said) => said.status == 0 || said.status == 8,
+    match words_of(alloc, &words) {
+        Ok(words) => say(rt, alloc, &words, shelf).is_done(),
         Err(_) => false,
     }
 }
@@ -68,8 +55,7 @@ where
 {
     let mut shelf = shelf_of(alloc, input)?;
     put_text(alloc, AUDIT, audit, &mut shelf)?;
-    let said = say(rt, alloc, &VERIFY, &mut shelf)?;
-    Ok(said.status == wanted.0 && said.out.written() == wanted.1.as_bytes())
+    Ok(verify(rt, alloc, &mut shelf)?.is(wanted.0, wanted.1))
 }
 
 fn says<R>(rt: &R, alloc: Global, payments: &str, audit: &str, wanted: (u8, &str)) -> bool
@@ -172,15 +158,10 @@ where
 {
     let mut shelf = shelf_of(alloc, ON_FOUR)?;
     let has_run = run_with(rt, alloc, ON_FOUR, &mut shelf);
-    let said = say(rt, alloc, &VERIFY, &mut shelf)?;
     let lines = "verified\nrows 10 alerts 4 requests 3 refused 1\n";
+    let is_verified = verify(rt, alloc, &mut shelf)?.is(8, lines);
     let audit = bytes_of(file(alloc, &shelf, AUDIT));
-    Ok(
-        has_run
-            && said.status == 8
-            && said.out.written() == lines.as_bytes()
-            && is_miscounted(rt, alloc, audit),
-    )
+    Ok(has_run && is_verified && is_miscounted(rt, alloc, audit))
 }
 
 fn is_miscounted<R>(rt: &R, alloc: Global, audit: &[u8]) -> bool
@@ -237,8 +218,8 @@ where
     if !run_with(rt, alloc, input, &mut shelf) {
         return Ok(true);
     }
-    let said = say(rt, alloc, &VERIFY, &mut shelf)?;
-    Ok((said.status == 0 || said.status == 8) && said.out.written().starts_with(b"verified\n"))
+    let said = verify(rt, alloc, &mut shelf)?;
+    Ok(said.is_done() && said.out.written().starts_with(b"verified\n"))
 }
 
 #[test]
