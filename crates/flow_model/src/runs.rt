@@ -63,8 +63,8 @@ pub fn runs_keep_steady(setup: &Setup, rows: &Rows)
 
 /// In every run a request is in force at the heads of its cover in time. Where it is a head's next
 /// due, a tuple that the head meets is of a row up to the one after which the request was issued.
-/// If a head was only a head to every earlier request that covers it, this holds of every tuple that
-/// it meets before the turn.
+/// If a head was only a head to every earlier request that covers it, this holds of every tuple
+/// that it meets before the turn.
 pub fn runs_are_fresh(setup: &Setup, rows: &Rows)
     ensures due { (ran : Ran) → IsRun (setup_view setup.now) rows.now ran
         → IsFresh (length rows.now) ran }

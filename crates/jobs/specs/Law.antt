@@ -56,7 +56,8 @@ HasTables job = EachPasses (has_table_of job) job.nodes
 
 -- sizes, names and edges are as they have to be
 abbrev pub HasShape : JobView → Type 0
-HasShape job = HasLimits job × HasColumnNames job × HasNodeNames job × HasEndpoints job × HasPorts job
+HasShape job =
+    HasLimits job × HasColumnNames job × HasNodeNames job × HasEndpoints job × HasPorts job
 
 -- a lawful job
 pub record IsLawful (job : JobView) : Type 0 where

@@ -75,6 +75,7 @@ pub record IsEachOnce (charter : List EndpointsIs) (items : List RunnerIs) (view
   pub idle : IdleIsEmpty views
 
 -- These runners are those of a pass's list, and agree with the charter.
-pub record AreListed (charter : List EndpointsIs) (rs : List RunnerIs) (list : List ℕ) : Type 0 where
+pub record AreListed (charter : List EndpointsIs) (rs : List RunnerIs) (list : List ℕ)
+    : Type 0 where
   pub same : (x : ℕ) → times x (numbers rs) ≡ times x list
   pub agree : All (Agrees charter) rs

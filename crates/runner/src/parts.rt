@@ -193,7 +193,8 @@ where
         requires fresh { ticket.pass.me.view.client ≡ tally 1 [] }
         ensures queue { IsSegPassOf ticket.entry.queue.now result.pass }
         ensures part { result.pass.me.view.client.parts ≡ 1 }
-        ensures listed { AreListed C.endpoints result.runners.items result.pass.me.view.client.list }
+        ensures listed { AreListed C.endpoints result.runners.items
+            result.pass.me.view.client.list }
     { part_of(rt, alloc, need, gate, stop, refused, ticket) };
     match scope.spawn_with(promise, run) {
         Ok(handle) => Ok(handle),

@@ -31,7 +31,8 @@ pub fn push_all<'s, R: Wait, L: Lanes, C: Charter>(
 ) -> Result<(), NoMemory>
     requires queue { IsSegPassOf queue.now pass.old }
     requires parts { pass.old.me.view.client.parts ≡ 16 }
-    requires listed { AreListed C.endpoints (map runner_of workers.items) pass.old.me.view.client.list }
+    requires listed { AreListed C.endpoints (map runner_of workers.items)
+        pass.old.me.view.client.list }
     requires setup { setup_view setup.now ≡ C.setup }
     requires numbers { map number_in workers.items ≡ range_with_len 0 (length workers.items) }
     requires law { All (IsWorker (setup_view setup.now) C.begin) workers.items }

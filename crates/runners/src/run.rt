@@ -222,7 +222,8 @@ where
             requires feeder { IsFeeder F.LIVE (setup_view setup.now) C.begin rows.now
                 (F.feeder load.feeder) }
             requires rows { AreFromSources (setup_view setup.now).job rows.now }
-            ensures once { IfOk result (λ r. HasEachOf (length C.endpoints) (numbers r.runners.items)) }
+            ensures once { IfOk result (λ r. HasEachOf (length C.endpoints)
+                (numbers r.runners.items)) }
             ensures agree { IfOk result (λ r. All (Agrees C.endpoints) r.runners.items) }
             ensures done { IfOk result (λ r. All HasEnded r.runners.items) }
             ensures feeder { IfOk result (λ r. HasFed F.LIVE (setup_view setup.entry.now) C.begin
@@ -267,7 +268,8 @@ where
     requires queue { IsSegPassOf load.queue.now load.own.pass }
     requires words { length words.now ≤ 15 }
     requires parts { load.own.pass.me.view.client.parts ≡ 16 }
-    requires listed { AreListed C.endpoints load.own.runners.items load.own.pass.me.view.client.list }
+    requires listed { AreListed C.endpoints load.own.runners.items
+        load.own.pass.me.view.client.list }
     requires feeder { IsFeeder F.LIVE (setup_view setup.now) C.begin rows.now
         (F.feeder load.feeder) }
     requires rows { AreFromSources (setup_view setup.now).job rows.now }

@@ -1,7 +1,7 @@
 //! Whole calls over files in memory, for the tests of crates above.
 //!
-//! [`call`] and [`call_asking`] call `fries`. They have no clauses: a caller of its contract is dear
-//! to prove, and each crate of tests would pay for that again.
+//! [`call`], [`call_asking`] and [`say`] call `fries`. They have no clauses: a caller of its
+//! contract is dear to prove, and each crate of tests would pay for that again.
 //!
 //! ```
 //! let mut shelf = MemoryShelf::new(alloc, 16, Calls::new(alloc));

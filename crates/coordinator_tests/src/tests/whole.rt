@@ -36,7 +36,8 @@ fn until_stopped<L: Lanes>(
     ensures law { IfSome result (IsFeeder false (setup_view setup.now)
         (at_first (setup_view setup.now)) rows.now) }
     ensures stopped { IfSome result (λ (f : FeederIs). IsTrue f.stopped) }
-    ensures endpoints { IfSome result (λ (f : FeederIs). map end_of f.outs ≡ map end_of feeder.outs) }
+    ensures endpoints { IfSome result (λ (f : FeederIs).
+        map end_of f.outs ≡ map end_of feeder.outs) }
 {
     let mut feeder = feeder;
     for _turn in 0..turns {
