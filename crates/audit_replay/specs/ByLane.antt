@@ -20,7 +20,7 @@ abbrev pub added_to : List (List AuditEntry) → AuditEntry → Option ℕ → L
 added_to lists entry None = lists
 added_to lists entry (Some lane) = slice_set lists lane (get_or lists lane [] ++ entry ∷ [])
 
--- These are the entries of each lane.
+-- These are the entries of each of the first `lanes` lanes.
 pub record AreOnLanes (lanes : ℕ) (journal : List AuditEntry)
     (lists : List (List AuditEntry)) : Type 0
   where

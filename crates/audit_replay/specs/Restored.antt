@@ -111,7 +111,7 @@ IsFaultOfStates setup rows audit told (fault.State w) = HasBadState setup rows a
 IsFaultOfStates setup rows audit told fault.NoMemory = ⊤
 IsFaultOfStates setup rows audit told other = ⊥
 
--- The workers of this node, by their numbers.
+-- Of the first `count` workers, those of this node, by their numbers.
 abbrev pub numbers_at : JobView → ℕ → ℕ → List ℕ
 numbers_at job node count =
     filter (λ w. (nth_worker job w).node == node) (numbers_from 0 count)

@@ -25,7 +25,8 @@ use Rattle.coordinator.specs.Views.{FeederIs, OutIs}
 abbrev pub fed_lanes : JobView → List Lane
 fed_lanes job = filter (λ (lane : Lane). is_same_sender None lane.sender) (lanes job)
 
--- For each of these lanes, how many earlier ones begin at a source.
+-- For each of these lanes, how many earlier ones begin at a source, if k lanes before all of these
+-- do.
 -- It is the place of a lane of a source among the lanes of the sources.
 abbrev pub places_after : ℕ → List Lane → List ℕ
 places_after k [] = []

@@ -6,8 +6,8 @@ use Rattle.sink_journal.specs.declared.journal.Feed.TheVariants as feed
 use Rattle.coordinator.specs.Boxes.{LastAtLeast}
 use Rattle.coordinator.specs.Views.{FeederIs}
 
--- The rows that the requests wait for if the first are released: a request that isn't released
--- waits for the last row.
+-- The rows that the requests wait for if the first `released` are released. A request that isn't
+-- released waits for the last row.
 abbrev pub released_rows : ℕ → ℕ → List ℕ → List ℕ
 released_rows released rows [] = []
 released_rows zero rows (after ∷ later) = rows ∷ released_rows zero rows later

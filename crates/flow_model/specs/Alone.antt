@@ -66,7 +66,8 @@ abbrev pub alone : JobView → (ℕ → Option Func) → Row → List Landing
 alone job table row = onward (lands job table (length job.nodes))
     (first_on row.source 0 (enumerate_from 0 job.edges)) row.tuple
 
--- the function of a node, given at first, after those of the first requests at which the row is new
+-- the function of a node, given at first, after those of the first r requests at which the row is
+-- new
 abbrev pub func_for : Ran → ℕ → ℕ → Func → ℕ → Func
 func_for ran row node func zero = func
 func_for ran row node func (suc r) =

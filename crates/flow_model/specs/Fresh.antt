@@ -14,7 +14,8 @@ use Rattle.flow_model.specs.Duties.{duties}
 use Rattle.flow_model.specs.Whole.{before_turn, met_tuples}
 use Rattle.flow_model.specs.Workers.{workers_in}
 
--- the row is at most the one after which the request is issued
+-- the row is at most the one after which the request is issued, which is the last of `rows` rows at
+-- the latest
 abbrev pub IsUpTo : ℕ → Option Request → ℕ → Type 0
 IsUpTo rows None row = ⊥
 IsUpTo rows (Some request) row = row ≤ min request.after rows

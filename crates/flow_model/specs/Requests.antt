@@ -38,7 +38,7 @@ abbrev pub func_with : Option Change → Func → Func
 func_with None func = func
 func_with (Some change) func = change.func
 
--- the function of a node, given at first, after the first requests
+-- the function of a node, given at first, after the first r requests
 abbrev pub func_after : SetupView → ℕ → Func → ℕ → Func
 func_after setup node func zero = func
 func_after setup node func (suc r) = func_with (change_of setup (suc r) node)

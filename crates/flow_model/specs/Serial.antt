@@ -19,7 +19,7 @@ pub record SeesPrefix (ran : Ran) (row k : ℕ) : Type 0 where
   pub before : (r : ℕ) → r ≤ k → is_old ran r row ≡ false
   pub after : (r : ℕ) → k < r → is_new ran r row ≡ false
 
--- the greatest of the first requests at which the row is new, 0 where it is new at none
+-- the greatest of the first r requests at which the row is new, 0 if it is new at none
 abbrev pub newest : Ran → ℕ → ℕ → ℕ
 newest ran row zero = 0
 newest ran row (suc r) = if is_new ran (suc r) row then suc r else newest ran row r

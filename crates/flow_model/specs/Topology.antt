@@ -76,7 +76,7 @@ abbrev pub numbers_out : List Lane → ℕ → List ℕ
 numbers_out all worker = map (λ (p : ℕ × Lane). p.0)
     (filter (λ (p : ℕ × Lane). is_sender worker p.1.sender) (enumerate_from 0 all))
 
--- the lanes from one sender along an edge, to the workers of a node from the first one on
+-- the lanes from one sender along an edge, to `workers` workers from the first one on
 abbrev pub lanes_to : ℕ → Option ℕ → ℕ → ℕ → List Lane
 lanes_to edge sender first workers =
     map (λ (place : ℕ). record { edge = edge; sender = sender; receiver = first + place })

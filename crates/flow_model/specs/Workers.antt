@@ -7,7 +7,7 @@ use Rattle.jobs.specs.declared.func.Func.TheVariants as func
 use Rattle.jobs.specs.declared.func.NodeDef.{NodeDef}
 use Rattle.flow_model.specs.SetupView.{Worker}
 
--- the workers of a node, from this number and this place on
+-- the workers of a node that are left, from this number and this place on
 abbrev pub node_workers : ℕ → ℕ → Func → ℕ → ℕ → List Worker
 node_workers number node func place zero = []
 node_workers number node func place (suc left) =

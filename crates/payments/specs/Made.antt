@@ -90,7 +90,7 @@ row_made job number row = record {
 abbrev pub number_after_row : JobView → ℕ → ℕ
 number_after_row job number = number_after_fields job.columns (number_after number)
 
--- the rows from the number `row` on
+-- `count` rows, of which the first has the number `row`
 unfoldable pub rows_made_from : JobView → ℕ → ℕ → ℕ → List Row
 rows_made_from job number row zero = []
 rows_made_from job number row (suc count) =
