@@ -90,7 +90,7 @@ impl Book {
     }
 
     /// Gives a node a new function and the next version.
-    fn change(&mut self, node: u32, func: Func)
+    pub(crate) fn change(&mut self, node: u32, func: Func)
         requires there { node < length self.old }
         requires room { HasRoom self.old node }
         ensures { self.new ≡ with_change self.old node func }
