@@ -15,11 +15,11 @@ of_kind kind (Some field) = if holds kind field then Some field else None
 abbrev pub field_at : List Column → List Value → ℕ → Option Value
 field_at columns fields column = of_kind (kind_at columns column) (slice_get fields column)
 
--- a column read as a number, and as a text: 0 and the empty text where the tuple doesn't have it in
--- its kind
+-- the column read as a number: 0 if the tuple has no number of the column's kind there
 abbrev pub number_at : List Column → List Value → ℕ → ℤ
 number_at columns fields column = as_number (field_at columns fields column)
 
+-- the column read as a text: empty if the tuple has no text of the column's kind there
 abbrev pub text_at : List Column → List Value → ℕ → List ℕ
 text_at columns fields column = as_text (field_at columns fields column)
 

@@ -13,9 +13,10 @@ visited visit tuple = record tuple { trace = tuple.trace ++ visit ∷ [] }
 abbrev pub sent : Visit → ℕ → Tuple → Output
 sent visit port tuple = record { port = port; tuple = visited visit tuple }
 
--- a tuple with other fields, and a tuple with one more birth
+-- a tuple with other fields
 abbrev pub with_fields : List Value → Tuple → Tuple
 with_fields fields tuple = record tuple { fields = fields }
 
+-- a tuple with one more birth, after those that it has
 abbrev pub born : ℕ → Tuple → Tuple
 born index tuple = record tuple { birth = tuple.birth ++ index ∷ [] }

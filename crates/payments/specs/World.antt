@@ -20,5 +20,6 @@ pub record World : Type 0 where
   pub shelf : ShelfState
   pub out : SinkState
 
+-- the world with this shelf and this output
 abbrev pub world : ShelfState → SinkState → World
 world shelf out = record { shelf = shelf; out = out }

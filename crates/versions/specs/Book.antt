@@ -10,6 +10,7 @@ use Rattle.versions.specs.declared.request.Change.{Change}
 abbrev pub first_book : List NodeDef → List Current
 first_book nodes = map (λ (n : NodeDef). record { version = 0; func = n.func }) nodes
 
+-- the version that the book has for a node: 0 if the book has no such node
 abbrev pub current_version : Option Current → ℕ
 current_version None = 0
 current_version (Some current) = current.version

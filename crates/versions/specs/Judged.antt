@@ -9,9 +9,11 @@ use Rattle.versions.specs.declared.fault.QFault.{QFault}
 use Rattle.versions.specs.Book.{accepted, first_book}
 use Rattle.versions.specs.Judging.{fault_of}
 
+-- the judging of one more request, which is accepted, before the later ones
 abbrev pub accepting : Request → Judged → Judged
 accepting request later = record { accepted = request ∷ later.accepted; refused = later.refused }
 
+-- the judging of one more request, which is refused at this place, before the later ones
 abbrev pub refusing : ℕ → QFault → Judged → Judged
 refusing place fault later = record {
   accepted = later.accepted;

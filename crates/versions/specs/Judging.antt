@@ -29,6 +29,7 @@ abbrev pub is_fixed_at : Option NodeDef → Bool
 is_fixed_at None = false
 is_fixed_at (Some node) = is_fixed node.func
 
+-- there is a node, and it is a count
 abbrev pub is_count_at : Option NodeDef → Bool
 is_count_at None = false
 is_count_at (Some node) = is_count node.func
@@ -77,6 +78,7 @@ abbrev pub may_replace : Func → Func → ℕ → Bool → Bool
 may_replace current new roof once =
     (is_like current new || (is_free current && is_free new && once)) && nat_le (fan_out new) roof
 
+-- the new function may follow the one that the book has for the node, or the book has none
 abbrev pub may_replace_at : Option Current → Func → ℕ → Bool → Bool
 may_replace_at None new roof once = true
 may_replace_at (Some current) new roof once = may_replace current.func new roof once
@@ -126,6 +128,7 @@ stale book changes None = None
 stale book changes (Some place) =
     Some (fault.Stale (place + 1) (version_of book (slice_get changes place)))
 
+-- there is no change
 abbrev pub is_empty : List Change → Bool
 is_empty [] = true
 is_empty (change ∷ rest) = false
