@@ -74,6 +74,7 @@ func_for ran row node func (suc r) =
     if is_new ran (suc r) row then func_with (change_of ran.setup (suc r) node)
     (func_for ran row node func r) else func_for ran row node func r
 
+-- the function of a node after all requests at which the row is new; none without a node
 abbrev pub func_for_node : Ran → ℕ → ℕ → Option NodeDef → Option Func
 func_for_node ran row node None = None
 func_for_node ran row node (Some def) = Some (func_for ran row node def.func

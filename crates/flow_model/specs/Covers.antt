@@ -9,14 +9,17 @@ abbrev pub plan_of : SetupView → ℕ → Option Plan
 plan_of setup zero = None
 plan_of setup (suc r) = slice_get setup.plans r
 
+-- there is a plan, and it covers the node
 abbrev pub holds_node : Option Plan → ℕ → Bool
 holds_node None node = false
 holds_node (Some plan) node = has plan.nodes node
 
+-- there is a plan, and it covers the edge
 abbrev pub holds_edge : Option Plan → ℕ → Bool
 holds_edge None edge = false
 holds_edge (Some plan) edge = has plan.edges edge
 
+-- there is a plan, and the node is one of its heads
 abbrev pub heads : Option Plan → ℕ → Bool
 heads None node = false
 heads (Some plan) node = has plan.heads node
@@ -33,6 +36,7 @@ covers_edge setup request edge = holds_edge (plan_of setup request) edge
 abbrev pub is_head : SetupView → ℕ → ℕ → Bool
 is_head setup request node = heads (plan_of setup request) node
 
+-- there is a plan, and it was made for the node
 abbrev pub holds_asked : Option Plan → ℕ → Bool
 holds_asked None node = false
 holds_asked (Some plan) node = has plan.asked node

@@ -27,6 +27,7 @@ IsFreshUnder setup rows who None tuple = ⊤
 IsFreshUnder setup rows who (Some due) tuple = IsTrue (is_head setup due who.node)
     → IsUpTo rows (request_at setup due) tuple.row
 
+-- a tuple that the entry meets is in time for the next due; other entries always are
 abbrev pub IsFreshAt : SetupView → ℕ → Worker → Progress → Entry → Type 0
 IsFreshAt setup rows who progress (entry.Met lane tuple) =
     IsFreshUnder setup rows who (next_due progress.dues) tuple

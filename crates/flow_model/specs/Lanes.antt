@@ -48,6 +48,7 @@ marked_lanes setup worker request =
     lanes_that (λ (lane : Lane). (lane.receiver == worker)
     && covers_edge setup request lane.edge) setup.job
 
+-- the sender is this worker, and not the feeder
 abbrev pub is_sender : ℕ → Option ℕ → Bool
 is_sender worker None = false
 is_sender worker (Some sender) = sender == worker
@@ -60,19 +61,22 @@ lanes_out job worker = filter (λ (lane : Lane). is_sender worker lane.sender) (
 abbrev pub out_numbers : JobView → ℕ → List ℕ
 out_numbers job worker = lanes_that (λ (lane : Lane). is_sender worker lane.sender) job
 
--- the lane with a number; past the last one, a lane of no edge
+-- what stands for a lane that the job does not have
 abbrev pub no_lane : Lane
 no_lane = record { edge = 0; sender = None; receiver = 0 }
 
+-- the lane with a number, or `no_lane` past the last one
 abbrev pub lane_at : JobView → ℕ → Lane
 lane_at job n = slice_index_or (lanes job) n no_lane
 
+-- both senders are the feeder, or both are one worker
 abbrev pub is_same_sender : Option ℕ → Option ℕ → Bool
 is_same_sender None None = true
 is_same_sender (Some a) (Some b) = a == b
 is_same_sender None (Some b) = false
 is_same_sender (Some a) None = false
 
+-- there is a lane, and it is this one
 abbrev pub is_same_lane : Option Lane → Lane → Bool
 is_same_lane None lane = false
 is_same_lane (Some found) lane = (found.edge == lane.edge)
@@ -89,6 +93,8 @@ abbrev pub receiver_of : JobView → Edge → Tuple → Option Worker
 receiver_of job edge tuple = slice_get (workers_at_node job edge.to)
     (worker_at job.columns (slice_get job.nodes edge.to) tuple)
 
+-- the lane from a sender along an edge to the worker that the tuple reaches; there is none without
+-- an edge
 abbrev pub lane_along : JobView → Option ℕ → Option (ℕ × Edge) → Tuple → Option Lane
 lane_along job sender None tuple = None
 lane_along job sender (Some edge) tuple =

@@ -20,10 +20,12 @@ pub record Progress : Type 0 where
   pub marked : List ℕ
   pub ended : List ℕ
 
+-- the first request that is still to be turned, if there is one
 abbrev pub next_due : List ℕ → Option ℕ
 next_due [] = None
 next_due (due ∷ later) = Some due
 
+-- the requests that are to be turned after the first
 abbrev pub later_dues : List ℕ → List ℕ
 later_dues [] = []
 later_dues (due ∷ later) = later
@@ -52,6 +54,7 @@ IsEnabled duties progress (entry.Ended lane) =
     Contains duties.lanes lane × ¬ Contains progress.ended lane × (progress.dues ≡ [])
     × (progress.marked ≡ [])
 
+-- how far a journal has come after one more entry
 abbrev pub after_entry : Progress → Entry → Progress
 after_entry progress (entry.Met lane tuple) = progress
 after_entry progress (entry.Marked lane request) =
@@ -62,6 +65,7 @@ after_entry progress (entry.Turned request) = record progress {
 }
 after_entry progress (entry.Ended lane) = record progress { ended = lane ∷ progress.ended }
 
+-- how far a journal has come after these entries
 abbrev pub progress_after : Progress → List Entry → Progress
 progress_after progress [] = progress
 progress_after progress (entry ∷ more) = progress_after (after_entry progress entry) more
@@ -72,6 +76,7 @@ IsExecution duties progress [] = ⊤
 IsExecution duties progress (entry ∷ more) = IsEnabled duties progress entry
     × IsExecution duties (after_entry progress entry) more
 
+-- how far a journal has come before its first entry: nothing is turned, marked or ended
 abbrev pub initial : Duties → Progress
 initial duties = record { dues = duties.dues; marked = []; ended = [] }
 

@@ -15,10 +15,12 @@ use Rattle.flow_model.specs.SetupView.{SetupView, splits_of}
 
 -- ---- which nodes make several tuples of one
 
+-- there is a node, and it is a split
 abbrev pub is_split_node : Option NodeDef → Bool
 is_split_node None = false
 is_split_node (Some node) = is_split node.func
 
+-- there is a node, and it is a replicate
 abbrev pub is_replicate_node : Option NodeDef → Bool
 is_replicate_node None = false
 is_replicate_node (Some node) = is_replicate node.func
@@ -73,9 +75,11 @@ pub record IsPlanned (setup : SetupView) : Type 0 where
 
 -- ---- nothing else
 
+-- the request changes the node
 abbrev pub names_node : ℕ → Request → Bool
 names_node node request = is_named request.changes node
 
+-- there is a request, and it changes the node
 abbrev pub is_named_by : Option Request → ℕ → Bool
 is_named_by None node = false
 is_named_by (Some request) node = names_node node request

@@ -78,6 +78,7 @@ abbrev pub marker_by : ℕ → Option Plan → List Item
 marker_by request None = []
 marker_by request (Some plan) = item.Mark request plan.nodes ∷ []
 
+-- the marker of a request of the setup: no item if there is no such request
 abbrev pub marker : SetupView → ℕ → List Item
 marker setup request = marker_by request (plan_of setup request)
 
@@ -99,6 +100,7 @@ puts setup who view (entry.Ended lane) =
     if is_last_end setup who view then put_on_each item.Last (lanes_out setup.job who.number)
     else []
 
+-- the item that is put, if it is put on this lane
 abbrev pub item_on : Lane → Put → Option Item
 item_on lane put = if is_same_lane put.lane lane then Some put.item else None
 

@@ -18,6 +18,7 @@ change_among [] node = None
 change_among (change ∷ more) node = if change.node == node then Some change
     else change_among more node
 
+-- the change of a node by this request, if there is one
 abbrev pub change_in : Option Request → ℕ → Option Change
 change_in None node = None
 change_in (Some request) node = change_among request.changes node
@@ -26,6 +27,7 @@ change_in (Some request) node = change_among request.changes node
 abbrev pub change_of : SetupView → ℕ → ℕ → Option Change
 change_of setup request node = change_in (request_at setup request) node
 
+-- there is a request, and it changes the node
 abbrev pub names : Option Request → ℕ → Bool
 names None node = false
 names (Some request) node = is_named request.changes node
@@ -34,6 +36,7 @@ names (Some request) node = is_named request.changes node
 abbrev pub changes : SetupView → ℕ → ℕ → Bool
 changes setup request node = names (request_at setup request) node
 
+-- the function after a change: as before if there is no change
 abbrev pub func_with : Option Change → Func → Func
 func_with None func = func
 func_with (Some change) func = change.func

@@ -28,6 +28,7 @@ newest ran row (suc r) = if is_new ran (suc r) row then suc r else newest ran ro
 abbrev pub serial : Ran → ℕ → ℕ
 serial ran row = newest ran row (length ran.setup.requests)
 
+-- the function of a node after the first k requests; none without a node
 abbrev pub func_of_node : SetupView → ℕ → ℕ → Option NodeDef → Option Func
 func_of_node setup k node None = None
 func_of_node setup k node (Some def) = Some (func_after setup node def.func k)

@@ -24,27 +24,30 @@ met_tuples journal = filter_map met journal
 abbrev pub meets_row : ℕ → List Entry → Bool
 meets_row row journal = list_any (λ (tuple : Tuple). tuple.row == row) (met_tuples journal)
 
+-- the entry is the worker's turn of the request
 abbrev pub is_turn : ℕ → Entry → Bool
 is_turn request (entry.Met lane tuple) = false
 is_turn request (entry.Marked lane marked) = false
 is_turn request (entry.Turned turned) = turned == request
 is_turn request (entry.Ended lane) = false
 
--- what stands before the turn of a request, and what stands after it
+-- what stands before the turn of a request: all, if the request is never turned
 abbrev pub before_turn : ℕ → List Entry → List Entry
 before_turn request [] = []
 before_turn request (entry ∷ more) = if is_turn request entry then []
     else entry ∷ before_turn request more
 
+-- what stands after the turn of a request: nothing, if the request is never turned
 abbrev pub after_turn : ℕ → List Entry → List Entry
 after_turn request [] = []
 after_turn request (entry ∷ more) = if is_turn request entry then more else after_turn request more
 
--- one of these journals meets the row before the turn of the request, and one of them after it
+-- one of these journals meets the row before its turn of the request
 abbrev pub any_before : ℕ → ℕ → List (List Entry) → Bool
 any_before request row journals = list_any (λ (journal : List Entry). meets_row row
     (before_turn request journal)) journals
 
+-- one of these journals meets the row after its turn of the request
 abbrev pub any_after : ℕ → ℕ → List (List Entry) → Bool
 any_after request row journals = list_any (λ (journal : List Entry). meets_row row
     (after_turn request journal)) journals
