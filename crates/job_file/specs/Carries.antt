@@ -19,6 +19,7 @@ carry_named word =
 abbrev pub on_word : {A : Type 0} → List ℕ → List ℕ → Result A FormFault → Result A FormFault
 on_word word text next = if bytes_eq text word then next else Err (fault.Shape part.Carry)
 
+-- the carry that scales by the first number over the second
 abbrev pub scale_by : ℤ → ℤ → Result Carry FormFault
 scale_by by over = Ok (carry.Scale by over)
 
@@ -48,5 +49,6 @@ abbrev pub carry_by : Option (List ℕ) → Data → Result Carry FormFault
 carry_by (Some word) d = carry_named word
 carry_by None d = and_then (items_of part.Carry d) carry_from
 
+-- the carry that a value spells: a word alone, or an array with numbers
 abbrev pub carry_of : Data → Result Carry FormFault
 carry_of d = carry_by (as_str d) d

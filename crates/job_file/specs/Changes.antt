@@ -34,6 +34,7 @@ func_of_change job ms =
 abbrev pub carry_in : Members → Result Carry FormFault
 carry_in ms = read_or carry.Keep carry_of (get_member (codes "carry") ms)
 
+-- the change of the node with this name, with these parts
 abbrev pub change_with : JobView → List ℕ → ℕ → Func → Carry → Result Change FormFault
 change_with job name from f c =
     Ok (record { node = node_named job.nodes name; from = from; func = f; carry = c })
@@ -46,5 +47,6 @@ change_in job ms =
     and_then (func_of_change job ms) (λ f.
     and_then (carry_in ms) (change_with job name from f))))
 
+-- the change that a value spells, which has to be a table
 abbrev pub change_of : JobView → Data → Result Change FormFault
 change_of job d = and_then (table_of part.Change d) (change_in job)

@@ -37,5 +37,6 @@ column_with name (Some (k, own)) =
 abbrev pub column_text : List ℕ → Result Column FormFault
 column_text text = column_with (before_first is_colon text) (ending_of (after_first is_colon text))
 
+-- the column that a value spells, which has to be a text
 abbrev pub column_of : Data → Result Column FormFault
 column_of d = and_then (text_of part.Columns d) column_text

@@ -25,16 +25,19 @@ has_only these those (member key d ms) =
     (list_any (λ k. bytes_eq k key) these || list_any (λ k. bytes_eq k key) those)
     && has_only these those ms
 
--- a text, a whole number, an array and a table
+-- the text that a value is, or a fault of this part
 abbrev pub text_of : Part → Data → Result (List ℕ) FormFault
 text_of part d = ok_or (as_str d) (fault.Shape part)
 
+-- the whole number that a value is, or a fault of this part
 abbrev pub whole_of : Part → Data → Result ℤ FormFault
 whole_of part d = ok_or (as_integer d) (fault.Shape part)
 
+-- the array that a value is, or a fault of this part
 abbrev pub items_of : Part → Data → Result Items FormFault
 items_of part d = ok_or (as_array d) (fault.Shape part)
 
+-- the table that a value is, or a fault of this part
 abbrev pub table_of : Part → Data → Result Members FormFault
 table_of part d = ok_or (as_table d) (fault.Shape part)
 
@@ -42,12 +45,15 @@ table_of part d = ok_or (as_table d) (fault.Shape part)
 abbrev pub value_at : List ℕ → Part → Members → Result Data FormFault
 value_at key part ms = ok_or (get_member key ms) (fault.Shape part)
 
+-- the text at a key that is needed
 abbrev pub text_at : List ℕ → Part → Members → Result (List ℕ) FormFault
 text_at key part ms = and_then (value_at key part ms) (text_of part)
 
+-- the whole number at a key that is needed
 abbrev pub whole_at : List ℕ → Part → Members → Result ℤ FormFault
 whole_at key part ms = and_then (value_at key part ms) (whole_of part)
 
+-- the array at a key that is needed
 abbrev pub items_at : List ℕ → Part → Members → Result Items FormFault
 items_at key part ms = and_then (value_at key part ms) (items_of part)
 

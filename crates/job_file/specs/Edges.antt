@@ -25,5 +25,6 @@ edge_in nodes ms =
     and_then (optional_whole_at (codes "port") part.Port (pos 0) ms) (edge_with nodes from to)))
     else Err (fault.Shape part.Unknown)
 
+-- the edge that a value spells, which has to be a table
 abbrev pub edge_of : List NodeDef → Data → Result Edge FormFault
 edge_of nodes d = and_then (table_of part.Edge d) (edge_in nodes)

@@ -21,19 +21,21 @@ use Rattle.job_file.specs.Names.{column_named, table_named}
 use Rattle.job_file.specs.Numbers.{nearest}
 use Rattle.job_file.specs.Steps.{step_of}
 
--- what stands at a key: the name of a column or a table, as its number, a literal, an operand, and
--- a byte
+-- the number of the column that is named at a key
 abbrev pub column_at : List Column → List ℕ → Part → Members → Result ℕ FormFault
 column_at columns key place ms =
     and_then (text_at key place ms) (λ name. Ok (column_named columns name))
 
+-- the number of the table that is named at a key
 abbrev pub table_at : List Table → List ℕ → Part → Members → Result ℕ FormFault
 table_at tables key place ms =
     and_then (text_at key place ms) (λ name. Ok (table_named tables name))
 
+-- the literal at a key
 abbrev pub literal_at : List ℕ → Part → Members → Result Value FormFault
 literal_at key place ms = and_then (value_at key place ms) (literal_of place)
 
+-- the operand at a key: a whole number, or the column of a name
 abbrev pub operand_at : List Column → List ℕ → Part → Members → Result Operand FormFault
 operand_at columns key place ms = and_then (value_at key place ms) (operand_of columns place)
 
@@ -42,6 +44,7 @@ abbrev pub byte_of : Part → List ℕ → Result ℕ FormFault
 byte_of place (byte ∷ []) = Ok byte
 byte_of place _ = Err (fault.Shape place)
 
+-- the byte at a key, whose text has exactly one
 abbrev pub byte_at : List ℕ → Part → Members → Result ℕ FormFault
 byte_at key place ms = and_then (text_at key place ms) (byte_of place)
 
@@ -57,6 +60,7 @@ map_in columns ms =
     and_then (items_at (codes "steps") part.Steps ms) (λ items.
     and_then (all_of (step_of columns) items) (λ steps. Ok (func.Map steps)))
 
+-- the enrich with these parts
 abbrev pub enrich_with : ℕ → ℕ → ℕ → Value → Result Func FormFault
 enrich_with key into table other =
     Ok (func.Enrich (record { key = key; into = into; table = table; other = other }))
@@ -69,6 +73,7 @@ enrich_in columns tables ms =
     and_then (table_at tables (codes "table") part.Table ms) (λ table.
     and_then (literal_at (codes "other") part.Other ms) (enrich_with key into table))))
 
+-- the count with these parts
 abbrev pub count_with : ℕ → Operand → ℕ → Result Func FormFault
 count_with key add into = Ok (func.Count (record { key = key; add = add; into = into }))
 
@@ -79,6 +84,7 @@ count_in columns ms =
     and_then (operand_at columns (codes "add") part.Add ms) (λ add.
     and_then (column_at columns (codes "into") part.Into ms) (count_with key add)))
 
+-- the split with these parts
 abbrev pub split_with : ℕ → ℕ → ℤ → Result Func FormFault
 split_with on by most = Ok (func.Split (record { on = on; by = by; most = nearest most }))
 
@@ -93,6 +99,7 @@ split_in columns ms =
 abbrev pub listed_of : List Column → Data → Result ℕ FormFault
 listed_of columns d = and_then (text_of part.Columns d) (λ name. Ok (column_named columns name))
 
+-- the sink of a table, with the columns that it lists
 abbrev pub sink_in : List Column → Members → Result Func FormFault
 sink_in columns ms =
     and_then (items_at (codes "columns") part.Columns ms) (λ items.

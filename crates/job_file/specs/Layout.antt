@@ -15,18 +15,21 @@ use Rattle.job_file.specs.Edges.{edge_of}
 use Rattle.job_file.specs.Nodes.{node_of}
 use Rattle.job_file.specs.Tables.{tables_of}
 
--- the columns, the tables, the nodes and the edges of a file
+-- the columns of a file
 abbrev pub columns_in : Members → Result (List Column) FormFault
 columns_in ms = and_then (items_at (codes "columns") part.Columns ms) (all_of column_of)
 
+-- the tables of a file: none if it has no such key
 abbrev pub tables_in : Members → Result (List Table) FormFault
 tables_in ms =
     read_or [] (λ d. and_then (table_of part.Tables d) tables_of) (get_member (codes "tables") ms)
 
+-- the nodes of a file
 abbrev pub nodes_in : List Column → List Table → Members → Result (List NodeDef) FormFault
 nodes_in columns tables ms =
     and_then (items_at (codes "node") part.Node ms) (all_of (node_of columns tables))
 
+-- the edges of a file: none if it has no such key
 abbrev pub edges_in : List NodeDef → Members → Result (List Edge) FormFault
 edges_in nodes ms =
     and_then (optional_items_at (codes "edge") part.Edge ms) (all_of (edge_of nodes))

@@ -32,23 +32,27 @@ number_of (Some place) = min place nowhere
 abbrev pub searched_max : ℕ
 searched_max = 64
 
--- the place of the first column, node or table with this name
+-- the place of the first column with this name, among those that are searched
 abbrev pub column_place : List Column → List ℕ → Option ℕ
 column_place columns name =
     position (λ column. pointwise nat_eq column.name name) (take searched_max columns)
 
+-- the place of the first node with this name, among those that are searched
 abbrev pub node_place : List NodeDef → List ℕ → Option ℕ
 node_place nodes name = position (λ node. pointwise nat_eq node.name name) (take searched_max nodes)
 
+-- the place of the first table with this name
 abbrev pub table_place : List Table → List ℕ → Option ℕ
 table_place tables name = position (λ table. pointwise nat_eq table.name name) tables
 
--- the number of the first column, node or table with this name
+-- the number of the first column with this name, or `nowhere`
 abbrev pub column_named : List Column → List ℕ → ℕ
 column_named columns name = number_of (column_place columns name)
 
+-- the number of the first node with this name, or `nowhere`
 abbrev pub node_named : List NodeDef → List ℕ → ℕ
 node_named nodes name = number_of (node_place nodes name)
 
+-- the number of the first table with this name, or `nowhere`
 abbrev pub table_named : List Table → List ℕ → ℕ
 table_named tables name = number_of (table_place tables name)

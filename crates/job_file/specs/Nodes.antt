@@ -33,6 +33,7 @@ name_in ms =
     and_then (text_at (codes "name") part.Name ms)
     (λ name. if is_name name then Ok name else Err (fault.Shape part.Name))
 
+-- the node with these parts
 abbrev pub node_with : List ℕ → Func → ℤ → ℤ → Result NodeDef FormFault
 node_with name f workers roof =
     Ok (record { name = name; func = f; workers = nearest workers; roof = nearest roof })
@@ -50,5 +51,6 @@ node_in columns tables ms =
     and_then (optional_whole_at (codes "workers") part.Workers (pos 1) ms) (λ workers.
     and_then (roof_in f ms) (node_with name f workers)))))
 
+-- the node that a value spells, which has to be a table
 abbrev pub node_of : List Column → List Table → Data → Result NodeDef FormFault
 node_of columns tables d = and_then (table_of part.Node d) (node_in columns tables)

@@ -22,6 +22,7 @@ wide_request ms =
     option_or (wide_at (codes "after") which.After ms)
     (found_in (first_found wide_change) (optional_items_at (codes "change") part.Change ms))
 
+-- the first wide number of the request that a value spells, if it is a table
 abbrev pub wide_request_item : Data → Option Oversize
 wide_request_item d = found_in wide_request (table_of part.Request d)
 

@@ -16,6 +16,7 @@ abbrev pub changes_in : JobView → Members → Result (List Change) FormFault
 changes_in job ms =
     and_then (optional_items_at (codes "change") part.Change ms) (all_of (change_of job))
 
+-- the request with these parts
 abbrev pub request_with : ℤ → List Change → Result Request FormFault
 request_with after changes = Ok (record { after = nearest after; changes = changes })
 
@@ -27,6 +28,7 @@ request_in job ms =
     and_then (changes_in job ms) (request_with after))
     else Err (fault.Shape part.Unknown)
 
+-- the request that a value spells, which has to be a table
 abbrev pub request_of : JobView → Data → Result Request FormFault
 request_of job d = and_then (table_of part.Request d) (request_in job)
 

@@ -23,9 +23,11 @@ op_named word =
     if bytes_eq word (codes "min") then Ok op.Min else
     if bytes_eq word (codes "max") then Ok op.Max else Err (fault.Shape part.Steps)
 
+-- the operation that a value names
 abbrev pub op_of : Data → Result Op FormFault
 op_of d = and_then (text_of part.Steps d) op_named
 
+-- the step on the column with this name, with these parts
 abbrev pub step_with : List Column → List ℕ → Op → Operand → Operand → Result Step FormFault
 step_with columns name o a b =
     Ok (record { column = column_named columns name; op = o; a = a; b = b })
@@ -38,9 +40,11 @@ step_by columns column o a b =
     and_then (operand_of columns part.Steps a) (λ first.
     and_then (operand_of columns part.Steps b) (step_with columns name found first))))
 
+-- the step that an array spells, which has to have four items
 abbrev pub step_in : List Column → Items → Result Step FormFault
 step_in columns (item column (item o (item a (item b no_items)))) = step_by columns column o a b
 step_in columns _ = Err (fault.Shape part.Steps)
 
+-- the step that a value spells, which has to be an array
 abbrev pub step_of : List Column → Data → Result Step FormFault
 step_of columns d = and_then (items_of part.Steps d) (step_in columns)

@@ -18,6 +18,7 @@ entries_onto entries no_members = Ok entries
 entries_onto entries (member key d ms) =
     and_then (literal_of part.Tables d) (λ value. entries_onto (insert entries key value) ms)
 
+-- the table with this name and these entries
 abbrev pub table_with : List ℕ → TextMapOf Value → Result Table FormFault
 table_with name entries = Ok (record { name = name; entries = entries })
 

@@ -39,6 +39,7 @@ unfoldable pub first_found : (Data → Option Oversize) → Items → Option Ove
 first_found find no_items = None
 first_found find (item d ds) = option_or (find d) (first_found find ds)
 
+-- the first wide number of the node that a value spells, if it is a table
 abbrev pub wide_item : Data → Option Oversize
 wide_item d = found_in wide_node (table_of part.Node d)
 
