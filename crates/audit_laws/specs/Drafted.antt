@@ -34,5 +34,6 @@ draft feeds (kept.Marked lane request) = entry.Marked lane request
 draft feeds (kept.Turned request) = entry.Turned request
 draft feeds (kept.Ended lane) = entry.Ended lane
 
+-- The journal of these kept entries, with such tuples.
 abbrev pub drafted : List Feed → List AuditEntry → List Entry
 drafted feeds journal = map (draft feeds) journal

@@ -134,6 +134,8 @@ pub record HasBadState (setup : SetupView) (rows : List Row) (audit : List (List
 
 -- ---- the first code that holds, of those that look at the workers
 
+-- The fault is the first that the workers have: of the law, then of a lane, then of the counts. Out
+-- of memory says nothing.
 abbrev pub IsFaultOfWorkers :
     SetupView → List ℕ → List Row → List (List AuditEntry) → List Listed → AuditFault → Type 0
 IsFaultOfWorkers setup order rows audit states (fault.Shape i) = ⊥

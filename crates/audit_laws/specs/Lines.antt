@@ -25,6 +25,7 @@ use Rattle.audit_laws.specs.Names.{Named, named_workers}
 abbrev pub kept_fields : Named → AuditEntry → List (List ℕ)
 kept_fields worker entry = entry_fields worker.node worker.place (draft [] entry)
 
+-- The fields of the count of a key at a worker.
 abbrev pub count_fields : Named → List ℕ × ℤ → List (List ℕ)
 count_fields worker counted = state_fields worker.node worker.place counted
 
@@ -33,6 +34,7 @@ abbrev pub fields_by : (Named → List (List ℕ)) → Option Named → List (Li
 fields_by fields None = []
 fields_by fields (Some worker) = fields worker
 
+-- The fields of a line.
 abbrev pub line_fields : List Named → Line → List (List ℕ)
 line_fields workers (line.Refused noted) = refused_fields noted
 line_fields workers (line.Feed step) = feed_fields step
@@ -48,6 +50,7 @@ abbrev pub LeadsTo : JobView → ℕ → ℕ → Type 0
 LeadsTo job w n =
     (n < 2 ^ 32) × (lane : Lane) × (slice_get (lanes job) n ≡ Some lane) × (lane.receiver ≡ w)
 
+-- The entry's lane leads to this worker, and its numbers are in the ranges of their types.
 abbrev pub IsEntryAt : JobView → ℕ → AuditEntry → Type 0
 IsEntryAt job w (kept.Met lane row birth) =
     LeadsTo job w lane × (row < 2 ^ 64) × All (λ birth. birth < 2 ^ 32) birth
@@ -55,6 +58,7 @@ IsEntryAt job w (kept.Marked lane request) = LeadsTo job w lane × (request < 2 
 IsEntryAt job w (kept.Turned request) = request < 2 ^ 64
 IsEntryAt job w (kept.Ended lane) = LeadsTo job w lane
 
+-- The number of the feeder's step is in the range of its type.
 abbrev pub IsStep : Feed → Type 0
 IsStep (feed.Fed row) = row < 2 ^ 64
 IsStep (feed.Issued request) = request < 2 ^ 64
@@ -81,49 +85,59 @@ group_of (line.Feed step) = 1
 group_of (line.Step w entry) = 2 + 2 * w
 group_of (line.State w key count) = 3 + 2 * w
 
+-- The lines stand in the order of their groups.
 abbrev pub StandInOrder : List Line → Type 0
 StandInOrder lines = AllPairs (λ a b. group_of a ≤ group_of b) lines
 
 -- ---- what they tell
 
+-- The refused request of a line, if the line is of one.
 abbrev pub refusal_in : Line → Option Noted
 refusal_in (line.Refused noted) = Some noted
 refusal_in (line.Feed step) = None
 refusal_in (line.Step w entry) = None
 refusal_in (line.State w key count) = None
 
+-- The feeder's step of a line, if the line is of one.
 abbrev pub step_in : Line → Option Feed
 step_in (line.Refused noted) = None
 step_in (line.Feed step) = Some step
 step_in (line.Step w entry) = None
 step_in (line.State w key count) = None
 
+-- The entry of a line, if the line is of one of this worker.
 abbrev pub entry_in : ℕ → Line → Option AuditEntry
 entry_in v (line.Refused noted) = None
 entry_in v (line.Feed step) = None
 entry_in v (line.Step w entry) = if w == v then Some entry else None
 entry_in v (line.State w key count) = None
 
+-- The count of a line, with its key, if the line is of one of this worker.
 abbrev pub count_in : ℕ → Line → Option (List ℕ × ℤ)
 count_in v (line.Refused noted) = None
 count_in v (line.Feed step) = None
 count_in v (line.Step w entry) = None
 count_in v (line.State w key count) = if w == v then Some (key, count) else None
 
+-- The refused requests of these lines, in order.
 abbrev pub refusals_in : List Line → List Noted
 refusals_in lines = filter_map refusal_in lines
 
+-- The feeder's steps of these lines, in order.
 abbrev pub feeds_in : List Line → List Feed
 feeds_in lines = filter_map step_in lines
 
+-- The entries of a worker in these lines, in order.
 abbrev pub journal_in : List Line → ℕ → List AuditEntry
 journal_in lines w = filter_map (entry_in w) lines
 
+-- The counts of a worker in these lines, in order.
 abbrev pub counts_in : List Line → ℕ → Listed
 counts_in lines w = filter_map (count_in w) lines
 
 -- ---- the records of what was told
 
+-- The lines of a worker: its journal, and then its counts.
 abbrev pub worker_lines : ℕ → List AuditEntry → Listed → List Line
 worker_lines w journal counts =
     map (line.Step w) journal ++ map (λ counted. line.State w counted.0 counted.1) counts
@@ -135,6 +149,7 @@ lines_from w (journal ∷ journals) (counts ∷ states) =
 lines_from w [] states = []
 lines_from w (journal ∷ journals) [] = []
 
+-- The lines of an audit: the refused requests, the feed, and then worker by worker.
 abbrev pub lines_of : List Noted → List Feed → List (List AuditEntry) → List Listed → List Line
 lines_of refused feeds journals states =
     map line.Refused refused ++ (map line.Feed feeds ++ lines_from 0 journals states)

@@ -12,5 +12,6 @@ trim (entry.Marked lane request) = kept.Marked lane request
 trim (entry.Turned request) = kept.Turned request
 trim (entry.Ended lane) = kept.Ended lane
 
+-- What an audit keeps of each entry of a journal.
 abbrev pub trimmed : List Entry → List AuditEntry
 trimmed journal = map trim journal

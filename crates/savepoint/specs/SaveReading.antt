@@ -26,6 +26,7 @@ use Rattle.savepoint.specs.declared.fault.SaveFault.TheVariants as fault
 
 -- ---- records and what they spell
 
+-- the field is exactly this text
 abbrev pub is_text : List ℕ → List ℕ → Bool
 is_text wanted cell = pointwise nat_eq cell wanted
 
@@ -33,6 +34,7 @@ is_text wanted cell = pointwise nat_eq cell wanted
 abbrev pub head_number : List ℕ → Option ℕ
 head_number cell = at_most (2 ^ 63 - 1) (digits_of cell)
 
+-- the two values, if both are there
 abbrev pub both : {A B : Type 0} → Option A → Option B → Option (A × B)
 both None second = None
 both (Some a) None = None
@@ -52,6 +54,7 @@ pub record Spelled : Type 0 where
   pub key : List ℕ
   pub count : ℤ
 
+-- the count of this name and key, if its place and its number are there
 abbrev pub spelled_by : List ℕ → List ℕ → Option (ℤ × ℤ) → Option Spelled
 spelled_by name key None = None
 spelled_by name key (Some (place, count)) =
@@ -63,6 +66,7 @@ spelled_of (name ∷ place ∷ key ∷ count ∷ []) =
     spelled_by name key (both (number_of place) (number_of count))
 spelled_of _ = None
 
+-- one more before the later ones, or their fault
 abbrev pub one_more : {A : Type 0} → A → Result (List A) SaveFault → Result (List A) SaveFault
 one_more first (Err fault) = Err fault
 one_more first (Ok later) = Ok (first ∷ later)
@@ -117,6 +121,7 @@ stands_behind (Some before) placed =
     nat_lt before.worker placed.worker
     || ((before.worker == placed.worker) && is_lt (slice_cmp nat_cmp before.key placed.key))
 
+-- a count in its place, followed by the later ones; or a fault if it has none or comes too early
 abbrev pub one_placed :
     ℕ → Option Placed → Option Placed → (Placed → Result (List Placed) SaveFault) →
     Result (List Placed) SaveFault
@@ -154,6 +159,7 @@ begin_at setup rows (row, turned) spelled =
     then begin_with setup.job row turned (placed_from setup.job 1 None spelled)
     else Err (fault.Count (issued_up_to row rows (afters setup.requests))))
 
+-- the beginning by a first record and what the later ones spell, or the first fault of their form
 abbrev pub begin_by :
     SetupView → ℕ → Option (ℕ × ℕ) → Result (List Spelled) SaveFault → Result Begin SaveFault
 begin_by setup rows None later = Err (fault.Shape 0)

@@ -20,6 +20,7 @@ head_record row turned = codes "fries" ∷ codes "save" ∷ decimal row ∷ deci
 abbrev pub count_record : List ℕ → ℕ → List ℕ × ℤ → List (List ℕ)
 count_record name place (key, count) = name ∷ decimal place ∷ key ∷ signed_decimal count ∷ []
 
+-- the name of a node: empty if there is none
 abbrev pub name_of : Option NodeDef → List ℕ
 name_of None = []
 name_of (Some def) = def.name
