@@ -39,6 +39,7 @@ RefusesAudit setup rows _ bytes = ⊥
 abbrev pub IsAuditOf : Option Files → List ℕ → Setup → List Row → Ran → Type 0
 IsAuditOf files name setup rows ran = HasRead file.Audit (IsAudited setup rows ran) files name
 
+-- why the file gives no audit of a run of the setup and these rows
 abbrev pub IsNoAudit : Option Files → List ℕ → Setup → List Row → Faults → Faults → Fault → Type 0
 IsNoAudit files name setup rows old new why =
     IsUnread file.Audit (RefusesAudit setup rows) files name old new why
@@ -64,14 +65,17 @@ pub record IsAuditedRun (files : Option Files) (name : List ℕ) (setup : Setup)
 
 -- ---- seen from a file that is told
 
+-- the file is told, and holds the audit of this run
 abbrev pub TellsAudit : Option Files → List ℕ → Setup → List Row → Ran → Type 0
 TellsAudit files name setup rows ran = Tells file.Audit (IsAudited setup rows ran) files name
 
+-- the answer, seen from the audit's file of the setup and these rows
 abbrev pub FollowsAudit : Setup → List Row → List ℕ → World → World → Option Fault → Type 0
 FollowsAudit setup rows name old new answer =
     FollowsFile file.Audit (RefusesAudit setup rows) name old new answer
 
 -- ---- what is printed of it
 
+-- the lines that `verify` prints of the run
 abbrev pub verified_lines : Done → List ℕ
 verified_lines done = codes "verified\n" ++ summary_line (summary_of done)

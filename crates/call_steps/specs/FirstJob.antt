@@ -21,15 +21,17 @@ column_of name kind = record { name = name; kind = kind; own = false }
 abbrev pub node_of : List ℕ → Func → NodeDef
 node_of name func = record { name = name; func = func; workers = 1; roof = 1 }
 
--- amounts from this one on pass
+-- the filter that amounts from this one on pass
 abbrev pub at_least : ℤ → Func
 at_least least = func.Filter (record { column = 2; test = test.Ge; literal = value.Num least } ∷ [])
 
+-- the columns of the job of `first`: the account, the merchant, the amount and the tags
 abbrev pub first_columns : List Column
 first_columns =
     column_of (codes "account") kind.Text ∷ column_of (codes "merchant") kind.Text
     ∷ column_of (codes "amount") kind.Cents ∷ column_of (codes "tags") kind.Text ∷ []
 
+-- the edges of the job of `first`: from the source to the filter, and from there to the sink
 abbrev pub first_edges : List Edge
 first_edges = (record { from = 0; port = 0; to = 1 }) ∷ (record { from = 1; port = 0; to = 2 }) ∷ []
 

@@ -92,17 +92,21 @@ IsUnread is Refuses files name old new (fault.Long which) = (which ≡ is)
 IsUnread is Refuses files name old new fault.NoMemory = new ≡ old
 IsUnread is Refuses files name old new why = HasRead is (Refuses why) files name × (new ≡ old)
 
+-- why the file gives no job
 abbrev pub IsNoJob : Option Files → List ℕ → Faults → Faults → Fault → Type 0
 IsNoJob files name old new why = IsUnread file.Job RefusesJob files name old new why
 
+-- why the file gives no requests of the job
 abbrev pub AreNoRequests : Option Files → List ℕ → JobView → Faults → Faults → Fault → Type 0
 AreNoRequests files name job old new why = IsUnread file.Requests
     (RefusesRequests job) files name old new why
 
+-- why the file gives no rows of the job
 abbrev pub AreNoRows : Option Files → List ℕ → JobView → Faults → Faults → Fault → Type 0
 AreNoRows files name job old new why = IsUnread file.Payments
     (RefusesRows job) files name old new why
 
+-- why the file gives no beginning for this setup and this number of rows
 abbrev pub IsNoStart : Option Files → List ℕ → SetupView → ℕ → Faults → Faults → Fault → Type 0
 IsNoStart files name setup rows old new why = IsUnread file.Save
     (RefusesSave setup rows) files name old new why
@@ -117,17 +121,21 @@ pub record Tells (is : FileIs) (P : List ℕ → Type 0) (files : Option Files)
   pub short : length bytes ≤ limit_of is
   pub are_so : P bytes
 
+-- the file is told, and it is that of the job
 abbrev pub TellsJob : Option Files → List ℕ → JobView → Type 0
 TellsJob files name job = Tells file.Job (λ bytes. IsJobIn bytes job) files name
 
+-- the file is told, and holds these requests of the job
 abbrev pub TellsRequests : Option Files → List ℕ → JobView → List Request → Type 0
 TellsRequests files name job requests = Tells file.Requests
     (λ bytes. requests_of job bytes ≡ Ok requests) files name
 
+-- the file is told, and holds these rows of the job
 abbrev pub TellsRows : Option Files → List ℕ → JobView → List Row → Type 0
 TellsRows files name job rows = Tells file.Payments
     (λ bytes. rows_of job bytes ≡ Ok rows) files name
 
+-- the file is told, and holds this beginning for the setup and this number of rows
 abbrev pub TellsStart : Option Files → List ℕ → SetupView → ℕ → Begin → Type 0
 TellsStart files name setup rows start = Tells file.Save
     (λ bytes. save_of setup rows bytes ≡ Ok start) files name
@@ -142,17 +150,21 @@ pub record FollowsFile (is : FileIs) (Refuses : Fault → List ℕ → Type 0) (
   pub refused : (why : Fault) → Tells is (Refuses why) old.shelf.files name
       → (answer ≡ Some why) ⊎ IsExcused old new answer
 
+-- the answer, seen from the job file
 abbrev pub FollowsJob : List ℕ → World → World → Option Fault → Type 0
 FollowsJob name old new answer = FollowsFile file.Job RefusesJob name old new answer
 
+-- the answer, seen from the request file of the job
 abbrev pub FollowsRequests : JobView → List ℕ → World → World → Option Fault → Type 0
 FollowsRequests job name old new answer = FollowsFile file.Requests
     (RefusesRequests job) name old new answer
 
+-- the answer, seen from the payments file of the job
 abbrev pub FollowsRows : JobView → List ℕ → World → World → Option Fault → Type 0
 FollowsRows job name old new answer = FollowsFile file.Payments
     (RefusesRows job) name old new answer
 
+-- the answer, seen from the savepoint's file of the setup and this number of rows
 abbrev pub FollowsStart : SetupView → ℕ → List ℕ → World → World → Option Fault → Type 0
 FollowsStart setup rows name old new answer = FollowsFile file.Save
     (RefusesSave setup rows) name old new answer

@@ -96,6 +96,8 @@ audit_files (Some name) save done = record { is = file.Audit; name = name; text 
 abbrev pub files_of : List ℕ → Option (List ℕ) → Option (List ℕ) → Done → List FileText
 files_of alerts audit save done = alerts_file alerts (alerts_of done) ∷ audit_files audit save done
 
+-- what is counted of a run: its rows, the tuples that came to sinks, and the requests, all and
+-- refused
 abbrev pub summary_of : Done → Summary
 summary_of done = record {
   rows = row_count done.ran.feeds;

@@ -4,9 +4,11 @@ use Rattle.command_line.specs.Form.{Text}
 use Rattle.command_line.specs.declared.topic.Topic.{Topic}
 use Rattle.command_line.specs.declared.topic.Topic.TheVariants as topic
 
+-- the line that `--version` prints
 abbrev pub version_line : Text
 version_line = codes "fries 0.1.0\n"
 
+-- the text that `--help` prints: of the program, or of one command
 abbrev pub help_of : Topic → Text
 help_of topic.Program =
     codes "fries - changes operators of a dataflow while payments flow through it\n"

@@ -10,6 +10,7 @@ use Rattle.command_line.specs.Asked.{Asked, Check, First, FirstAsked, Help, Live
 
 -- ---- the forms of the commands
 
+-- the option `--threads`
 abbrev pub threads_option : ValueOption
 threads_option = record {
   id = codes "threads";
@@ -17,6 +18,7 @@ threads_option = record {
   start = codes "--threads=";
 }
 
+-- the option `--capacity`
 abbrev pub capacity_option : ValueOption
 capacity_option = record {
   id = codes "capacity";
@@ -24,9 +26,11 @@ capacity_option = record {
   start = codes "--capacity=";
 }
 
+-- the flag `--ordered`
 abbrev pub ordered_flag : Flag
 ordered_flag = record { id = codes "ordered"; word = codes "--ordered" }
 
+-- what may follow the word `first`
 abbrev pub first_form : Form
 first_form = record {
   names = codes "payments" ∷ codes "alerts" ∷ codes "min" ∷ codes "after" ∷ codes "min2" ∷ [];
@@ -34,9 +38,11 @@ first_form = record {
   flags = [];
 }
 
+-- what may follow the word `check`
 abbrev pub check_form : Form
 check_form = record { names = codes "job" ∷ []; options = []; flags = [] }
 
+-- what may follow the word `plan`
 abbrev pub plan_form : Form
 plan_form = record {
   names = codes "job" ∷ codes "requests" ∷ [];
@@ -44,6 +50,7 @@ plan_form = record {
   flags = ordered_flag ∷ [];
 }
 
+-- what may follow the word `run`
 abbrev pub run_form : Form
 run_form = record {
   names = codes "job" ∷ codes "requests" ∷ codes "payments" ∷ codes "alerts" ∷ codes "audit" ∷ [];
@@ -51,6 +58,7 @@ run_form = record {
   flags = ordered_flag ∷ [];
 }
 
+-- what may follow the word `make`
 abbrev pub make_form : Form
 make_form = record {
   names = codes "job" ∷ codes "seed" ∷ codes "rows" ∷ [];
@@ -58,6 +66,7 @@ make_form = record {
   flags = [];
 }
 
+-- what may follow the word `save`
 abbrev pub save_form : Form
 save_form = record {
   names =
@@ -67,6 +76,7 @@ save_form = record {
   flags = [];
 }
 
+-- what may follow the word `resume`
 abbrev pub resume_form : Form
 resume_form = record {
   names =
@@ -76,6 +86,7 @@ resume_form = record {
   flags = [];
 }
 
+-- what may follow the word `live`
 abbrev pub live_form : Form
 live_form = record {
   names = codes "job" ∷ codes "requests" ∷ codes "payments" ∷ codes "alerts" ∷ codes "audit" ∷ [];
@@ -83,6 +94,7 @@ live_form = record {
   flags = [];
 }
 
+-- what may follow the word `verify`
 abbrev pub verify_form : Form
 verify_form = record {
   names = codes "job" ∷ codes "requests" ∷ codes "payments" ∷ codes "audit" ∷ [];
@@ -153,6 +165,7 @@ with_numbers payments alerts None after least_after = None
 with_numbers payments alerts (Some least) None least_after = None
 with_numbers payments alerts (Some least) (Some after) None = None
 
+-- what the values of `first` ask for
 abbrev pub first_of : Values → Option FirstAsked
 first_of values =
     with_numbers (name_in values (codes "payments")) (name_in values (codes "alerts"))
@@ -199,12 +212,14 @@ unordered_of values = record {
   ordered = false;
 }
 
+-- the run of this plan over the files, and of the size, that the values name
 abbrev pub run_with : PlanAsked → Values → Option RunAsked
 run_with plan values =
     option_and_then (run_over plan (name_in values (codes "payments"))
     (name_in values (codes "alerts")) (name_in values (codes "audit")))
     (engine_in values)
 
+-- what the values of `run` ask for
 abbrev pub run_of : Values → Option RunAsked
 run_of values = run_with (plan_of values) values
 
@@ -228,19 +243,22 @@ writes run name = bytes_eq run.alerts name || bytes_eq run.audit name
 abbrev pub resume_with : Text → RunAsked → Option ResumeAsked
 resume_with save run = if writes run save then None else Some (record { run = run; save = save })
 
+-- what the values of `resume` ask for
 abbrev pub resume_of : Values → Option ResumeAsked
 resume_of values =
     option_and_then (resume_with (name_in values (codes "save")))
     (run_with (unordered_of values) values)
 
--- the same, and a number of rows that is in range
+-- the run and the savepoint, with the number of rows that are to be run
 abbrev pub save_after : ℕ → ResumeAsked → SaveAsked
 save_after rows files = record { run = files.run; save = files.save; rows = rows }
 
+-- the run and the savepoint with the number of rows, if that is in range
 abbrev pub save_with : Option ResumeAsked → Option ℕ → Option SaveAsked
 save_with files None = None
 save_with files (Some rows) = option_map (save_after rows) files
 
+-- what the values of `save` ask for
 abbrev pub save_of : Values → Option SaveAsked
 save_of values = save_with (resume_of values) (number_in values after_max (codes "rows"))
 
@@ -252,6 +270,7 @@ make_with job None rows threads = None
 make_with job (Some seed) None threads = None
 make_with job (Some seed) (Some rows) None = None
 
+-- what the values of `make` ask for
 abbrev pub make_of : Values → Option MakeAsked
 make_of values =
     make_with (name_in values (codes "job"))

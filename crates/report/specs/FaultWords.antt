@@ -10,6 +10,7 @@ use Rattle.report.specs.declared.fault.Fault.TheVariants as fault
 use Rattle.report.specs.declared.fault.FileIs.{FileIs}
 use Rattle.report.specs.declared.fault.FileIs.TheVariants as file
 
+-- the word for a file, or for the input or the output
 abbrev pub file_words : FileIs → List ℕ
 file_words file.Job = codes "job"
 file_words file.Requests = codes "requests"
@@ -20,6 +21,7 @@ file_words file.Save = codes "save"
 file_words file.Asks = codes "asks"
 file_words file.Out = codes "out"
 
+-- what the line of a fault says after the status
 abbrev pub fault_words : Fault → List ℕ
 fault_words fault.Usage = codes "usage"
 fault_words (fault.Job code) = job_words code

@@ -24,6 +24,7 @@ use Rattle.report.specs.declared.lines.Summary.{Summary}
 
 -- ---- the summary of a run
 
+-- the feeder feeds a row
 abbrev pub is_fed : Feed → Bool
 is_fed (feed.Fed row) = true
 is_fed (feed.Issued request) = false
@@ -62,6 +63,7 @@ summary_line counts = summary_words counts ++ codes "\n"
 
 -- ---- the sizes of a job
 
+-- the words of the sizes of a job
 abbrev pub sizes_words : Sizes → List ℕ
 sizes_words sizes =
     codes "nodes " ++ decimal sizes.nodes ++ codes " edges " ++ decimal sizes.edges
@@ -93,10 +95,11 @@ names_from name mask number items =
     map (λ (number, item). name item)
     (filter (λ (number, item). has mask number) (enumerate_from number items))
 
--- those of the nodes of a mask
+-- the names of the nodes of a mask
 abbrev pub node_names : List NodeDef → ℕ → List (List ℕ)
 node_names nodes mask = names_from (λ node. node.name) mask 0 nodes
 
+-- the name of a node: empty if there is none
 abbrev pub name_of : Option NodeDef → List ℕ
 name_of None = []
 name_of (Some node) = node.name
@@ -106,7 +109,7 @@ unfoldable pub edge_name : List NodeDef → Edge → List ℕ
 edge_name nodes edge =
     name_of (slice_get nodes edge.from) ++ codes "-" ++ name_of (slice_get nodes edge.to)
 
--- those of the edges of a mask
+-- the names of the edges of a mask
 abbrev pub edge_names : List NodeDef → List Edge → ℕ → List (List ℕ)
 edge_names nodes edges mask = names_from (edge_name nodes) mask 0 edges
 
@@ -174,5 +177,6 @@ refused_line refused =
     codes "refused " ++ decimal refused.place ++ codes " " ++ refusal_words refused.fault
     ++ codes "\n"
 
+-- the lines of refused requests
 abbrev pub refused_lines : List Refused → List ℕ
 refused_lines refused = flat_map refused_line refused
