@@ -1,5 +1,5 @@
-//! The passes of a checker of audits, as far as they are there: the shape of a text, the refused
-//! requests, and the feed.
+//! The first passes of a checker of audits: the shape of a text, the refused requests, and the feed.
+//! `journal_law` and `audit_replay` have the later ones.
 //!
 //! ```text
 //! let feeds = check_text(alloc, &setup, refused.as_slice(), &rows, text.as_slice())?;
