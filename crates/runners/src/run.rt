@@ -53,7 +53,7 @@ pub struct Load<'q, 's: 'q, L: Lanes + 'q, F: Drop, C: Charter + 'q> {
 /// Runs workers and a feeder on at most `threads` threads, 1 to 16, until all are done.
 ///
 /// A worker is a runner, which moves between threads by a queue. A thread pops a runner, gives it
-/// up to 16 turns while they move something, and pushes it back unless it is done. The caller gives
+/// up to 64 turns while they move something, and pushes it back unless it is done. The caller gives
 /// the feeder its turns. It pops runners only if no other thread was started, or once the feeder
 /// has stopped. If a thread can't be started, the others do its work.
 ///
