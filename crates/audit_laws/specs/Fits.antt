@@ -13,7 +13,7 @@ use Rattle.audit_laws.specs.Trimmed.{trimmed}
 abbrev pub records_of : List ℕ → List (List (List ℕ))
 records_of text = records default_config (strip_bom text)
 
--- They are those of the audit of what a run left.
+-- The records of the text are those of the audit of what a run left.
 abbrev pub Fits : List Noted → List ℕ → Ran → Type 0
 Fits refused text ran =
     records_of text

@@ -77,7 +77,7 @@ IsLine job (line.Step w entry) = (w < length (named_workers job.nodes)) × IsEnt
 IsLine job (line.State w key count) =
     (w < length (named_workers job.nodes)) × (mag count < 2 ^ 63)
 
--- The groups that records stand in: refused requests, the feeder's steps, and of each worker its
+-- The group that a line stands in: refused requests, the feeder's steps, and of each worker its
 -- journal and its counts.
 abbrev pub group_of : Line → ℕ
 group_of (line.Refused noted) = 0

@@ -187,7 +187,7 @@ engine_of (Some threads) (Some capacity) = Some (record { threads = threads; cap
 engine_of None capacity = None
 engine_of (Some threads) None = None
 
--- one thread and lanes of 16 items, if the options aren't there
+-- the size of an engine: one thread and lanes of 16 items, if the options aren't there
 abbrev pub engine_in : Values → Option EngineSize
 engine_in values = engine_of (size_in 1 16 (values (codes "threads")))
     (size_in 16 64 (values (codes "capacity")))

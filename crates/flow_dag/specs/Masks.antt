@@ -5,6 +5,6 @@ use Rattle.std.specs.Int.{bit_at}
 abbrev pub Has : ℕ → ℕ → Type 0
 Has mask i = bit_at mask i ≡ 1
 
--- the same as a test, for definitions that compute
+-- the test whether bit `i` of the mask is set
 abbrev pub has : ℕ → ℕ → Bool
 has mask i = bit_at mask i == 1

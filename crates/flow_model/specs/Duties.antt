@@ -15,7 +15,7 @@ abbrev pub dues_after : SetupView → ℕ → ℕ → List ℕ
 dues_after setup turned node = filter (λ r. covers setup r node)
     (numbers_from (turned + 1) (length setup.plans - turned))
 
--- a worker that has turned the first requests
+-- what the law asks of a worker that has turned the first requests
 abbrev pub duties : SetupView → ℕ → Worker → Duties
 duties setup turned who = record {
   lanes = lanes_in setup.job who.number;

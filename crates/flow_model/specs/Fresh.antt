@@ -20,8 +20,8 @@ abbrev pub IsUpTo : ℕ → Option Request → ℕ → Type 0
 IsUpTo rows None row = ⊥
 IsUpTo rows (Some request) row = row ≤ min request.after rows
 
--- where a head's next due is a request, a tuple that it meets is of a row up to the one after which
--- that was issued
+-- if a head's next due is a request, a tuple that it meets is of a row up to the one after which
+-- that is issued
 abbrev pub IsFreshUnder : SetupView → ℕ → Worker → Option ℕ → Tuple → Type 0
 IsFreshUnder setup rows who None tuple = ⊤
 IsFreshUnder setup rows who (Some due) tuple = IsTrue (is_head setup due who.node)

@@ -86,7 +86,7 @@ pub record IsLawful (duties : Duties) (journal : List Entry) : Type 0 where
   -- no marker stands there without its turn
   pub no_open_turn : (progress_after (initial duties) journal).marked ≡ []
 
--- it is finished: lawful so far, and every lane in has ended
+-- the journal is finished: lawful so far, and every lane in has ended
 pub record IsFinished (duties : Duties) (journal : List Entry) : Type 0 where
   pub lawful : IsLawful duties journal
   pub ended : All (Contains (progress_after (initial duties) journal).ended) duties.lanes

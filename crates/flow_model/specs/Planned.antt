@@ -96,7 +96,7 @@ pub record IsPlanOf (job : JobView) (splits : ℕ) (planned : ℕ → Bool) (pla
   pub by : IsPlanBy job splits plan
   pub asked : (node : ℕ) → Has plan.asked node ↔ IsTrue (planned node)
 
--- each request has such a plan
+-- each request has the planner's plan for the set that is planned for it
 pub record ArePlansOf (job : JobView) (splits : ℕ) (ordered : Bool) (requests : List Request)
     (plans : List Plan) : Type 0 where
   pub one_each : length plans ≡ length requests

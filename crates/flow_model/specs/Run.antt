@@ -38,7 +38,7 @@ ran_as setup feeds journals states = record {
 abbrev pub IsLawfulFrom : SetupView → Begin → Worker → List Entry → Type 0
 IsLawfulFrom setup begin who journal = IsLawful (duties setup begin.turned who) journal
 
--- it is finished
+-- the journal of a worker is finished, from this beginning on
 abbrev pub IsFinishedFrom : SetupView → Begin → Worker → List Entry → Type 0
 IsFinishedFrom setup begin who journal = IsFinished (duties setup begin.turned who) journal
 

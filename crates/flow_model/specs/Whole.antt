@@ -52,7 +52,7 @@ abbrev pub any_after : ℕ → ℕ → List (List Entry) → Bool
 any_after request row journals = list_any (λ (journal : List Entry). meets_row row
     (after_turn request journal)) journals
 
--- these workers meet the row before their turns of the request alone, or after them alone
+-- these workers meet the row only before their turns of the request, or only after them
 abbrev pub IsOneSided : Ran → ℕ → ℕ → List Worker → Type 0
 IsOneSided ran request row workers =
     (any_after request row (journals_at ran.journals workers) ≡ false)
@@ -68,8 +68,8 @@ abbrev pub asked_workers : SetupView → ℕ → List Worker
 asked_workers setup request = filter (λ (who : Worker). asks setup request who.node)
     (workers_in setup.job)
 
--- the row is whole at the request: its nodes met the row with their old functions alone, or with
--- their new ones alone
+-- the row is whole at the request: the nodes that it changes met the row with only their old
+-- functions, or with only their new ones
 abbrev pub IsWhole : Ran → ℕ → ℕ → Type 0
 IsWhole ran request row = IsOneSided ran request row (changed_workers ran.setup request)
 

@@ -12,7 +12,7 @@ Files = map.FinMap (slice_cmp nat_cmp) (List ℕ)
 abbrev pub bytes_of : Files → List ℕ → List ℕ
 bytes_of files name = unwrap_or (map.get files name) []
 
--- the same, where the files are told
+-- the bytes under a name, if the files are told
 abbrev pub told_bytes : Option Files → List ℕ → Option (List ℕ)
 told_bytes files name = option_map (λ files. bytes_of files name) files
 

@@ -7,7 +7,7 @@ abbrev pub signed_of : Bool → ℕ → Option ℤ
 signed_of false size = if nat_lt size (2 ^ 63) then Some (pos size) else None
 signed_of true size = if nat_le size (2 ^ 63) then Some (neg_ℤ (pos size)) else None
 
--- the same, where there is a size
+-- the number of a size and its sign, if there is a size and 64 bits hold the number
 abbrev pub with_sign : Bool → Option ℕ → Option ℤ
 with_sign negative None = None
 with_sign negative (Some size) = signed_of negative size

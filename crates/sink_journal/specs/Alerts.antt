@@ -41,7 +41,7 @@ abbrev pub met : Entry → Option Tuple
 met (entry.Met lane tuple) = Some tuple
 met _ = None
 
--- what such a sink shows for a journal
+-- what a sink of this name and layout shows for a journal
 abbrev pub sink_alerts : List ℕ → List (Option ColumnKind) → List Entry → List (List (List ℕ))
 sink_alerts name layout journal = map (alert name layout) (filter_map met journal)
 

@@ -9,7 +9,7 @@ use Rattle.call_steps.specs.Reading.{FollowsJob, IsJobOf, IsNoJob, TellsJob}
 use Rattle.call_steps.specs.declared.answer.Answer.{Answer}
 use Rattle.report.specs.declared.fault.Fault.{Fault}
 
--- it read a job, and came to printing its sizes; it changed no file
+-- the call read a job, and came to printing its sizes; it changed no file
 pub record PrintsSizes (name : List ℕ) (old new : World) (answer : Answer) : Type 0 where
   pub job : JobView
   pub of_file : IsJobOf old.shelf.files name job

@@ -6,7 +6,7 @@ use Rattle.payments.specs.World.{World}
 use Rattle.call_steps.specs.Effects.{IsExcused, PrintsFault}
 use Rattle.call_steps.specs.declared.answer.Answer.{Answer}
 
--- it came to printing the text; it read and changed no file, and ran nothing
+-- the call came to printing the text; it read and changed no file, and ran nothing
 pub record AnswersText (text : List ℕ) (old new : World) (answer : Answer) : Type 0 where
   pub between : World
   pub lines : PrintsLines text old between answer.fault

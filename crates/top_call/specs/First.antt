@@ -31,7 +31,7 @@ pub record IsMetBefore (journal : List Entry) (request row : ℕ) : Type 0 where
   pub before : meets_row row (before_turn request journal) ≡ true
   pub after : meets_row row (after_turn request journal) ≡ false
 
--- it met the row after the turn and not before
+-- the journal met the row after the turn of the request and not before
 pub record IsMetAfter (journal : List Entry) (request row : ℕ) : Type 0 where
   pub before : meets_row row (before_turn request journal) ≡ false
   pub after : meets_row row (after_turn request journal) ≡ true

@@ -43,7 +43,7 @@ IsNotMade asked files old new why =
 
 -- ---- the answer
 
--- it ran the rows, and came to printing the lines of that; it changed no file
+-- the call ran the rows, and came to printing the lines of that; it changed no file
 pub record RunsMade (asked : MakeAsked) (old new : World) (answer : Answer) : Type 0 where
   pub done : Done
   pub is_so : IsMadeRun asked old.shelf.files done

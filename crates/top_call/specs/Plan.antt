@@ -41,7 +41,8 @@ abbrev pub setup_lines : Setup → List ℕ
 setup_lines setup = plan_lines (job_view setup.job) setup.plans
     ++ refused_lines setup.judged.refused
 
--- it made the setup of what the files hold, and came to printing its lines; it changed no file
+-- the call made the setup of what the files hold, and came to printing its lines; it changed no
+-- file
 pub record PrintsSetup (asked : PlanAsked) (old new : World) (answer : Answer) : Type 0 where
   pub setup : Setup
   pub of_files : IsSetupOf asked old.shelf.files setup

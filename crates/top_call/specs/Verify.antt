@@ -57,7 +57,7 @@ IsNotVerified asked files old new why =
 
 -- ---- the answer
 
--- it rebuilt the run, and came to printing that it is verified; it changed no file
+-- the call rebuilt the run, and came to printing that it is verified; it changed no file
 pub record PrintsVerified (asked : VerifyAsked) (old new : World) (answer : Answer) : Type 0 where
   pub done : Done
   pub is_so : IsVerifiedRun asked old.shelf.files done
