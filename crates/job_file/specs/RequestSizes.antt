@@ -33,18 +33,19 @@ wide_in_requests ms =
 
 -- ---- sizes outside of their limits
 
--- the function of a change has the limits that it has in a job
+-- the first size of a change's function that is outside of the limits of a job's functions
 abbrev pub change_oversize : Change → Option Oversize
 change_oversize change = oversize change.func
 
--- a request comes after row 0 to 1,048,576, and has up to 64 changes
+-- the first size of a request that is outside of its limits: it comes after row 0 to 1,048,576, and
+-- has up to 64 changes
 abbrev pub request_oversize : Request → Option Oversize
 request_oversize request =
     option_or (outside which.After 0 1048576 request.after)
     (option_or (outside which.Changes 0 64 (length request.changes))
     (first_oversize change_oversize request.changes))
 
--- a file has up to 64 requests
+-- the first size of a list of requests that is outside of its limits: there are up to 64
 abbrev pub list_oversize : List Request → Option Oversize
 list_oversize requests =
     option_or (outside which.Requests 0 64 (length requests))

@@ -26,7 +26,7 @@ Oversize = Which × ℤ
 abbrev pub kept : ℕ → ℤ
 kept number = pos (min number 9223372036854775807)
 
--- the number, where it isn't from `least` to `most`
+-- the size and its number, if the number isn't from `least` to `most`
 abbrev pub outside : Which → ℕ → ℕ → ℕ → Option Oversize
 outside which least most number =
     if nat_le least number && nat_le number most then None else Some (which, kept number)
@@ -40,7 +40,7 @@ first_oversize size (x ∷ xs) = option_or (size x) (first_oversize size xs)
 abbrev pub text_max : ℕ
 text_max = 48
 
--- a text of a table or a literal has up to `text_max` bytes
+-- the length of a text of a table or a literal, if it is above `text_max` bytes
 abbrev pub text_oversize : List ℕ → Option Oversize
 text_oversize text = outside which.Text 0 text_max (length text)
 
@@ -52,17 +52,17 @@ IsShort value = length (as_text (Some value)) ≤ text_max
 abbrev pub HasShortTexts : Tuple → Type 0
 HasShortTexts tuple = All IsShort tuple.fields
 
--- a value that is a text has its length for a size, and a number has none
+-- the length of a value that is a text, if it is above its limit; a number has no size
 abbrev pub value_oversize : Value → Option Oversize
 value_oversize (value.Num number) = None
 value_oversize (value.Text text) = text_oversize text
 
--- the literal of a condition
+-- the length of a condition's literal, if it is above its limit
 abbrev pub literal_oversize : Cond → Option Oversize
 literal_oversize cond = value_oversize cond.literal
 
--- a filter has up to 8 conditions, a map up to 8 steps, and a split makes 1 to 16 pieces; literals
--- and `other` are short
+-- the first size of a function that is outside of its limits: a filter has up to 8 conditions, a
+-- map up to 8 steps, a split makes 1 to 16 pieces, and literals and `other` are short
 abbrev pub oversize : Func → Option Oversize
 oversize func.Source = None
 oversize (func.Filter conds) =
@@ -74,11 +74,12 @@ oversize (func.Split split) = outside which.Most 1 16 split.most
 oversize func.Replicate = None
 oversize (func.Sink listed) = None
 
--- the function of a node
+-- the first size of a node's function that is outside of its limits
 abbrev pub func_oversize : NodeDef → Option Oversize
 func_oversize node = oversize node.func
 
--- a source and a sink have 1 worker, and every other node 1 to 8
+-- a node's workers, if they are outside of their limits: 1 for a source and a sink, and 1 to 8 for
+-- every other node
 abbrev pub workers_oversize : NodeDef → Option Oversize
 workers_oversize node = outside which.Workers 1 (most_workers node.func) node.workers
 
@@ -86,8 +87,8 @@ workers_oversize node = outside which.Workers 1 (most_workers node.func) node.wo
 abbrev pub most_roof_of : List NodeDef → List Edge → NodeDef → ℕ
 most_roof_of nodes edges node = most_roof node.func (named_out_count nodes edges node.name)
 
--- a roof is at least the fan-out of the node's own function, and at most what its kind and edges
--- allow
+-- a node's roof, if it is below the fan-out of the node's own function, or above what its kind and
+-- edges allow
 abbrev pub roof_oversize : List NodeDef → List Edge → NodeDef → Option Oversize
 roof_oversize nodes edges node =
     outside which.Roof (fan_out node.func) (most_roof_of nodes edges node) node.roof
@@ -97,11 +98,11 @@ abbrev pub entry_count : List Table → ℕ
 entry_count [] = 0
 entry_count (table ∷ tables) = finite.len table.entries + entry_count tables
 
--- the text of an entry, and its value
+-- the length of the text of an entry or else of its value, if it is above its limit
 abbrev pub entry_oversize : List ℕ × Value → Option Oversize
 entry_oversize entry = option_or (text_oversize entry.0) (value_oversize entry.1)
 
--- the entries of a table, in the order of their texts
+-- the first length of the entries of a table that is above its limit, in the order of their texts
 abbrev pub table_oversize : Table → Option Oversize
 table_oversize table = first_oversize entry_oversize (finite.entries table.entries)
 

@@ -11,7 +11,7 @@ use Rattle.operators.specs.Fields.{text_at, written_at}
 use Rattle.operators.specs.Pieces.{pieces}
 use Rattle.operators.specs.Sent.{born, sent, with_fields}
 
--- the piece with this number
+-- the tuple of the piece with this number
 abbrev pub piece_sent : List Column → Visit → ℕ → Tuple → ℕ × List ℕ → Output
 piece_sent columns visit on tuple piece =
     sent visit 0

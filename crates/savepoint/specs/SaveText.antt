@@ -36,6 +36,6 @@ save_records job begin =
     head_record begin.row begin.turned
     ∷ flat_map (worker_records job) (zip (workers_in job) begin.states)
 
--- the whole text
+-- the text of a savepoint: all its records
 abbrev pub save_text : JobView → Begin → List ℕ
 save_text job begin = records_text (save_records job begin)

@@ -62,6 +62,6 @@ all_alerts columns (node ∷ nodes) journals =
     node_alerts columns node (take (workers_of node) journals)
     ++ all_alerts columns nodes (drop (workers_of node) journals)
 
--- the whole text
+-- the text of the alerts of a run: the header, and a record for each tuple that a sink met
 abbrev pub alerts : JobView → List (List Entry) → List ℕ
 alerts job journals = records_text (header job.columns ∷ all_alerts job.columns job.nodes journals)

@@ -87,7 +87,7 @@ abbrev pub audit_records : JobView → List Noted → List Feed → List (List E
 audit_records job refused feeds journals states =
     map refused_fields refused ++ map feed_fields feeds ++ nodes_records job.nodes journals states
 
--- the whole text
+-- the text of the audit of a run: the header, and then all records
 abbrev pub audit : JobView → List Noted → List Feed → List (List Entry) → List Counts → List ℕ
 audit job refused feeds journals states =
     records_text (audit_header ∷ audit_records job refused feeds journals states)

@@ -34,7 +34,7 @@ abbrev pub is_count_at : Option NodeDef → Bool
 is_count_at None = false
 is_count_at (Some node) = is_count node.func
 
--- the roof of a node, if there is one
+-- the roof of a node, or 1 if there is no node
 abbrev pub roof_at : Option NodeDef → ℕ
 roof_at None = 1
 roof_at (Some node) = node.roof
@@ -83,7 +83,7 @@ abbrev pub may_replace_at : Option Current → Func → ℕ → Bool → Bool
 may_replace_at None new roof once = true
 may_replace_at (Some current) new roof once = may_replace current.func new roof once
 
--- counts are carried by a count alone, and are divided by 1 or more
+-- the carry isn't `keep` at a node that doesn't count, or divides by less than 1
 abbrev pub is_bad_carry : Bool → Carry → Bool
 is_bad_carry counts carry.Keep = false
 is_bad_carry counts carry.Reset = not counts
@@ -122,7 +122,7 @@ abbrev pub version_of : List Current → Option Change → ℕ
 version_of book None = 0
 version_of book (Some change) = current_version (slice_get book change.node)
 
--- a stale change is shown the version that is current
+-- the fault of the first stale change, with the version that is current
 abbrev pub stale : List Current → List Change → Option ℕ → Option QFault
 stale book changes None = None
 stale book changes (Some place) =
@@ -133,7 +133,8 @@ abbrev pub is_empty : List Change → Bool
 is_empty [] = true
 is_empty (change ∷ rest) = false
 
--- a request as a whole: it has a change, and isn't for an earlier row than the latest accepted one
+-- the fault of a request as a whole: it has no change, or is for an earlier row than the latest
+-- accepted one
 abbrev pub whole_fault : Request → ℕ → Option QFault
 whole_fault request last_after =
     if is_empty request.changes then Some fault.Empty
