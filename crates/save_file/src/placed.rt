@@ -18,7 +18,7 @@ use std::marker::Model;
 use tuple_trace::{Bytes, NoMemory};
 
 /// A count in its place: the worker's number, the key and the number.
-#[derive(Debug, Drop)]
+#[derive(Drop)]
 pub(crate) struct Placed {
     pub(crate) worker: u32,
     pub(crate) key: Bytes,

@@ -6,6 +6,7 @@ ghost use Rattle.csv.specs.Records.{fields_of};
 ghost use Rattle.flow_model.specs.Setup.{setup_view};
 ghost use Rattle.flow_model.specs.Workers.{workers_in};
 ghost use Rattle.savepoint.specs.SaveReading.{Spelled as SpelledIs, begin_at as begin_at_of};
+ghost use Rattle.savepoint.specs.SaveReading.{begin_in};
 ghost use Rattle.savepoint.specs.SaveReading.{counts_at, head_of as head_of_record};
 ghost use Rattle.savepoint.specs.SaveReading.{placed_of as placed_of_spelled, save_of, spelled_of};
 ghost use Rattle.savepoint.specs.declared.fault.SaveFault.TheVariants.{Shape as ShapeOf};
@@ -42,13 +43,29 @@ pub fn read_save(alloc: Global, setup: &Setup, rows: u64, bytes: &[u8]) -> Resul
 {
     let mut records = TextRecords::of(alloc, bytes);
     let mut cells = ByteRecord::new(alloc);
-    if !records.next(&mut cells)? {
+    read_records(alloc, setup, rows, &mut records, &mut cells)
+}
+
+// Where a run goes on by these records. `cells` holds each record in turn.
+fn read_records(
+    alloc: Global,
+    setup: &Setup,
+    rows: u64,
+    records: &mut TextRecords<'_>,
+    cells: &mut ByteRecord,
+) -> Result<Start, SaveFault>
+    ensures ok { IfOk result (λ start.
+        begin_in (setup_view setup.now) rows records.old ≡ Ok start) }
+    ensures fault { IfErr result (λ fault. fault ≢ SaveFault.NoMemory →
+        begin_in (setup_view setup.now) rows records.old ≡ Err fault) }
+{
+    if !records.next(cells)? {
         return Err(SaveFault::Shape(0));
     }
-    let Some((row, turned)) = head_of(&cells) else {
+    let Some((row, turned)) = head_of(cells) else {
         return Err(SaveFault::Shape(0));
     };
-    let counts = counts_in(alloc, setup, &mut records, &mut cells)?;
+    let counts = counts_in(alloc, setup, records, cells)?;
     begin_at(alloc, setup, rows, row, turned, counts.as_slice())
 }
 
