@@ -1,5 +1,5 @@
 // What is printed of a fault.
-ghost use Rattle.std.specs.Prelude.{Some};
+ghost use Rattle.std.specs.Prelude.{◌≡◌, Some};
 ghost use Rattle.report.specs.FaultWords.{fault_words, file_words};
 
 use crate::fault::{Fault, FileIs};
@@ -29,15 +29,23 @@ impl fmt::Display for FileIs {
     ghost output = { λ file. Some (file_words file) };
 
     fn fmt<W: fmt::Write>(&self, f: &mut fmt::Formatter<W>) -> fmt::Result {
-        match self {
-            FileIs::Job => write!(f, "job"),
-            FileIs::Requests => write!(f, "requests"),
-            FileIs::Payments => write!(f, "payments"),
-            FileIs::Alerts => write!(f, "alerts"),
-            FileIs::Audit => write!(f, "audit"),
-            FileIs::Save => write!(f, "save"),
-            FileIs::Asks => write!(f, "asks"),
-            FileIs::Out => write!(f, "out"),
-        }
+        let word = word_of(*self);
+        write!(f, "{word}")
+    }
+}
+
+// The word of a file.
+fn word_of(file: FileIs) -> &'static str
+    ensures { result.now ≡ file_words file }
+{
+    match file {
+        FileIs::Job => "job",
+        FileIs::Requests => "requests",
+        FileIs::Payments => "payments",
+        FileIs::Alerts => "alerts",
+        FileIs::Audit => "audit",
+        FileIs::Save => "save",
+        FileIs::Asks => "asks",
+        FileIs::Out => "out",
     }
 }

@@ -11,7 +11,7 @@ use std::fmt;
 use tuple_trace::NoMemory;
 
 /// What a run is counted by.
-#[derive(Clone, Copy, Debug, PartialEq, Eq)]
+#[derive(Clone, Copy, PartialEq, Eq)]
 pub struct Summary {
     /// The rows that were fed.
     pub rows: usize,
@@ -57,7 +57,7 @@ pub fn fault_line(alloc: Global, fault: Fault) -> Result<String, NoMemory>
 }
 
 /// What a job is measured by.
-#[derive(Clone, Copy, Debug, PartialEq, Eq)]
+#[derive(Clone, Copy, PartialEq, Eq)]
 pub struct Sizes {
     pub nodes: usize,
     pub edges: u32,

@@ -1,5 +1,6 @@
 // The lines of the plans of requests.
-ghost use Rattle.std.specs.Prelude.{◌≡◌, ◌<◌, ◌≤◌, ◌++◌, IfOk, OnErr, OnOk, length, slice_get};
+ghost use Rattle.std.specs.Prelude.{◌≡◌, ◌<◌, ◌≤◌, ◌++◌, IfOk, OnErr, OnOk, decimal};
+ghost use Rattle.std.specs.Prelude.{length, slice_get};
 ghost use Rattle.flow_dag.specs.Masks.{has};
 ghost use Rattle.jobs.specs.Job.{job_view};
 ghost use Rattle.report.specs.Lines.{edge_name as edge_name_of, edge_names as edge_names_of};
@@ -52,34 +53,51 @@ fn push_plan(
 {
     let (nodes, edges) = (job.nodes.as_slice(), job.dag.all_edges());
     let parts = part_count(&plan.part);
-    push(
-        text,
-        b"request ",
-        format!(in alloc; "{request}")?.as_bytes(),
-    )?;
-    push(
-        text,
-        b" asked ",
-        node_list(alloc, nodes, plan.asked)?.as_slice(),
-    )?;
-    push(
-        text,
-        b" members ",
-        node_list(alloc, nodes, plan.members)?.as_slice(),
-    )?;
-    push(
-        text,
-        b" heads ",
-        node_list(alloc, nodes, plan.heads)?.as_slice(),
-    )?;
-    push(text, b" parts ", format!(in alloc; "{parts}")?.as_bytes())?;
-    push(
-        text,
-        b" edges ",
-        edge_list(alloc, nodes, edges, plan.edges)?.as_slice(),
-    )?;
+    push_number(alloc, b"request ", request, text)?;
+    push_nodes(alloc, b" asked ", nodes, plan.asked, text)?;
+    push_nodes(alloc, b" members ", nodes, plan.members, text)?;
+    push_nodes(alloc, b" heads ", nodes, plan.heads, text)?;
+    push_number(alloc, b" parts ", parts as u64, text)?;
+    push_edges(alloc, b" edges ", nodes, edges, plan.edges, text)?;
     text.extend_from_slice(b"\n")?;
     Ok(())
+}
+
+fn push_number(alloc: Global, label: &[u8], number: u64, text: &mut Bytes) -> Result<(), NoMemory>
+    ensures { OnOk result (text.new ≡ text.old ++ label.now ++ decimal number) }
+{
+    push(text, label, format!(in alloc; "{number}")?.as_bytes())
+}
+
+fn push_nodes(
+    alloc: Global,
+    label: &[u8],
+    nodes: &[NodeDef],
+    mask: u64,
+    text: &mut Bytes,
+) -> Result<(), NoMemory>
+    requires { length nodes.now ≤ 64 }
+    ensures { OnOk result (text.new ≡ text.old ++ label.now
+        ++ listed_of (node_names_of nodes.now mask)) }
+{
+    let list = node_list(alloc, nodes, mask)?;
+    push(text, label, list.as_slice())
+}
+
+fn push_edges(
+    alloc: Global,
+    label: &[u8],
+    nodes: &[NodeDef],
+    edges: &[Edge],
+    mask: u128,
+    text: &mut Bytes,
+) -> Result<(), NoMemory>
+    requires { length edges.now ≤ 128 }
+    ensures { OnOk result (text.new ≡ text.old ++ label.now
+        ++ listed_of (edge_names_of nodes.now edges.now mask)) }
+{
+    let list = edge_list(alloc, nodes, edges, mask)?;
+    push(text, label, list.as_slice())
 }
 
 fn push(text: &mut Bytes, label: &[u8], words: &[u8]) -> Result<(), NoMemory>
