@@ -48,23 +48,48 @@ pub fn check_feed(
 {
     let mut records = TextRecords::of(alloc, bytes);
     let mut cells = ByteRecord::new(alloc);
-    if !records.next(&mut cells)? {
+    check_records(setup, refused, rows, wanted, &mut records, &mut cells)
+}
+
+// Whether the feeder's steps in these records are `wanted`. The header and the refused requests are
+// the first records, and `cells` holds each record in turn.
+fn check_records(
+    setup: &Setup,
+    refused: &[Noted],
+    rows: &Rows,
+    wanted: &[Feed],
+    records: &mut TextRecords<'_>,
+    cells: &mut ByteRecord,
+) -> Result<(), AuditFault>
+    requires shape { (lines : List LineIs) ×
+        AreInShape (setup_view setup.now).job records.old lines
+        × (refusals_in lines ≡ refused.now) }
+    requires wanted { wanted.now ≡ feed_of (setup_view setup.now) rows.now }
+    ensures ok { OnOk result ((lines : List LineIs) →
+        AreInShape (setup_view setup.now).job records.old lines →
+        refusals_in lines ≡ refused.now → feeds_in lines
+        ≡ feed_of (setup_view setup.now) rows.now) }
+    ensures fault { IfErr result
+        (IsFaultOf (setup_view setup.now) setup.now.job.dag.order refused.now rows.now
+        records.old) }
+{
+    if !records.next(cells)? {
         return Err(AuditFault::NoMemory);
     }
     for _ in 0..refused.len() {
-        if !records.next(&mut cells)? {
+        if !records.next(cells)? {
             return Err(AuditFault::NoMemory);
         }
     }
     for place in 0..wanted.len() {
-        let Some(found) = next_step(&mut records, &mut cells)? else {
+        let Some(found) = next_step(records, cells)? else {
             return Err(AuditFault::Feed(number_of(refused, place)));
         };
         if !is_at(wanted, place, found) {
             return Err(AuditFault::Feed(number_of(refused, place)));
         }
     }
-    match next_step(&mut records, &mut cells)? {
+    match next_step(records, cells)? {
         Some(_) => Err(AuditFault::Feed(number_of(refused, wanted.len()))),
         None => Ok(()),
     }

@@ -42,18 +42,37 @@ pub fn check_refused(
 {
     let mut records = TextRecords::of(alloc, bytes);
     let mut cells = ByteRecord::new(alloc);
-    if !records.next(&mut cells)? {
+    check_records(setup, refused, &mut records, &mut cells)
+}
+
+// Whether the refused requests of these records are these. The header is the first record, and
+// `cells` holds each record in turn.
+fn check_records(
+    setup: &Setup,
+    refused: &[Noted],
+    records: &mut TextRecords<'_>,
+    cells: &mut ByteRecord,
+) -> Result<(), AuditFault>
+    requires { (lines : List LineIs) ×
+        AreInShape (setup_view setup.now).job records.old lines }
+    ensures ok { OnOk result ((lines : List LineIs) →
+        AreInShape (setup_view setup.now).job records.old lines →
+        refusals_in lines ≡ refused.now) }
+    ensures fault { (rows : List RowIs) → IfErr result
+        (IsFaultOf (setup_view setup.now) setup.now.job.dag.order refused.now rows records.old) }
+{
+    if !records.next(cells)? {
         return Err(AuditFault::NoMemory);
     }
     for place in 0..refused.len() {
-        let Some(found) = next_refused(&mut records, &mut cells)? else {
+        let Some(found) = next_refused(records, cells)? else {
             return Err(AuditFault::Refused(place as u64 + 1));
         };
         if !is_at(refused, place, found) {
             return Err(AuditFault::Refused(place as u64 + 1));
         }
     }
-    match next_refused(&mut records, &mut cells)? {
+    match next_refused(records, cells)? {
         Some(_) => Err(AuditFault::Refused(refused.len() as u64 + 1)),
         None => Ok(()),
     }

@@ -1,5 +1,5 @@
 // The first pass: whether the records of an audit are in shape.
-ghost use Rattle.std.specs.Prelude.{◌≡◌, ◌↔◌, IfErr, IfOk, IsTrue, List, length};
+ghost use Rattle.std.specs.Prelude.{◌≡◌, ◌∷◌, ◌↔◌, [], IfErr, IfOk, IsTrue, List, OnOk, length};
 ghost use Rattle.csv.specs.Records.{fields_of};
 ghost use Rattle.sink_journal.specs.Audit.{audit_header};
 ghost use Rattle.sink_journal.specs.declared.audit.Noted.{Noted as NotedIs};
@@ -39,20 +39,56 @@ pub fn read_audit(alloc: Global, setup: &Setup, bytes: &[u8]) -> Result<Told, Au
 {
     let mut records = TextRecords::of(alloc, bytes);
     let mut cells = ByteRecord::new(alloc);
-    if !records.next(&mut cells)? {
+    read_records(alloc, setup, &mut records, &mut cells)
+}
+
+// What the records tell of the workers, if they are in shape. `cells` holds each record in turn.
+fn read_records(
+    alloc: Global,
+    setup: &Setup,
+    records: &mut TextRecords<'_>,
+    cells: &mut ByteRecord,
+) -> Result<Told, AuditFault>
+    ensures ok { IfOk result (λ told. (lines : List LineIs) ×
+        AreInShape (setup_view setup.now).job records.old lines
+        × Tells (length (workers_in (setup_view setup.now).job)) lines told) }
+    ensures fault { (refused : List NotedIs) (rows : List RowIs) → IfErr result
+        (IsFaultOf (setup_view setup.now) setup.now.job.dag.order refused rows records.old) }
+{
+    if !records.next(cells)? {
         return Err(AuditFault::Shape(0));
     }
-    if !is_header(&cells) {
+    if !is_header(cells) {
         return Err(AuditFault::Shape(0));
     }
     let mut told = Told::empty(alloc, setup.workers())?;
+    read_lines(alloc, setup, records, cells, &mut told)?;
+    Ok(told)
+}
+
+// Adds what the records after the header tell.
+fn read_lines(
+    alloc: Global,
+    setup: &Setup,
+    records: &mut TextRecords<'_>,
+    cells: &mut ByteRecord,
+    told: &mut Told,
+) -> Result<(), AuditFault>
+    requires { Tells (length (workers_in (setup_view setup.now).job)) [] told.old }
+    ensures ok { OnOk result ((lines : List LineIs) ×
+        AreInShape (setup_view setup.now).job (audit_header ∷ records.old) lines
+        × Tells (length (workers_in (setup_view setup.now).job)) lines told.new) }
+    ensures fault { (refused : List NotedIs) (rows : List RowIs) → IfErr result
+        (IsFaultOf (setup_view setup.now) setup.now.job.dag.order refused rows
+        (audit_header ∷ records.old)) }
+{
     let mut group = 0;
     let mut near = 0;
     for number in 1..u64::MAX {
-        if !records.next(&mut cells)? {
-            return Ok(told);
+        if !records.next(cells)? {
+            return Ok(());
         }
-        let Some(line) = line_of(alloc, setup, &cells, near)? else {
+        let Some(line) = line_of(alloc, setup, cells, near)? else {
             return Err(AuditFault::Shape(number));
         };
         let next = group_of(&line);

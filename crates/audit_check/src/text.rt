@@ -1,5 +1,5 @@
 // The first three passes: what a text tells of the requests, of the feeder and of the workers.
-ghost use Rattle.std.specs.Prelude.{◌≡◌, IfErr, IfOk, List, length};
+ghost use Rattle.std.specs.Prelude.{◌≡◌, IfErr, IfOk, List, OnOk, length};
 ghost use Rattle.flow_model.specs.Setup.{setup_view};
 ghost use Rattle.flow_model.specs.Workers.{workers_in};
 ghost use Rattle.audit_laws.specs.Delivered.{feed_of};
@@ -40,8 +40,32 @@ pub fn check_text(
         (records_of bytes.now)) }
 {
     let told = read_audit(alloc, setup, bytes)?;
+    let feeds = checked_feed(alloc, setup, refused, rows, bytes)?;
+    Ok((told, feeds))
+}
+
+// The feed of these rows, if the text tells these refused requests and this feed. The records are
+// in shape.
+fn checked_feed(
+    alloc: Global,
+    setup: &Setup,
+    refused: &[Noted],
+    rows: &Rows,
+    bytes: &[u8],
+) -> Result<Feeds, AuditFault>
+    requires { (lines : List LineIs) ×
+        AreInShape (setup_view setup.now).job (records_of bytes.now) lines }
+    ensures feeds { IfOk result (λ feeds. feeds ≡ feed_of (setup_view setup.now) rows.now) }
+    ensures lines { OnOk result ((lines : List LineIs) →
+        AreInShape (setup_view setup.now).job (records_of bytes.now) lines →
+        (refusals_in lines ≡ refused.now)
+        × (feeds_in lines ≡ feed_of (setup_view setup.now) rows.now)) }
+    ensures fault { IfErr result
+        (IsFaultOf (setup_view setup.now) setup.now.job.dag.order refused.now rows.now
+        (records_of bytes.now)) }
+{
     check_refused(alloc, setup, refused, bytes)?;
     let feeds = feed_of_rows(alloc, setup, rows)?;
     check_feed(alloc, setup, refused, rows, feeds.as_slice(), bytes)?;
-    Ok((told, feeds))
+    Ok(feeds)
 }

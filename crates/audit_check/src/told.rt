@@ -9,7 +9,7 @@ use std::marker::Model;
 use tuple_trace::{Bytes, Items, NoMemory};
 
 /// A count of a worker, as an audit tells it.
-#[derive(Debug, Drop)]
+#[derive(Drop)]
 pub struct Counted {
     pub key: Bytes,
     pub count: i64,

@@ -6,7 +6,11 @@ returns-in_err-told-clause-fault c =
     let fault = c.in_err-told.ensures.fault c.args.refused.now c.args.rows.now in
     search (rules, fault)
 
-pub returns-in_err-check_refused-clause-fault : goal.returns-in_err-check_refused-clause-fault
-returns-in_err-check_refused-clause-fault c =
-    let fault = c.in_err-check_refused.ensures.fault c.args.rows.now in
-    search (rules, fault)
+pub checked_feed-requires : goal.checked_feed-requires
+checked_feed-requires c = let (lines, s, tells) = c.in_ok-told.ensures.ok in (lines, s)
+
+pub returns-clause-lines : goal.returns-clause-lines
+returns-clause-lines c =
+    let (lines, s, tells) = c.in_ok-told.ensures.ok in
+    let told = c.in_ok-feeds.ensures.lines lines s in
+    (lines, s, told.0, told.1, tells)
