@@ -3,7 +3,7 @@ ghost use Rattle.std.specs.FinMap.{entries};
 ghost use Rattle.jobs.specs.Job.{job_view};
 ghost use Rattle.jobs.specs.Nodes.{AreFromSources};
 ghost use Rattle.flow_model.specs.Record.{record_view};
-ghost use Rattle.flow_model.specs.Run.{IsRun, Ran};
+ghost use Rattle.flow_model.specs.Run.{IsRun, Ran, ran_as};
 ghost use Rattle.flow_model.specs.Setup.{setup_view};
 ghost use Rattle.flow_model.specs.Workers.{workers_in};
 ghost use Rattle.audit_laws.specs.Delivered.{feed_of};
@@ -24,7 +24,7 @@ use audit_laws::{
 use flow_model::{RunRecord, Setup};
 use journal_law::check_law;
 use report::noted;
-use sink_journal::{Feed, Noted};
+use sink_journal::{Feed, Feeds, Noted};
 use std::alloc::Global;
 use tuple_trace::Rows;
 
@@ -55,20 +55,48 @@ pub fn check_audit(
         Fits (map noted_as setup.judged.refused) bytes.now run →
         IfErr result (λ fault. fault ≡ OutOfMemory) }
 {
-    checked_journals_are_a_run(&setup, rows);
-    runs_fit_their_lines(&setup);
-    texts_of_runs_have_no_fault(&setup, rows);
-    texts_tell_the_run(&setup, rows);
+    match rebuild(alloc, &setup, rows, bytes) {
+        Ok((feeds, restored)) => Ok(RunRecord {
+            setup,
+            feeds,
+            journals: restored.journals,
+            states: restored.states,
+        }),
+        Err(fault) => Err(fault),
+    }
+}
+
+// The feed, the journals and the counts of the run that a text is the audit of.
+fn rebuild(
+    alloc: Global,
+    setup: &Setup,
+    rows: &Rows,
+    bytes: &[u8],
+) -> Result<(Feeds, Restored), AuditFault>
+    requires { AreFromSources (setup_view setup.now).job rows.now }
+    ensures run { IfOk result (λ both. IsRun (setup_view setup.now) rows.now
+        (ran_as (setup_view setup.now) both.0 both.1.journals both.1.states)) }
+    ensures fits { IfOk result (λ both. Fits (map noted_as setup.now.judged.refused) bytes.now
+        (ran_as (setup_view setup.now) both.0 both.1.journals both.1.states)) }
+    ensures fault { IfErr result (IsFaultOf (setup_view setup.now) setup.now.job.dag.order
+        (map noted_as setup.now.judged.refused) rows.now (records_of bytes.now)) }
+    ensures only { (run : Ran) → IsRun (setup_view setup.now) rows.now run →
+        Fits (map noted_as setup.now.judged.refused) bytes.now run →
+        IfOk result (λ both.
+        ran_as (setup_view setup.now) both.0 both.1.journals both.1.states ≡ run) }
+    ensures found { (run : Ran) → IsRun (setup_view setup.now) rows.now run →
+        Fits (map noted_as setup.now.judged.refused) bytes.now run →
+        IfErr result (λ fault. fault ≡ OutOfMemory) }
+{
+    checked_journals_are_a_run(setup, rows);
+    runs_fit_their_lines(setup);
+    texts_of_runs_have_no_fault(setup, rows);
+    texts_tell_the_run(setup, rows);
     let refused = noted(alloc, setup.judged.refused.as_slice())?;
     places_are_narrow(refused.as_slice());
-    let (told, feeds) = check_text(alloc, &setup, refused.as_slice(), rows, bytes)?;
-    let Restored { journals, states } = restore_all(alloc, &setup, rows, feeds.as_slice(), &told)?;
-    Ok(RunRecord {
-        setup,
-        feeds,
-        journals,
-        states,
-    })
+    let (told, feeds) = check_text(alloc, setup, refused.as_slice(), rows, bytes)?;
+    let restored = restore_all(alloc, setup, rows, feeds.as_slice(), &told)?;
+    Ok((feeds, restored))
 }
 
 // The passes over the workers.
