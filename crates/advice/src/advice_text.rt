@@ -76,7 +76,7 @@ fn fault_text<L: Look>(
 {
     let place = match place_of(alloc, call, fault, look) {
         Ok(place) => place,
-        Err(NoMemory) => Place::new(alloc),
+        Err(_) => Place::new(alloc),
     };
     let head = head_of(alloc, call, fault, place.note.as_str())?;
     let detail = detail_line(alloc, place.detail.as_str())?;
@@ -133,23 +133,23 @@ fn place_of<L: Look>(
     call: Call<'_>,
     fault: Fault,
     look: &mut L,
-) -> Result<Place, NoMemory> {
+) -> Result<Place, AllocError> {
     match fault {
         Fault::Job(fault) => match file_of(alloc, call, FileIs::Job, look) {
-            Some(job) => Ok(job_place(alloc, job.as_slice(), fault)?),
+            Some(job) => job_place(alloc, job.as_slice(), fault),
             None => Ok(Place::new(alloc)),
         },
         Fault::Requests(fault) => match file_of(alloc, call, FileIs::Requests, look) {
-            Some(requests) => Ok(request_place(alloc, requests.as_slice(), fault)?),
+            Some(requests) => request_place(alloc, requests.as_slice(), fault),
             None => Ok(Place::new(alloc)),
         },
         Fault::Payments(fault) => payments_place(alloc, call, fault, look),
         Fault::Save(fault) => match file_of(alloc, call, FileIs::Save, look) {
-            Some(save) => Ok(save_place(alloc, save.as_slice(), fault)?),
+            Some(save) => save_place(alloc, save.as_slice(), fault),
             None => Ok(Place::new(alloc)),
         },
         Fault::Audit(fault) => match file_of(alloc, call, FileIs::Audit, look) {
-            Some(audit) => Ok(audit_place(alloc, audit.as_slice(), fault)?),
+            Some(audit) => audit_place(alloc, audit.as_slice(), fault),
             None => Ok(Place::new(alloc)),
         },
         Fault::Long(file) => limit_place(alloc, file),
@@ -162,20 +162,33 @@ fn payments_place<L: Look>(
     call: Call<'_>,
     fault: PFault,
     look: &mut L,
-) -> Result<Place, NoMemory> {
-    let job = match file_of(alloc, call, FileIs::Job, look) {
-        Some(job) => read_job(alloc, job.as_slice()).ok(),
-        None => None,
-    };
+) -> Result<Place, AllocError> {
+    let job = file_of(alloc, call, FileIs::Job, look);
     let rows = file_of(alloc, call, FileIs::Payments, look);
     let rows = match &rows {
         Some(rows) => rows.as_slice(),
         None => &[],
     };
-    Ok(row_place(alloc, job.as_ref(), rows, fault)?)
+    match &job {
+        Some(job) => row_place_by(alloc, job.as_slice(), rows, fault),
+        None => row_place(alloc, None, rows, fault),
+    }
 }
 
-fn limit_place(alloc: Global, file: FileIs) -> Result<Place, NoMemory> {
+// What the bytes of a payments file and of a job file tell of the place of a fault.
+fn row_place_by(
+    alloc: Global,
+    job: &[u8],
+    rows: &[u8],
+    fault: PFault,
+) -> Result<Place, AllocError> {
+    match read_job(alloc, job) {
+        Ok(job) => row_place(alloc, Some(&job), rows, fault),
+        Err(_) => row_place(alloc, None, rows, fault),
+    }
+}
+
+fn limit_place(alloc: Global, file: FileIs) -> Result<Place, AllocError> {
     let mut place = Place::new(alloc);
     let most = file.limit();
     write!(place.detail, "At most {most} bytes are read of it.")?;

@@ -4,7 +4,7 @@ use tuple_trace::Word;
 use versions::Refused;
 
 /// A call of the program: its words, without the program's own name, and what it came to.
-#[derive(Clone, Copy, Debug)]
+#[derive(Clone, Copy)]
 pub struct Call<'a> {
     pub words: &'a [Word],
     /// What ended the call early, if anything did.

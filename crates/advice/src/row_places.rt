@@ -20,23 +20,32 @@ pub(crate) fn row_place(
     fault: PFault,
 ) -> Result<Place, AllocError> {
     let mut place = Place::new(alloc);
-    match fault {
-        PFault::NoHeader | PFault::Header => push_header(job, &mut place.detail)?,
-        PFault::Length(row)
-        | PFault::Source(row)
-        | PFault::Value(row, _)
-        | PFault::TextLong(row, _) => {
-            if let Some(found) = record_at(alloc, bytes, row) {
-                found.tell(job, fault, &mut place)?;
-            }
-        }
-        PFault::TooMuch(_) => push_most_rows(job, &mut place.detail)?,
-        PFault::NoMemory => {}
-    }
+    tell_row(alloc, job, bytes, fault, &mut place)?;
     if let PFault::Source(_) = fault {
         push_sources(job, &mut place.detail)?;
     }
     Ok(place)
+}
+
+fn tell_row(
+    alloc: Global,
+    job: Option<&Job>,
+    bytes: &[u8],
+    fault: PFault,
+    place: &mut Place,
+) -> Result<(), AllocError> {
+    match fault {
+        PFault::NoHeader | PFault::Header => push_header(job, &mut place.detail),
+        PFault::Length(row)
+        | PFault::Source(row)
+        | PFault::Value(row, _)
+        | PFault::TextLong(row, _) => match record_at(alloc, bytes, row) {
+            Some(found) => found.tell(job, fault, place),
+            None => Ok(()),
+        },
+        PFault::TooMuch(_) => push_most_rows(job, &mut place.detail),
+        PFault::NoMemory => Ok(()),
+    }
 }
 
 /// What the bytes of a savepoint tell of the place of a fault.

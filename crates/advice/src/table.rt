@@ -1,7 +1,7 @@
 //! What is said of each code. docs/ERRORS.md is made from these rows by tools/errors.
 
 /// What is said of a code, in plain sentences.
-#[derive(Clone, Copy, Debug)]
+#[derive(Clone, Copy)]
 pub struct Help {
     /// The code as it is printed, or the status of a fault that has no code.
     pub code: &'static str,
