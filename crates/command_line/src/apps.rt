@@ -1,11 +1,14 @@
 // The commands that `clap` reads the words by.
 ghost use Rattle.std.specs.Prelude.{◌≡◌, IfOk, false, map};
+ghost use Rattle.clap.specs.Built.{AddsSubcommand};
 ghost use Rattle.clap.specs.Words.{app_of, rule_of};
+ghost use Rattle.clap.specs.declared.builder.command.Command.{Command as CommandIs};
 ghost use Rattle.clap.specs.declared.builder.command.Command.TheViews.{out-Command};
 ghost use Rattle.command_line.specs.Apps.{IsApp, command_app, flag_rule_of, name_rule};
 ghost use Rattle.command_line.specs.Apps.{option_rule, option_rule_of, program_app, shape_on};
 ghost use Rattle.command_line.specs.Apps.{switch_rule, topic_view, with_rules, with_shapes};
 ghost use Rattle.command_line.specs.Views.{flag_view, form_view, option_view, texts};
+ghost use Rattle.command_line.specs.Words.{form_of as form_of_topic};
 
 use crate::Topic;
 use crate::form::{Flag, Form, ValueOption, form_of};
@@ -47,9 +50,23 @@ fn with_commands<'w>(
 {
     let mut program = program;
     for pair in commands {
-        program = program.subcommand(command(alloc, pair.0, &form_of(pair.1))?)?;
+        program = with_command(alloc, program, pair.0, pair.1)?;
     }
     Ok(program)
+}
+
+fn with_command<'w>(
+    alloc: Global,
+    program: Command<'w>,
+    word: &'w str,
+    about: Topic,
+) -> Result<Command<'w>, AllocError>
+    ensures { IfOk result (λ made. (added : CommandIs) ×
+        IsApp added (command_app word.entry.now (form_of_topic about))
+        × AddsSubcommand program.entry added made) }
+{
+    let added = command(alloc, word, &form_of(about))?;
+    program.subcommand(added)
 }
 
 fn command<'w>(alloc: Global, word: &'w str, form: &Form) -> Result<Command<'w>, AllocError>

@@ -1,5 +1,7 @@
 ghost use Rattle.std.specs.Prelude.{◌≡◌, ◌≢◌, ◌≤◌, IfOk, IfErr, IfSome, Some, None, drop, length};
 ghost use Rattle.std.specs.Prelude.{slice_get};
+ghost use Rattle.clap.specs.Words.{subcommand_of, subcommand_rows_of};
+ghost use Rattle.command_line.specs.Apps.{program_app};
 ghost use Rattle.command_line.specs.Asked.{IsSized, asked_by};
 ghost use Rattle.command_line.specs.Words.{asked_after, asked_alone, asked_of};
 ghost use Rattle.command_line.specs.Words.{asks_help as asks_help_of, is_help as is_help_word};
@@ -13,11 +15,12 @@ use crate::apps::program;
 use crate::form::form_of;
 use crate::parts::has_form;
 use crate::values::command_with;
+use clap::ArgMatches;
 use std::alloc::Global;
 use tuple_trace::{NoMemory, Word};
 
 /// What the program is asked to do.
-#[derive(Debug, Drop)]
+#[derive(Drop)]
 pub enum Command {
     First(First),
     /// To read this job file, and print the sizes of its job.
@@ -37,7 +40,7 @@ pub enum Command {
 }
 
 /// What the command `first` is asked to do.
-#[derive(Debug, Drop)]
+#[derive(Drop)]
 pub struct First {
     /// The file that the payments are read from.
     pub payments: Word,
@@ -52,7 +55,7 @@ pub struct First {
 }
 
 /// The files of the command `plan`.
-#[derive(Debug, Drop)]
+#[derive(Drop)]
 pub struct PlanFiles {
     pub job: Word,
     pub requests: Word,
@@ -62,14 +65,14 @@ pub struct PlanFiles {
 
 /// How many threads an engine has, 1 to 16, and how many items each of its lanes holds at most, 1
 /// to 64.
-#[derive(Clone, Copy, Debug)]
+#[derive(Clone, Copy)]
 pub struct EngineSize {
     pub threads: u32,
     pub capacity: u32,
 }
 
 /// The files of the command `run`, and the engine that runs them.
-#[derive(Debug, Drop)]
+#[derive(Drop)]
 pub struct RunFiles {
     pub plan: PlanFiles,
     /// The file that the payments are read from.
@@ -82,7 +85,7 @@ pub struct RunFiles {
 }
 
 /// What the command `make` is asked to do.
-#[derive(Debug, Drop)]
+#[derive(Drop)]
 pub struct Make {
     pub job: Word,
     /// What the generator of rows starts from.
@@ -94,7 +97,7 @@ pub struct Make {
 }
 
 /// The files of the command `save`, and after how many rows it stops.
-#[derive(Debug, Drop)]
+#[derive(Drop)]
 pub struct SaveFiles {
     /// The files of the run up to there. It isn't in ordered mode.
     pub run: RunFiles,
@@ -106,7 +109,7 @@ pub struct SaveFiles {
 }
 
 /// The files of the command `resume`.
-#[derive(Debug, Drop)]
+#[derive(Drop)]
 pub struct ResumeFiles {
     /// The files of the run from there. It isn't in ordered mode.
     pub run: RunFiles,
@@ -116,7 +119,7 @@ pub struct ResumeFiles {
 }
 
 /// The files of the command `verify`.
-#[derive(Debug, Drop)]
+#[derive(Drop)]
 pub struct VerifyFiles {
     /// The files of the plan that the run went by.
     pub plan: PlanFiles,
@@ -127,7 +130,7 @@ pub struct VerifyFiles {
 }
 
 /// Why words are no command.
-#[derive(Clone, Copy, Debug, PartialEq, Eq)]
+#[derive(Clone, Copy, PartialEq, Eq)]
 pub enum WordsFault {
     /// The words are no full form of a command, and ask for neither help nor the version.
     Usage,
@@ -160,12 +163,21 @@ pub fn command_of(alloc: Global, words: &[Word]) -> Result<Command, WordsFault>
         → asked_of words.now ≡ None) }
 {
     let words = strings_of(alloc, words)?;
+    command_in(alloc, &words)
+}
+
+fn command_in<'w>(alloc: Global, words: &'w [&'w str]) -> Result<Command, WordsFault>
+    ensures asked { IfOk result (λ command. asked_of (texts words.now) ≡ Some (asked_by command)) }
+    ensures sized { IfOk result IsSized }
+    ensures usage { IfErr result (λ fault. fault ≢ WordsFault.NoMemory
+        → asked_of (texts words.now) ≡ None) }
+{
     let Some((first, rest)) = words.split_first() else {
         return Err(WordsFault::Usage);
     };
     match topic_of(first) {
         Some(topic) if asks_help(rest) => Ok(Command::Help(topic)),
-        Some(topic) => command_after(alloc, topic, &words),
+        Some(topic) => command_after(alloc, topic, words),
         None if rest.is_empty() => alone(first),
         None => Err(WordsFault::Usage),
     }
@@ -189,41 +201,42 @@ fn command_after<'w>(
     if !has_form(alloc, &form_of(topic), &words[1..])? {
         return Err(WordsFault::Usage);
     }
-    let Ok(program) = program(alloc) else {
-        return Err(WordsFault::NoMemory);
-    };
-    let Ok(matches) = program.try_get_matches_from(words) else {
-        return Err(WordsFault::NoMemory);
-    };
+    let matches = matches_of(alloc, words)?;
     match matches.subcommand_matches(words[0]) {
         Some(values) => command_with(alloc, topic, values),
         None => Err(WordsFault::NoMemory),
     }
 }
 
+// What `clap` reads in the words.
+fn matches_of<'w>(alloc: Global, words: &'w [&'w str]) -> Result<ArgMatches<'w>, WordsFault>
+    ensures matches { IfOk result (λ matches. subcommand_rows_of matches
+        ≡ subcommand_of program_app (texts words.now)) }
+    ensures memory { IfErr result (λ fault. fault ≡ OutOfMemory) }
+{
+    let Ok(program) = program(alloc) else {
+        return Err(WordsFault::NoMemory);
+    };
+    match program.try_get_matches_from(words) {
+        Ok(matches) => Ok(matches),
+        Err(_) => Err(WordsFault::NoMemory),
+    }
+}
+
 fn topic_of(word: &str) -> Option<Topic>
     ensures { result ≡ topic_of_word word.now }
 {
-    if word == "first" {
-        Some(Topic::First)
-    } else if word == "check" {
-        Some(Topic::Check)
-    } else if word == "plan" {
-        Some(Topic::Plan)
-    } else if word == "run" {
-        Some(Topic::Run)
-    } else if word == "make" {
-        Some(Topic::Make)
-    } else if word == "save" {
-        Some(Topic::Save)
-    } else if word == "resume" {
-        Some(Topic::Resume)
-    } else if word == "live" {
-        Some(Topic::Live)
-    } else if word == "verify" {
-        Some(Topic::Verify)
-    } else {
-        None
+    match word {
+        "first" => Some(Topic::First),
+        "check" => Some(Topic::Check),
+        "plan" => Some(Topic::Plan),
+        "run" => Some(Topic::Run),
+        "make" => Some(Topic::Make),
+        "save" => Some(Topic::Save),
+        "resume" => Some(Topic::Resume),
+        "live" => Some(Topic::Live),
+        "verify" => Some(Topic::Verify),
+        _ => None,
     }
 }
 

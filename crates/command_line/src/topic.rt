@@ -1,5 +1,5 @@
 /// What help is asked about.
-#[derive(Clone, Copy, Debug, PartialEq, Eq)]
+#[derive(Clone, Copy, PartialEq, Eq)]
 pub enum Topic {
     /// The program with all its commands.
     Program,

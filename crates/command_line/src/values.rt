@@ -1,19 +1,21 @@
 // The values that `clap` read, as what a command is asked to do.
-ghost use Rattle.std.specs.Prelude.{◌≡◌, ◌≢◌, ◌≤◌, IfOk, IfErr, IfSome, Some, None, codes};
-ghost use Rattle.std.specs.Prelude.{option_map};
+ghost use Rattle.std.specs.Prelude.{◌≡◌, ◌≢◌, ◌≤◌, ◌||◌, IfOk, IfErr, IfNone, IfSome, Some, None};
+ghost use Rattle.std.specs.Prelude.{codes, false, option_map};
+ghost use Rattle.std.specs.Str.{bytes_eq};
 ghost use Rattle.clap.specs.Words.{first_value, found_of};
-ghost use Rattle.command_line.specs.Asked.{IsSize, IsSized, IsThreads, asked_by, first_asked};
-ghost use Rattle.command_line.specs.Asked.{make_asked, plan_asked, resume_asked, run_asked};
-ghost use Rattle.command_line.specs.Asked.{save_asked, verify_asked};
+ghost use Rattle.command_line.specs.Asked.{IsSize, IsSized, IsThreads, PlanAsked, asked_by};
+ghost use Rattle.command_line.specs.Asked.{first_asked, make_asked, plan_asked, resume_asked};
+ghost use Rattle.command_line.specs.Asked.{run_asked, save_asked, verify_asked};
 ghost use Rattle.command_line.specs.Words.{amount_in as amount_of, asked_with};
 ghost use Rattle.command_line.specs.Words.{engine_in as engine_of, first_of as first_of_values};
 ghost use Rattle.command_line.specs.Words.{is_true as is_true_text, live_of as live_of_values};
 ghost use Rattle.command_line.specs.Words.{make_of as make_of_values, name_in as name_of};
 ghost use Rattle.command_line.specs.Words.{number_in as number_of, plan_of as plan_of_values};
 ghost use Rattle.command_line.specs.Words.{resume_of as resume_of_values, run_of as run_of_values};
-ghost use Rattle.command_line.specs.Words.{run_with as run_with_values, save_of as save_of_values};
-ghost use Rattle.command_line.specs.Words.{size_in as size_of, unordered_of as unordered_of_values};
-ghost use Rattle.command_line.specs.Words.{verify_of as verify_of_values, writes as writes_to};
+ghost use Rattle.command_line.specs.Words.{run_over, run_with as run_with_values};
+ghost use Rattle.command_line.specs.Words.{save_of as save_of_values, size_in as size_of};
+ghost use Rattle.command_line.specs.Words.{unordered_of as unordered_of_values};
+ghost use Rattle.command_line.specs.Words.{verify_of as verify_of_values};
 
 use crate::{
     Command, EngineSize, First, Make, PlanFiles, ResumeFiles, RunFiles, SaveFiles, Topic,
@@ -80,22 +82,18 @@ fn plan_of(alloc: Global, values: &ArgMatches<'_>) -> Result<PlanFiles, NoMemory
     ensures { IfOk result (λ files. plan_asked files
         ≡ plan_of_values (first_value (found_of values.now))) }
 {
-    Ok(PlanFiles {
-        job: name_in(alloc, values, "job")?,
-        requests: name_in(alloc, values, "requests")?,
-        ordered: is_true(values.get_str("ordered")),
-    })
+    plan_with(alloc, is_true(values.get_str("ordered")), values)
 }
 
-// The files of a plan that isn't in ordered mode.
-fn unordered_of(alloc: Global, values: &ArgMatches<'_>) -> Result<PlanFiles, NoMemory>
+// The files of a plan, in this mode.
+fn plan_with(alloc: Global, ordered: bool, values: &ArgMatches<'_>) -> Result<PlanFiles, NoMemory>
     ensures { IfOk result (λ files. plan_asked files
-        ≡ unordered_of_values (first_value (found_of values.now))) }
+        ≡ record (unordered_of_values (first_value (found_of values.now))) { ordered = ordered }) }
 {
     Ok(PlanFiles {
         job: name_in(alloc, values, "job")?,
         requests: name_in(alloc, values, "requests")?,
-        ordered: false,
+        ordered,
     })
 }
 
@@ -106,27 +104,54 @@ fn run_of(alloc: Global, values: &ArgMatches<'_>) -> Result<RunFiles, WordsFault
     ensures usage { IfErr result (λ fault. fault ≢ WordsFault.NoMemory →
         run_of_values (first_value (found_of values.now)) ≡ None) }
 {
-    run_with(alloc, plan_of(alloc, values)?, values)
-}
-
-fn run_with(alloc: Global, plan: PlanFiles, values: &ArgMatches<'_>) -> Result<RunFiles, WordsFault>
-    ensures asked { IfOk result (λ files. run_with_values (plan_asked plan)
-        (first_value (found_of values.now)) ≡ Some (run_asked files)) }
-    ensures sized { IfOk result (λ files. IsSize files.size) }
-    ensures usage { IfErr result (λ fault. fault ≢ WordsFault.NoMemory →
-        run_with_values (plan_asked plan) (first_value (found_of values.now)) ≡ None) }
-{
-    let Some(size) = engine_in(values) else {
+    let Some(size) = run_size(values) else {
         return Err(WordsFault::Usage);
     };
+    let ordered = is_true(values.get_str("ordered"));
+    Ok(run_with(alloc, ordered, size, values)?)
+}
+
+// The engine of a run. None if a number of it is out of range, or two files are one word.
+fn run_size(values: &ArgMatches<'_>) -> Option<EngineSize>
+    ensures engine { IfSome result (λ size. engine_of (first_value (found_of values.now))
+        ≡ Some size) }
+    ensures apart { IfSome result (λ size.
+        bytes_eq (name_of (first_value (found_of values.now)) (codes "alerts"))
+        (name_of (first_value (found_of values.now)) (codes "audit")) ≡ false) }
+    ensures sized { IfSome result IsSize }
+    ensures none { IfNone result ((plan : PlanAsked) →
+        run_with_values plan (first_value (found_of values.now)) ≡ None) }
+{
+    let size = engine_in(values)?;
+    if text_in(values, "alerts") == text_in(values, "audit") {
+        return None;
+    }
+    Some(size)
+}
+
+fn run_with(
+    alloc: Global,
+    ordered: bool,
+    size: EngineSize,
+    values: &ArgMatches<'_>,
+) -> Result<RunFiles, NoMemory>
+    requires { bytes_eq (name_of (first_value (found_of values.now)) (codes "alerts"))
+        (name_of (first_value (found_of values.now)) (codes "audit")) ≡ false }
+    ensures asked { IfOk result (λ files. run_over
+        (record (unordered_of_values (first_value (found_of values.now))) { ordered = ordered })
+        (name_of (first_value (found_of values.now)) (codes "payments"))
+        (name_of (first_value (found_of values.now)) (codes "alerts"))
+        (name_of (first_value (found_of values.now)) (codes "audit")) size
+        ≡ Some (run_asked files)) }
+    ensures sized { IfOk result (λ files. files.size ≡ size) }
+{
+    let payments = name_in(alloc, values, "payments")?;
     let alerts = name_in(alloc, values, "alerts")?;
     let audit = name_in(alloc, values, "audit")?;
-    if alerts.as_str() == audit.as_str() {
-        return Err(WordsFault::Usage);
-    }
+    let plan = plan_with(alloc, ordered, values)?;
     Ok(RunFiles {
         plan,
-        payments: name_in(alloc, values, "payments")?,
+        payments,
         alerts,
         audit,
         size,
@@ -154,7 +179,10 @@ fn live_of(alloc: Global, values: &ArgMatches<'_>) -> Result<RunFiles, WordsFaul
     ensures usage { IfErr result (λ fault. fault ≢ WordsFault.NoMemory →
         live_of_values (first_value (found_of values.now)) ≡ None) }
 {
-    run_with(alloc, unordered_of(alloc, values)?, values)
+    let Some(size) = run_size(values) else {
+        return Err(WordsFault::Usage);
+    };
+    Ok(run_with(alloc, false, size, values)?)
 }
 
 fn verify_of(alloc: Global, values: &ArgMatches<'_>) -> Result<VerifyFiles, NoMemory>
@@ -162,9 +190,9 @@ fn verify_of(alloc: Global, values: &ArgMatches<'_>) -> Result<VerifyFiles, NoMe
         ≡ verify_of_values (first_value (found_of values.now))) }
 {
     Ok(VerifyFiles {
-        plan: plan_of(alloc, values)?,
         payments: name_in(alloc, values, "payments")?,
         audit: name_in(alloc, values, "audit")?,
+        plan: plan_of(alloc, values)?,
     })
 }
 
@@ -175,19 +203,21 @@ fn resume_of(alloc: Global, values: &ArgMatches<'_>) -> Result<ResumeFiles, Word
     ensures usage { IfErr result (λ fault. fault ≢ WordsFault.NoMemory →
         resume_of_values (first_value (found_of values.now)) ≡ None) }
 {
-    let run = run_with(alloc, unordered_of(alloc, values)?, values)?;
-    let save = name_in(alloc, values, "save")?;
-    if writes(&run, save.as_str()) {
+    if writes(values, text_in(values, "save")) {
         return Err(WordsFault::Usage);
     }
+    let save = name_in(alloc, values, "save")?;
+    let run = live_of(alloc, values)?;
     Ok(ResumeFiles { run, save })
 }
 
 // Whether the run writes a file with this name.
-fn writes(run: &RunFiles, name: &str) -> bool
-    ensures { result ≡ writes_to (run_asked run.now) name.now }
+fn writes(values: &ArgMatches<'_>, name: &str) -> bool
+    ensures { result ≡ (bytes_eq (name_of (first_value (found_of values.now)) (codes "alerts"))
+        name.now || bytes_eq (name_of (first_value (found_of values.now)) (codes "audit"))
+        name.now) }
 {
-    run.alerts.as_str() == name || run.audit.as_str() == name
+    text_in(values, "alerts") == name || text_in(values, "audit") == name
 }
 
 fn make_of(alloc: Global, values: &ArgMatches<'_>) -> Result<Make, WordsFault>
@@ -260,9 +290,16 @@ fn number_in(values: &ArgMatches<'_>, id: &str, most: u64) -> Option<u64>
 fn name_in(alloc: Global, values: &ArgMatches<'_>, id: &str) -> Result<Word, NoMemory>
     ensures { IfOk result (λ name. name ≡ name_of (first_value (found_of values.now)) id.now) }
 {
+    Ok(Word::from_string(text_in(values, id).to_string(alloc)?))
+}
+
+// The text of a name, which every full form has.
+fn text_in<'w>(values: &ArgMatches<'w>, id: &str) -> &'w str
+    ensures { result.now ≡ name_of (first_value (found_of values.now)) id.now }
+{
     match values.get_str(id) {
-        Some(text) => Ok(Word::from_string(text.to_string(alloc)?)),
-        None => Ok(Word::from_string(String::new(alloc))),
+        Some(text) => text,
+        None => "",
     }
 }
 

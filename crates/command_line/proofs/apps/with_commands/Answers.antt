@@ -7,9 +7,10 @@ loop-pair-init c = record { whole = refl; local = c.requires }
 
 pub loop-pair-preserved : goal.loop-pair-preserved
 loop-pair-preserved c =
+    let (added, is, adds) = c.in_ok-program.ensures in
     grows_next c.args.commands.now _ c.loop-pair.pair-index _ c.loop-pair.program
-    _ c.in_ok-program.program _ c.loop-pair-test.true c.loop-pair.invariant
-    c.in_ok-command.ensures c.form_of.ensures c.in_ok-program.ensures
+    added c.in_ok-program.program _ c.loop-pair-test.true c.loop-pair.invariant
+    is refl adds
 
 pub returns : goal.returns
 returns c =
