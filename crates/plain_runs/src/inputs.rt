@@ -24,28 +24,34 @@ pub struct Inputs<'a> {
 
 impl Inputs<'_> {
     /// The setup. Returns `None` if a reader refuses a text, or memory runs out.
-    pub fn setup(&self, alloc: Global) -> Option<Setup> {
+    pub fn setup(&self, alloc: Global) -> Option<Box<Setup>> {
         let job = job_of(alloc, self.job)?;
         setup_of(alloc, job, self.requests, self.ordered)
     }
 
     /// The setup and the rows. Returns `None` if a reader refuses a text, or memory runs out.
-    pub fn read(&self, alloc: Global) -> Option<(Setup, Rows)>
-        ensures { IfSome result (λ both. AreFromSources (job_view both.0.job) both.1) }
-    {
+    pub fn read(&self, alloc: Global) -> Option<Case> {
         let job = job_of(alloc, self.job)?;
         let rows = rows_of(alloc, &job, self.payments)?;
         let setup = setup_of(alloc, job, self.requests, self.ordered)?;
-        Some((setup, rows))
+        Some(Case { setup, rows })
     }
 
     /// The run of the plain executor.
     ///
     /// Returns `None` if a reader refuses a text, or memory runs out.
-    pub fn run(&self, alloc: Global) -> Option<RunRecord> {
-        let (setup, rows) = self.read(alloc)?;
-        plain_run(alloc, setup, &rows).ok()
+    pub fn run(&self, alloc: Global) -> Option<Box<RunRecord>> {
+        let Case { setup, rows } = self.read(alloc)?;
+        run_of(alloc, setup, &rows)
     }
+}
+
+/// A setup, and rows from sources of its job.
+#[derive(Drop)]
+pub struct Case {
+    pub setup: Box<Setup>,
+    pub rows: Rows,
+    ghost sources: { AreFromSources (job_view setup.value.job) rows },
 }
 
 /// The job of a text. Returns `None` if the reader refuses it, or memory runs out.
@@ -68,8 +74,8 @@ pub fn rows_of(alloc: Global, job: &Job, text: &str) -> Option<Rows>
 
 /// The setup of a job and a text of requests, `ordered` or not. Returns `None` if the reader
 /// refuses the text, or memory runs out. A request that judging refuses is left out.
-pub fn setup_of(alloc: Global, job: Job, requests: &str, ordered: bool) -> Option<Setup>
-    ensures { IfSome result (λ setup. setup.job ≡ job) }
+pub fn setup_of(alloc: Global, job: Job, requests: &str, ordered: bool) -> Option<Box<Setup>>
+    ensures { IfSome result (λ setup. setup.value.job ≡ job) }
 {
     let Ok(requests) = read_requests(alloc, &job, requests.as_bytes()) else {
         return None;
@@ -79,7 +85,17 @@ pub fn setup_of(alloc: Global, job: Job, requests: &str, ordered: bool) -> Optio
     };
     accepted_requests_stay_accepted();
     match made(alloc, job, judged, ordered) {
-        Ok(setup) => Some(setup),
+        Ok(setup) => Box::new(alloc, setup).ok(),
+        Err(_) => None,
+    }
+}
+
+/// The run of the plain executor. Returns `None` if memory runs out.
+pub fn run_of(alloc: Global, setup: Box<Setup>, rows: &Rows) -> Option<Box<RunRecord>>
+    requires { AreFromSources (job_view setup.value.job) rows.now }
+{
+    match plain_run(alloc, Box::into_inner(setup), rows) {
+        Ok(ran) => Box::new(alloc, ran).ok(),
         Err(_) => None,
     }
 }

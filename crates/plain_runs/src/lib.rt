@@ -11,4 +11,4 @@
 
 mod inputs;
 
-pub use inputs::{Inputs, job_of, rows_of, setup_of};
+pub use inputs::{Case, Inputs, job_of, rows_of, run_of, setup_of};

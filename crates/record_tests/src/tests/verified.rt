@@ -1,6 +1,6 @@
 //! What the checker says of audits, and of audits with a damage.
+use crate::tests::audits::{FOUR_PAYMENTS, NO_PAYMENTS, PAYMENTS};
 use crate::tests::case::{audit_of, has_fault, is_verified};
-use crate::tests::texts::{FOUR_PAYMENTS, NO_PAYMENTS, PAYMENTS};
 use audit_laws::AuditFault;
 use plain_runs::Inputs;
 use std::alloc::Global;

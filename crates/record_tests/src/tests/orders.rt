@@ -1,5 +1,4 @@
-use crate::tests::inputs;
-use crate::tests::texts::{AFTER_4, AFTER_4_AND_8, AT_FIRST, PAYMENTS};
+use crate::tests::payments_job::{AFTER_4, AFTER_4_AND_8, AT_FIRST, PAYMENTS, inputs};
 use flow_replay::{RunRecord, Setup};
 use jobs::Func;
 use plain_runs::rows_of;

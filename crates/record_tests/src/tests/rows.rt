@@ -1,4 +1,4 @@
-use crate::tests::texts::{ONE_ROW, TWO_WAYS, TWO_WAYS_FOR_B, WAYS};
+use crate::tests::chains::{ONE_ROW, TWO_WAYS, TWO_WAYS_FOR_B, WAYS};
 use flow_replay::{FuncTable, Landing, alone};
 use jobs::Job;
 use plain_runs::{job_of, rows_of};

@@ -1,10 +1,10 @@
-use crate::tests::texts::{BOTH_AT_ONCE, ONE_AFTER_THE_OTHER, TWO_FILTERS};
+use crate::tests::chains::{BOTH_AT_ONCE, ONE_AFTER_THE_OTHER, TWO_FILTERS};
 use cover_planner::Plan;
 use flow_replay::Setup;
 use plain_runs::{job_of, setup_of};
 use std::alloc::Global;
 
-fn setup(alloc: Global, requests: &str, ordered: bool) -> Option<Setup> {
+fn setup(alloc: Global, requests: &str, ordered: bool) -> Option<Box<Setup>> {
     setup_of(alloc, job_of(alloc, TWO_FILTERS)?, requests, ordered)
 }
 

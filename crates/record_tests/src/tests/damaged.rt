@@ -1,6 +1,6 @@
 //! Audits of which one record is damaged.
+use crate::tests::audits::{FOUR_PAYMENTS, PAYMENTS};
 use crate::tests::case::{Said, audit_of, said_of};
-use crate::tests::texts::{FOUR_PAYMENTS, PAYMENTS};
 use plain_runs::Inputs;
 use std::alloc::{AllocError, Global};
 
@@ -35,30 +35,40 @@ fn damaged(
     damage: Damage,
 ) -> Result<String, AllocError> {
     let mut text = String::new(alloc);
+    push_damaged(&mut text, records, at, damage)?;
+    Ok(text)
+}
+
+fn push_damaged(
+    text: &mut String,
+    records: &[&str],
+    at: usize,
+    damage: Damage,
+) -> Result<(), AllocError> {
     let mut held = None;
     for (place, record) in records.iter().enumerate() {
         if place != at {
-            push_record(&mut text, record)?;
+            push_record(text, record)?;
             if let Some(earlier) = held {
-                push_record(&mut text, earlier)?;
+                push_record(text, earlier)?;
             }
             held = None;
         } else {
             match damage {
                 Damage::Dropped => {}
                 Damage::Doubled => {
-                    push_record(&mut text, record)?;
-                    push_record(&mut text, record)?;
+                    push_record(text, record)?;
+                    push_record(text, record)?;
                 }
                 Damage::Exchanged => held = Some(*record),
-                Damage::Changed(field) => push_changed(&mut text, record, field)?,
+                Damage::Changed(field) => push_changed(text, record, field)?,
             }
         }
     }
-    if let Some(earlier) = held {
-        push_record(&mut text, earlier)?;
+    match held {
+        Some(earlier) => push_record(text, earlier),
+        None => Ok(()),
     }
-    Ok(text)
 }
 
 fn push_record(text: &mut String, record: &str) -> Result<(), AllocError> {
@@ -93,28 +103,38 @@ fn lines_of(alloc: Global, text: &str) -> Result<Vec<&str>, AllocError> {
 
 fn count_all(alloc: Global, case: Inputs<'_>) -> Option<Found> {
     let audit = audit_of(alloc, case)?;
-    let Ok(text) = str::from_utf8(audit.as_slice()) else {
-        return None;
-    };
-    let Ok(records) = lines_of(alloc, text) else {
-        return None;
-    };
+    count_in(alloc, case, str::from_utf8(audit.as_slice()).ok()?)
+}
+
+fn count_in(alloc: Global, case: Inputs<'_>, text: &str) -> Option<Found> {
+    let records = lines_of(alloc, text).ok()?;
     let mut found = Found {
         refused: 0,
         other: 0,
         wrong: 0,
     };
     for at in 0..records.len() {
-        for damage in DAMAGES {
-            let Ok(changed) = damaged(alloc, records.as_slice(), at, damage) else {
-                return None;
-            };
-            if changed.as_str() != text {
-                note(alloc, case, changed.as_bytes(), &mut found);
-            }
-        }
+        note_each(alloc, case, text, &records, at, &mut found)?;
     }
     Some(found)
+}
+
+// Notes each damage of one record.
+fn note_each(
+    alloc: Global,
+    case: Inputs<'_>,
+    text: &str,
+    records: &[&str],
+    at: usize,
+    found: &mut Found,
+) -> Option<()> {
+    for damage in DAMAGES {
+        let changed = damaged(alloc, records, at, damage).ok()?;
+        if changed.as_str() != text {
+            note(alloc, case, changed.as_bytes(), found);
+        }
+    }
+    Some(())
 }
 
 fn note(alloc: Global, case: Inputs<'_>, text: &[u8], found: &mut Found) {

@@ -1,4 +1,4 @@
-//! Jobs, requests and payments that several tests share.
+//! Small jobs, with their requests and payments.
 
 /// A source, a filter and a sink in a row.
 pub const CHAIN: &str = r#"columns = ["amount:cents"]

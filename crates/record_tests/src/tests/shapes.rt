@@ -1,9 +1,5 @@
-mod case;
-mod damaged;
-mod random;
-mod texts;
-mod verified;
-
+//! Which records of an audit are in shape, and which code comes first.
+use crate::tests::chains::CHAIN;
 use audit_check::{check_text, read_audit};
 use audit_laws::AuditFault;
 use flow_model::Setup;
@@ -11,20 +7,7 @@ use plain_runs::{job_of, rows_of, setup_of};
 use sink_journal::Noted;
 use std::alloc::Global;
 
-/// A source, a filter and a sink in a row.
-const CHAIN: &str = r#"columns = ["amount:cents"]
-node = [
-  { name = "card", kind = "source" },
-  { name = "big", kind = "filter", when = [["amount", ">=", 10000]] },
-  { name = "alerts", kind = "sink", columns = ["amount"] },
-]
-edge = [
-  { from = "card", to = "big" },
-  { from = "big", to = "alerts" },
-]
-"#;
-
-fn setup(alloc: Global) -> Option<Setup> {
+fn setup(alloc: Global) -> Option<Box<Setup>> {
     setup_of(alloc, job_of(alloc, CHAIN)?, "", false)
 }
 

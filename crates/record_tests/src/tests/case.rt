@@ -6,7 +6,7 @@ use audit_laws::AuditFault;
 use audit_replay::check_audit;
 use flow_model::RunRecord;
 use jobs::worker_count;
-use plain_runs::Inputs;
+use plain_runs::{Case, Inputs};
 use report::noted;
 use sink_journal::audit_text;
 use std::alloc::Global;
@@ -63,17 +63,18 @@ fn text_of(alloc: Global, ran: &RunRecord) -> Option<Bytes>
 
 /// What the checker says of a text.
 pub fn said_of(alloc: Global, case: Inputs<'_>, text: &[u8]) -> Said {
-    match case.read(alloc) {
-        Some((setup, rows)) => said_by(alloc, check_audit(alloc, setup, &rows, text)),
-        None => Said::Nothing,
-    }
+    let Some(Case { setup, rows }) = case.read(alloc) else {
+        return Said::Nothing;
+    };
+    let checked = check_audit(alloc, Box::into_inner(setup), &rows, text);
+    said_by(alloc, &checked)
 }
 
-fn said_by(alloc: Global, checked: Result<RunRecord, AuditFault>) -> Said {
+fn said_by(alloc: Global, checked: &Result<RunRecord, AuditFault>) -> Said {
     match checked {
-        Ok(ran) => said_run(alloc, &ran),
+        Ok(ran) => said_run(alloc, ran),
         Err(AuditFault::NoMemory) => Said::Nothing,
-        Err(fault) => Said::Fault(fault),
+        Err(fault) => Said::Fault(*fault),
     }
 }
 

@@ -1,4 +1,15 @@
 //! The payments job of examples/payments, its payments and its first requests.
+use plain_runs::Inputs;
+
+/// The job and its payments in ordered mode, with these requests.
+pub fn inputs(requests: &str) -> Inputs<'_> {
+    Inputs {
+        job: JOB,
+        requests,
+        payments: PAYMENTS,
+        ordered: true,
+    }
+}
 
 pub const JOB: &str = r#"columns = ["account:text", "merchant:text", "amount:cents",
            "risk:number:own", "seen:number:own"]

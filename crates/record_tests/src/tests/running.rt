@@ -1,4 +1,4 @@
-use crate::tests::texts::{AFTER_2, AT_BOTH_ENDS, CHAIN, FOUR_PAYMENTS, TWICE_AFTER_3};
+use crate::tests::chains::{AFTER_2, AT_BOTH_ENDS, CHAIN, FOUR_PAYMENTS, TWICE_AFTER_3};
 use flow_replay::{Replayed, RunRecord, replay};
 use plain_runs::Inputs;
 use sink_journal::{Entry, Feed, Journal};
@@ -6,7 +6,7 @@ use std::alloc::Global;
 use tuple_trace::Item;
 
 /// The run of the four payments through the chain.
-fn ran(alloc: Global, requests: &str) -> Option<RunRecord> {
+fn ran(alloc: Global, requests: &str) -> Option<Box<RunRecord>> {
     let inputs = Inputs {
         job: CHAIN,
         requests,

@@ -1,9 +1,7 @@
-use crate::tests::inputs;
-use crate::tests::texts::{AFTER_4_AND_8, FIRST_8};
+use crate::tests::payments_job::{AFTER_4_AND_8, FIRST_8, inputs};
 use flow_model::{RunRecord, Setup, Start};
-use flow_replay::plain_run;
 use jobs::worker_count;
-use plain_runs::rows_of;
+use plain_runs::{rows_of, run_of};
 use save_file::{issued_up_to, read_save, save_text, start_of};
 use savepoint::{SaveFault, first_of};
 use std::alloc::Global;
@@ -18,22 +16,19 @@ tally,1,gus,1
 ";
 
 /// The run of the first eight rows, with the requests up to there.
-fn first_run(alloc: Global) -> Option<RunRecord> {
-    run_first(alloc, first_setup(alloc)?)
+fn first_run(alloc: Global) -> Option<Box<RunRecord>> {
+    let setup = first_setup(alloc)?;
+    let rows = rows_of(alloc, &setup.job, FIRST_8)?;
+    run_of(alloc, setup, &rows)
 }
 
-fn first_setup(alloc: Global) -> Option<Setup> {
+fn first_setup(alloc: Global) -> Option<Box<Setup>> {
     let setup = inputs(AFTER_4_AND_8).setup(alloc)?;
     let issued = issued_up_to(&setup, 8, 10);
     if issued > setup.request_count() as u64 {
         return None;
     }
-    Some(first_of(setup, issued))
-}
-
-fn run_first(alloc: Global, setup: Setup) -> Option<RunRecord> {
-    let rows = rows_of(alloc, &setup.job, FIRST_8)?;
-    plain_run(alloc, setup, &rows).ok()
+    Box::new(alloc, first_of(Box::into_inner(setup), issued)).ok()
 }
 
 /// The text of a start, if it has one state for each worker.

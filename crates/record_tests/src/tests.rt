@@ -1,0 +1,14 @@
+mod audits;
+mod case;
+mod chains;
+mod damaged;
+mod joins;
+mod orders;
+mod payments_job;
+mod plans;
+mod random;
+mod rows;
+mod running;
+mod saves;
+mod shapes;
+mod verified;

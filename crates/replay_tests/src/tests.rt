@@ -1,4 +1,0 @@
-mod plans;
-mod rows;
-mod running;
-mod texts;
