@@ -1,0 +1,3 @@
+pub mod Crewing
+pub mod Feeding
+pub mod Whole

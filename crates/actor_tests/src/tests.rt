@@ -1,0 +1,8 @@
+mod by_hand;
+mod control;
+mod fed;
+mod feeds;
+mod real_setups;
+mod turns;
+mod watch;
+mod whole;

@@ -1,3 +1,0 @@
-mod by_hand;
-mod real_setups;
-mod watch;
