@@ -92,7 +92,7 @@ where
     G: Gate + Sync,
 {
     let mut out = MemorySink::new(alloc, Calls::new(alloc));
-    let outcome = call(rt, alloc, words, shelf, &mut out, gate);
+    let outcome = call(rt, alloc, words, shelf, &mut out, gate)?;
     Ok(see(alloc, &outcome, out.written(), shelf, wanted))
 }
 

@@ -20,8 +20,8 @@ use std::alloc::Global;
 use std::sync::Wait;
 use std::thread::Threads;
 use top_call::Outcome;
-use tuple_trace::{Bytes, NoMemory, OpenGate, Word};
-use whole_calls::{call, put_text, words_in};
+use tuple_trace::{NoMemory, OpenGate, Word};
+use whole_calls::{call, file, put_text, words_in};
 
 /// What a call finds outside: files by their names, and the numbers of the calls of the shelf and
 /// of the output that fail.
@@ -125,69 +125,49 @@ impl<'a> Left<'a> {
     }
 }
 
-/// The words of a call, the names of the files that are looked at after it, and what it finds
-/// outside.
-#[derive(Drop)]
-struct Call {
-    words: Vec<Word>,
-    names: Vec<Word>,
-    shelf: MemoryShelf,
-    out: MemorySink,
-}
-
-impl Call {
-    fn of(alloc: Global, around: &Around<'_>, line: &str) -> Result<Call, NoMemory> {
-        Ok(Call {
-            words: words_in(alloc, line)?,
-            names: words_in(alloc, "alerts.csv audit.csv")?,
-            shelf: shelf_of(alloc, around)?,
-            out: MemorySink::new(alloc, Calls::from_slice(alloc, around.refusing)?),
-        })
-    }
-
-    // Makes the call, and sees whether it leaves this.
-    fn leaves<R>(&mut self, rt: &R, alloc: Global, left: &Left<'_>) -> bool
-    where
-        R: Threads + Wait + Copy + Send + Sync + 'static,
-    {
-        let outcome = call(
-            rt,
-            alloc,
-            &self.words,
-            &mut self.shelf,
-            &mut self.out,
-            &OpenGate,
-        );
-        matches!(self.has_left(alloc, &outcome, left), Ok(true))
-    }
-
-    fn has_left(
-        &self,
-        alloc: Global,
-        outcome: &Outcome,
-        left: &Left<'_>,
-    ) -> Result<bool, NoMemory> {
-        Ok(
-            outcome.status == left.status
-                && self.out.written() == left.out.as_bytes()
-                && has_failed(&self.shelf, left.failed)
-                && is_ran(alloc, &outcome.ran, left.ran)?
-                && is_stored(alloc, file(&self.names, 0, &self.shelf), left.alerts)?
-                && is_stored(alloc, file(&self.names, 1, &self.shelf), left.audit)?,
-        )
-    }
-}
-
 /// Whether a call leaves this. The line has its words, with a space between two. An append takes at
 /// most 16 bytes.
 pub fn leaves<R>(rt: &R, alloc: Global, around: &Around<'_>, line: &str, left: &Left<'_>) -> bool
 where
     R: Threads + Wait + Copy + Send + Sync + 'static,
 {
-    match Call::of(alloc, around, line) {
-        Ok(mut made) => made.leaves(rt, alloc, left),
+    match words_in(alloc, line) {
+        Ok(words) => matches!(is_left(rt, alloc, around, &words, left), Ok(true)),
         Err(_) => false,
     }
+}
+
+fn is_left<R>(
+    rt: &R,
+    alloc: Global,
+    around: &Around<'_>,
+    words: &[Word],
+    left: &Left<'_>,
+) -> Result<bool, NoMemory>
+where
+    R: Threads + Wait + Copy + Send + Sync + 'static,
+{
+    let mut shelf = shelf_of(alloc, around)?;
+    let mut out = MemorySink::new(alloc, Calls::from_slice(alloc, around.refusing)?);
+    let outcome = call(rt, alloc, words, &mut shelf, &mut out, &OpenGate)?;
+    has_left(alloc, &outcome, &shelf, out.written(), left)
+}
+
+fn has_left(
+    alloc: Global,
+    outcome: &Outcome,
+    shelf: &MemoryShelf,
+    out: &[u8],
+    left: &Left<'_>,
+) -> Result<bool, NoMemory> {
+    Ok(
+        outcome.status == left.status
+            && out == left.out.as_bytes()
+            && has_failed(shelf, left.failed)
+            && is_ran(alloc, &outcome.ran, left.ran)?
+            && is_stored(alloc, file(alloc, shelf, "alerts.csv"), left.alerts)?
+            && is_stored(alloc, file(alloc, shelf, "audit.csv"), left.audit)?,
+    )
 }
 
 fn has_failed(shelf: &MemoryShelf, wanted: Option<&str>) -> bool {
@@ -210,22 +190,14 @@ fn is_ran(alloc: Global, ran: &Option<RunRecord>, wanted: Ran<'_>) -> Result<boo
     }
 }
 
-/// What stands under the name at this place.
-fn file<'a>(names: &[Word], place: usize, shelf: &'a MemoryShelf) -> Option<&'a Bytes> {
-    match names.get(place) {
-        Some(name) => shelf.get(name),
-        None => None,
-    }
-}
-
-fn is_stored(alloc: Global, bytes: Option<&Bytes>, wanted: Wanted<'_>) -> Result<bool, NoMemory> {
+fn is_stored(alloc: Global, bytes: Option<&[u8]>, wanted: Wanted<'_>) -> Result<bool, NoMemory> {
     match (bytes, wanted) {
         (_, Wanted::Any) | (None, Wanted::Nothing) | (Some(_), Wanted::Something) => Ok(true),
-        (Some(bytes), Wanted::Text(text)) => Ok(bytes.as_slice() == text.as_bytes()),
+        (Some(bytes), Wanted::Text(text)) => Ok(bytes == text.as_bytes()),
         (Some(bytes), Wanted::Part(text, count)) => {
-            Ok(bytes.len() == count && text.as_bytes().starts_with(bytes.as_slice()))
+            Ok(bytes.len() == count && text.as_bytes().starts_with(bytes))
         }
-        (Some(bytes), Wanted::Alone(rows)) => are_alerts(alloc, bytes.as_slice(), rows),
+        (Some(bytes), Wanted::Alone(rows)) => are_alerts(alloc, bytes, rows),
         _ => Ok(false),
     }
 }

@@ -17,7 +17,7 @@ use std::sync::Wait;
 use std::thread::Threads;
 use top_call::Outcome;
 use tuple_trace::{NoMemory, OpenGate};
-use whole_calls::{call, file, put_text, say, words_in};
+use whole_calls::{Said, call, file, put_text, say, words_in};
 
 /// The texts of the files that both commands read.
 #[derive(Clone, Copy)]
@@ -60,13 +60,20 @@ where
     says(rt, alloc, line, &mut shelf, left) && are_left(alloc, &shelf, left.after)
 }
 
+fn said_of<R>(rt: &R, alloc: Global, line: &str, shelf: &mut MemoryShelf) -> Result<Said, NoMemory>
+where
+    R: Threads + Wait + Copy + Send + Sync + 'static,
+{
+    say(rt, alloc, &words_in(alloc, line)?, shelf)
+}
+
 // Whether a call has this status, and prints this.
 fn says<R>(rt: &R, alloc: Global, line: &str, shelf: &mut MemoryShelf, left: Left<'_>) -> bool
 where
     R: Threads + Wait + Copy + Send + Sync + 'static,
 {
-    match words_in(alloc, line) {
-        Ok(words) => say(rt, alloc, &words, shelf).is(left.status, left.out),
+    match said_of(rt, alloc, line, shelf) {
+        Ok(said) => said.is(left.status, left.out),
         Err(_) => false,
     }
 }
@@ -76,27 +83,34 @@ pub fn is_done<R>(rt: &R, alloc: Global, line: &str, shelf: &mut MemoryShelf) ->
 where
     R: Threads + Wait + Copy + Send + Sync + 'static,
 {
-    match words_in(alloc, line) {
-        Ok(words) => say(rt, alloc, &words, shelf).is_done(),
+    match said_of(rt, alloc, line, shelf) {
+        Ok(said) => said.is_done(),
         Err(_) => false,
     }
 }
 
 /// The record of a call, if it leaves one.
-pub fn record_of<R>(rt: &R, alloc: Global, line: &str, shelf: &mut MemoryShelf) -> Option<RunRecord>
+pub fn record_of<R>(
+    rt: &R,
+    alloc: Global,
+    line: &str,
+    shelf: &mut MemoryShelf,
+) -> Option<Box<RunRecord>>
 where
     R: Threads + Wait + Copy + Send + Sync + 'static,
 {
+    let words = words_in(alloc, line).ok()?;
     let mut out = MemorySink::new(alloc, Calls::new(alloc));
-    match words_in(alloc, line) {
-        Ok(words) => ran_of(call(rt, alloc, &words, shelf, &mut out, &OpenGate)),
-        Err(_) => None,
-    }
+    let outcome = call(rt, alloc, &words, shelf, &mut out, &OpenGate);
+    ran_of(alloc, outcome.ok()?)
 }
 
-fn ran_of(outcome: Outcome) -> Option<RunRecord> {
-    let Outcome { ran, .. } = outcome;
-    ran
+fn ran_of(alloc: Global, outcome: Box<Outcome>) -> Option<Box<RunRecord>> {
+    let Outcome { ran, .. } = Box::into_inner(outcome);
+    match ran {
+        Some(ran) => Box::new(alloc, ran).ok(),
+        None => None,
+    }
 }
 
 fn are_left(alloc: Global, shelf: &MemoryShelf, after: [Option<&str>; 3]) -> bool {

@@ -7,7 +7,8 @@
 //! let mut shelf = MemoryShelf::new(alloc, 16, Calls::new(alloc));
 //! put_text(alloc, "job.toml", JOB, &mut shelf)?;
 //! let words = words_in(alloc, "check job.toml")?;
-//! assert!(rt; say(rt, alloc, &words, &mut shelf).is(0, "nodes 3 edges 2 workers 2 weight 2\n"));
+//! let said = say(rt, alloc, &words, &mut shelf)?;
+//! assert!(rt; said.is(0, "nodes 3 edges 2 workers 2 weight 2\n"));
 //! ```
 #![tactic(auto)]
 
@@ -20,6 +21,9 @@ use top_call::{Outcome, fries};
 use tuple_trace::{Bytes, Gate, NoMemory, OpenGate, Word};
 
 /// Calls `fries` with these words. The input that releases live requests is empty.
+///
+/// The outcome is in a box, since a test that owns a large value is dear to prove. The one error is
+/// out of memory for the box.
 pub fn call<R, G>(
     rt: &R,
     alloc: Global,
@@ -27,7 +31,7 @@ pub fn call<R, G>(
     shelf: &mut MemoryShelf,
     out: &mut MemorySink,
     gate: &G,
-) -> Outcome
+) -> Result<Box<Outcome>, NoMemory>
 where
     R: Threads + Wait + Copy + Send + Sync + 'static,
     G: Gate + Sync,
@@ -36,7 +40,8 @@ where
     call_asking(rt, alloc, words, shelf, out, &mut asks, gate)
 }
 
-/// Calls `fries` with these words. `asks` is the input that releases live requests.
+/// Calls `fries` with these words, as [`call`] does. `asks` is the input that releases live
+/// requests.
 pub fn call_asking<R, G, Q>(
     rt: &R,
     alloc: Global,
@@ -45,13 +50,14 @@ pub fn call_asking<R, G, Q>(
     out: &mut MemorySink,
     asks: &mut Q,
     gate: &G,
-) -> Outcome
+) -> Result<Box<Outcome>, NoMemory>
 where
     R: Threads + Wait + Copy + Send + Sync + 'static,
     G: Gate + Sync,
     Q: Asks,
 {
-    fries(rt, alloc, words, shelf, out, asks, gate)
+    let outcome = fries(rt, alloc, words, shelf, out, asks, gate);
+    Ok(Box::new(alloc, outcome)?)
 }
 
 /// What a call ended with, and what it printed.
@@ -73,17 +79,23 @@ impl Said {
     }
 }
 
-/// Calls `fries` with these words, and gives its record up. No write to the output fails.
-pub fn say<R>(rt: &R, alloc: Global, words: &[Word], shelf: &mut MemoryShelf) -> Said
+/// Calls `fries` with these words, and gives its record up. No write to the output fails. The one
+/// error is out of memory, as of [`call`].
+pub fn say<R>(
+    rt: &R,
+    alloc: Global,
+    words: &[Word],
+    shelf: &mut MemoryShelf,
+) -> Result<Said, NoMemory>
 where
     R: Threads + Wait + Copy + Send + Sync + 'static,
 {
     let mut out = MemorySink::new(alloc, Calls::new(alloc));
-    let outcome = call(rt, alloc, words, shelf, &mut out, &OpenGate);
-    Said {
+    let outcome = call(rt, alloc, words, shelf, &mut out, &OpenGate)?;
+    Ok(Said {
         status: outcome.status,
         out,
-    }
+    })
 }
 
 /// Returns the words of a line, which has one space between two. An empty line has none. The one

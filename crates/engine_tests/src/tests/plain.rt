@@ -24,7 +24,7 @@ fn alerts_of(alloc: Global, ran: &RunRecord) -> Result<Bytes, NoMemory> {
     alerts_text(alloc, job, journals)
 }
 
-fn plainly(alloc: Global, input: Input<'_>) -> Result<RunRecord, NoMemory> {
+fn plainly(alloc: Global, input: Input<'_>) -> Result<Box<RunRecord>, NoMemory> {
     let inputs = Inputs {
         job: input.job,
         requests: input.requests,

@@ -17,7 +17,7 @@ fn verify<R>(rt: &R, alloc: Global, shelf: &mut MemoryShelf) -> Result<Said, NoM
 where
     R: Threads + Wait + Copy + Send + Sync + 'static,
 {
-    Ok(say(rt, alloc, &words_of(alloc, &VERIFY)?, shelf))
+    say(rt, alloc, &words_of(alloc, &VERIFY)?, shelf)
 }
 
 fn run_with<R>(rt: &R, alloc: Global, input: Input<'_>, shelf: &mut MemoryShelf) -> bool
@@ -37,7 +37,14 @@ where
         input.capacity,
     ];
     match words_of(alloc, &words) {
-        Ok(words) => say(rt, alloc, &words, shelf).is_done(),
+        Ok(words) => is_done(say(rt, alloc, &words, shelf)),
+        Err(_) => false,
+    }
+}
+
+fn is_done(said: Result<Said, NoMemory>) -> bool {
+    match said {
+        Ok(said) => said.is_done(),
         Err(_) => false,
     }
 }

@@ -131,7 +131,18 @@ fn push_alone(
     lines: &mut Bytes,
 ) -> Result<(), NoMemory> {
     let table = funcs(alloc, job)?;
-    for landing in alone(alloc, job, &table, row)?.as_slice() {
+    let landings = alone(alloc, job, &table, row)?;
+    push_alerts(alloc, job, sink, landings.as_slice(), lines)
+}
+
+fn push_alerts(
+    alloc: Global,
+    job: &Job,
+    sink: &str,
+    landings: &[Landing],
+    lines: &mut Bytes,
+) -> Result<(), NoMemory> {
+    for landing in landings {
         push_alert(alloc, job, sink, landing, lines)?;
     }
     Ok(())
@@ -148,9 +159,21 @@ fn push_rows(
 ) -> Result<(), NoMemory> {
     let job = job_of(alloc, job).ok_or(NoMemory)?;
     let all = rows_of(alloc, &job, rows.payments).ok_or(NoMemory)?;
-    for (row, is_old) in all.as_slice().iter().zip(olds) {
+    push_flagged(alloc, &job, rows.sink, all.as_slice(), olds, old, lines)
+}
+
+fn push_flagged(
+    alloc: Global,
+    job: &Job,
+    sink: &str,
+    rows: &[Row],
+    olds: &[bool],
+    old: bool,
+    lines: &mut Bytes,
+) -> Result<(), NoMemory> {
+    for (row, is_old) in rows.iter().zip(olds) {
         if *is_old == old {
-            push_alone(alloc, &job, rows.sink, row, lines)?;
+            push_alone(alloc, job, sink, row, lines)?;
         }
     }
     Ok(())

@@ -72,29 +72,33 @@ fn shelf(alloc: Global) -> Result<MemoryShelf, NoMemory> {
 }
 
 /// The records of both commands, of which the second reads what the first saved.
-fn records_of<R>(rt: &R, alloc: Global, lines: [&str; 2]) -> Option<(RunRecord, RunRecord)>
+#[derive(Drop)]
+struct Both {
+    first: Box<RunRecord>,
+    second: Box<RunRecord>,
+}
+
+fn records_of<R>(rt: &R, alloc: Global, lines: [&str; 2]) -> Option<Both>
 where
     R: Threads + Wait + Copy + Send + Sync + 'static,
 {
     let mut shelf = shelf(alloc).ok()?;
     let first = record_of(rt, alloc, lines[0], &mut shelf)?;
     let second = record_of(rt, alloc, lines[1], &mut shelf)?;
-    Some((first, second))
+    Some(Both { first, second })
 }
 
-fn joined_in(
-    alloc: Global,
-    setup: Setup,
-    first: RunRecord,
-    second: RunRecord,
-) -> Result<RunRecord, NoMemory> {
-    savepoint::join(alloc, setup, first, second)
-}
-
-fn joined(alloc: Global, first: RunRecord, second: RunRecord) -> Result<RunRecord, NoMemory> {
-    match inputs_of(TEN).setup(alloc) {
-        Some(setup) => joined_in(alloc, setup, first, second),
-        None => Err(NoMemory),
+fn joined(alloc: Global, setup: Box<Setup>, both: Both) -> Option<Box<RunRecord>> {
+    let Both { first, second } = both;
+    let setup = Box::into_inner(setup);
+    match savepoint::join(
+        alloc,
+        setup,
+        Box::into_inner(first),
+        Box::into_inner(second),
+    ) {
+        Ok(ran) => Box::new(alloc, ran).ok(),
+        Err(_) => None,
     }
 }
 
@@ -129,10 +133,13 @@ fn is_whole(alloc: Global, ran: &RunRecord) -> bool {
     }
 }
 
-fn are_joined(alloc: Global, first: RunRecord, second: RunRecord) -> bool {
-    match joined(alloc, first, second) {
-        Ok(ran) => is_whole(alloc, &ran),
-        Err(_) => false,
+fn are_joined(alloc: Global, both: Both) -> bool {
+    let Some(setup) = inputs_of(TEN).setup(alloc) else {
+        return false;
+    };
+    match joined(alloc, setup, both) {
+        Some(ran) => is_whole(alloc, &ran),
+        None => false,
     }
 }
 
@@ -141,7 +148,7 @@ where
     R: Threads + Wait + Copy + Send + Sync + 'static,
 {
     match records_of(rt, alloc, lines) {
-        Some((first, second)) => are_joined(alloc, first, second),
+        Some(both) => are_joined(alloc, both),
         None => false,
     }
 }

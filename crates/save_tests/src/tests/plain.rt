@@ -44,6 +44,6 @@ pub fn inputs_of(input: Input<'_>) -> Inputs<'_> {
     }
 }
 
-fn plainly(alloc: Global, input: Input<'_>) -> Result<RunRecord, NoMemory> {
+fn plainly(alloc: Global, input: Input<'_>) -> Result<Box<RunRecord>, NoMemory> {
     inputs_of(input).run(alloc).ok_or(NoMemory)
 }

@@ -1,4 +1,4 @@
-use crate::tests::{live_words, shelf_of};
+use crate::tests::live::{live_words, shelf_of};
 use live_control::{Asks, Failed, MemoryAsks};
 use payments::{Calls, MemorySink};
 use sink_journal::Feed;
@@ -88,9 +88,6 @@ fn is_issued_in_time<R>(rt: &R, alloc: Global) -> Result<bool, NoMemory>
 where
     R: Threads + Wait + Copy + Send + Sync + 'static,
 {
-    let words = live_words(alloc, "2", "1")?;
-    let mut shelf = shelf_of(alloc, TWELVE_PAYMENTS)?;
-    let mut out = MemorySink::new(alloc, Calls::new(alloc));
     let gate = Watched {
         passed: AtomicBool::new(false),
         issued: AtomicBool::new(false),
@@ -99,8 +96,23 @@ where
     let bytes = Bytes::from_slice(alloc, b"\n")?;
     let asks = MemoryAsks::new(bytes, Calls::new(alloc));
     let mut asks = AfterPass { asks, gate: &gate };
-    let outcome = call_asking(rt, alloc, &words, &mut shelf, &mut out, &mut asks, &gate);
-    Ok(outcome.status == 0 && !gate.missed.load(Ordering::SeqCst) && is_before_last(&outcome))
+    Ok(is_issued(rt, alloc, &mut asks, &gate)? && !gate.missed.load(Ordering::SeqCst))
+}
+
+fn is_issued<R>(
+    rt: &R,
+    alloc: Global,
+    asks: &mut AfterPass<'_>,
+    gate: &Watched,
+) -> Result<bool, NoMemory>
+where
+    R: Threads + Wait + Copy + Send + Sync + 'static,
+{
+    let words = live_words(alloc, "2", "1")?;
+    let mut shelf = shelf_of(alloc, TWELVE_PAYMENTS)?;
+    let mut out = MemorySink::new(alloc, Calls::new(alloc));
+    let outcome = call_asking(rt, alloc, &words, &mut shelf, &mut out, asks, gate)?;
+    Ok(outcome.status == 0 && is_before_last(&outcome))
 }
 
 // Whether request 1 is issued before row 12 is fed.

@@ -1,6 +1,6 @@
 //! Sizes one past their limits, and the lines of their faults.
 
-use crate::tests::{Around, Left, Text, four, leaves};
+use crate::tests::hostile::{Around, Left, Text, four, leaves};
 
 /// 65 nodes.
 const NODES: Text<'static> = Text {

@@ -1,4 +1,4 @@
-use crate::tests::{live_words, shelf_of};
+use crate::tests::live::{live_words, shelf_of};
 use live_control::MemoryAsks;
 use payments::{Calls, MemoryShelf, MemorySink};
 use std::alloc::Global;
@@ -40,15 +40,6 @@ struct Case {
 
 const SUMMARY: &str = "rows 4 alerts 2 requests 1 refused 0\n";
 
-/// What a call over the four payments left.
-#[derive(Drop)]
-struct Left {
-    outcome: Outcome,
-    shelf: MemoryShelf,
-    out: MemorySink,
-    asks: MemoryAsks,
-}
-
 // Whether the call leaves what it is to leave.
 fn leaves<R>(rt: &R, alloc: Global, case: Case) -> bool
 where
@@ -61,18 +52,25 @@ fn is_left<R>(rt: &R, alloc: Global, case: Case) -> Result<bool, NoMemory>
 where
     R: Threads + Wait + Copy + Send + Sync + 'static,
 {
-    let left = called(rt, alloc, case)?;
-    Ok(is_told(&left, case) && are_files(alloc, &left.shelf, case))
+    let words = live_words(alloc, "1", "16")?;
+    let mut asks = asks_of(alloc, case)?;
+    Ok(answers(rt, alloc, &words, &mut asks, case)? && asks.left().len() == case.left)
 }
 
-fn called<R>(rt: &R, alloc: Global, case: Case) -> Result<Left, NoMemory>
+fn answers<R>(
+    rt: &R,
+    alloc: Global,
+    words: &[Word],
+    asks: &mut MemoryAsks,
+    case: Case,
+) -> Result<bool, NoMemory>
 where
     R: Threads + Wait + Copy + Send + Sync + 'static,
 {
-    let words = live_words(alloc, "1", "16")?;
-    let asks = asks_of(alloc, case)?;
-    let shelf = shelf_of(alloc, FOUR_PAYMENTS)?;
-    Ok(answered(rt, alloc, &words, shelf, asks))
+    let mut shelf = shelf_of(alloc, FOUR_PAYMENTS)?;
+    let mut out = MemorySink::new(alloc, Calls::new(alloc));
+    let outcome = call_asking(rt, alloc, words, &mut shelf, &mut out, asks, &OpenGate)?;
+    Ok(is_told(&outcome, out.written(), case) && are_files(alloc, &shelf, case))
 }
 
 fn asks_of(alloc: Global, case: Case) -> Result<MemoryAsks, NoMemory> {
@@ -81,26 +79,10 @@ fn asks_of(alloc: Global, case: Case) -> Result<MemoryAsks, NoMemory> {
     Ok(MemoryAsks::new(bytes, failing))
 }
 
-fn answered<R>(rt: &R, alloc: Global, words: &[Word], shelf: MemoryShelf, asks: MemoryAsks) -> Left
-where
-    R: Threads + Wait + Copy + Send + Sync + 'static,
-{
-    let (mut shelf, mut asks) = (shelf, asks);
-    let mut out = MemorySink::new(alloc, Calls::new(alloc));
-    let outcome = call_asking(rt, alloc, words, &mut shelf, &mut out, &mut asks, &OpenGate);
-    Left {
-        outcome,
-        shelf,
-        out,
-        asks,
-    }
-}
-
-fn is_told(left: &Left, case: Case) -> bool {
-    left.outcome.status == case.status
-        && left.out.written() == case.printed.as_bytes()
-        && left.asks.left().len() == case.left
-        && first_after(&left.outcome) == Some(case.after)
+fn is_told(outcome: &Outcome, out: &[u8], case: Case) -> bool {
+    outcome.status == case.status
+        && out == case.printed.as_bytes()
+        && first_after(outcome) == Some(case.after)
 }
 
 fn are_files(alloc: Global, shelf: &MemoryShelf, case: Case) -> bool {

@@ -1,11 +1,12 @@
+//! Calls of `run` under hostile use, and what they leave.
 mod calls;
 mod changed;
 mod cut;
 mod sizes;
 mod texts;
 
-use crate::tests::cut::Cuts;
-use crate::tests::texts::{CHAIN, FOUR_PAYMENTS};
+use crate::tests::hostile::cut::Cuts;
+use crate::tests::hostile::texts::{CHAIN, FOUR_PAYMENTS};
 use payments::{Calls, MemoryShelf, MemorySink};
 use std::alloc::Global;
 use std::sync::Wait;
@@ -120,24 +121,6 @@ impl<'a> Left<'a> {
     }
 }
 
-/// The words of a call, and what it finds outside.
-#[derive(Drop)]
-struct Call {
-    words: Vec<Word>,
-    shelf: MemoryShelf,
-    out: MemorySink,
-}
-
-impl Call {
-    fn of(alloc: Global, around: &Around<'_>) -> Result<Call, NoMemory> {
-        Ok(Call {
-            words: words_of(alloc, &RUN)?,
-            shelf: shelf_of(alloc, around)?,
-            out: MemorySink::new(alloc, calls_of(alloc, around.refusing)?),
-        })
-    }
-}
-
 /// Whether a call with these words left this.
 fn has_left(
     outcome: &Outcome,
@@ -189,16 +172,26 @@ pub fn leaves<R>(rt: &R, alloc: Global, around: &Around<'_>, left: &Left<'_>) ->
 where
     R: Threads + Wait + Copy + Send + Sync + 'static,
 {
-    let Ok(made) = Call::of(alloc, around) else {
-        return false;
-    };
-    let Call {
-        words,
-        mut shelf,
-        mut out,
-    } = made;
-    let outcome = call(rt, alloc, &words, &mut shelf, &mut out, &OpenGate);
-    has_left(&outcome, &words, &shelf, out.written(), left)
+    match words_of(alloc, &RUN) {
+        Ok(words) => matches!(is_left(rt, alloc, around, &words, left), Ok(true)),
+        Err(_) => false,
+    }
+}
+
+fn is_left<R>(
+    rt: &R,
+    alloc: Global,
+    around: &Around<'_>,
+    words: &[Word],
+    left: &Left<'_>,
+) -> Result<bool, NoMemory>
+where
+    R: Threads + Wait + Copy + Send + Sync + 'static,
+{
+    let mut shelf = shelf_of(alloc, around)?;
+    let mut out = MemorySink::new(alloc, calls_of(alloc, around.refusing)?);
+    let outcome = call(rt, alloc, words, &mut shelf, &mut out, &OpenGate)?;
+    Ok(has_left(&outcome, words, &shelf, out.written(), left))
 }
 
 /// Calls of which each has a number.

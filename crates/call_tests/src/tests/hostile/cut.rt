@@ -1,10 +1,10 @@
 //! Files that are cut after each of their bytes.
 
-use crate::tests::texts::{
+use crate::tests::hostile::texts::{
     CHAIN, FOUR_PAYMENTS, PAYMENTS, REQUESTS, TEN_PAYMENTS, WHOLE_JOB, WHOLE_PAYMENTS,
     WHOLE_REQUESTS, Whole,
 };
-use crate::tests::{Around, Text, Tried, first_wrong, four};
+use crate::tests::hostile::{Around, Text, Tried, first_wrong, four};
 
 #[derive(Clone, Copy)]
 pub enum File {

@@ -1,3 +1,4 @@
+//! Calls of `live`, and what they leave.
 mod beside;
 mod releases;
 

@@ -1,7 +1,7 @@
 //! Each call of the outside fails alone.
 
-use crate::tests::texts::{AUDIT, TWO_ALERTS};
-use crate::tests::{Around, Left, Stored, Tried, first_wrong, four, leaves};
+use crate::tests::hostile::texts::{AUDIT, TWO_ALERTS};
+use crate::tests::hostile::{Around, Left, Stored, Tried, first_wrong, four, leaves};
 
 /// The calls of the shelf that read, in their order, and the line if one of them fails.
 const READS: [&str; 3] = ["fault 5 job\n", "fault 5 requests\n", "fault 5 payments\n"];

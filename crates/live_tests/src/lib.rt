@@ -1,5 +1,0 @@
-//! Tests of whole live runs, through the top call.
-#![tactic(auto)]
-
-#[cfg(test)]
-mod tests;
