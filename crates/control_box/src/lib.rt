@@ -17,7 +17,5 @@
 
 mod endpoints;
 mod rule;
-#[cfg(test)]
-mod tests;
 
 pub use endpoints::{Owner, Poster, make_box};

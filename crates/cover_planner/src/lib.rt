@@ -23,8 +23,6 @@ mod nodes;
 mod parts;
 mod planner;
 mod reach;
-#[cfg(test)]
-mod tests;
 
 pub use cover::{NO_PART, Plan};
 pub use laws::paths_stay_covered;

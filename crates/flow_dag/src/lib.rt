@@ -28,8 +28,6 @@ mod mask;
 mod order;
 mod reach;
 mod rows;
-#[cfg(test)]
-mod tests;
 
 pub use dag::Dag;
 pub use edge::Edge;

@@ -13,8 +13,6 @@ mod counts;
 mod entries;
 mod keyed;
 mod number;
-#[cfg(test)]
-mod tests;
 mod text_map;
 
 pub use carry::Carry;

@@ -1,9 +1,8 @@
 -- A list is steady where it is empty, or is a steady list followed by an item that may follow it.
-use Rattle.std.proofs.Common.{◌≡◌, ◌<◌, ℕ, List, [], ◌∷◌, ◌++◌, length, get_or, sym, ◌∙◌, subst, arith}
+use Rattle.std.proofs.Common.{◌≡◌, ◌<◌, ℕ, List, [], ◌∷◌, ◌++◌, length, get_or, subst, arith}
 use Rattle.std.proofs.lemmas.List.{length-append, get_or_append_left}
 use Rattle.std.proofs.lemmas.List.Elements.{All-nil, All-push}
 use Rattle.std.proofs.lemmas.List.Quantifiers.{all_pairs_push}
-use Rattle.std.proofs.lemmas.Nat.Bits.{bit_at-zero}
 use Rattle.std.proofs.Math.Seq.{get_or-append_seam}
 use Rattle.tuple_trace.specs.declared.tuple.Item.{Item}
 use Rattle.tuple_trace.specs.declared.tuple.Item.TheVariants.{Carry, Mark, Last}
@@ -37,16 +36,6 @@ MayFollow-in_steady origin before item after steady =
       subst (HasComeTo origin) (here item) (steady.come (length before) item (omega (arith, longer))),
       λ k d within. subst (λ (pair : Item × Item). Agrees pair.0 pair.1) (λ s. (get_or_append_left before (item ∷ after) d k within s, here d s)) (steady.agree k (length before) d within (omega (arith, longer))),
     )
-
--- a marker that covers no node agrees with whatever stands before it
-Agrees-no_cover : (earlier : Item) (request : ℕ) → Agrees earlier (Mark request 0)
-Agrees-no_cover (Carry tuple) request = λ k d within covered. absurd (cc (sym (bit_at-zero (get_or tuple.trace k d).node) ∙ covered))
-Agrees-no_cover (Mark other cover) request = tt
-Agrees-no_cover Last request = tt
-
--- so it may follow every list
-pub MayFollow-no_cover : (origin : Origin) (before : List Item) (request : ℕ) → MayFollow origin before (Mark request 0)
-MayFollow-no_cover origin before request = (tt, λ k d within. Agrees-no_cover (get_or before k d) request)
 
 -- the end of a lane agrees with whatever stands before it
 Agrees-last : (earlier : Item) → Agrees earlier Last

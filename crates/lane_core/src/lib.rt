@@ -19,8 +19,6 @@
 mod endpoints;
 mod form;
 mod queue;
-#[cfg(test)]
-mod tests;
 
 pub use endpoints::{Rx, Tx};
 pub use form::{Lanes, Left, Origin};

@@ -18,8 +18,6 @@ mod host;
 mod live_feeder;
 mod memory;
 mod rule;
-#[cfg(test)]
-mod tests;
 
 pub use asks::{Asks, Failed};
 pub use endpoints::{Inbox, Teller, line, meet};

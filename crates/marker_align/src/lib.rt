@@ -16,8 +16,6 @@
 
 mod decision;
 mod held;
-#[cfg(test)]
-mod tests;
 
 pub use decision::{Act, Due, LaneSet, decide, decide_among};
 pub use held::{Hand, Hands, Holder};

@@ -17,8 +17,6 @@ mod items;
 mod place;
 mod reserved;
 mod row;
-#[cfg(test)]
-mod tests;
 mod text;
 mod tuple;
 mod value;

@@ -1,0 +1,10 @@
+mod boxes;
+mod counts;
+mod graphs;
+mod hands;
+mod lanes;
+mod plans;
+mod queue_lanes;
+mod releases;
+mod ring_lanes;
+mod tuples;
