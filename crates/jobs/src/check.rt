@@ -1,7 +1,7 @@
 // The one way to a job: its parts are checked.
 ghost use Rattle.std.specs.Prelude.{◌≡◌, ◌≤◌, IfOk, IfErr, OnOk, length};
 ghost use Rattle.jobs.specs.Job.{job_view};
-ghost use Rattle.jobs.specs.Law.{HasColumns, HasNoCycle, HasShape, HasTables, IsRefused};
+ghost use Rattle.jobs.specs.Law.{HasColumns, HasNoCycle, HasShape, HasTables, IsLawful, IsRefused};
 ghost use Rattle.jobs.specs.Weights.{weight};
 ghost use Rattle.jobs.specs.JobView.{job_view_as};
 
@@ -32,23 +32,11 @@ impl Job {
         ensures fault { IfErr result (λ fault. IsRefused fault
             (job_view_as columns nodes edges.now tables)) }
     {
-        check_shape(
+        let dag = dag_of(
+            alloc,
             columns.as_slice(),
             nodes.as_slice(),
             edges,
-            tables.as_slice(),
-        )?;
-        let dag = match Dag::check(alloc, nodes.len() as u32, edges) {
-            Ok(dag) => dag,
-            Err(DagFault::Cycle(v)) => return Err(LawFault::Cycle(v)),
-            Err(DagFault::NoMemory) => return Err(LawFault::NoMemory),
-            Err(DagFault::NodeRange(_)) => unreachable!(),
-            Err(DagFault::Repeated(_)) => unreachable!(),
-        };
-        check_meaning(
-            columns.as_slice(),
-            nodes.as_slice(),
-            &dag,
             tables.as_slice(),
         )?;
         Ok(Job {
@@ -58,6 +46,32 @@ impl Job {
             tables,
         })
     }
+}
+
+// The graph of these parts, if they make a lawful job.
+fn dag_of(
+    alloc: Global,
+    columns: &[Column],
+    nodes: &[NodeDef],
+    edges: &[Edge],
+    tables: &[Table],
+) -> Result<Dag, LawFault>
+    ensures graph { IfOk result (λ dag. (dag.nodes ≡ length nodes.now) × (dag.edges ≡ edges.now)) }
+    ensures lawful { IfOk result (λ dag.
+        IsLawful (job_view_as columns.now nodes.now dag.edges tables.now)) }
+    ensures fault { IfErr result (λ fault. IsRefused fault
+        (job_view_as columns.now nodes.now edges.now tables.now)) }
+{
+    check_shape(columns, nodes, edges, tables)?;
+    let dag = match Dag::check(alloc, nodes.len() as u32, edges) {
+        Ok(dag) => dag,
+        Err(DagFault::Cycle(v)) => return Err(LawFault::Cycle(v)),
+        Err(DagFault::NoMemory) => return Err(LawFault::NoMemory),
+        Err(DagFault::NodeRange(_)) => unreachable!(),
+        Err(DagFault::Repeated(_)) => unreachable!(),
+    };
+    check_meaning(columns, nodes, &dag, tables)?;
+    Ok(dag)
 }
 
 // Refuses sizes, names and edges that aren't as they have to be.

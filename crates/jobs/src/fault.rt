@@ -1,4 +1,4 @@
-ghost use Rattle.std.specs.Prelude.{Some};
+ghost use Rattle.std.specs.Prelude.{◌≡◌, Some};
 ghost use Rattle.jobs.specs.FaultWords.{which_words};
 
 use std::fmt;
@@ -33,22 +33,29 @@ impl fmt::Display for Which {
     ghost output = { λ which. Some (which_words which) };
 
     fn fmt<W: fmt::Write>(&self, f: &mut fmt::Formatter<W>) -> fmt::Result {
-        match self {
-            Which::Nodes => write!(f, "nodes"),
-            Which::Edges => write!(f, "edges"),
-            Which::Workers => write!(f, "workers"),
-            Which::AllWorkers => write!(f, "allworkers"),
-            Which::Columns => write!(f, "columns"),
-            Which::Text => write!(f, "text"),
-            Which::Entries => write!(f, "entries"),
-            Which::Conditions => write!(f, "conditions"),
-            Which::Steps => write!(f, "steps"),
-            Which::Most => write!(f, "most"),
-            Which::Roof => write!(f, "roof"),
-            Which::Requests => write!(f, "requests"),
-            Which::Changes => write!(f, "changes"),
-            Which::After => write!(f, "after"),
-        }
+        f.write_str(which_word(*self))
+    }
+}
+
+// The name of what has a limit.
+fn which_word(which: Which) -> &'static str
+    ensures { result.now ≡ which_words which }
+{
+    match which {
+        Which::Nodes => "nodes",
+        Which::Edges => "edges",
+        Which::Workers => "workers",
+        Which::AllWorkers => "allworkers",
+        Which::Columns => "columns",
+        Which::Text => "text",
+        Which::Entries => "entries",
+        Which::Conditions => "conditions",
+        Which::Steps => "steps",
+        Which::Most => "most",
+        Which::Roof => "roof",
+        Which::Requests => "requests",
+        Which::Changes => "changes",
+        Which::After => "after",
     }
 }
 
