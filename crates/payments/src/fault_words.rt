@@ -11,14 +11,14 @@ impl fmt::Display for PFault {
 
     fn fmt<W: fmt::Write>(&self, f: &mut fmt::Formatter<W>) -> fmt::Result {
         match self {
-            PFault::NoHeader => write!(f, "P1"),
-            PFault::Header => write!(f, "P2"),
+            PFault::NoHeader => f.write_str("P1"),
+            PFault::Header => f.write_str("P2"),
             PFault::Length(row) => write!(f, "P3 row {row}"),
             PFault::Source(row) => write!(f, "P4 row {row}"),
             PFault::Value(row, column) => write!(f, "P5 row {row} column {column}"),
             PFault::TextLong(row, column) => write!(f, "P6 row {row} column {column}"),
             PFault::TooMuch(row) => write!(f, "P7 row {row}"),
-            PFault::NoMemory => write!(f, "memory"),
+            PFault::NoMemory => f.write_str("memory"),
         }
     }
 }

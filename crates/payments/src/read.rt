@@ -3,7 +3,7 @@ ghost use Rattle.csv.specs.Records.{fields_of as cells_of};
 ghost use Rattle.jobs.specs.Job.{job_view};
 ghost use Rattle.jobs.specs.Nodes.{AreFromSources};
 ghost use Rattle.jobs.specs.Weights.{weight as weight_of};
-ghost use Rattle.payments.specs.Reading.{header_of, rows_from, rows_of, work_max};
+ghost use Rattle.payments.specs.Reading.{header_of, rows_behind, rows_from, rows_of, work_max};
 ghost use Rattle.jobs.specs.Limits.{HasShortTexts};
 ghost use Rattle.tuple_trace.specs.declared.row.Row.{Row as RowIs};
 ghost use Rattle.payments.specs.declared.read.PFault.TheVariants.{NoMemory as OutOfMemory};
@@ -63,13 +63,31 @@ pub fn read_rows(alloc: Global, job: &Job, bytes: &[u8]) -> Result<Rows, PFault>
 {
     let mut records = TextRecords::of(alloc, bytes);
     let mut cells = ByteRecord::new(alloc);
-    if !records.next(&mut cells)? {
+    rows_under_header(alloc, job, &mut records, &mut cells)
+}
+
+/// The rows of all records of a file, of which the first is the header. `cells` holds each record
+/// in turn.
+fn rows_under_header(
+    alloc: Global,
+    job: &Job,
+    records: &mut TextRecords<'_>,
+    cells: &mut ByteRecord,
+) -> Result<Rows, PFault>
+    ensures ok { IfOk result (λ rows. rows_behind (job_view job.now) records.old ≡ Ok rows) }
+    ensures sources { IfOk result (λ rows. AreFromSources (job_view job.now) rows) }
+    ensures work { IfOk result (λ rows. length rows * weight_of (job_view job.now) ≤ work_max) }
+    ensures texts { IfOk result (λ rows. All (λ (row : RowIs). HasShortTexts row.tuple) rows) }
+    ensures fault { IfErr result (λ fault. fault ≢ PFault.NoMemory
+        → rows_behind (job_view job.now) records.old ≡ Err fault) }
+{
+    if !records.next(cells)? {
         return Err(PFault::NoHeader);
     }
-    if !is_header(job.columns.as_slice(), &cells) {
+    if !is_header(job.columns.as_slice(), cells) {
         return Err(PFault::Header);
     }
-    later_rows(alloc, job, &mut records, &mut cells)
+    later_rows(alloc, job, records, cells)
 }
 
 /// The rows of the records that are left. `cells` holds the header, and then each record in turn.
