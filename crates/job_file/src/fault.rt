@@ -80,7 +80,7 @@ pub enum ReqFileFault {
 }
 
 /// Why a document isn't read, whatever it is the file of.
-#[derive(Clone, Copy, Debug, PartialEq, Eq)]
+#[derive(Clone, Copy)]
 pub(crate) enum FormFault {
     NotToml,
     Shape(Part),

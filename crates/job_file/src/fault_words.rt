@@ -1,5 +1,5 @@
 // What is printed of a fault: its code, and what it names.
-ghost use Rattle.std.specs.Prelude.{Some};
+ghost use Rattle.std.specs.Prelude.{◌≡◌, Some};
 ghost use Rattle.job_file.specs.FaultWords.{job_words, part_words, requests_words};
 
 use crate::{JobFault, Part, ReqFileFault};
@@ -11,34 +11,41 @@ impl fmt::Display for Part {
     ghost output = { λ part. Some (part_words part) };
 
     fn fmt<W: fmt::Write>(&self, f: &mut fmt::Formatter<W>) -> fmt::Result {
-        match self {
-            Part::Columns => write!(f, "columns"),
-            Part::Tables => write!(f, "tables"),
-            Part::Node => write!(f, "node"),
-            Part::Edge => write!(f, "edge"),
-            Part::Name => write!(f, "name"),
-            Part::Kind => write!(f, "kind"),
-            Part::Workers => write!(f, "workers"),
-            Part::When => write!(f, "when"),
-            Part::Steps => write!(f, "steps"),
-            Part::Key => write!(f, "key"),
-            Part::Into => write!(f, "into"),
-            Part::Table => write!(f, "table"),
-            Part::Other => write!(f, "other"),
-            Part::Add => write!(f, "add"),
-            Part::On => write!(f, "on"),
-            Part::By => write!(f, "by"),
-            Part::Most => write!(f, "most"),
-            Part::Roof => write!(f, "roof"),
-            Part::From => write!(f, "from"),
-            Part::To => write!(f, "to"),
-            Part::Port => write!(f, "port"),
-            Part::Request => write!(f, "request"),
-            Part::Change => write!(f, "change"),
-            Part::After => write!(f, "after"),
-            Part::Carry => write!(f, "carry"),
-            Part::Unknown => write!(f, "unknown"),
-        }
+        f.write_str(part_word(*self))
+    }
+}
+
+// The word of a part.
+fn part_word(part: Part) -> &'static str
+    ensures { result.now ≡ part_words part }
+{
+    match part {
+        Part::Columns => "columns",
+        Part::Tables => "tables",
+        Part::Node => "node",
+        Part::Edge => "edge",
+        Part::Name => "name",
+        Part::Kind => "kind",
+        Part::Workers => "workers",
+        Part::When => "when",
+        Part::Steps => "steps",
+        Part::Key => "key",
+        Part::Into => "into",
+        Part::Table => "table",
+        Part::Other => "other",
+        Part::Add => "add",
+        Part::On => "on",
+        Part::By => "by",
+        Part::Most => "most",
+        Part::Roof => "roof",
+        Part::From => "from",
+        Part::To => "to",
+        Part::Port => "port",
+        Part::Request => "request",
+        Part::Change => "change",
+        Part::After => "after",
+        Part::Carry => "carry",
+        Part::Unknown => "unknown",
     }
 }
 
@@ -47,7 +54,7 @@ impl fmt::Display for JobFault {
 
     fn fmt<W: fmt::Write>(&self, f: &mut fmt::Formatter<W>) -> fmt::Result {
         match self {
-            JobFault::NotToml => write!(f, "J1"),
+            JobFault::NotToml => f.write_str("J1"),
             JobFault::Shape(part) => write!(f, "J2 {part}"),
             JobFault::Limit(which, number) => write!(f, "J3 {which} {number}"),
             JobFault::NameTwice(Named::Node, place) => write!(f, "J4 node {place}"),
@@ -58,7 +65,7 @@ impl fmt::Display for JobFault {
             JobFault::Column(node) => write!(f, "J8 node {node}"),
             JobFault::NoTable(node) => write!(f, "J9 node {node}"),
             JobFault::Weight(weight) => write!(f, "J10 weight {weight}"),
-            JobFault::NoMemory => write!(f, "memory"),
+            JobFault::NoMemory => f.write_str("memory"),
         }
     }
 }
@@ -70,10 +77,10 @@ impl fmt::Display for ReqFileFault {
 
     fn fmt<W: fmt::Write>(&self, f: &mut fmt::Formatter<W>) -> fmt::Result {
         match self {
-            ReqFileFault::NotToml => write!(f, "F1"),
+            ReqFileFault::NotToml => f.write_str("F1"),
             ReqFileFault::Shape(part) => write!(f, "F2 {part}"),
             ReqFileFault::Limit(which, number) => write!(f, "F3 {which} {number}"),
-            ReqFileFault::NoMemory => write!(f, "memory"),
+            ReqFileFault::NoMemory => f.write_str("memory"),
         }
     }
 }
