@@ -1,6 +1,6 @@
 // The kinds of functions: a row each, and what is read off it.
-ghost use Rattle.std.specs.Prelude.{◌≡◌, map};
-ghost use Rattle.jobs.specs.Kinds.{key_of, kind_named, kind_of, row_of};
+ghost use Rattle.std.specs.Prelude.{◌≡◌, find, map};
+ghost use Rattle.jobs.specs.Kinds.{has_name, key_of, kind_named, kind_of, row_of};
 
 use crate::Func;
 
@@ -184,13 +184,20 @@ impl Kind {
             Kind::Replicate,
             Kind::Sink,
         ];
-        for kind in &kinds {
-            if word == kind.row().name {
-                return Some(*kind);
-            }
-        }
-        None
+        first_named(&kinds, word)
     }
+}
+
+// The first of these kinds that has the word for a name.
+fn first_named(kinds: &[Kind], word: &str) -> Option<Kind>
+    ensures { result ≡ find (has_name word.now) kinds.now }
+{
+    for kind in kinds {
+        if word == kind.row().name {
+            return Some(*kind);
+        }
+    }
+    None
 }
 
 impl Func {
