@@ -15,9 +15,10 @@ use Rattle.flow_model.specs.Workers.{workers_in}
 use Rattle.flow_model.specs.declared.setup.Setup.{Setup}
 use Rattle.flow_replay.specs.Order.{IsInOrder}
 use Rattle.flow_replay.specs.declared.executor.Executor.{Executor}
+use Rattle.flow_replay.specs.declared.executor.Left.{Left}
 use Rattle.flow_replay.specs.declared.worker_run.WorkerRun.{WorkerRun}
 use Rattle.flow_replay.specs.inner.Delivery.{IsFed, rank_in}
-use Rattle.flow_replay.specs.inner.Executor.{HasFed, HasLeft, IsNew}
+use Rattle.flow_replay.specs.inner.Executor.{HasFed, HasLeft, IsNew, left_view}
 use Rattle.flow_replay.specs.inner.Runs.{AllGain, AreOpen, empty_run, end_block}
 use Rattle.flow_replay.specs.inner.SoFar.{AreEmpty, AreIssued, AreIssuedBefore, AreSorted, IsSoFar, left_by}
 use Rattle.flow_replay.proofs.IssueLemmas.{all_issued, feed_first, feed_last, feed_next}
@@ -36,10 +37,10 @@ none_before waits rows = record {
 }
 
 pub may_begin : (kept : Setup) (rows : ℕ) (e : Executor) → IsNew kept e →
-    AreIssuedBefore (afters (setup_view e.setup).requests) rows 0 e.issued
+    AreIssuedBefore (afters (setup_view e.setup.now).requests) rows 0 e.issued
 may_begin kept rows e new =
-    subst (AreIssuedBefore (afters (setup_view e.setup).requests) rows 0) (sym new.issued_is)
-    (none_before (afters (setup_view e.setup).requests) rows)
+    subst (AreIssuedBefore (afters (setup_view e.setup.now).requests) rows 0) (sym new.issued_is)
+    (none_before (afters (setup_view e.setup.now).requests) rows)
 
 empty : (setup : SetupView) (runs : List WorkerRun) →
     runs ≡ replicate (length (workers_in setup.job)) empty_run → AreEmpty setup runs
@@ -50,7 +51,7 @@ empty setup runs are = subst (AreEmpty setup) (sym are) (record {
       (omega (arith, lt, length-replicate (length (workers_in setup.job)) empty_run));
 })
 
-pub is_new : (kept : Setup) (e : Executor) → IsNew kept e → IsNew e.setup e
+pub is_new : (kept : Setup) (e : Executor) → IsNew kept e → IsNew e.setup.now e
 is_new kept e new = record {
   setup_is = refl;
   runs_are =
@@ -62,8 +63,8 @@ is_new kept e new = record {
 }
 
 pub begins : (kept : Setup) (rows : List Row) (old new : Executor) → IsNew kept old →
-    AreIssued (setup_view old.setup) (length rows) 0 old.issued new.issued old.feeds new.feeds
-    old.runs.items new.runs.items → new.setup ≡ old.setup → HasFed kept rows 0 new
+    AreIssued (setup_view old.setup.now) (length rows) 0 old.issued new.issued old.feeds new.feeds
+    old.runs.items new.runs.items → new.setup.now ≡ old.setup.now → HasFed kept rows 0 new
 begins kept rows old new none issued same = record {
   same = same ∙ none.setup_is;
   waits = first.waits;
@@ -88,8 +89,8 @@ begins kept rows old new none issued same = record {
 -- ---- a row more
 
 pub may_issue : (kept : Setup) (rows : List Row) (row : ℕ) (old mid : Executor) →
-    HasFed kept rows row old → mid.setup ≡ old.setup → mid.issued ≡ old.issued →
-    AreIssuedBefore (afters (setup_view mid.setup).requests) (length rows) (row + 1) mid.issued
+    HasFed kept rows row old → mid.setup.now ≡ old.setup.now → mid.issued ≡ old.issued →
+    AreIssuedBefore (afters (setup_view mid.setup.now).requests) (length rows) (row + 1) mid.issued
 may_issue kept rows row old mid h same issued =
     subst (λ (s : Setup).
     AreIssuedBefore (afters (setup_view s).requests) (length rows) (row + 1) mid.issued)
@@ -100,12 +101,12 @@ may_issue kept rows row old mid h same issued =
 pub goes_on : (kept : Setup) (rows : List Row) (place : ℕ) (row : Row)
     (old mid new : Executor) → slice_get rows place ≡ Some row → place < length rows →
     row.tuple.row ≡ place + 1 →
-    IsFed (setup_view old.setup) (rank_in old.setup) row old.issued old.runs.items
+    IsFed (setup_view old.setup.now) (rank_in old.setup.now) row old.issued old.runs.items
     mid.runs.items →
     mid.feeds ≡ old.feeds ++ Fed row.tuple.row ∷ [] → mid.issued ≡ old.issued →
-    mid.setup ≡ old.setup →
-    AreIssued (setup_view mid.setup) (length rows) (place + 1) mid.issued new.issued mid.feeds
-    new.feeds mid.runs.items new.runs.items → new.setup ≡ mid.setup →
+    mid.setup.now ≡ old.setup.now →
+    AreIssued (setup_view mid.setup.now) (length rows) (place + 1) mid.issued new.issued mid.feeds
+    new.feeds mid.runs.items new.runs.items → new.setup.now ≡ mid.setup.now →
     HasFed kept rows place old → HasFed kept rows (place + 1) new
 goes_on kept rows place row old mid new there lt number fed feeds issued same next same' h =
     record {
@@ -151,15 +152,14 @@ record HasEndedAs (kept : Setup) (e : Executor) (ran : Ran) : Type 0 where
       AllGain (setup_view kept) (end_block (setup_view kept).job) e.runs.items runs
   pub ran_is : ran ≡ left_by (setup_view kept) (e.feeds ++ Stopped ∷ []) runs
 
-ended_as : (kept : Setup) (e : Executor) (ran : Ran) → e.setup ≡ kept → HasLeft e ran →
-    HasEndedAs kept e ran
-ended_as kept e ran same left = record {
-  runs = left.runs;
-  ended = subst (λ (s : Setup).
-      AllGain (setup_view s) (end_block (setup_view s).job) e.runs.items left.runs) same left.ended;
-  ran_is = left.ran_is ∙ ap (λ (s : Setup).
-      left_by (setup_view s) (e.feeds ++ Stopped ∷ []) left.runs) same;
-}
+ended_as : (kept : Setup) (e : Executor) (left : Left) → e.setup.now ≡ kept → HasLeft e left →
+    HasEndedAs kept e (left_view (setup_view kept) left)
+ended_as kept e left same has =
+    subst (λ (s : Setup). HasEndedAs s e (left_view (setup_view s) left)) same (record {
+      runs = has.runs;
+      ended = has.ended;
+      ran_is = has.left_is;
+    })
 
 -- after the last row all requests are issued
 all : (kept : Setup) (rows : List Row) (e : Executor) → HasFed kept rows (length rows) e →
@@ -169,10 +169,10 @@ all kept rows e h =
     ∙ (length-map (setup_view kept).requests (λ (request : Request). request.after)
     ∙ sym (covered kept).plan_each)
 
-pub is_run : (kept : Setup) (rows : List Row) (place : ℕ) (e : Executor) (ran : Ran) →
-    place ≡ length rows → HasFed kept rows place e → HasLeft e ran →
-    IsRun (setup_view kept) rows ran
-is_run kept rows place e ran end so_far left =
+pub is_run : (kept : Setup) (rows : List Row) (place : ℕ) (e : Executor) (left : Left) →
+    place ≡ length rows → HasFed kept rows place e → HasLeft e left →
+    IsRun (setup_view kept) rows (left_view (setup_view kept) left)
+is_run kept rows place e left end so_far has =
     subst (IsRun (setup_view kept) rows) (sym is)
     (stop_step (setup_view kept) rows e.feeds e.runs.items its.runs (covered kept) far its.ended
     (feed_last (setup_view kept) (length rows) (length rows) e.feeds (e.feeds ++ Stopped ∷ [])
@@ -181,10 +181,10 @@ is_run kept rows place e ran end so_far left =
     h : HasFed kept rows (length rows) e
     h = subst (λ (n : ℕ). HasFed kept rows n e) end so_far
 
-    its : HasEndedAs kept e ran
-    its = ended_as kept e ran h.same left
+    its : HasEndedAs kept e (left_view (setup_view kept) left)
+    its = ended_as kept e left h.same has
 
-    is : ran ≡ left_by (setup_view kept) (e.feeds ++ Stopped ∷ []) its.runs
+    is : left_view (setup_view kept) left ≡ left_by (setup_view kept) (e.feeds ++ Stopped ∷ []) its.runs
     is = its.ran_is
 
     far : IsSoFar (setup_view kept) rows e.feeds (length (setup_view kept).plans) e.runs.items
@@ -192,10 +192,10 @@ is_run kept rows place e ran end so_far left =
         subst (λ (n : ℕ). IsSoFar (setup_view kept) rows e.feeds n e.runs.items)
         (all kept rows e h) h.far
 
-pub is_in_order : (kept : Setup) (rows : List Row) (place : ℕ) (e : Executor) (ran : Ran) →
-    place ≡ length rows → HasFed kept rows place e → HasLeft e ran →
-    IsInOrder (length rows) ran
-is_in_order kept rows place e ran end so_far left =
+pub is_in_order : (kept : Setup) (rows : List Row) (place : ℕ) (e : Executor) (left : Left) →
+    place ≡ length rows → HasFed kept rows place e → HasLeft e left →
+    IsInOrder (length rows) (left_view (setup_view kept) left)
+is_in_order kept rows place e left end so_far has =
     subst (IsInOrder (length rows)) (sym its.ran_is)
     (ends_sorted (setup_view kept) (length rows) (e.feeds ++ Stopped ∷ []) e.runs.items its.runs
     h.far.quiescent.long its.ended sorted)
@@ -203,8 +203,8 @@ is_in_order kept rows place e ran end so_far left =
     h : HasFed kept rows (length rows) e
     h = subst (λ (n : ℕ). HasFed kept rows n e) end so_far
 
-    its : HasEndedAs kept e ran
-    its = ended_as kept e ran h.same left
+    its : HasEndedAs kept e (left_view (setup_view kept) left)
+    its = ended_as kept e left h.same has
 
     sorted : AreSorted (setup_view kept) (length rows) (length rows)
         (length (setup_view kept).plans) e.runs.items

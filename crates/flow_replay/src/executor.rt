@@ -5,7 +5,6 @@ ghost use Rattle.jobs.specs.Job.{job_view};
 ghost use Rattle.jobs.specs.Nodes.{IsSourceOf};
 ghost use Rattle.sink_journal.specs.declared.journal.Feed.TheVariants.{Stopped};
 ghost use Rattle.flow_model.specs.Lanes.{lane_at, lanes};
-ghost use Rattle.flow_model.specs.Record.{record_view};
 ghost use Rattle.flow_model.specs.Requests.{afters};
 ghost use Rattle.flow_model.specs.Setup.{setup_view};
 ghost use Rattle.flow_model.specs.Workers.{nth_worker, workers_in};
@@ -15,7 +14,7 @@ ghost use Rattle.flow_replay.specs.inner.Delivery.{IsDelivered, IsFed, rank_in};
 ghost use Rattle.flow_replay.specs.inner.SoFar.{AreIssued, AreIssuedBefore, counts_of, journal_of};
 
 use crate::worker_run::WorkerRun;
-use flow_model::{RunRecord, Setup, States, WorkerAt, WorkerState};
+use flow_model::{Setup, States, WorkerAt, WorkerState};
 use operators::Outs;
 use sink_journal::{Entry, Feed, Feeds, Journals};
 use std::alloc::Global;
@@ -26,23 +25,23 @@ use tuple_trace::{NoMemory, Row, Tuple};
 ///
 /// After [`NoMemory`] it is given up.
 #[derive(Drop)]
-pub struct Executor {
+pub struct Executor<'a> {
     alloc: Global,
-    pub setup: Setup,
+    pub setup: &'a Setup,
     /// The workers, by their numbers.
     pub runs: Vec<WorkerRun>,
     pub feeds: Feeds,
     /// How many requests are issued.
     pub issued: usize,
-    ghost one_each: { length runs.items ≡ length (workers_in (job_view setup.job)) },
+    ghost one_each: { length runs.items ≡ length (workers_in (job_view setup.now.job)) },
 }
 
-impl Executor {
+impl<'a> Executor<'a> {
     ghost use Rattle.flow_replay.specs.inner.Executor.{HasLeft, IsNew, SameBesideRuns};
 
     /// An executor that has done nothing.
-    pub fn new(alloc: Global, setup: Setup) -> Result<Executor, NoMemory>
-        ensures { IfOk result (IsNew setup) }
+    pub fn new(alloc: Global, setup: &'a Setup) -> Result<Executor<'a>, NoMemory>
+        ensures { IfOk result (IsNew setup.now) }
     {
         let runs = empty_runs(alloc, setup.workers() as usize)?;
         Ok(Executor {
@@ -56,12 +55,12 @@ impl Executor {
 
     /// Issues the requests that wait for a row up to this one, of `rows` rows.
     pub fn issue_up_to(&mut self, row: u64, rows: u64) -> Result<(), NoMemory>
-        requires { AreIssuedBefore (afters (setup_view self.old.setup).requests) rows row
+        requires { AreIssuedBefore (afters (setup_view self.old.setup.now).requests) rows row
             self.old.issued }
-        ensures issued { OnOk result (AreIssued (setup_view self.old.setup) rows row
+        ensures issued { OnOk result (AreIssued (setup_view self.old.setup.now) rows row
             self.old.issued self.new.issued self.old.feeds self.new.feeds
             self.old.runs.items self.new.runs.items) }
-        ensures same { OnOk result (self.new.setup ≡ self.old.setup) }
+        ensures same { OnOk result (self.new.setup.now ≡ self.old.setup.now) }
     {
         for place in self.issued..self.setup.request_count() {
             let request = place as u64 + 1;
@@ -77,14 +76,14 @@ impl Executor {
 
     /// Feeds a row, and delivers it.
     pub fn feed(&mut self, row: &Row) -> Result<(), NoMemory>
-        requires { IsSourceOf (setup_view self.old.setup).job row.now.source }
-        ensures fed { OnOk result (IsFed (setup_view self.old.setup) (rank_in self.old.setup)
-            row.now
+        requires { IsSourceOf (setup_view self.old.setup.now).job row.now.source }
+        ensures fed { OnOk result (IsFed (setup_view self.old.setup.now)
+            (rank_in self.old.setup.now) row.now
             self.old.issued self.old.runs.items self.new.runs.items) }
         ensures feeds { OnOk result (self.new.feeds
             ≡ self.old.feeds ++ Feed.Fed row.now.tuple.row ∷ []) }
         ensures issued { OnOk result (self.new.issued ≡ self.old.issued) }
-        ensures same { OnOk result (self.new.setup ≡ self.old.setup) }
+        ensures same { OnOk result (self.new.setup.now ≡ self.old.setup.now) }
     {
         self.feeds.push(Feed::Fed(row.tuple.row))?;
         let mut tuple = row.tuple.copy()?;
@@ -103,9 +102,9 @@ impl Executor {
     /// Delivers a tuple on a lane: the worker at the lane's end processes it, and then each of its
     /// outputs is delivered.
     fn deliver(&mut self, lane: u32, tuple: Tuple) -> Result<(), NoMemory>
-        requires { lane < length (lanes (setup_view self.old.setup).job) }
-        ensures delivered { OnOk result (IsDelivered (setup_view self.old.setup)
-            (rank_in self.old.setup) lane tuple self.old.runs.items self.new.runs.items) }
+        requires { lane < length (lanes (setup_view self.old.setup.now).job) }
+        ensures delivered { OnOk result (IsDelivered (setup_view self.old.setup.now)
+            (rank_in self.old.setup.now) lane tuple self.old.runs.items self.new.runs.items) }
         ensures same { OnOk result (SameBesideRuns self.old self.new) }
     {
         let worker = self.setup.lane(lane).receiver;
@@ -122,14 +121,14 @@ impl Executor {
 
     // The worker at the end of a lane processes a tuple. Returns its outputs.
     fn process(&mut self, lane: u32, tuple: Tuple) -> Result<Outs, NoMemory>
-        requires { lane < length (lanes (setup_view self.old.setup).job) }
-        ensures step { OnOk result (IsStep (setup_view self.old.setup)
-            (lane_at (setup_view self.old.setup).job lane).receiver (Entry.Met lane tuple)
+        requires { lane < length (lanes (setup_view self.old.setup.now).job) }
+        ensures step { OnOk result (IsStep (setup_view self.old.setup.now)
+            (lane_at (setup_view self.old.setup.now).job lane).receiver (Entry.Met lane tuple)
             self.old.runs.items self.new.runs.items) }
-        ensures outs { IfOk result (λ outs. outs ≡ made_at (setup_view self.old.setup)
-            (nth_worker (setup_view self.old.setup).job
-            (lane_at (setup_view self.old.setup).job lane).receiver)
-            (run_at self.old.runs.items (lane_at (setup_view self.old.setup).job lane).receiver)
+        ensures outs { IfOk result (λ outs. outs ≡ made_at (setup_view self.old.setup.now)
+            (nth_worker (setup_view self.old.setup.now).job
+            (lane_at (setup_view self.old.setup.now).job lane).receiver)
+            (run_at self.old.runs.items (lane_at (setup_view self.old.setup.now).job lane).receiver)
             tuple) }
         ensures same { OnOk result (SameBesideRuns self.old self.new) }
     {
@@ -138,21 +137,21 @@ impl Executor {
         let run = &mut self.runs[worker as usize];
         let mut outs = Outs::new(self.alloc);
         run.state
-            .process(self.alloc, &self.setup, at, &tuple, &mut outs)?;
+            .process(self.alloc, self.setup, at, &tuple, &mut outs)?;
         run.journal.push(Entry::Met { lane, tuple })?;
         Ok(outs)
     }
 
     // Every worker that a request covers turns.
     fn turn_all(&mut self, request: u64) -> Result<(), NoMemory>
-        ensures turned { OnOk result (AllGain (setup_view self.old.setup)
-            (turn_block (setup_view self.old.setup) request)
+        ensures turned { OnOk result (AllGain (setup_view self.old.setup.now)
+            (turn_block (setup_view self.old.setup.now) request)
             self.old.runs.items self.new.runs.items) }
         ensures same { OnOk result (SameBesideRuns self.old self.new) }
     {
         for worker in 0..self.runs.len() {
             let run = &mut self.runs[worker];
-            run.turn_if_covered(&self.setup, worker as u32, request)?;
+            run.turn_if_covered(self.setup, worker as u32, request)?;
         }
         Ok(())
     }
@@ -160,48 +159,42 @@ impl Executor {
     // Every worker ends.
     fn end_all(&mut self) -> Result<(), NoMemory>
         requires { AreOpen self.old.runs.items }
-        ensures ended { OnOk result (AllGain (setup_view self.old.setup)
-            (end_block (setup_view self.old.setup).job) self.old.runs.items self.new.runs.items) }
+        ensures ended { OnOk result (AllGain (setup_view self.old.setup.now)
+            (end_block (setup_view self.old.setup.now).job)
+            self.old.runs.items self.new.runs.items) }
         ensures same { OnOk result (SameBesideRuns self.old self.new) }
     {
         for worker in 0..self.runs.len() {
             let run = &mut self.runs[worker];
-            run.end(&self.setup, worker as u32)?;
+            run.end(self.setup, worker as u32)?;
         }
         Ok(())
     }
 
-    /// Ends all workers and the feeder. Returns the record of the run.
-    pub fn finish(mut self) -> Result<RunRecord, NoMemory>
+    /// Ends all workers and the feeder. Returns what they leave.
+    pub fn finish(mut self) -> Result<Left, NoMemory>
         requires { AreOpen self.runs.items }
-        ensures left { IfOk result (λ ran. HasLeft self (record_view ran)) }
-        ensures same { IfOk result (λ ran. ran.setup ≡ self.setup) }
+        ensures { IfOk result (HasLeft self.entry) }
     {
         self.end()?;
         let Executor {
             alloc,
-            setup,
             runs,
             feeds,
             ..
         } = self;
-        let Left { journals, states } = left_by_workers(alloc, runs)?;
-        Ok(RunRecord {
-            setup,
-            feeds,
-            journals,
-            states,
-        })
+        left_by(alloc, feeds, runs)
     }
 
     // Every worker ends, and the feeder stops.
     fn end(&mut self) -> Result<(), NoMemory>
         requires { AreOpen self.old.runs.items }
-        ensures ended { OnOk result (AllGain (setup_view self.old.setup)
-            (end_block (setup_view self.old.setup).job) self.old.runs.items self.new.runs.items) }
+        ensures ended { OnOk result (AllGain (setup_view self.old.setup.now)
+            (end_block (setup_view self.old.setup.now).job)
+            self.old.runs.items self.new.runs.items) }
         ensures stopped { OnOk result (self.new.feeds
             ≡ self.old.feeds ++ Stopped ∷ []) }
-        ensures same { OnOk result (self.new.setup ≡ self.old.setup) }
+        ensures same { OnOk result (self.new.setup.now ≡ self.old.setup.now) }
     {
         self.end_all()?;
         self.feeds.push(Feed::Stopped)?;
@@ -209,11 +202,12 @@ impl Executor {
     }
 }
 
-/// What the workers left.
+/// What a run leaves: what the feeder did, and the journal and the counts of each worker.
 #[derive(Drop)]
-struct Left {
-    journals: Journals,
-    states: States,
+pub struct Left {
+    pub feeds: Feeds,
+    pub journals: Journals,
+    pub states: States,
 }
 
 fn empty_runs(alloc: Global, workers: usize) -> Result<Vec<WorkerRun>, NoMemory>
@@ -226,11 +220,14 @@ fn empty_runs(alloc: Global, workers: usize) -> Result<Vec<WorkerRun>, NoMemory>
     Ok(runs)
 }
 
-fn left_by_workers(alloc: Global, runs: Vec<WorkerRun>) -> Result<Left, NoMemory>
+// What workers and a feeder with this feed leave.
+fn left_by(alloc: Global, feeds: Feeds, runs: Vec<WorkerRun>) -> Result<Left, NoMemory>
+    ensures feeds { IfOk result (λ left. left.feeds ≡ feeds) }
     ensures journals { IfOk result (λ left. left.journals ≡ map journal_of runs.items) }
     ensures states { IfOk result (λ left. left.states ≡ map counts_of runs.items) }
 {
     let mut left = Left {
+        feeds,
         journals: Journals::new(alloc),
         states: States::new(alloc),
     };

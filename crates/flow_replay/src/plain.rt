@@ -6,9 +6,9 @@ ghost use Rattle.flow_model.specs.Record.{record_view};
 ghost use Rattle.flow_model.specs.Run.{IsRun};
 ghost use Rattle.flow_model.specs.Setup.{setup_view};
 ghost use Rattle.flow_replay.specs.Order.{IsInOrder};
-ghost use Rattle.flow_replay.specs.inner.Executor.{HasFed, IsNew};
+ghost use Rattle.flow_replay.specs.inner.Executor.{HasFed, IsNew, left_view};
 
-use crate::executor::Executor;
+use crate::executor::{Executor, Left};
 use flow_model::{RunRecord, Setup, runs_are_consistent};
 use std::alloc::Global;
 use tuple_trace::{NoMemory, Rows};
@@ -27,16 +27,37 @@ pub fn plain_run(alloc: Global, setup: Setup, rows: &Rows) -> Result<RunRecord, 
     ensures same { IfOk result (λ ran. ran.setup ≡ setup) }
 {
     runs_are_consistent(&setup, rows);
+    let Left {
+        feeds,
+        journals,
+        states,
+    } = run_rows(alloc, &setup, rows)?;
+    Ok(RunRecord {
+        setup,
+        feeds,
+        journals,
+        states,
+    })
+}
+
+// Runs the rows by a setup. Returns what the run leaves.
+fn run_rows(alloc: Global, setup: &Setup, rows: &Rows) -> Result<Left, NoMemory>
+    requires { AreFromSources (job_view setup.now.job) rows.now }
+    ensures run { IfOk result (λ left. IsRun (setup_view setup.now) rows.now
+        (left_view (setup_view setup.now) left)) }
+    ensures order { IfOk result (λ left. IsInOrder (length rows.now)
+        (left_view (setup_view setup.now) left)) }
+{
     let mut executor = Executor::new(alloc, setup)?;
     feed_all(&mut executor, rows)?;
     executor.finish()
 }
 
 // Feeds all rows, and issues each request directly after the row that it waits for.
-fn feed_all(executor: &mut Executor, rows: &Rows) -> Result<(), NoMemory>
-    requires new { IsNew executor.old.setup executor.old }
-    requires sources { AreFromSources (job_view executor.old.setup.job) rows.now }
-    ensures { OnOk result (HasFed executor.old.setup rows.now (length rows.now) executor.new) }
+fn feed_all(executor: &mut Executor<'_>, rows: &Rows) -> Result<(), NoMemory>
+    requires new { IsNew executor.old.setup.now executor.old }
+    requires sources { AreFromSources (job_view executor.old.setup.now.job) rows.now }
+    ensures { OnOk result (HasFed executor.old.setup.now rows.now (length rows.now) executor.new) }
 {
     let list = rows.as_slice();
     let count = list.len() as u64;

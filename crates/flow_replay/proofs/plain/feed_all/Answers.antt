@@ -10,12 +10,12 @@ use Rattle.flow_replay.proofs.plain.feed_all.Goals as goal
 
 pub issue_up_to-requires : goal.issue_up_to-requires
 issue_up_to-requires c =
-    may_begin c.args.executor.now.setup (length c.as_slice-list.result.now) c.args.executor.now
+    may_begin c.args.executor.now.setup.now (length c.as_slice-list.result.now) c.args.executor.now
     c.requires.new
 
 pub loop-place-init : goal.loop-place-init
 loop-place-init c =
-    begins c.args.executor.now.setup c.as_slice-list.result.now c.args.executor.now
+    begins c.args.executor.now.setup.now c.as_slice-list.result.now c.args.executor.now
     c.issue_up_to.new.self c.requires.new c.in_ok-issue_up_to.ensures.issued
     c.in_ok-issue_up_to.ensures.same
 
@@ -25,16 +25,16 @@ feed-requires c =
     let i = c.loop-place.place in
     let row = c.index-list-place.result in
     let sources =
-    subst (λ (rs : List Row). AreFromSources (job_view c.args.executor.now.setup.job) rs)
+    subst (λ (rs : List Row). AreFromSources (job_view c.args.executor.now.setup.now.job) rs)
     (sym c.as_slice-list.ensures.value) c.requires.sources in
     subst (λ (s : Setup). IsSourceOf (job_view s.job) row.source)
     (sym c.loop-place.invariant.same)
-    (subst (λ (r : Row). IsSourceOf (job_view c.args.executor.now.setup.job) r.source)
+    (subst (λ (r : Row). IsSourceOf (job_view c.args.executor.now.setup.now.job) r.source)
     (sym c.index-list-place.is) (sources i row c.loop-place-test.true))
 
 pub issue_up_to-requires-in-loop-place : goal.issue_up_to-requires-in-loop-place
 issue_up_to-requires-in-loop-place c =
-    may_issue c.args.executor.now.setup c.as_slice-list.result.now c.loop-place.place c.loop-place.executor
+    may_issue c.args.executor.now.setup.now c.as_slice-list.result.now c.loop-place.place c.loop-place.executor
     c.feed.new.self c.loop-place.invariant c.in_ok-feed.ensures.same
     c.in_ok-feed.ensures.issued
 
@@ -47,7 +47,7 @@ loop-place-preserved c =
     slice_get-get_or rows place row c.loop-place-test.true
     ∙ ap Some (sym c.index-list-place.is) in
     let number = (c.as_slice-list.ensures.rows place row there).numbered in
-    goes_on c.args.executor.now.setup rows place row c.loop-place.executor c.feed.new.self
+    goes_on c.args.executor.now.setup.now rows place row c.loop-place.executor c.feed.new.self
     c.issue_up_to-in-loop-place.new.self there c.loop-place-test.true number
     c.in_ok-feed.ensures.fed c.in_ok-feed.ensures.feeds c.in_ok-feed.ensures.issued
     c.in_ok-feed.ensures.same c.in_ok-issue_up_to-2.ensures.issued
@@ -55,7 +55,7 @@ loop-place-preserved c =
 
 pub returns : goal.returns
 returns c =
-    let kept = c.args.executor.now.setup in
+    let kept = c.args.executor.now.setup.now in
     let list = c.as_slice-list.result.now in
     let end : c.loop-place.place ≡ length list =
     omega (arith, c.loop-place-test.false, c.loop-place.auto.place-end) in

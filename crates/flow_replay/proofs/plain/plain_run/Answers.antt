@@ -1,68 +1,8 @@
-use Rattle.std.proofs.Common.{length, refl, subst, sym}
-use Rattle.std.proofs.lemmas.Result.{IfOk-weaker}
-use Rattle.jobs.specs.Job.{job_view}
-use Rattle.jobs.specs.Nodes.{AreFromSources}
-use Rattle.flow_model.specs.Consistent.{IsConsistent}
-use Rattle.flow_model.specs.Record.{record_view}
-use Rattle.flow_model.specs.Run.{IsRun}
 use Rattle.flow_model.specs.Setup.{setup_view}
-use Rattle.flow_model.specs.declared.record.RunRecord.{RunRecord}
-use Rattle.flow_model.specs.declared.setup.Setup.{Setup}
-use Rattle.flow_replay.specs.Order.{IsInOrder}
-use Rattle.flow_replay.specs.inner.Executor.{HasFed, HasLeft}
-use Rattle.flow_replay.proofs.PlainLemmas.{is_in_order, is_new, is_run, opens}
+use Rattle.flow_replay.specs.inner.Executor.{left_view}
 use Rattle.flow_replay.proofs.plain.plain_run.Goals as goal
-
-pub feed_all-requires-clause-new : goal.feed_all-requires-clause-new
-feed_all-requires-clause-new c =
-    is_new c.args.setup c.in_ok-executor.executor c.in_ok-executor.ensures
-
-pub feed_all-requires-clause-sources : goal.feed_all-requires-clause-sources
-feed_all-requires-clause-sources c =
-    subst (λ (s : Setup). AreFromSources (job_view s.job) c.args.rows.now)
-    (sym c.in_ok-executor.ensures.setup_is) c.requires
-
-pub finish-requires : goal.finish-requires
-finish-requires c =
-    opens c.in_ok-executor.executor.setup c.args.rows.now (length c.args.rows.now)
-    c.feed_all.new.executor c.in_ok-feed_all.ensures
-
-pub returns-clause-run : goal.returns-clause-run
-returns-clause-run c =
-    let rows = c.args.rows.now in
-    let executor = c.feed_all.new.executor in
-    let fed : HasFed c.args.setup rows (length rows) executor =
-    subst (λ (s : Setup). HasFed s rows (length rows) executor) c.in_ok-executor.ensures.setup_is
-    c.in_ok-feed_all.ensures in
-    IfOk-weaker c.finish.result (λ (ran : RunRecord). HasLeft executor (record_view ran))
-    (λ (ran : RunRecord). IsRun (setup_view c.args.setup) rows (record_view ran))
-    (λ (ran : RunRecord) left.
-    is_run c.args.setup rows (length rows) executor (record_view ran) refl fed left)
-    c.finish.ensures.left
-
-pub returns-clause-order : goal.returns-clause-order
-returns-clause-order c =
-    let rows = c.args.rows.now in
-    let executor = c.feed_all.new.executor in
-    let fed : HasFed c.args.setup rows (length rows) executor =
-    subst (λ (s : Setup). HasFed s rows (length rows) executor) c.in_ok-executor.ensures.setup_is
-    c.in_ok-feed_all.ensures in
-    IfOk-weaker c.finish.result (λ (ran : RunRecord). HasLeft executor (record_view ran))
-    (λ (ran : RunRecord). IsInOrder (length rows) (record_view ran))
-    (λ (ran : RunRecord) left.
-    is_in_order c.args.setup rows (length rows) executor (record_view ran) refl fed left)
-    c.finish.ensures.left
 
 pub returns-clause-consistent : goal.returns-clause-consistent
 returns-clause-consistent c =
-    let rows = c.args.rows.now in
-    let executor = c.feed_all.new.executor in
-    let fed : HasFed c.args.setup rows (length rows) executor =
-    subst (λ (s : Setup). HasFed s rows (length rows) executor) c.in_ok-executor.ensures.setup_is
-    c.in_ok-feed_all.ensures in
-    IfOk-weaker c.finish.result (λ (ran : RunRecord). HasLeft executor (record_view ran))
-    (λ (ran : RunRecord). IsConsistent rows (record_view ran))
-    (λ (ran : RunRecord) left.
-    c.runs_are_consistent.ensures (record_view ran)
-    (is_run c.args.setup rows (length rows) executor (record_view ran) refl fed left) c.requires)
-    c.finish.ensures.left
+    c.runs_are_consistent.ensures
+    (left_view (setup_view c.args.setup) c.in_ok-feeds.field-0) c.in_ok-feeds.ensures.run c.requires

@@ -17,7 +17,7 @@ use Rattle.flow_replay.proofs.executor.Executor.+deliver.Goals as goal
 
 pub loop-out-init : goal.loop-out-init
 loop-out-init t c =
-    let setup = c.args.self.now.setup in
+    let setup = c.args.self.now.setup.now in
     let job = job_view setup.job in
     let items = c.into_iter-out-iterator.ensures.into_iter_gives in
     let (there, received) =
@@ -39,7 +39,7 @@ loop-out-init t c =
 
 pub route-requires : goal.route-requires
 route-requires t c =
-    let job = job_view c.args.self.now.setup.job in
+    let job = job_view c.args.self.now.setup.now.job in
     let w = c.lane-worker.result.receiver in
     let at = c.worker_at-at.result in
     subst (λ (s : Setup). at.index < length (senders (job_view s.job) at.node))
@@ -49,7 +49,7 @@ route-requires t c =
 
 pub deliver-requires : goal.deliver-requires
 deliver-requires t c =
-    let setup = c.args.self.now.setup in
+    let setup = c.args.self.now.setup.now in
     let job = job_view setup.job in
     let w = c.lane-worker.result.receiver in
     let at = c.worker_at-at.result in
@@ -58,7 +58,7 @@ deliver-requires t c =
     let (there, received) =
     read_lane job c.args.lane c.lane-worker.result c.lane-worker.ensures.lane in
     let along =
-    along_is c.loop-out.self.setup setup at w next out.port out.tuple
+    along_is c.loop-out.self.setup.now setup at w next out.port out.tuple
     c.loop-out.invariant.same.setup_is
     (worker_sends job w at c.lane-worker.ensures.receiver c.worker_at-at.ensures.at)
     c.in-Some-route.ensures.some in
@@ -80,7 +80,7 @@ deliver-requires t c =
 
 pub loop-out-preserved-in-Continue-branch-2 : goal.loop-out-preserved-in-Continue-branch-2
 loop-out-preserved-in-Continue-branch-2 t c =
-    let setup = c.args.self.now.setup in
+    let setup = c.args.self.now.setup.now in
     let job = job_view setup.job in
     let w = c.lane-worker.result.receiver in
     let at = c.worker_at-at.result in
@@ -89,7 +89,7 @@ loop-out-preserved-in-Continue-branch-2 t c =
     let (there, received) =
     read_lane job c.args.lane c.lane-worker.result c.lane-worker.ensures.lane in
     let along =
-    along_is c.loop-out.self.setup setup at w next out.port out.tuple
+    along_is c.loop-out.self.setup.now setup at w next out.port out.tuple
     c.loop-out.invariant.same.setup_is
     (worker_sends job w at c.lane-worker.ensures.receiver c.worker_at-at.ensures.at)
     c.in-Some-route.ensures.some in
@@ -115,7 +115,7 @@ loop-out-preserved-in-Continue-branch-2 t c =
 
 pub loop-out-preserved : goal.loop-out-preserved
 loop-out-preserved t c =
-    let setup = c.args.self.now.setup in
+    let setup = c.args.self.now.setup.now in
     let job = job_view setup.job in
     let w = c.lane-worker.result.receiver in
     let at = c.worker_at-at.result in
@@ -143,7 +143,7 @@ loop-out-preserved t c =
 
 pub returns-clause-delivered : goal.returns-clause-delivered
 returns-clause-delivered t c =
-    let setup = c.args.self.now.setup in
+    let setup = c.args.self.now.setup.now in
     ends_at (setup_view setup) (rank_in setup) c.args.lane c.args.tuple
     (into_iter_items c.loop-out.out-iterator) c.args.self.now.runs.items
     c.loop-out.self.runs.items

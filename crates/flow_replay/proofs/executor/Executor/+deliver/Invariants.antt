@@ -8,7 +8,7 @@ use Rattle.flow_replay.proofs.executor.Executor.+deliver.Given as goal
 
 abbrev pub decreases-deliver : goal.decreases-deliver
 decreases-deliver l =
-    64 - rank_behind (job_view l.self.now.setup.job) (rank_in l.self.now.setup) l.lane
+    64 - rank_behind (job_view l.self.now.setup.now.job) (rank_in l.self.now.setup.now) l.lane
 
 abbrev pub invariant-loop-out : goal.invariant-loop-out
 invariant-loop-out l = record {
@@ -17,6 +17,6 @@ invariant-loop-out l = record {
   counted : into_iter_len l.out-iterator ≡ length (into_iter_items l.out-iterator);
   same : SameBesideRuns l.fn.self l.self;
   way :
-      IsInFlight (setup_view l.fn.self.setup) (rank_in l.fn.self.setup) l.fn.lane l.fn.tuple
+      IsInFlight (setup_view l.fn.self.setup.now) (rank_in l.fn.self.setup.now) l.fn.lane l.fn.tuple
       (into_iter_items l.out-iterator) l.fn.self.runs.items l.self.runs.items;
 }

@@ -11,7 +11,7 @@ use Rattle.flow_replay.proofs.executor.Executor.feed.Goals as goal
 
 pub deliver-requires : goal.deliver-requires
 deliver-requires c =
-    let job = job_view c.args.self.now.setup.job in
+    let job = job_view c.args.self.now.setup.now.job in
     let row = c.args.row.now in
     let along = c.in-Some.ensures.some None (feeder_alone job row.source c.requires).1 in
     slice_get_within (lanes job) c.in-Some.lane _
@@ -19,7 +19,7 @@ deliver-requires c =
 
 pub returns-in_ok-deliver-in-Some-clause-fed : goal.returns-in_ok-deliver-in-Some-clause-fed
 returns-in_ok-deliver-in-Some-clause-fed c =
-    let setup = c.args.self.now.setup in
+    let setup = c.args.self.now.setup.now in
     let job = job_view setup.job in
     let row = c.args.row.now in
     let along = c.in-Some.ensures.some None (feeder_alone job row.source c.requires).1 in
@@ -29,5 +29,5 @@ returns-in_ok-deliver-in-Some-clause-fed c =
 
 pub returns-in-None-clause-fed : goal.returns-in-None-clause-fed
 returns-in-None-clause-fed c =
-    absurd (lane_from_source (job_view c.args.self.now.setup.job) c.args.row.now.source
-    c.args.row.now.tuple c.args.self.now.setup.job.lawful c.requires (c.in-None.ensures.none None))
+    absurd (lane_from_source (job_view c.args.self.now.setup.now.job) c.args.row.now.source
+    c.args.row.now.tuple c.args.self.now.setup.now.job.lawful c.requires (c.in-None.ensures.none None))

@@ -18,7 +18,7 @@ use Rattle.flow_replay.proofs.executor.Executor.issue_up_to.Goals as goal
 
 pub returns-then-min-row-clause-issued : goal.returns-then-min-row-clause-issued
 returns-then-min-row-clause-issued c =
-    let kept = c.args.self.now.setup in
+    let kept = c.args.self.now.setup.now in
     let setup = setup_view kept in
     let place = c.loop-place.place in
     let h = c.loop-place.invariant in
@@ -27,7 +27,7 @@ returns-then-min-row-clause-issued c =
     let here : place + 1 - 1 ≡ place = omega arith in
     let after =
     subst (λ (s : Setup). slice_get (afters (setup_view s).requests) place ≡ Some c.after.result)
-    h.same (subst (λ k. slice_get (afters (setup_view c.loop-place.self.setup).requests) k
+    h.same (subst (λ k. slice_get (afters (setup_view c.loop-place.self.setup.now).requests) k
     ≡ Some c.after.result) here c.after.ensures) in
     subst (λ (n : ℕ). AreIssued setup c.args.rows c.args.row c.args.self.now.issued n
     c.args.self.now.feeds c.loop-place.self.feeds c.args.self.now.runs.items
@@ -45,7 +45,7 @@ returns-then-min-row-clause-issued c =
 
 pub loop-place-preserved : goal.loop-place-preserved
 loop-place-preserved c =
-    let kept = c.args.self.now.setup in
+    let kept = c.args.self.now.setup.now in
     let setup = setup_view kept in
     let place = c.loop-place.place in
     let h = c.loop-place.invariant in
@@ -55,7 +55,7 @@ loop-place-preserved c =
     let here : place + 1 - 1 ≡ place = omega arith in
     let after =
     subst (λ (s : Setup). slice_get (afters (setup_view s).requests) place ≡ Some c.after.result)
-    h.same (subst (λ k. slice_get (afters (setup_view c.loop-place.self.setup).requests) k
+    h.same (subst (λ k. slice_get (afters (setup_view c.loop-place.self.setup.now).requests) k
     ≡ Some c.after.result) here c.after.ensures) in
     let gain =
     subst (λ (s : Setup). AllGain (setup_view s) (turn_block (setup_view s) (place + 1))
@@ -92,7 +92,7 @@ loop-place-preserved c =
 
 pub returns-clause-issued : goal.returns-clause-issued
 returns-clause-issued c =
-    let kept = c.args.self.now.setup in
+    let kept = c.args.self.now.setup.now in
     let setup = setup_view kept in
     let place = c.loop-place.place in
     let h = c.loop-place.invariant in

@@ -17,8 +17,8 @@ use Rattle.flow_replay.proofs.executor.Executor.process.Goals as goal
 
 pub returns-clause-step : goal.returns-clause-step
 returns-clause-step c =
-    let setup = setup_view c.args.self.now.setup in
-    let job = job_view c.args.self.now.setup.job in
+    let setup = setup_view c.args.self.now.setup.now in
+    let job = job_view c.args.self.now.setup.now.job in
     let runs = c.args.self.now.runs.items in
     let w = c.lane-worker.result.receiver in
     let who = nth_worker job w in
@@ -41,8 +41,8 @@ returns-clause-step c =
 
 pub returns-clause-outs : goal.returns-clause-outs
 returns-clause-outs c =
-    let setup = setup_view c.args.self.now.setup in
-    let job = job_view c.args.self.now.setup.job in
+    let setup = setup_view c.args.self.now.setup.now in
+    let job = job_view c.args.self.now.setup.now.job in
     let runs = c.args.self.now.runs.items in
     let w = c.lane-worker.result.receiver in
     let who = nth_worker job w in

@@ -5,7 +5,7 @@ use Rattle.flow_replay.proofs.executor.Executor.turn_all.Goals as goal
 
 pub overflow_cast-worker : goal.overflow_cast-worker
 overflow_cast-worker c =
-    let job = c.args.self.now.setup.job in
+    let job = c.args.self.now.setup.now.job in
     omega (
       arith,
       c.loop-worker-test.true,

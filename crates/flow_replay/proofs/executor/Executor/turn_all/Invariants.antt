@@ -12,8 +12,8 @@ invariant-loop-worker l = record {
   long : length l.self.runs.items ≡ length l.fn.self.runs.items;
   done :
       (w : ℕ) → w < l.worker →
-      IsGain (setup_view l.fn.self.setup) (nth_worker (job_view l.fn.self.setup.job) w)
-      (turn_block (setup_view l.fn.self.setup) l.request w) (run_at l.fn.self.runs.items w) (run_at
+      IsGain (setup_view l.fn.self.setup.now) (nth_worker (job_view l.fn.self.setup.now.job) w)
+      (turn_block (setup_view l.fn.self.setup.now) l.request w) (run_at l.fn.self.runs.items w) (run_at
       l.self.runs.items w);
   left : (w : ℕ) → l.worker ≤ w → run_at l.self.runs.items w ≡ run_at l.fn.self.runs.items w;
 }
