@@ -51,50 +51,48 @@ pub fn push_all<'s, R: Wait, L: Lanes, C: Charter>(
     Ok(())
 }
 
-/// Pops all runners that are still in the queue. Each number is then here once.
+/// Pops all runners that are still in the queue. Each number is then here once. The one error is
+/// out of memory.
 pub fn drain<'s, R: Wait, L: Lanes, C: Charter>(
     rt: &R,
     queue: &Queue<'s, L, C>,
-    own: Held<'s, L, C>,
-) -> Result<Vec<Runner<'s, L, C>>, NoMemory>
-    requires queue { IsSegPassOf queue.now own.pass }
-    requires parts { own.pass.me.view.client.parts ≡ 16 }
-    requires listed { AreListed C.endpoints own.runners.items own.pass.me.view.client.list }
-    ensures once { IfOk result (λ rs. HasEachOf (length C.endpoints) (numbers rs.items)) }
-    ensures agree { IfOk result (λ rs. All (Agrees C.endpoints) rs.items) }
+    own: &mut Held<'s, L, C>,
+) -> Result<(), NoMemory>
+    requires queue { IsSegPassOf queue.now own.old.pass }
+    requires parts { own.old.pass.me.view.client.parts ≡ 16 }
+    requires listed { AreListed C.endpoints own.old.runners.items
+        own.old.pass.me.view.client.list }
+    ensures once { OnOk result (HasEachOf (length C.endpoints) (numbers own.new.runners.items)) }
+    ensures agree { OnOk result (All (Agrees C.endpoints) own.new.runners.items) }
 {
-    let Held {
-        mut runners,
-        mut pass,
-    } = own;
     for _ in rt.forever() {
-        runners.reserve(1)?;
-        let Some(runner) = take(rt, queue, &mut pass) else {
-            return Ok(runners);
+        own.runners.reserve(1)?;
+        let Some(runner) = take(rt, queue, &mut own.pass) else {
+            return Ok(());
         };
-        runners.push_reserved(runner);
+        own.runners.push_reserved(runner);
     }
     Err(NoMemory)
 }
 
-/// Visits all runners until each is done.
+/// Visits all runners until each is done. The one error is out of memory.
 pub fn rounds<'s, R: Wait, L: Lanes, G: Gate, C: Charter>(
     rt: &R,
     need: &mut L::Need,
     gate: &G,
     stop: &AtomicBool,
-    mut runners: Vec<Runner<'s, L, C>>,
-) -> Result<Vec<Runner<'s, L, C>>, NoMemory>
-    ensures fixed { IfOk result (λ rs. map fixed_of rs.items
-        ≡ map fixed_of runners.entry.items) }
-    ensures done { IfOk result (λ rs. All HasEnded rs.items) }
+    runners: &mut Vec<Runner<'s, L, C>>,
+) -> Result<(), NoMemory>
+    ensures fixed { OnOk result (map fixed_of runners.new.items
+        ≡ map fixed_of runners.old.items) }
+    ensures done { OnOk result (All HasEnded runners.new.items) }
 {
     for _ in rt.forever() {
         if stop.load(Ordering::SeqCst) {
             break;
         }
-        match round(need, gate, &mut runners) {
-            Turn::Done => return Ok(runners),
+        match round(need, gate, runners) {
+            Turn::Done => return Ok(()),
             Turn::Moved => {}
             Turn::Idle => thread::yield_now(),
             Turn::NoMemory => break,

@@ -1,4 +1,4 @@
-ghost use Rattle.std.specs.Prelude.{◌≡◌, ◌≤◌, IfOk, IsTrue, length, map, vec_len};
+ghost use Rattle.std.specs.Prelude.{◌≡◌, ◌<◌, ◌+◌, ◌≤◌, IfOk, IsTrue, OnOk, length, map, vec_len};
 ghost use Rattle.std.specs.List.{All, range_with_len};
 ghost use Rattle.crossbeam_queue.specs.SegTies.{IsSegPassOf};
 ghost use Rattle.jobs.specs.Nodes.{AreFromSources};
@@ -13,7 +13,7 @@ ghost use Rattle.runner.specs.Runner.{endpoints_of};
 
 use crate::crew::{drain, push_all, rounds, sort_by_number, to_workers};
 use crate::lead::{Led, lead};
-use crate::threads::{join_all, start_all};
+use crate::threads::{Handle, join_all, start_all};
 use coordinator::Feeding;
 use crossbeam_queue::SegPass;
 use flow_model::Setup;
@@ -281,7 +281,12 @@ where
         (F.rest r.feeder)) }
     ensures stopped { IfOk result (λ r. IsTrue (F.feeder r.feeder).stopped) }
 {
-    let Load { queue, own, feeder } = load;
+    let Load {
+        queue,
+        mut own,
+        feeder,
+    } = load;
+    let mut handles = Vec::new(alloc);
     let started = start_all(
         scope,
         rt,
@@ -291,26 +296,61 @@ where
         stop,
         words,
         queue,
-        own,
-        Vec::new(alloc),
+        &mut own,
+        &mut handles,
     );
-    let Ok((own, handles)) = started else {
+    if started.is_err() {
         stop.store(true, Ordering::SeqCst);
         return Err(NoMemory);
-    };
+    }
     let mut need = form.need();
     let alone = handles.is_empty();
-    let Led { own, feeder, fed } = lead(
+    let Led {
+        mut own,
+        feeder,
+        fed,
+    } = lead(
         rt, &mut need, gate, stop, setup, rows, queue, own, feeder, alone,
     );
-    let Ok(own) = join_all(rt, queue, own, handles) else {
+    end_all(rt, &mut need, gate, stop, queue, &mut own, handles, fed)?;
+    Ok(Finished {
+        runners: own.runners,
+        feeder,
+    })
+}
+
+// Joins the threads, and does what is left, if the feeder has stopped.
+fn end_all<'s, R, L: Lanes, G: Gate, C: Charter>(
+    rt: &R,
+    need: &mut L::Need,
+    gate: &G,
+    stop: &AtomicBool,
+    queue: &Queue<'s, L, C>,
+    own: &mut Held<'s, L, C>,
+    handles: Vec<Handle<'s, L, C>>,
+    fed: bool,
+) -> Result<(), NoMemory>
+where
+    R: Threads + Wait,
+    requires queue { IsSegPassOf queue.now own.old.pass }
+    requires some { 0 < own.old.pass.me.view.client.parts }
+    requires parts { own.old.pass.me.view.client.parts + vec_len handles ≡ 16 }
+    requires listed { AreListed C.endpoints own.old.runners.items
+        own.old.pass.me.view.client.list }
+    requires handles { All (λ h. h.promise.queue.value ≡ queue.now) handles.items }
+    ensures fed { OnOk result (IsTrue fed) }
+    ensures once { OnOk result (HasEachOf (length C.endpoints) (numbers own.new.runners.items)) }
+    ensures agree { OnOk result (All (Agrees C.endpoints) own.new.runners.items) }
+    ensures done { OnOk result (All HasEnded own.new.runners.items) }
+{
+    if join_all(rt, queue, own, handles).is_err() {
         stop.store(true, Ordering::SeqCst);
         return Err(NoMemory);
-    };
+    }
     if !fed {
         return Err(NoMemory);
     }
-    let all = drain(rt, queue, own)?;
-    let runners = rounds(rt, &mut need, gate, stop, all)?;
-    Ok(Finished { runners, feeder })
+    drain(rt, queue, own)?;
+    rounds(rt, need, gate, stop, &mut own.runners)?;
+    Ok(())
 }

@@ -5,7 +5,7 @@ use Rattle.runners.proofs.crew.drain.Given as goal
 
 abbrev pub invariant-loop : goal.invariant-loop
 invariant-loop g l = record {
-  queue : IsSegPassOf l.queue l.pass;
-  parts : l.pass.me.view.client.parts ≡ 16;
-  listed : AreListed g.C.Charter.endpoints l.runners.items l.pass.me.view.client.list;
+  queue : IsSegPassOf l.queue l.own.pass;
+  parts : l.own.pass.me.view.client.parts ≡ 16;
+  listed : AreListed g.C.Charter.endpoints l.own.runners.items l.own.pass.me.view.client.list;
 }
