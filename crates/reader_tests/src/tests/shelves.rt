@@ -48,12 +48,16 @@ fn has_failed(shelf: &MemoryShelf, faults: (u64, u64), name: &str) -> bool {
 
 const HEADER: &[u8] = b"sink,row,account,merchant,amount,tags\n";
 
-// A shelf that takes 16 bytes at a time, fails at one call, and has the file `pay.csv`.
-fn shelf_that_fails(alloc: Global, call: u64) -> Option<MemoryShelf> {
+fn put_payments(shelf: &mut MemoryShelf, alloc: Global) -> Option<()> {
     let name = word(alloc, "pay.csv")?;
     let bytes = Bytes::from_slice(alloc, b"source\n").ok()?;
+    shelf.put(name, bytes).ok()
+}
+
+// A shelf that takes 16 bytes at a time, fails at one call, and has the file `pay.csv`.
+fn shelf_that_fails(alloc: Global, call: u64) -> Option<MemoryShelf> {
     let mut shelf = MemoryShelf::new(alloc, 16, Calls::from_slice(alloc, &[call]).ok()?);
-    shelf.put(name, bytes).ok()?;
+    put_payments(&mut shelf, alloc)?;
     Some(shelf)
 }
 

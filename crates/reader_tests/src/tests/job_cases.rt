@@ -1,8 +1,8 @@
-use super::reading::{Answer, Text};
+use super::reading::{Case, Text};
 use job_file::{JobFault, Named, Part, Which};
 
 /// A piece of a job file, and what the reader answers.
-pub const CASES: &[(Text, &str, Answer)] = &[
+pub const CASES: &[Case] = &[
     (Text::File, "columns = [\n", Err(JobFault::NotToml)),
     (Text::File, "node = []\nnode = []\n", Err(JobFault::NotToml)),
     (Text::File, "", Err(JobFault::Shape(Part::Columns))),

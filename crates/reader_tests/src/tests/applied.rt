@@ -23,23 +23,21 @@ const VISIT: Visit = Visit {
 
 // What a function puts out at the node `x` for all rows, with one set of counts.
 fn outs_of(alloc: Global, job: &Job, func: &Func, rows: &[Row]) -> Option<Outs> {
+    outs_with(alloc, job, func, &mut Keyed::new(alloc), rows)
+}
+
+fn outs_with(
+    alloc: Global,
+    job: &Job,
+    func: &Func,
+    counts: &mut Keyed,
+    rows: &[Row],
+) -> Option<Outs> {
     let ports = out_ports(alloc, job, NODE).ok()?;
-    let mut counts = Keyed::new(alloc);
     let mut outs = Outs::new(alloc);
     for row in rows {
-        let ports = ports.as_slice();
-        let tuple = &row.tuple;
-        apply(
-            alloc,
-            job,
-            ports,
-            VISIT,
-            func,
-            &mut counts,
-            tuple,
-            &mut outs,
-        )
-        .ok()?;
+        let (ports, tuple) = (ports.as_slice(), &row.tuple);
+        apply(alloc, job, ports, VISIT, func, counts, tuple, &mut outs).ok()?;
     }
     Some(outs)
 }

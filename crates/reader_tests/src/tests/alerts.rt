@@ -1,11 +1,10 @@
 // The text of alerts.
-use super::fixtures::are;
-use job_file::read_job;
+use super::fixtures::{are, job_in};
 use jobs::{Job, worker_count};
 use payments::read_rows;
 use sink_journal::{Entry, Journal, Journals, alerts_text};
 use std::alloc::Global;
-use tuple_trace::{Bytes, Row};
+use tuple_trace::{Bytes, NoMemory, Row};
 
 /// A source, a filter and a sink that lists all four columns.
 const CHAIN: &str =
@@ -74,51 +73,81 @@ from = \"often\"
 to = \"watch\"
 ";
 
+fn entry_of(row: Option<&Row>) -> Result<Entry, NoMemory> {
+    match row {
+        Some(row) => Ok(Entry::Met {
+            lane: 0,
+            tuple: row.tuple.copy()?,
+        }),
+        None => Err(NoMemory),
+    }
+}
+
 // The entry with this number in the journal of a worker that met these rows, turned a request after
 // each, and ended.
-fn entry_at(rows: &[Row], met: &[usize], number: usize) -> Option<Entry> {
+fn entry_at(rows: &[Row], met: &[usize], number: usize) -> Result<Entry, NoMemory> {
     let lane = 0;
     match (met.get(number / 3), number % 3) {
-        (Some(place), 0) => {
-            let tuple = rows.get(*place)?.tuple.copy().ok()?;
-            Some(Entry::Met { lane, tuple })
-        }
-        (Some(_), 1) => Some(Entry::Marked { lane, request: 1 }),
-        (Some(_), _) => Some(Entry::Turned { request: 1 }),
-        (None, _) => Some(Entry::Ended { lane }),
+        (Some(place), 0) => entry_of(rows.get(*place)),
+        (Some(_), 1) => Ok(Entry::Marked { lane, request: 1 }),
+        (Some(_), _) => Ok(Entry::Turned { request: 1 }),
+        (None, _) => Ok(Entry::Ended { lane }),
     }
 }
 
-fn journal_of(alloc: Global, rows: &[Row], met: &[usize]) -> Option<Journal> {
+fn journal_of(alloc: Global, rows: &[Row], met: &[usize]) -> Result<Journal, NoMemory> {
     let mut journal = Journal::new(alloc);
     for number in 0..=met.len().saturating_mul(3) {
-        journal.push(entry_at(rows, met, number)?).ok()?;
+        journal.push(entry_at(rows, met, number)?)?;
     }
-    Some(journal)
+    Ok(journal)
 }
 
-fn journals_of(alloc: Global, rows: &[Row], workers: &[&[usize]]) -> Option<Journals> {
+fn journals_of(alloc: Global, rows: &[Row], workers: &[&[usize]]) -> Result<Journals, NoMemory> {
     let mut journals = Journals::new(alloc);
     for met in workers {
-        journals.push(journal_of(alloc, rows, met)?).ok()?;
+        journals.push(journal_of(alloc, rows, met)?)?;
     }
-    Some(journals)
+    Ok(journals)
 }
 
-fn text_of(alloc: Global, job: &Job, journals: &Journals) -> Option<Bytes> {
+fn text_of(alloc: Global, job: &Job, journals: &Journals) -> Result<Bytes, NoMemory> {
     if journals.len() as u64 == worker_count(job) {
-        alerts_text(alloc, job, journals).ok()
+        alerts_text(alloc, job, journals)
     } else {
-        None
+        Err(NoMemory)
     }
 }
 
-// The alerts of a job whose workers met these of the payments, by their places.
+fn text_with(
+    alloc: Global,
+    job: &Job,
+    rows: &[Row],
+    workers: &[&[usize]],
+) -> Result<Bytes, NoMemory> {
+    let journals = journals_of(alloc, rows, workers)?;
+    text_of(alloc, job, &journals)
+}
+
+fn text_in(
+    alloc: Global,
+    job: &Job,
+    payments: &[u8],
+    workers: &[&[usize]],
+) -> Result<Bytes, NoMemory> {
+    match read_rows(alloc, job, payments) {
+        Ok(rows) => text_with(alloc, job, rows.as_slice(), workers),
+        Err(_) => Err(NoMemory),
+    }
+}
+
+// The alerts of a job whose workers met these of the payments, by their places. None if a text
+// isn't read.
 fn alerts_of(alloc: Global, job: &str, payments: &[u8], workers: &[&[usize]]) -> Option<Bytes> {
-    let job = read_job(alloc, job.as_bytes()).ok()?;
-    let rows = read_rows(alloc, &job, payments).ok()?;
-    let journals = journals_of(alloc, rows.as_slice(), workers)?;
-    text_of(alloc, &job, &journals)
+    match job_in(alloc, &[job]) {
+        Ok(job) => text_in(alloc, &job, payments, workers).ok(),
+        Err(_) => None,
+    }
 }
 
 const FOUR_PAYMENTS: &[u8] = b"source,account,merchant,amount,tags

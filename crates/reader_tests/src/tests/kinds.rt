@@ -1,6 +1,6 @@
 // What the kind of a node says of it.
 use super::files::KINDS;
-use job_file::read_job;
+use super::fixtures::job_in;
 use jobs::{NodeDef, fan_out, is_free, is_replicate, is_source, is_split};
 use std::alloc::Global;
 
@@ -33,15 +33,21 @@ fn told(node: &NodeDef) -> Told {
 }
 
 fn told_at(alloc: Global, node: usize) -> Option<Told> {
-    match read_job(alloc, KINDS.as_bytes()) {
-        Ok(job) => Some(told(job.nodes.as_slice().get(node)?)),
-        Err(_) => None,
+    let job = job_in(alloc, &[KINDS]).ok()?;
+    Some(told(job.nodes.as_slice().get(node)?))
+}
+
+/// The first node of which something else is told.
+fn first_wrong(alloc: Global) -> Option<usize> {
+    for (node, want) in TOLD.iter().enumerate() {
+        if told_at(alloc, node) != Some(*want) {
+            return Some(node);
+        }
     }
+    None
 }
 
 #[test]
 fn kinds_are_told_apart(rt: HostRuntime) {
-    for (node, want) in TOLD.iter().copied().enumerate() {
-        assert!(rt; told_at(rt.alloc(), node) == Some(want), "at node {node}");
-    }
+    assert_eq!(rt; first_wrong(rt.alloc()), None);
 }

@@ -1,7 +1,8 @@
 // Request files, and the first fault of each.
 use super::files::{PAYMENTS, REQUESTS};
-use super::{joined, request_cases};
-use job_file::{ReqFileFault, Which, read_job, read_requests};
+use super::fixtures::{job_in, joined, requests_in};
+use super::request_cases;
+use job_file::{ReqFileFault, Which};
 use jobs::Func;
 use keyed_state::Carry;
 use std::alloc::{AllocError, Global};
@@ -25,33 +26,34 @@ const REQUEST: &str = "[[request]]\nafter = 4\n[[request.change]]\n";
 
 const CARRIED: &str = "node = \"tally\"\nfrom = 0\nkind = \"source\"\ncarry = ";
 
-fn asked(alloc: Global, text: &str) -> Asked {
-    let Ok(job) = read_job(alloc, PAYMENTS.as_bytes()) else {
-        return Err(ReqFileFault::NoMemory);
-    };
-    match read_requests(alloc, &job, text.as_bytes()) {
-        Ok(requests) => Ok(requests.len()),
-        Err(fault) => Err(fault),
-    }
-}
-
-fn asked_by(alloc: Global, text: RequestText, piece: &str) -> Asked {
-    let joined = match text {
-        RequestText::File => joined(alloc, &[piece]),
-        RequestText::Change => joined(alloc, &[REQUEST, piece]),
-        RequestText::Carry => joined(alloc, &[REQUEST, CARRIED, piece, "\n"]),
-    };
-    match joined {
-        Ok(text) => asked(alloc, text.as_str()),
+fn asked(alloc: Global, pieces: &[&str]) -> Asked {
+    match job_in(alloc, &[PAYMENTS]) {
+        Ok(job) => Ok(requests_in(alloc, &job, pieces)?.len()),
         Err(_) => Err(ReqFileFault::NoMemory),
     }
 }
 
+fn asked_by(alloc: Global, text: RequestText, piece: &str) -> Asked {
+    match text {
+        RequestText::File => asked(alloc, &[piece]),
+        RequestText::Change => asked(alloc, &[REQUEST, piece]),
+        RequestText::Carry => asked(alloc, &[REQUEST, CARRIED, piece, "\n"]),
+    }
+}
+
+/// The first piece to which the reader answers otherwise.
+fn first_wrong(alloc: Global) -> Option<&'static str> {
+    for (text, piece, want) in request_cases::CASES {
+        if asked_by(alloc, *text, piece) != *want {
+            return Some(*piece);
+        }
+    }
+    None
+}
+
 #[test]
 fn faults_of_requests(rt: HostRuntime) {
-    for (text, piece, want) in request_cases::CASES.iter().copied() {
-        assert_eq!(rt; asked_by(rt.alloc(), text, piece), want, "at {piece}");
-    }
+    assert_eq!(rt; first_wrong(rt.alloc()), None);
 }
 
 fn repeated(alloc: Global, head: &str, piece: &str, count: u32) -> Result<String, AllocError> {
@@ -64,7 +66,7 @@ fn repeated(alloc: Global, head: &str, piece: &str, count: u32) -> Result<String
 
 fn asked_often(alloc: Global, head: &str, piece: &str, count: u32) -> Asked {
     match repeated(alloc, head, piece, count) {
-        Ok(text) => asked(alloc, text.as_str()),
+        Ok(text) => asked(alloc, &[text.as_str()]),
         Err(_) => Err(ReqFileFault::NoMemory),
     }
 }
@@ -112,13 +114,9 @@ fn told(request: &Request) -> Option<Told> {
 }
 
 fn told_at(alloc: Global, place: usize) -> Option<Told> {
-    let Ok(job) = read_job(alloc, PAYMENTS.as_bytes()) else {
-        return None;
-    };
-    match read_requests(alloc, &job, REQUESTS.as_bytes()) {
-        Ok(requests) => told(requests.as_slice().get(place)?),
-        Err(_) => None,
-    }
+    let job = job_in(alloc, &[PAYMENTS]).ok()?;
+    let requests = requests_in(alloc, &job, &[REQUESTS]).ok()?;
+    told(requests.as_slice().get(place)?)
 }
 
 #[test]

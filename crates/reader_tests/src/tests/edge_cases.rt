@@ -6,7 +6,7 @@ pub const NODES: &str =
     "[[node]]\nname = \"in\"\nkind = \"source\"\n[[node]]\nname = \"x\"\nkind = \"filter\"\nwhen = []\n[[node]]\nname = \"out\"\nkind = \"sink\"\ncolumns = []\n[[node]]\nname = \"log\"\nkind = \"sink\"\ncolumns = []\n[[edge]]\nfrom = \"in\"\nto = \"x\"\n";
 
 /// The other edges of the job, and what the reader answers.
-pub const CASES: &[(&str, Answer)] = &[
+pub const CASES: &[(&'static str, Answer)] = &[
     (
         "[[edge]]\nfrom = \"x\"\nto = \"out\"\n[[edge]]\nfrom = \"x\"\nto = \"log\"\nport = 1\n",
         Ok(()),

@@ -1,7 +1,8 @@
 // Job files, and the first fault of each.
 use super::files::{CHAIN, PAYMENTS, ROOF};
-use super::{edge_cases, func_cases, job_cases, joined};
-use job_file::{JobFault, faulty_is_no_job, files_have_one_fault, read_job};
+use super::fixtures::{boxed_job, job_in};
+use super::{edge_cases, func_cases, job_cases};
+use job_file::{JobFault, faulty_is_no_job, files_have_one_fault};
 use jobs::{
     Job, functions_fit, jobs_have_one_fault, refused_is_unlawful, roofs_hold, weight,
     weights_settle, worker_count,
@@ -29,6 +30,9 @@ const TWO_WAYS: &str =
 /// What a reader answers of a job file: nothing where it is read.
 pub type Answer = Result<(), JobFault>;
 
+/// A piece of a job file, what it is of the file, and what the reader answers.
+pub type Case = (Text, &'static str, Answer);
+
 /// What a piece of text is of the file of a small job.
 #[derive(Clone, Copy)]
 pub enum Text {
@@ -47,10 +51,7 @@ pub enum Text {
 }
 
 fn answer_of(alloc: Global, pieces: &[&str]) -> Answer {
-    let Ok(text) = joined(alloc, pieces) else {
-        return Err(JobFault::NoMemory);
-    };
-    match read_job(alloc, text.as_bytes()) {
+    match job_in(alloc, pieces) {
         Ok(_) => Ok(()),
         Err(fault) => Err(fault),
     }
@@ -74,26 +75,39 @@ fn answer_with_name(alloc: Global, name: &str) -> Answer {
     answer_of(alloc, &[COLUMNS, SOURCE, node, name, sink, name, "\"\n"])
 }
 
+/// The first piece to which the reader answers otherwise.
+fn first_wrong(alloc: Global, cases: &[Case]) -> Option<&'static str> {
+    for (text, piece, want) in cases {
+        if answer_to(alloc, *text, piece) != *want {
+            return Some(*piece);
+        }
+    }
+    None
+}
+
 #[test]
 fn faults_and_where_they_stand(rt: HostRuntime) {
-    for (text, piece, want) in job_cases::CASES.iter().copied() {
-        assert_eq!(rt; answer_to(rt.alloc(), text, piece), want, "at {piece}");
-    }
+    assert_eq!(rt; first_wrong(rt.alloc(), job_cases::CASES), None);
 }
 
 #[test]
 fn functions_are_refused_where_they_stand(rt: HostRuntime) {
-    for (text, piece, want) in func_cases::CASES.iter().copied() {
-        assert_eq!(rt; answer_to(rt.alloc(), text, piece), want, "at {piece}");
+    assert_eq!(rt; first_wrong(rt.alloc(), func_cases::CASES), None);
+}
+
+/// The first edges to which the reader answers otherwise.
+fn first_wrong_edges(alloc: Global) -> Option<&'static str> {
+    for (edges, want) in edge_cases::CASES {
+        if answer_of(alloc, &[COLUMNS, edge_cases::NODES, edges]) != *want {
+            return Some(*edges);
+        }
     }
+    None
 }
 
 #[test]
 fn edges_are_those_of_their_nodes(rt: HostRuntime) {
-    for (edges, want) in edge_cases::CASES.iter().copied() {
-        let pieces = [COLUMNS, edge_cases::NODES, edges];
-        assert_eq!(rt; answer_of(rt.alloc(), &pieces), want, "at {edges}");
-    }
+    assert_eq!(rt; first_wrong_edges(rt.alloc()), None);
 }
 
 #[test]
@@ -104,10 +118,8 @@ fn cycle_is_refused(rt: HostRuntime) {
 
 /// How many nodes, edges and workers a job has, and its weight.
 fn sizes(alloc: Global, text: &str) -> Option<(usize, u32, u64, u64)> {
-    match read_job(alloc, text.as_bytes()) {
-        Ok(job) => Some(sizes_of(&job)),
-        Err(_) => None,
-    }
+    let job = job_in(alloc, &[text]).ok()?;
+    Some(sizes_of(&job))
 }
 
 fn sizes_of(job: &Job) -> (usize, u32, u64, u64) {
@@ -140,7 +152,7 @@ fn jobs_of_the_examples(rt: HostRuntime) {
 /// Whether the first `end` bytes of a file are a job.
 fn is_read(alloc: Global, text: &str, end: usize) -> bool {
     match text.as_bytes().get(..end) {
-        Some(bytes) => read_job(alloc, bytes).is_ok(),
+        Some(bytes) => boxed_job(alloc, bytes).is_ok(),
         None => false,
     }
 }

@@ -1,8 +1,8 @@
-use super::reading::{Answer, Text};
+use super::reading::{Case, Text};
 use job_file::{JobFault, Named, Part, Which};
 
 /// The function of a node between a source and one sink or two, and what the reader answers.
-pub const CASES: &[(Text, &str, Answer)] = &[
+pub const CASES: &[Case] = &[
     (Text::Func, "when = []\n", Err(JobFault::Shape(Part::Kind))),
     (
         Text::Func,

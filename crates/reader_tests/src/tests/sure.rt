@@ -12,12 +12,16 @@ fn holds(shelf: &SureShelf, name: &Word, text: &[u8]) -> bool {
     }
 }
 
-// A shelf that takes 4 bytes at a time and has the file `pay.csv`.
-fn shelf_with_payments(alloc: Global) -> Option<SureShelf> {
+fn put_payments(shelf: &mut SureShelf, alloc: Global) -> Option<()> {
     let name = word(alloc, "pay.csv")?;
     let bytes = Bytes::from_slice(alloc, b"source\n").ok()?;
+    shelf.put(name, bytes).ok()
+}
+
+// A shelf that takes 4 bytes at a time and has the file `pay.csv`.
+fn shelf_with_payments(alloc: Global) -> Option<SureShelf> {
     let mut shelf = SureShelf::new(alloc, 4);
-    shelf.put(name, bytes).ok()?;
+    put_payments(&mut shelf, alloc)?;
     Some(shelf)
 }
 

@@ -1,11 +1,11 @@
 // The text of an audit.
-use job_file::read_job;
+use super::fixtures::job_in;
 use jobs::{Job, worker_count};
 use keyed_state::Keyed;
 use payments::read_rows;
 use sink_journal::{Entry, Feed, Feeds, Journal, Journals, Noted, States, audit_text};
 use std::alloc::Global;
-use tuple_trace::{Bytes, NoMemory, Tuple, Txt};
+use tuple_trace::{Bytes, NoMemory, Tuple};
 
 /// A source, a count of two workers and a sink. The lanes 0 and 1 lead to the count, and 2 and 3
 /// from it to the sink.
@@ -89,9 +89,14 @@ const STEPS: [&[Step]; 3] = [
 fn born(tuple: &Tuple, birth: &[u32]) -> Result<Tuple, NoMemory> {
     let mut tuple = tuple.copy()?;
     for index in birth {
-        tuple = tuple.child(*index)?;
+        become_child(&mut tuple, *index)?;
     }
     Ok(tuple)
+}
+
+fn become_child(tuple: &mut Tuple, index: u32) -> Result<(), NoMemory> {
+    *tuple = tuple.child(index)?;
+    Ok(())
 }
 
 fn entry_of(tuple: &Tuple, step: &Step) -> Result<Entry, NoMemory> {
@@ -128,7 +133,7 @@ fn journals_of(alloc: Global, tuple: &Tuple) -> Result<Journals, NoMemory> {
 fn counts_of(alloc: Global, table: &[(&str, i64)]) -> Result<Keyed, NoMemory> {
     let mut counts = Keyed::new(alloc);
     for (key, count) in table {
-        counts.bump(&Txt::from_slice(alloc, key.as_bytes())?, *count)?;
+        counts.add(key.as_bytes(), *count)?;
     }
     Ok(counts)
 }
@@ -156,12 +161,17 @@ fn text_of(
 }
 
 fn audit_of(alloc: Global) -> Result<Bytes, NoMemory> {
-    let Ok(job) = read_job(alloc, COUNT.as_bytes()) else {
-        return Err(NoMemory);
-    };
-    let journals = journals_of(alloc, &tuple_of(alloc, &job)?)?;
+    match job_in(alloc, &[COUNT]) {
+        Ok(job) => audit_with(alloc, &job),
+        Err(_) => Err(NoMemory),
+    }
+}
+
+fn audit_with(alloc: Global, job: &Job) -> Result<Bytes, NoMemory> {
+    let tuple = tuple_of(alloc, job)?;
+    let journals = journals_of(alloc, &tuple)?;
     let states = states_of(alloc)?;
-    text_of(alloc, &job, &journals, &states)
+    text_of(alloc, job, &journals, &states)
 }
 
 fn is_audit(alloc: Global, text: &str) -> bool {

@@ -11,8 +11,8 @@ kind = \"source\"
 ";
 
 // A job of a source `card`, another source, and what stands behind them.
-pub fn job_of(alloc: Global, columns: &str, behind: &str) -> Option<Job> {
-    job_in(alloc, &["columns = [", columns, "]\n", CARD, behind])
+pub fn job_of(alloc: Global, columns: &str, behind: &str) -> Option<Box<Job>> {
+    job_in(alloc, &["columns = [", columns, "]\n", CARD, behind]).ok()
 }
 
 /// A sink behind the source.
@@ -74,16 +74,19 @@ fn answer_to(alloc: Global, columns: &str, behind: &str, payments: &[u8]) -> Res
 /// Payments, and how many rows there are, or their fault.
 type Case<'a> = (&'a [u8], Result<usize, PFault>);
 
-// Whether each text has its answer, in a job with two sources.
-fn all_answered(alloc: Global, columns: &str, cases: &[Case<'_>]) -> bool {
+// Whether each text has its answer.
+fn all_answered(alloc: Global, columns: &str, behind: &str, cases: &[Case<'_>]) -> bool {
     let mut answered = true;
     for (payments, answer) in cases {
-        answered &= answer_to(alloc, columns, TWO_SOURCES, payments) == *answer;
+        answered &= answer_to(alloc, columns, behind, payments) == *answer;
     }
     answered
 }
 
-const SEVENTH_IS_SHORT: &[u8] = b"source,account,merchant,amount,tags
+/// A seventh row that is short, and an amount with a third digit.
+const FAULTS: [(&[u8], Result<usize, PFault>); 2] = [
+    (
+        b"source,account,merchant,amount,tags
 card,a,m,99.99,
 card,a,m,99.99,
 card,a,m,99.99,
@@ -91,19 +94,18 @@ card,a,m,99.99,
 card,a,m,99.99,
 card,a,m,99.99,
 card,a,m,99.99
-";
+",
+        Err(PFault::Length(7)),
+    ),
+    (
+        b"source,account,merchant,amount,tags\ncard,a,m,1.234,\n",
+        Err(PFault::Value(1, 2)),
+    ),
+];
 
 #[test]
 fn payment_faults(rt: HostRuntime) {
-    let third_digit = b"source,account,merchant,amount,tags\ncard,a,m,1.234,\n";
-    assert_eq!(rt;
-        answer_to(rt.alloc(), PLAIN, ONE_SOURCE, SEVENTH_IS_SHORT),
-        Err(PFault::Length(7))
-    );
-    assert_eq!(rt;
-        answer_to(rt.alloc(), PLAIN, ONE_SOURCE, third_digit),
-        Err(PFault::Value(1, 2))
-    );
+    assert!(rt; all_answered(rt.alloc(), PLAIN, ONE_SOURCE, FAULTS.as_slice()));
 }
 
 #[test]
@@ -141,7 +143,7 @@ const FORMS: [(&[u8], Result<usize, PFault>); 15] = [
 
 #[test]
 fn payments_of_every_form(rt: HostRuntime) {
-    assert!(rt; all_answered(rt.alloc(), WHO_AND_SUM, FORMS.as_slice()));
+    assert!(rt; all_answered(rt.alloc(), WHO_AND_SUM, TWO_SOURCES, FORMS.as_slice()));
 }
 
 /// A cell, and what it is read as in a column of numbers and of cents: the field, or `x` for a
@@ -230,7 +232,7 @@ fn own_columns_in_between(rt: HostRuntime) {
     let text = b"source,who,sum\nwire,ann,1.5\ncard,bob,2\n";
     let rows = rows_of(rt.alloc(), OWN_BETWEEN, TWO_SOURCES, text);
     assert!(rt; are(rows, " 1.1 0 ann  0 150\n 0.2 0 bob  0 200\n"));
-    assert!(rt; all_answered(rt.alloc(), OWN_BETWEEN, BEHIND_OWN.as_slice()));
+    assert!(rt; all_answered(rt.alloc(), OWN_BETWEEN, TWO_SOURCES, BEHIND_OWN.as_slice()));
 }
 
 /// Two splits into 16 and two maps before the sink. The weights are 1 at s, 16 at t, and 256 at
@@ -299,11 +301,9 @@ fn heavy_answer(alloc: Global, rows: usize, last: &[u8]) -> Option<Result<usize,
 
 #[test]
 fn first_row_past_the_limit(rt: HostRuntime) {
-    assert_eq!(rt; heavy_answer(rt.alloc(), 1335, b""), Some(Ok(1335)));
-    assert_eq!(rt;
-        heavy_answer(rt.alloc(), 1335, b"card,more\n"),
-        Some(Err(PFault::TooMuch(1336)))
-    );
+    let beyond = Some(Err(PFault::TooMuch(1336)));
+    assert!(rt; heavy_answer(rt.alloc(), 1335, b"") == Some(Ok(1335)));
+    assert!(rt; heavy_answer(rt.alloc(), 1335, b"card,more\n") == beyond);
 }
 
 const TWELVE: &str =

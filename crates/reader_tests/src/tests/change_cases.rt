@@ -1,7 +1,7 @@
 use versions::QFault;
 
 /// The changes of a request, and the fault for which it is refused.
-type Case = (&'static str, Option<QFault>);
+pub type Case = (&'static str, Option<QFault>);
 
 /// Four requests of a change each. The third is a second change of version 0, and the fourth is for
 /// an earlier row than the second.
@@ -188,7 +188,7 @@ pub const OF_THE_ROOF: &[Case] = &[
 ];
 
 /// Functions, and whether they fit the payments.
-pub const FUNCTIONS: &[(&str, bool)] = &[
+pub const FUNCTIONS: &[(&'static str, bool)] = &[
     (
         "kind = \"filter\"\nwhen = [[\"amount\", \">=\", 1]]\n",
         true,

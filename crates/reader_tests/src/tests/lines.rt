@@ -1,6 +1,6 @@
 // Jobs of many nodes, edges or entries.
-use super::joined;
-use job_file::{JobFault, Which, read_job};
+use super::fixtures::{job_in, joined};
+use job_file::{JobFault, Which};
 use jobs::weight;
 use std::alloc::{AllocError, Global};
 
@@ -52,21 +52,25 @@ const LINES: &[Line] = &[
     ),
 ];
 
+const FIRST: &str = "columns = [\"who:text\"]\n[[node]]\nname = \"n0\"\nkind = \"source\"\n";
+
 fn in_line(alloc: Global, line: &[(u32, &str)]) -> Result<String, AllocError> {
-    let mut text = joined(
-        alloc,
-        &["columns = [\"who:text\"]\n[[node]]\nname = \"n0\"\nkind = \"source\"\n"],
-    )?;
+    let mut text = joined(alloc, &[FIRST])?;
+    push_line(&mut text, line)?;
+    Ok(text)
+}
+
+/// Adds the nodes of a line, and a sink after the last one.
+fn push_line(text: &mut String, line: &[(u32, &str)]) -> Result<(), AllocError> {
     let mut last = 0u32;
     for (count, func) in line {
-        push_nodes(&mut text, last, *count, func)?;
+        push_nodes(text, last, *count, func)?;
         last = last.wrapping_add(*count);
     }
-    let end = format!(in alloc;
+    let end = format!(in *text.allocator();
         "[[node]]\nname = \"out\"\nkind = \"sink\"\ncolumns = []\n[[edge]]\nfrom = \"n{last}\"\nto = \"out\"\n"
     )?;
-    text.push_str(end.as_str())?;
-    Ok(text)
+    text.push_str(end.as_str())
 }
 
 /// Adds `count` nodes with this function, each with an edge from the one before it.
@@ -93,17 +97,25 @@ fn weight_in_line(alloc: Global, line: &[(u32, &str)]) -> Result<u64, JobFault> 
 }
 
 fn weight_of(alloc: Global, text: &str) -> Result<u64, JobFault> {
-    match read_job(alloc, text.as_bytes()) {
+    match job_in(alloc, &[text]) {
         Ok(job) => Ok(weight(&job)),
         Err(fault) => Err(fault),
     }
 }
 
+/// The place of the first line that has another weight.
+fn first_wrong(alloc: Global) -> Option<usize> {
+    for (place, (line, want)) in LINES.iter().enumerate() {
+        if weight_in_line(alloc, line) != *want {
+            return Some(place);
+        }
+    }
+    None
+}
+
 #[test]
 fn nodes_in_a_line(rt: HostRuntime) {
-    for (line, want) in LINES.iter().copied() {
-        assert_eq!(rt; weight_in_line(rt.alloc(), line), want);
-    }
+    assert_eq!(rt; first_wrong(rt.alloc()), None);
 }
 
 /// A source and a sink with this number of equal edges, and a table of this number of entries.

@@ -1,9 +1,0 @@
-mod alerts;
-mod applied;
-mod audit;
-mod cases;
-mod fixtures;
-mod made;
-mod rows;
-mod shelves;
-mod sure;
