@@ -53,7 +53,7 @@ pub fn judge_all(alloc: Global, job: &Job, requests: &Requests) -> Result<Judged
 }
 
 /// A list of requests in the middle of its judging.
-#[derive(Debug, Drop)]
+#[derive(Drop)]
 struct Bench {
     book: Book,
     last_after: u64,

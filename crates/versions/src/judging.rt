@@ -70,7 +70,7 @@ fn whole_fault(request: &Request, last_after: u64) -> Option<QFault>
 }
 
 /// A fault that names a change.
-#[derive(Clone, Copy, Debug, PartialEq, Eq)]
+#[derive(Clone, Copy)]
 enum Code {
     NoNode,
     Fixed,
