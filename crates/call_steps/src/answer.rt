@@ -1,6 +1,7 @@
-ghost use Rattle.std.specs.Prelude.{◌≡◌};
+ghost use Rattle.std.specs.Prelude.{◌≡◌, None, Some};
 ghost use Rattle.call_steps.specs.Outcomes.{stopped as stopped_for};
 
+use crate::running::Done;
 use flow_model::{RunRecord, Start};
 use report::Fault;
 use std::alloc::Global;
@@ -28,6 +29,22 @@ impl Answer {
             fault: Some(fault),
             refused: Refusals::new(alloc),
             ran: None,
+            start: None,
+        }
+    }
+
+    /// That of a command which completed a run. Takes no memory.
+    pub fn of_run(done: Done, fault: Option<Fault>) -> Answer
+        ensures fault { result.fault ≡ fault }
+        ensures refused { result.refused ≡ done.refused }
+        ensures ran { result.ran ≡ Some done.ran }
+        ensures start { result.start ≡ None }
+    {
+        let Done { ran, refused, .. } = done;
+        Answer {
+            fault,
+            refused,
+            ran: Some(ran),
             start: None,
         }
     }

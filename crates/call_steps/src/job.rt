@@ -1,4 +1,4 @@
-ghost use Rattle.std.specs.Prelude.{◌≡◌, ◌∷◌, [], IfOk};
+ghost use Rattle.std.specs.Prelude.{◌≡◌, ◌∷◌, ◌++◌, [], IfOk, OnOk};
 ghost use Rattle.jobs.specs.Job.{job_view};
 ghost use Rattle.call_steps.specs.FirstJob.{at_least as at_least_of, column_of, first_columns};
 ghost use Rattle.call_steps.specs.FirstJob.{first_job as first_job_of, first_request, node_of};
@@ -25,11 +25,8 @@ const AMOUNT: u32 = 2;
 pub fn first_job(alloc: Global, least: i64) -> Result<Job, NoMemory>
     ensures { IfOk result (λ job. job_view job ≡ first_job_of least) }
 {
-    let listed = Columns::from_slice(alloc, &[0, 1, 2, 3])?;
-    let card = node(alloc, b"card", Func::Source)?;
-    let big = node(alloc, b"big", at_least(alloc, least)?)?;
-    let alerts = node(alloc, b"alerts", Func::Sink(listed))?;
-    let nodes = Vec::from_array(alloc, [card, big, alerts])?;
+    let columns = columns(alloc)?;
+    let nodes = nodes(alloc, least)?;
     let edges = [
         Edge {
             from: 0,
@@ -42,7 +39,6 @@ pub fn first_job(alloc: Global, least: i64) -> Result<Job, NoMemory>
             to: 2,
         },
     ];
-    let (columns, nodes) = (columns(alloc)?, NodeDefs::from_vec(nodes));
     // The parts are lawful, so memory is all that can be wanting.
     Job::check(alloc, columns, nodes, &edges, Tables::new(alloc)).map_err(|_| NoMemory)
 }
@@ -86,6 +82,23 @@ fn columns(alloc: Global) -> Result<ColumnDefs, NoMemory>
     let tags = column(alloc, b"tags", ColumnKind::Text)?;
     let columns = Vec::from_array(alloc, [account, merchant, amount, tags])?;
     Ok(ColumnDefs::from_vec(columns))
+}
+
+fn nodes(alloc: Global, least: i64) -> Result<NodeDefs, NoMemory>
+    ensures { IfOk result (λ nodes. nodes ≡ (first_job_of least).nodes) }
+{
+    let mut nodes = NodeDefs::new(alloc);
+    push_node(alloc, &mut nodes, b"card", Func::Source)?;
+    push_node(alloc, &mut nodes, b"big", at_least(alloc, least)?)?;
+    let listed = Columns::from_slice(alloc, &[0, 1, 2, 3])?;
+    push_node(alloc, &mut nodes, b"alerts", Func::Sink(listed))?;
+    Ok(nodes)
+}
+
+fn push_node(alloc: Global, nodes: &mut NodeDefs, name: &[u8], func: Func) -> Result<(), NoMemory>
+    ensures { OnOk result (nodes.new ≡ nodes.old ++ node_of name.now func ∷ []) }
+{
+    nodes.push(node(alloc, name, func)?)
 }
 
 fn column(alloc: Global, name: &[u8], kind: ColumnKind) -> Result<Column, NoMemory>

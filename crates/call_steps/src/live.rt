@@ -69,16 +69,17 @@ where
         (Q.state asks.new)) }
     ensures workers { IfOk result (λ live. HasWorkers live.done) }
 {
+    let (mut teller, inbox) = line(alloc)?;
     let setup = setup_of(alloc, job, requests, false)?;
     let most = setup.request_count() as u32;
-    let (mut teller, inbox) = line(alloc)?;
+    let work = Box::new(alloc, Work { setup, inbox })?;
+    let mut work = Some(work);
     let (flown, heard) = run_beside(
         rt,
         alloc,
         gate,
         size,
-        setup,
-        inbox,
+        &mut work,
         rows,
         asks,
         &mut teller,
@@ -93,17 +94,23 @@ where
     Ok(LiveDone { done, heard })
 }
 
+/// What an engine runs beside a reader.
+#[derive(Drop)]
+struct Work {
+    setup: Setup,
+    inbox: Inbox,
+}
+
 type Run = Result<(Flown<RingLanes>, Inbox), NoMemory>;
 
 // The engine on another thread, and the reader on this one. If no thread can be made, the reader
-// comes first.
+// comes first. The engine takes its work.
 fn run_beside<R, G: Gate + Sync, Q: Asks>(
     rt: &R,
     alloc: Global,
     gate: &G,
     size: EngineSize,
-    setup: Setup,
-    inbox: Inbox,
+    work: &mut Option<Box<Work>>,
     rows: &Rows,
     asks: &mut Q,
     teller: &mut Teller,
@@ -112,17 +119,15 @@ fn run_beside<R, G: Gate + Sync, Q: Asks>(
 where
     R: Threads + Wait + Sync,
     requires size { IsSize size }
-    requires rows { AreFromSources (setup_view setup).job rows.now }
+    requires rows { IfSome work.old (λ w. AreFromSources (setup_view w.value.setup).job rows.now) }
     requires most { most ≤ 64 }
     requires untold { teller.old.told ≡ 0 }
-    ensures flown { IfOk result.0 (λ (flown, rest). IsFlownLive setup inbox rows.now
-        flown.setup flown.feeds flown.crew.items rest) }
+    ensures flown { IfSome work.old (λ w. IfOk result.0 (λ (flown, rest). IsFlownLive
+        w.value.setup w.value.inbox rows.now flown.setup flown.feeds flown.crew.items rest)) }
     ensures heard { IsHeard most (Q.state asks.old) (Q.state asks.new) result.1 }
     ensures told { teller.new ≡ record teller.old { told = result.1.releases } }
 {
     let EngineSize { threads, capacity } = size;
-    let mut work = Some((setup, inbox));
-    let work = &mut work;
     join_mut(
         rt,
         &mut || -> Run
@@ -130,16 +135,19 @@ where
             requires few_threads { threads ≤ 16 }
             requires some_items { 1 ≤ capacity }
             requires few_items { capacity ≤ 64 }
-            requires rows { IfSome work.now (λ (asked, seed). AreFromSources
-                (setup_view asked).job rows.now) }
-            ensures { IfSome work.entry.now (λ (asked, seed). IfOk result (λ (flown, rest).
-                IsFlownLive asked seed rows.entry.now flown.setup flown.feeds flown.crew.items
-                rest)) }
+            requires rows { IfSome work.now (λ w. AreFromSources
+                (setup_view w.value.setup).job rows.now) }
+            ensures { IfSome work.entry.now (λ w. IfOk result (λ (flown, rest). IsFlownLive
+                w.value.setup w.value.inbox rows.entry.now flown.setup flown.feeds
+                flown.crew.items rest)) }
         {
             match work.take() {
-                Some((setup, inbox)) => run_with::<R, RingLanes, G, LiveFeeder<RingLanes>>(
-                    rt, alloc, &RingLanes, setup, inbox, rows, threads, capacity, gate,
-                ),
+                Some(work) => {
+                    let Work { setup, inbox } = Box::into_inner(work);
+                    run_with::<R, RingLanes, G, LiveFeeder<RingLanes>>(
+                        rt, alloc, &RingLanes, setup, inbox, rows, threads, capacity, gate,
+                    )
+                }
                 None => Err(NoMemory),
             }
         },
@@ -175,13 +183,7 @@ pub fn leave_live<S: Shelf, O: Sink>(
 {
     let written = write_live(alloc, &live, names, shelf, out).err();
     let fault = live_fault(live.heard.failed, written);
-    let Done { ran, refused, .. } = live.done;
-    Answer {
-        fault,
-        refused,
-        ran: Some(ran),
-        start: None,
-    }
+    Answer::of_run(live.done, fault)
 }
 
 // The fault of the input comes last.

@@ -50,12 +50,12 @@ where
         (job_view job) requests.now rows.now) }
     ensures workers { IfOk result HasWorkers }
 {
-    let setup = setup_of(alloc, job, requests, false)?;
     let count = rows.len() as u64;
     let row = most.min(count);
+    let first = first_rows(alloc, rows, row)?;
+    let setup = setup_of(alloc, job, requests, false)?;
     let turned = issued_up_to(&setup, row, count);
     let part = first_of(setup, turned);
-    let first = first_rows(alloc, rows, row)?;
     runs_are_consistent(&part, &first);
     let EngineSize { threads, capacity } = size;
     let flown = run_flow(rt, alloc, &RingLanes, part, &first, threads, capacity, gate)?;

@@ -185,13 +185,7 @@ pub fn leave_run<S: Shelf, O: Sink>(
     ensures start { result.start ≡ None }
 {
     let fault = write_run(alloc, &done, names, shelf, out).err();
-    let Done { ran, refused, .. } = done;
-    Answer {
-        fault,
-        refused,
-        ran: Some(ran),
-        start: None,
-    }
+    Answer::of_run(done, fault)
 }
 
 fn write_run<S: Shelf, O: Sink>(
@@ -245,23 +239,26 @@ pub(crate) fn files_in<'a>(
         name: names.alerts,
         text: alerts_text(alloc, &done.ran.setup.job, &done.ran.journals)?,
     };
+    let mut files = Vec::from_array(alloc, [alerts])?;
     let Some(name) = names.audit else {
-        return Ok(Vec::from_array(alloc, [alerts])?);
+        return Ok(files);
     };
     let audit = FileText {
         file: FileIs::Audit,
         name,
         text: audit_in(alloc, done)?,
     };
+    files.push(audit)?;
     let Some(name) = names.save else {
-        return Ok(Vec::from_array(alloc, [alerts, audit])?);
+        return Ok(files);
     };
     let save = FileText {
         file: FileIs::Save,
         name,
         text: save_in(alloc, done)?,
     };
-    Ok(Vec::from_array(alloc, [alerts, audit, save])?)
+    files.push(save)?;
+    Ok(files)
 }
 
 // Where a run goes on after this one, as a savepoint.

@@ -3,7 +3,6 @@ use Rattle.std.specs.Prelude.{All}
 use Rattle.audit_laws.specs.Fits.{Fits}
 use Rattle.audit_laws.specs.Lines.{IsNoted}
 use Rattle.flow_model.specs.Record.{record_view}
-use Rattle.flow_model.specs.Setup.{setup_view}
 use Rattle.flow_model.specs.declared.record.RunRecord.{RunRecord}
 use Rattle.jobs.specs.JobView.{JobView}
 use Rattle.jobs.specs.Nodes.{AreFromSources}

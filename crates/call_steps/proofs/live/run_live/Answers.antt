@@ -1,10 +1,14 @@
-use Rattle.std.proofs.Common.{◌≡◌, ◌≤◌, ◌∙◌, List, ap, arith, length, refl, subst}
+use Rattle.std.proofs.Common.{◌≡◌, ◌≤◌, ◌∙◌, List, ap, arith, length, refl, subst, sym}
 use Rattle.jobs.specs.Job.{job_view}
+use Rattle.jobs.specs.JobView.{JobView}
+use Rattle.jobs.specs.Nodes.{AreFromSources}
+use Rattle.flow_model.specs.Setup.{setup_view}
 use Rattle.flow_model.specs.declared.record.RunRecord.{RunRecord}
 use Rattle.flow_model.specs.declared.setup.Setup.{Setup}
 use Rattle.live_control.specs.Hearing.{IsHeard}
 use Rattle.live_control.specs.Line.{TellerIs, last_load}
 use Rattle.versions.specs.declared.request.Request.{Request}
+use Rattle.call_steps.specs.declared.live.Work.{Work}
 use Rattle.call_steps.proofs.LiveLemmas.{few_accepted, live_of}
 use Rattle.call_steps.proofs.PartLemmas.{workers_of}
 use Rattle.call_steps.proofs.RunLemmas.{HasLaws, run_so}
@@ -26,9 +30,14 @@ run_beside-flown-requires-clause-most g c κs within =
     let all = c.requires.few.count in
     omega (arith, many, same, few, all)
 
+pub run_beside-flown-requires-clause-rows : goal.run_beside-flown-requires-clause-rows
+run_beside-flown-requires-clause-rows g c κs within =
+    subst (λ (w : Work). AreFromSources (setup_view w.setup).job c.args.rows.now) (sym c.in_ok-work.ensures.ok)
+    (subst (λ (j : JobView). AreFromSources j c.args.rows.now) (sym c.in_ok-setup.ensures.job_is) c.requires.sources)
+
 pub returns-clause-run : goal.returns-clause-run
 returns-clause-run g c =
-    let flown = rw c.in_ok-flown.was at c.run_beside-flown.ensures.flown in
+    let flown = rw c.in_ok-work.ensures.ok at (rw c.in_ok-flown.was at c.run_beside-flown.ensures.flown) in
     let laws : HasLaws c.in_ok-ran.ran.setup c.args.rows.now = record {
       consistent = c.runs_are_consistent.ensures;
       prefix = c.ordered_runs_are_serial.ensures.prefix;
@@ -44,6 +53,6 @@ returns-clause-run g c =
 
 pub returns-clause-workers : goal.returns-clause-workers
 returns-clause-workers g c =
-    let flown = rw c.in_ok-flown.was at c.run_beside-flown.ensures.flown in
+    let flown = rw c.in_ok-work.ensures.ok at (rw c.in_ok-flown.was at c.run_beside-flown.ensures.flown) in
     workers_of _ c.in_ok-flown.flown.setup c.args.requests.now c.args.rows.now c.in_ok-ran.ran c.in_ok-done.done
     (run_so c.in_ok-flown.flown.setup c.in_ok-flown.flown.setup c.args.rows.now c.in_ok-flown.flown.feeds c.in_ok-flown.flown.crew.items c.in_ok-ran.ran refl flown.run c.in_ok-ran.ensures) c.in_ok-done.ensures
