@@ -5,9 +5,9 @@
 //! or doubled. A thread has a pass of that queue. The pass counts the numbers of the runners that
 //! its thread popped and hasn't pushed back.
 //!
-//! [`step`] is what a thread does in a loop. [`take`] and [`give`] pop and push one runner.
-//! [`open`] makes a queue with its first pass; [`share`] gives out a pass, and [`unite`] takes it
-//! back.
+//! [`step`] is what a thread does in a loop, and [`pause`] what it does after a step that moved
+//! nothing. [`take`] and [`give`] pop and push one runner. [`open`] makes a queue with its first
+//! pass; [`share`] gives out a pass, and [`unite`] takes it back.
 //!
 //! ```
 //! let Some(mut runner) = take(rt, &queue, &mut pass) else {
@@ -21,6 +21,7 @@
 #![tactic(auto)]
 
 mod charter;
+mod idle;
 mod moves;
 mod parts;
 mod rule;
@@ -28,6 +29,7 @@ mod runner;
 mod steps;
 
 pub use charter::{Beginning, Charter};
+pub use idle::{PATIENCE, pause};
 pub use moves::{give, open, share, take, unite};
 pub use parts::{Held, PartPromise, Ticket, start_part};
 pub use rule::{EachOnce, Queue, Tally};

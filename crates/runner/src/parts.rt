@@ -3,6 +3,7 @@ ghost use Rattle.crossbeam_queue.specs.SegTies.{IsSegPassOf};
 ghost use Rattle.runner.specs.Rule.{AreListed, tally};
 
 use crate::charter::Charter;
+use crate::idle::pause;
 use crate::rule::{Queue, Tally};
 use crate::runner::Runner;
 use crate::steps::{Stepped, step};
@@ -12,7 +13,6 @@ use std::alloc::Global;
 use std::snapshot::Snapshot;
 use std::sync::Wait;
 use std::sync::atomic::{AtomicBool, Ordering};
-use std::thread;
 use std::thread::{Promise, PromisedHandle, Scope, Threads};
 use tuple_trace::Gate;
 
@@ -26,7 +26,8 @@ pub struct Held<'s, L: Lanes, C: Charter> {
 }
 
 /// What a thread does: it steps until the queue is empty and its kept runners are done, or the stop
-/// word is set. It yields if nothing moved, and sets the stop word if memory runs out.
+/// word is set. It pauses after a step that moved nothing, and sets the stop word if memory runs
+/// out.
 pub fn part<'s, R: Wait, L: Lanes, G: Gate, C: Charter>(
     rt: &R,
     alloc: Global,
@@ -44,16 +45,15 @@ pub fn part<'s, R: Wait, L: Lanes, G: Gate, C: Charter>(
 {
     let mut kept = Vec::new(alloc);
     let mut held = false;
+    let mut idle = 0;
     for _ in rt.forever() {
         if stop.load(Ordering::SeqCst) {
             break;
         }
-        match step(
-            rt, &mut need, gate, queue, &mut pass, &mut kept, true, &mut held,
-        ) {
+        match step(rt, &mut need, gate, queue, &mut pass, &mut kept, &mut held) {
             Stepped::End => break,
-            Stepped::Moved => {}
-            Stepped::Idle => thread::yield_now(),
+            Stepped::Moved => idle = 0,
+            Stepped::Idle => idle = pause(idle),
             Stepped::NoMemory => stop.store(true, Ordering::SeqCst),
         }
     }

@@ -21,7 +21,7 @@ pub enum Looked {
     Empty,
     /// A runner was popped, and moved something or is done.
     Moved,
-    /// A runner was popped, and moved nothing; or there was no look.
+    /// A runner was popped, and moved nothing.
     Idle,
     /// The queue refused to take a runner back.
     Kept,
@@ -91,31 +91,6 @@ fn put_back<'s, R: Wait, L: Lanes, C: Charter>(
     }
 }
 
-// Looks at the queue if asked.
-fn look_if<'s, R: Wait, L: Lanes, G: Gate, C: Charter>(
-    rt: &R,
-    need: &mut L::Need,
-    gate: &G,
-    queue: &Queue<'s, L, C>,
-    pass: &mut SegPass<Runner<'s, L, C>, Tally>,
-    kept: &mut Vec<Runner<'s, L, C>>,
-    asked: bool,
-) -> Looked
-    requires queue { IsSegPassOf queue.now pass.old }
-    requires part { 0 < pass.old.me.view.client.parts }
-    requires listed { AreListed C.endpoints kept.old.items pass.old.me.view.client.list }
-    requires room { vec_len kept.old < vec_capacity kept.old }
-    ensures queue { IsSegPassOf queue.now pass.new }
-    ensures part { pass.new.me.view.client.parts ≡ pass.old.me.view.client.parts }
-    ensures listed { AreListed C.endpoints kept.new.items pass.new.me.view.client.list }
-{
-    if asked {
-        look(rt, need, gate, queue, pass, kept)
-    } else {
-        Looked::Idle
-    }
-}
-
 /// Visits each kept runner. Returns [`Turn::Done`] if all are done, [`Turn::NoMemory`] if one ran
 /// out of memory, and [`Turn::Idle`] if none moved something.
 pub fn round<'s, L: Lanes, G: Gate, C: Charter>(
@@ -175,9 +150,9 @@ pub enum Stepped {
     NoMemory,
 }
 
-/// What a thread does once in its loop. It looks at the queue if asked: it pops a runner, visits
-/// it, and pushes it back unless it is done. It then visits the kept runners if the queue refused
-/// one of them; `held` says that it refused one that isn't done.
+/// What a thread does once in its loop. It pops a runner, visits it, and pushes it back unless it is
+/// done. It then visits the kept runners if the queue refused one of them; `held` says that it
+/// refused one that isn't done.
 ///
 /// `kept` and the list of the pass stay the same runners. The pass keeps its parts.
 pub fn step<'s, R: Wait, L: Lanes, G: Gate, C: Charter>(
@@ -187,7 +162,6 @@ pub fn step<'s, R: Wait, L: Lanes, G: Gate, C: Charter>(
     queue: &Queue<'s, L, C>,
     pass: &mut SegPass<Runner<'s, L, C>, Tally>,
     kept: &mut Vec<Runner<'s, L, C>>,
-    asked: bool,
     held: &mut bool,
 ) -> Stepped
     requires queue { IsSegPassOf queue.now pass.old }
@@ -200,7 +174,7 @@ pub fn step<'s, R: Wait, L: Lanes, G: Gate, C: Charter>(
     if kept.reserve(1).is_err() {
         return Stepped::NoMemory;
     }
-    let looked = look_if(rt, need, gate, queue, pass, kept, asked);
+    let looked = look(rt, need, gate, queue, pass, kept);
     let rest = turn_held(need, gate, kept, *held || looked == Looked::Kept);
     *held = rest != Turn::Done;
     both_went(looked, rest)

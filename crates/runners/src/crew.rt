@@ -16,7 +16,6 @@ use runner::{Charter, Held, Queue, Runner, Tally, give, round, take};
 use std::alloc::Global;
 use std::sync::Wait;
 use std::sync::atomic::{AtomicBool, Ordering};
-use std::thread;
 use tuple_trace::{Gate, NoMemory};
 
 /// Pushes the runner of each worker, from the last to the first. A refused push ends the run. The
@@ -75,7 +74,8 @@ pub fn drain<'s, R: Wait, L: Lanes, C: Charter>(
     Err(NoMemory)
 }
 
-/// Visits all runners until each is done. The one error is out of memory.
+/// Visits all runners until each is done. No other thread has any, so it yields to none. The one
+/// error is out of memory.
 pub fn rounds<'s, R: Wait, L: Lanes, G: Gate, C: Charter>(
     rt: &R,
     need: &mut L::Need,
@@ -93,8 +93,7 @@ pub fn rounds<'s, R: Wait, L: Lanes, G: Gate, C: Charter>(
         }
         match round(need, gate, runners) {
             Turn::Done => return Ok(()),
-            Turn::Moved => {}
-            Turn::Idle => thread::yield_now(),
+            Turn::Moved | Turn::Idle => {}
             Turn::NoMemory => break,
         }
     }

@@ -11,10 +11,9 @@ ghost use Rattle.runner.specs.declared.steps.Stepped.TheVariants.{End};
 use coordinator::{FeedTurn, Feeding};
 use flow_model::Setup;
 use lane_core::Lanes;
-use runner::{Charter, Held, Queue, Stepped, VISIT, step};
+use runner::{Charter, Held, Queue, Stepped, VISIT, pause, step};
 use std::sync::Wait;
 use std::sync::atomic::{AtomicBool, Ordering};
-use std::thread;
 use tuple_trace::{Gate, Rows};
 
 /// What the caller has after its part, and whether its feeder has stopped.
@@ -25,8 +24,8 @@ pub struct Led<'s, L: Lanes, F: Drop, C: Charter> {
     pub fed: bool,
 }
 
-/// What the caller does: it visits the feeder, and steps as a thread does, in turn. It looks
-/// at the queue only if it is alone or the feeder has stopped.
+/// What the caller does while other threads run: it visits the feeder, and steps as a thread does,
+/// in turn. It pauses if neither moved something.
 ///
 /// It ends once the feeder has stopped, the queue is empty and its kept runners are done, or once
 /// the stop word is set.
@@ -40,7 +39,6 @@ pub fn lead<'s, R: Wait, L: Lanes, G: Gate, F: Feeding<L> + Drop, C: Charter>(
     queue: &Queue<'s, L, C>,
     own: Held<'s, L, C>,
     mut feeder: F,
-    alone: bool,
 ) -> Led<'s, L, F, C>
     requires queue { IsSegPassOf queue.now own.pass }
     requires some { 0 < own.pass.me.view.client.parts }
@@ -61,15 +59,13 @@ pub fn lead<'s, R: Wait, L: Lanes, G: Gate, F: Feeding<L> + Drop, C: Charter>(
         mut pass,
     } = own;
     let mut held = false;
+    let mut idle = 0;
     for _ in rt.forever() {
         if stop.load(Ordering::SeqCst) {
             break;
         }
         let fed = feed::<L, G, F, C>(&mut feeder, need, setup, rows, gate);
-        let asked = alone || fed == FeedTurn::Done;
-        let one = step(
-            rt, need, gate, queue, &mut pass, &mut kept, asked, &mut held,
-        );
+        let one = step(rt, need, gate, queue, &mut pass, &mut kept, &mut held);
         match both(fed, one) {
             Stepped::End => {
                 let own = Held {
@@ -82,8 +78,8 @@ pub fn lead<'s, R: Wait, L: Lanes, G: Gate, F: Feeding<L> + Drop, C: Charter>(
                     fed: true,
                 };
             }
-            Stepped::Moved => {}
-            Stepped::Idle => thread::yield_now(),
+            Stepped::Moved => idle = 0,
+            Stepped::Idle => idle = pause(idle),
             Stepped::NoMemory => stop.store(true, Ordering::SeqCst),
         }
     }
@@ -97,9 +93,9 @@ pub fn lead<'s, R: Wait, L: Lanes, G: Gate, F: Feeding<L> + Drop, C: Charter>(
     }
 }
 
-// Gives the feeder turns while they move something, [`VISIT`] at most. Returns what a turn does:
-// moved, if one of them did.
-fn feed<L: Lanes, G: Gate, F: Feeding<L>, C: Charter>(
+/// Gives the feeder turns while they move something, [`VISIT`] at most. Returns what a turn does:
+/// moved, if one of them did.
+pub fn feed<L: Lanes, G: Gate, F: Feeding<L>, C: Charter>(
     feeder: &mut F,
     need: &mut L::Need,
     setup: &Setup,

@@ -15,6 +15,7 @@
 //! ```
 #![tactic(auto)]
 
+mod alone;
 mod crew;
 mod lead;
 mod run;

@@ -11,6 +11,7 @@ ghost use Rattle.runners.specs.Crew.{AreWorkers, HasFed, fixed_in, number_in, ru
 ghost use Rattle.runner.specs.Rule.{Agrees, AreListed, HasEachOf, HasEnded, numbers};
 ghost use Rattle.runner.specs.Runner.{endpoints_of};
 
+use crate::alone::run_alone;
 use crate::crew::{drain, push_all, rounds, sort_by_number, to_workers};
 use crate::lead::{Led, lead};
 use crate::threads::{Handle, join_all, start_all};
@@ -53,9 +54,9 @@ pub struct Load<'q, 's: 'q, L: Lanes + 'q, F: Drop, C: Charter + 'q> {
 /// Runs workers and a feeder on at most `threads` threads, 1 to 16, until all are done.
 ///
 /// A worker is a runner, which moves between threads by a queue. A thread pops a runner, gives it
-/// up to 64 turns while they move something, and pushes it back unless it is done. The caller gives
-/// the feeder its turns. It pops runners only if no other thread was started, or once the feeder
-/// has stopped. If a thread can't be started, the others do its work.
+/// up to 64 turns while they move something, and pushes it back unless it is done. The caller does
+/// so too, after each visit of the feeder. If a thread can't be started, the others do its work. If
+/// none was started, the caller keeps all runners, and yields to nobody.
 ///
 /// `workers` stand in the order of their numbers, and come back so. The one error is out of memory;
 /// it gives up the workers and the feeder.
@@ -304,14 +305,14 @@ where
         return Err(NoMemory);
     }
     let mut need = form.need();
-    let alone = handles.is_empty();
+    if handles.is_empty() {
+        return run_alone(rt, &mut need, gate, stop, setup, rows, queue, own, feeder);
+    }
     let Led {
         mut own,
         feeder,
         fed,
-    } = lead(
-        rt, &mut need, gate, stop, setup, rows, queue, own, feeder, alone,
-    );
+    } = lead(rt, &mut need, gate, stop, setup, rows, queue, own, feeder);
     end_all(rt, &mut need, gate, stop, queue, &mut own, handles, fed)?;
     Ok(Finished {
         runners: own.runners,
