@@ -63,18 +63,25 @@ fn text_of(alloc: Global, ran: &RunRecord) -> Option<Bytes>
 
 /// What the checker says of a text.
 pub fn said_of(alloc: Global, case: Inputs<'_>, text: &[u8]) -> Said {
-    let Some(Case { setup, rows }) = case.read(alloc) else {
-        return Said::Nothing;
-    };
-    let checked = check_audit(alloc, Box::into_inner(setup), &rows, text);
-    said_by(alloc, &checked)
+    match case.read(alloc) {
+        Some(case) => said_by(alloc, checked(alloc, case, text)),
+        None => Said::Nothing,
+    }
 }
 
-fn said_by(alloc: Global, checked: &Result<RunRecord, AuditFault>) -> Said {
+fn checked(alloc: Global, case: Case, text: &[u8]) -> Result<Box<RunRecord>, AuditFault> {
+    let Case { setup, rows } = case;
+    match check_audit(alloc, Box::into_inner(setup), &rows, text) {
+        Ok(ran) => Box::new(alloc, ran).ok().ok_or(AuditFault::NoMemory),
+        Err(fault) => Err(fault),
+    }
+}
+
+fn said_by(alloc: Global, checked: Result<Box<RunRecord>, AuditFault>) -> Said {
     match checked {
-        Ok(ran) => said_run(alloc, ran),
+        Ok(ran) => said_run(alloc, &ran),
         Err(AuditFault::NoMemory) => Said::Nothing,
-        Err(fault) => Said::Fault(*fault),
+        Err(fault) => Said::Fault(fault),
     }
 }
 

@@ -97,10 +97,15 @@ fn a_run_is_joined_to_its_end(rt: HostRuntime) {
     assert!(rt; counts_of_joined(rt.alloc()) == [1, 12, 8, 40]);
 }
 
-/// How many requests and plans are left of a setup with one request.
-fn left(alloc: Global) -> Option<(usize, usize)> {
+/// A setup with one request, of which none is left.
+fn cut(alloc: Global) -> Option<Box<Setup>> {
     let setup = inputs(AFTER_4).setup(alloc)?;
-    let setup = first_of(Box::into_inner(setup), 0);
+    Box::new(alloc, first_of(Box::into_inner(setup), 0)).ok()
+}
+
+/// How many requests and plans are left of it.
+fn left(alloc: Global) -> Option<(usize, usize)> {
+    let setup = cut(alloc)?;
     Some((setup.request_count(), setup.plans.len()))
 }
 
