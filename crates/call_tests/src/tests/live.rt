@@ -21,9 +21,18 @@ edge = [
 "#;
 
 /// One request after row 2, with the threshold that the job has.
-const AFTER_2: &str = r#"[[request]]
+pub const AFTER_2: &str = r#"[[request]]
 after = 2
 change = [{ node = "big", from = 0, kind = "filter", when = [["amount", ">=", 10000]] }]
+"#;
+
+/// The same, and another one after row 12.
+pub const AFTER_2_AND_12: &str = r#"[[request]]
+after = 2
+change = [{ node = "big", from = 0, kind = "filter", when = [["amount", ">=", 10000]] }]
+[[request]]
+after = 12
+change = [{ node = "big", from = 1, kind = "filter", when = [["amount", ">=", 10000]] }]
 "#;
 
 /// The words of a call of `live` with these numbers of threads and of items on a lane.
@@ -43,11 +52,15 @@ pub fn live_words(alloc: Global, threads: &str, capacity: &str) -> Result<Vec<Wo
     words_of(alloc, &texts)
 }
 
-/// The files of a call: the chain, its one request, and these payments.
-pub fn shelf_of(alloc: Global, payments: &str) -> Result<MemoryShelf, NoMemory> {
+/// The files of a call: the chain, these requests, and these payments.
+pub fn shelf_of<'a>(
+    alloc: Global,
+    requests: &'a str,
+    payments: &'a str,
+) -> Result<MemoryShelf, NoMemory> {
     let files = [
         ("job.toml", CHAIN),
-        ("requests.toml", AFTER_2),
+        ("requests.toml", requests),
         ("payments.csv", payments),
     ];
     let mut shelf = MemoryShelf::new(alloc, 1_000_000, Calls::new(alloc));

@@ -1,4 +1,4 @@
-use crate::tests::live::{live_words, shelf_of};
+use crate::tests::live::{AFTER_2_AND_12, live_words, shelf_of};
 use live_control::{Asks, Failed, MemoryAsks};
 use payments::{Calls, MemorySink};
 use sink_journal::Feed;
@@ -40,34 +40,33 @@ fn seen_set(word: &AtomicBool) -> bool {
     false
 }
 
-/// Holds the fourth tuple of node 1 until request 1 was issued.
+/// Holds the fourth tuple of node 1 until the input is asked for more after its line feed. The
+/// release is told by then. The gate can't wait for the issue: the thread that it holds may be the
+/// one that feeds.
 #[derive(Drop)]
 struct Watched {
     passed: AtomicBool,
-    issued: AtomicBool,
+    heard: AtomicBool,
     missed: AtomicBool,
 }
 
 impl Gate for Watched {
     fn pass(&self, node: u32, _worker: u32, place: u64) {
         self.passed.store(true, Ordering::SeqCst);
-        if node == 1 && place == 3 && !seen_set(&self.issued) {
+        if node == 1 && place == 3 && !seen_set(&self.heard) {
             self.missed.store(true, Ordering::SeqCst);
         }
     }
 
-    fn issued(&self, request: u64) {
-        if request == 1 {
-            self.issued.store(true, Ordering::SeqCst);
-        }
-    }
+    fn issued(&self, _request: u64) {}
 }
 
-/// An input that gives its bytes once a tuple has passed the gate.
+/// An input that gives its first byte once a tuple has passed the gate.
 #[derive(Drop)]
 struct AfterPass<'a> {
     asks: MemoryAsks,
     gate: &'a Watched,
+    asked: bool,
 }
 
 impl<'a> Asks for AfterPass<'a> {
@@ -76,9 +75,12 @@ impl<'a> Asks for AfterPass<'a> {
     ghost state = { λ asks. memory_state_of asks.asks };
 
     fn next(&mut self) -> Result<Option<u8>, Failed> {
-        if !seen_set(&self.gate.passed) {
+        if self.asked {
+            self.gate.heard.store(true, Ordering::SeqCst);
+        } else if !seen_set(&self.gate.passed) {
             self.gate.missed.store(true, Ordering::SeqCst);
         }
+        self.asked = true;
         self.asks.next()
     }
 }
@@ -90,12 +92,16 @@ where
 {
     let gate = Watched {
         passed: AtomicBool::new(false),
-        issued: AtomicBool::new(false),
+        heard: AtomicBool::new(false),
         missed: AtomicBool::new(false),
     };
     let bytes = Bytes::from_slice(alloc, b"\n")?;
     let asks = MemoryAsks::new(bytes, Calls::new(alloc));
-    let mut asks = AfterPass { asks, gate: &gate };
+    let mut asks = AfterPass {
+        asks,
+        gate: &gate,
+        asked: false,
+    };
     Ok(is_issued(rt, alloc, &mut asks, &gate)? && !gate.missed.load(Ordering::SeqCst))
 }
 
@@ -109,7 +115,7 @@ where
     R: Threads + Wait + Copy + Send + Sync + 'static,
 {
     let words = live_words(alloc, "2", "1")?;
-    let mut shelf = shelf_of(alloc, TWELVE_PAYMENTS)?;
+    let mut shelf = shelf_of(alloc, AFTER_2_AND_12, TWELVE_PAYMENTS)?;
     let mut out = MemorySink::new(alloc, Calls::new(alloc));
     let outcome = call_asking(rt, alloc, &words, &mut shelf, &mut out, asks, gate)?;
     Ok(outcome.status == 0 && is_before_last(&outcome))

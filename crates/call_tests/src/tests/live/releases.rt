@@ -1,4 +1,4 @@
-use crate::tests::live::{live_words, shelf_of};
+use crate::tests::live::{AFTER_2, live_words, shelf_of};
 use live_control::MemoryAsks;
 use payments::{Calls, MemoryShelf, MemorySink};
 use std::alloc::Global;
@@ -67,7 +67,7 @@ fn answers<R>(
 where
     R: Threads + Wait + Copy + Send + Sync + 'static,
 {
-    let mut shelf = shelf_of(alloc, FOUR_PAYMENTS)?;
+    let mut shelf = shelf_of(alloc, AFTER_2, FOUR_PAYMENTS)?;
     let mut out = MemorySink::new(alloc, Calls::new(alloc));
     let outcome = call_asking(rt, alloc, words, &mut shelf, &mut out, asks, &OpenGate)?;
     Ok(is_told(&outcome, out.written(), case) && are_files(alloc, &shelf, case))
