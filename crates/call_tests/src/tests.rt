@@ -1,2 +1,3 @@
 mod hostile;
 mod live;
+mod sure;

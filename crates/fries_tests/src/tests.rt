@@ -3,12 +3,14 @@
 mod alone;
 mod check;
 mod first;
+mod kinds;
 mod lines;
 mod make;
 mod plan;
 mod run;
 mod texts;
 mod told;
+mod verify;
 mod ways;
 mod words;
 

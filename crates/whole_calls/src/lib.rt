@@ -1,6 +1,6 @@
 //! Whole calls over files in memory, for the tests of crates above.
 //!
-//! [`call`], [`call_asking`] and [`say`] call `fries`. They have no clauses: a caller of its
+//! [`call`], [`call_asking`], [`call_sure`] and [`say`] call `fries`. They have no clauses: a caller of its
 //! contract is dear to prove, and each crate of tests would pay for that again.
 //!
 //! ```
@@ -13,7 +13,7 @@
 #![tactic(auto)]
 
 use live_control::{Asks, MemoryAsks};
-use payments::{Calls, MemoryShelf, MemorySink};
+use payments::{Calls, MemoryShelf, MemorySink, SureShelf, SureSink};
 use std::alloc::Global;
 use std::sync::Wait;
 use std::thread::Threads;
@@ -57,6 +57,23 @@ where
     Q: Asks,
 {
     let outcome = fries(rt, alloc, words, shelf, out, asks, gate);
+    Ok(Box::new(alloc, outcome)?)
+}
+
+/// Calls `fries` with these words over files and an output that never refuse. The input that
+/// releases live requests is empty. The one error is out of memory for the box.
+pub fn call_sure<R>(
+    rt: &R,
+    alloc: Global,
+    words: &[Word],
+    shelf: &mut SureShelf,
+    out: &mut SureSink,
+) -> Result<Box<Outcome>, NoMemory>
+where
+    R: Threads + Wait + Copy + Send + Sync + 'static,
+{
+    let mut asks = MemoryAsks::new(Bytes::new(alloc), Calls::new(alloc));
+    let outcome = fries(rt, alloc, words, shelf, out, &mut asks, &OpenGate);
     Ok(Box::new(alloc, outcome)?)
 }
 

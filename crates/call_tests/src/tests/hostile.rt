@@ -3,7 +3,7 @@ mod calls;
 mod changed;
 mod cut;
 mod sizes;
-mod texts;
+pub mod texts;
 
 use crate::tests::hostile::cut::Cuts;
 use crate::tests::hostile::texts::{CHAIN, FOUR_PAYMENTS};
@@ -16,7 +16,7 @@ use tuple_trace::{Bytes, NoMemory, OpenGate, Word};
 use whole_calls::{call, put, words_of};
 
 /// The words of `run`. The last two name the alerts and the audit.
-const RUN: [&str; 6] = [
+pub const RUN: [&str; 6] = [
     "run",
     "job.toml",
     "requests.toml",

@@ -1,6 +1,6 @@
 //! What `verify` says of audits that `run` wrote, and of audits with a damage.
 use crate::tests::random::Case;
-use crate::tests::texts::{CHAIN, PAYMENTS, PAYMENTS_REQUESTS, TEN_PAYMENTS};
+use crate::tests::texts::{PAYMENTS, PAYMENTS_REQUESTS, TEN_PAYMENTS};
 use crate::tests::{AUDIT, Input, bytes_of, shelf_of};
 use payments::MemoryShelf;
 use std::alloc::Global;
@@ -63,91 +63,6 @@ where
     let mut shelf = shelf_of(alloc, input)?;
     put_text(alloc, AUDIT, audit, &mut shelf)?;
     Ok(verify(rt, alloc, &mut shelf)?.is(wanted.0, wanted.1))
-}
-
-fn says<R>(rt: &R, alloc: Global, payments: &str, audit: &str, wanted: (u8, &str)) -> bool
-where
-    R: Threads + Wait + Copy + Send + Sync + 'static,
-{
-    let input = Input {
-        job: CHAIN,
-        requests: "",
-        payments,
-        threads: "1",
-        capacity: "16",
-    };
-    matches!(is_said(rt, alloc, input, audit, wanted), Ok(true))
-}
-
-const NONE: &str = "source,amount\n";
-
-const AUDIT_OF_NONE: &str = "entry,node,worker,lane,number,extra
-stopped,,,,,
-ended,big,0,0,,
-ended,alerts,0,1,,
-";
-
-const AUDIT_CUT: &str = "entry,node,worker,lane,number,extra
-stopped,,,,,
-ended,alerts,0,1,,
-";
-
-#[test]
-fn verify_empty(rt: HostRuntime) {
-    let lines = "verified\nrows 0 alerts 0 requests 0 refused 0\n";
-    assert!(rt; says(&rt, rt.alloc(), NONE, AUDIT_OF_NONE, (0, lines)));
-    assert!(rt;
-        says(
-            &rt,
-            rt.alloc(),
-            NONE,
-            AUDIT_CUT,
-            (11, "fault 11 V4 worker 0\n")
-        )
-    );
-}
-
-const FOUR: &str = "source,amount\ncard,99.99\ncard,100.00\ncard,150.00\ncard,50.00\n";
-
-const AUDIT_OF_FOUR: &str = "entry,node,worker,lane,number,extra
-fed,,,,1,\nfed,,,,2,\nfed,,,,3,\nfed,,,,4,\nstopped,,,,,
-met,big,0,0,1,\nmet,big,0,0,2,\nmet,big,0,0,3,\nmet,big,0,0,4,\nended,big,0,0,,
-met,alerts,0,1,2,\nmet,alerts,0,1,3,\nended,alerts,0,1,,
-";
-
-/// A part of the audit, what stands in its place, and the line of the fault.
-const DAMAGES: [(&str, &str, &str); 4] = [
-    ("met,alerts,0,1,2,\n", "", "fault 11 V5 lane 1\n"),
-    ("fed,,,,2,\n", "fed,,,,3,\n", "fault 11 V3 record 2\n"),
-    ("entry,", "x,", "fault 11 V1 record 0\n"),
-    (
-        "stopped",
-        "refused,,,,1,Q4\nstopped",
-        "fault 11 V1 record 5\n",
-    ),
-];
-
-fn is_found<R>(rt: &R, alloc: Global, damage: (&str, &str, &str)) -> bool
-where
-    R: Threads + Wait + Copy + Send + Sync + 'static,
-{
-    let Some((before, after)) = AUDIT_OF_FOUR.split_once(damage.0) else {
-        return false;
-    };
-    let new = damage.1;
-    match format!(in alloc; "{before}{new}{after}") {
-        Ok(text) => says(rt, alloc, FOUR, text.as_str(), (11, damage.2)),
-        Err(_) => false,
-    }
-}
-
-#[test]
-fn verify_damaged(rt: HostRuntime) {
-    let lines = "verified\nrows 4 alerts 2 requests 0 refused 0\n";
-    assert!(rt; says(&rt, rt.alloc(), FOUR, AUDIT_OF_FOUR, (0, lines)));
-    for damage in DAMAGES {
-        assert!(rt; is_found(&rt, rt.alloc(), damage));
-    }
 }
 
 const ON_FOUR: Input<'static> = Input {

@@ -1,6 +1,6 @@
 use crate::tests::texts::{
     CHAIN, FOUR_ALERTS, FOUR_PAYMENTS, HEADER, PAYMENTS, PAYMENTS_ALERTS, PAYMENTS_REQUESTS,
-    TEN_PAYMENTS,
+    TEN_PAYMENTS, THREE_ALERTS, TWO_ALERTS,
 };
 use crate::tests::{Around, Left, Ran, Wanted, leaves};
 use std::alloc::Global;
@@ -29,7 +29,7 @@ where
     leaves(rt, alloc, &Around::of(&files), RUN, &left)
 }
 
-const NO_PAYMENTS: &str = "source,account,merchant,amount,tags\n";
+pub const NO_PAYMENTS: &str = "source,account,merchant,amount,tags\n";
 
 const AUDIT_OF_NONE: &str = "entry,node,worker,lane,number,extra
 stopped,,,,,
@@ -87,6 +87,46 @@ fn later_rows_meet_the_request(rt: HostRuntime) {
     let lines = "rows 4 alerts 3 requests 1 refused 0\n";
     let left = Left::run(0, ALERTS_OF_TWO_AND_TWO, lines);
     assert!(rt; run_leaves(&rt, rt.alloc(), CHAIN, AFTER_2, TWO_AND_TWO, left));
+}
+
+/// The same after the last row.
+const AFTER_4: &str = r#"
+[[request]]
+after = 4
+change = [{ node = "big", from = 0, kind = "filter", when = [["amount", ">=", 5000]] }]
+"#;
+
+const RUN_NARROW: &str =
+    "run job.toml requests.toml payments.csv alerts.csv audit.csv --threads 1 --capacity 1";
+
+/// On one thread, over lanes of one item, each of these requests overtakes only the row before it.
+/// That row passes by both thresholds.
+#[test]
+fn narrow_lanes(rt: HostRuntime) {
+    let cases = [
+        (
+            AFTER_2,
+            THREE_ALERTS,
+            "rows 4 alerts 3 requests 1 refused 0\n",
+        ),
+        (
+            AFTER_4,
+            TWO_ALERTS,
+            "rows 4 alerts 2 requests 1 refused 0\n",
+        ),
+    ];
+    for (requests, alerts, line) in cases {
+        let files = [
+            ("job.toml", CHAIN),
+            ("requests.toml", requests),
+            ("payments.csv", FOUR_PAYMENTS),
+        ];
+        let left = Left::run(0, alerts, line);
+        assert!(rt;
+            leaves(&rt, rt.alloc(), &Around::of(&files), RUN_NARROW, &left),
+            "{line}"
+        );
+    }
 }
 
 /// Two requests from the same function.

@@ -68,7 +68,7 @@ pub fn call_count(step: usize) -> usize {
 
 #[test]
 fn each_call_of_the_shelf_fails_alone(rt: HostRuntime) {
-    for step in [1, 1_000_000] {
+    for step in [1, 16, 1_000_000] {
         assert_eq!(rt;
             first_wrong(&rt, rt.alloc(), Tried::Failing { step }),
             None,

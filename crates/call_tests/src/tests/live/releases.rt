@@ -1,4 +1,5 @@
-use crate::tests::live::{AFTER_2, live_words, shelf_of};
+use crate::tests::hostile::texts::{CHAIN, FOUR_PAYMENTS, TWO_ALERTS};
+use crate::tests::live::{AFTER_2, live_words};
 use live_control::MemoryAsks;
 use payments::{Calls, MemoryShelf, MemorySink};
 use std::alloc::Global;
@@ -7,20 +8,7 @@ use std::sync::Wait;
 use std::thread::Threads;
 use top_call::Outcome;
 use tuple_trace::{Bytes, NoMemory, OpenGate, Word};
-use whole_calls::{call_asking, file};
-
-const FOUR_PAYMENTS: &str = "source,amount
-card,99.99
-card,100.00
-card,50.00
-card,120.00
-";
-
-/// The alerts of the four payments, by the threshold of 100.00.
-const ALERTS: &str = "sink,row,amount
-alerts,2,100.00
-alerts,4,120.00
-";
+use whole_calls::{call_asking, file, put_text};
 
 /// An input, and what a call over the four payments is to leave.
 #[derive(Clone, Copy)]
@@ -37,6 +25,13 @@ struct Case {
     /// The row that the record's request waits for.
     after: u64,
 }
+
+/// The files of each call.
+const FILES: [(&str, &str); 3] = [
+    ("job.toml", CHAIN),
+    ("requests.toml", AFTER_2),
+    ("payments.csv", FOUR_PAYMENTS),
+];
 
 const SUMMARY: &str = "rows 4 alerts 2 requests 1 refused 0\n";
 
@@ -67,7 +62,10 @@ fn answers<R>(
 where
     R: Threads + Wait + Copy + Send + Sync + 'static,
 {
-    let mut shelf = shelf_of(alloc, AFTER_2, FOUR_PAYMENTS)?;
+    let mut shelf = MemoryShelf::new(alloc, 1_000_000, Calls::new(alloc));
+    for (name, text) in FILES {
+        put_text(alloc, name, text, &mut shelf)?;
+    }
     let mut out = MemorySink::new(alloc, Calls::new(alloc));
     let outcome = call_asking(rt, alloc, words, &mut shelf, &mut out, asks, &OpenGate)?;
     Ok(is_told(&outcome, out.written(), case) && are_files(alloc, &shelf, case))
@@ -87,7 +85,7 @@ fn is_told(outcome: &Outcome, out: &[u8], case: Case) -> bool {
 
 fn are_files(alloc: Global, shelf: &MemoryShelf, case: Case) -> bool {
     match file(alloc, shelf, "alerts.csv") {
-        Some(alerts) => alerts == ALERTS.as_bytes() && is_fed(alloc, shelf, case),
+        Some(alerts) => alerts == TWO_ALERTS.as_bytes() && is_fed(alloc, shelf, case),
         None => false,
     }
 }
