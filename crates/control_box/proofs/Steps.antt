@@ -134,7 +134,7 @@ module _ {S : Type 0} where
           owners = each-set (Owners h.owner k h.turned) s.views id w (λ p. let o = h.owners id v at p in record { alone = o.alone; turned_is = o.turned_is; polls = polled v o.polls })
               (λ seat u other e p. let o = h.owners seat u e p in record { alone = o.alone; turned_is = o.turned_is; polls = polled u o.polls });
         },
-        refl,
+        record { seat = refl; rises = above },
       )
 
   pub store_turned : (slots id k : ℕ) (me : Me S View) → me.0.may_turn ≡ true → k ≡ me.0.turned + 1 → Allows IsBox slots id me 1 (λ _. k) (λ _. StoredTurned me k)
@@ -159,7 +159,7 @@ module _ {S : Type 0} where
               (λ seat u other e p. let o = h.posters seat u e p in record { alone = o.alone; posted_is = o.posted_is; loads = loaded u o.loads });
           owners = each-set (Owners h.owner h.posted k) s.views id w (λ _. record { alone = known.alone; turned_is = refl; polls = known.polls }) (λ seat u other e p. absurd (other ((h.owners seat u e p).alone ∙ sym known.alone)));
         },
-        refl,
+        record { seat = refl; rises = omega (arith, next) },
       )
 
   pub sides-Splits : (id : ℕ) (v : View) → v.may_post ≡ true → v.may_turn ≡ true → Splits {S = S} IsBox id v (poster_side v) (owner_side v)

@@ -1,5 +1,5 @@
 -- What contracts see of the two ends of a box.
-use Rattle.std.specs.Prelude.{ℕ, ◌+◌, ◌≤◌, List, Any}
+use Rattle.std.specs.Prelude.{◌≡◌, ℕ, ◌+◌, ◌≤◌, List, Any, map}
 use Rattle.atomic_table.specs.Seated.{TableId}
 
 -- a poster: which box it is of, its last post, and the values of turned that it loaded
@@ -18,3 +18,10 @@ pub record OwnerIs : Type 0 where
 -- true, or would have
 abbrev pub HasShownReady : ℕ → List ℕ → Type 0
 HasShownReady k loads = Any (λ turned. k ≤ turned + 1) loads
+
+-- place by place a poster and an owner are of one box, and there are as many of the one as of the
+-- other
+abbrev pub ShareBoxes : List PosterIs → List OwnerIs → Type 0
+ShareBoxes posters owners =
+    map (λ (poster : PosterIs). poster.within) posters
+    ≡ map (λ (owner : OwnerIs). owner.within) owners

@@ -1,5 +1,5 @@
 -- The rule of a box, which holds between any two of its steps, and what each step tells.
-use Rattle.std.specs.Prelude.{◌≡◌, ℕ, ◌+◌, ◌≤◌, true, false, [], ◌∷◌, ◌++◌, All}
+use Rattle.std.specs.Prelude.{◌≡◌, ℕ, ◌+◌, ◌<◌, ◌≤◌, true, false, [], ◌∷◌, ◌++◌, All}
 use mathlib.Core.Option.{some}
 use lib.ListN.{get_elem?}
 use Rattle.atomic_table.specs.Table.{State, Me}
@@ -51,9 +51,10 @@ pub record LoadedTurned {S : Type 0} (old : Me S View) (n : ℕ) (new : Me S Vie
   pub rises : All (λ load. load ≤ n) old.0.loads
   pub near : old.0.posted ≤ n + 1
 
--- the poster stored n in posted
-abbrev pub StoredPosted : {S : Type 0} → Me S View → ℕ → Me S View → Type 0
-StoredPosted old n new = new ≡ (record old.0 { posted = n }, old.1)
+-- the poster stored n in posted, which rises by it
+pub record StoredPosted {S : Type 0} (old : Me S View) (n : ℕ) (new : Me S View) : Type 0 where
+  pub seat : new ≡ (record old.0 { posted = n }, old.1)
+  pub rises : old.0.posted < n
 
 -- the owner found n in posted
 pub record LoadedPosted {S : Type 0} (old : Me S View) (n : ℕ) (new : Me S View) : Type 0 where
@@ -61,6 +62,7 @@ pub record LoadedPosted {S : Type 0} (old : Me S View) (n : ℕ) (new : Me S Vie
   pub rises : All (λ poll. poll ≤ n) old.0.polls
   pub near : n ≤ old.0.turned + 1
 
--- the owner stored n in turned
-abbrev pub StoredTurned : {S : Type 0} → Me S View → ℕ → Me S View → Type 0
-StoredTurned old n new = new ≡ (record old.0 { turned = n }, old.1)
+-- the owner stored n in turned, which rises by it
+pub record StoredTurned {S : Type 0} (old : Me S View) (n : ℕ) (new : Me S View) : Type 0 where
+  pub seat : new ≡ (record old.0 { turned = n }, old.1)
+  pub rises : old.0.turned < n

@@ -8,7 +8,9 @@
 //!
 //! ```
 //! let (mut poster, mut owner) = make_box(alloc)?;
-//! poster.post(1);
+//! if poster.ready(1) {
+//!     poster.post(1);
+//! }
 //! assert!(rt; owner.poll() == 1 && !poster.ready(2));
 //! owner.turned(1);
 //! assert!(rt; poster.ready(2));
