@@ -3,7 +3,8 @@ use Rattle.std.specs.Prelude.{◌≡◌, ℕ, List, ◌++◌, length}
 use Rattle.atomic_table.specs.Seated.{TableId}
 use Rattle.tuple_trace.specs.declared.tuple.Item.{Item}
 
--- which lane it is: no two lanes share it
+-- Which lane it is: the table on which both its endpoints step. No clause says that two lanes have
+-- different ones, since the kit's calls that make a table say nothing of other tables.
 abbrev pub LaneId : Type 0
 LaneId = TableId
 
@@ -11,6 +12,7 @@ LaneId = TableId
 abbrev pub LayLast : List Item → List Item → Type 0
 LayLast sent lying = (taken : List Item) × (sent ≡ taken ++ lying)
 
--- what was sent ends in as many items as the lane holds, as it must where the lane was full
+-- What was sent ends in as many items as the lane holds, as it must if the lane was full. These may
+-- be taken by now: the sender knows only what it sent.
 abbrev pub WasFull : ℕ → List Item → Type 0
 WasFull capacity sent = (lying : List Item) × (length lying ≡ capacity) × LayLast sent lying

@@ -97,7 +97,7 @@ pub struct QueueLanes<R> {
     rt: R,
 }
 
-impl<R: Wait + Copy + Send + Sync> QueueLanes<R> {
+impl<R> QueueLanes<R> {
     /// Keeps the runtime, with its leave to wait. Takes no memory.
     pub fn new(rt: R) -> QueueLanes<R> {
         QueueLanes { rt }

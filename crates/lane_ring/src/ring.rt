@@ -1,5 +1,5 @@
 ghost use Rattle.std.specs.Prelude.{◌≡◌, ℕ, ◌+◌, ◌<◌, ◌≤◌, [], ◌∷◌, ◌++◌, length};
-ghost use Rattle.std.specs.Prelude.{true, IfOk, IfSome, IfNone};
+ghost use Rattle.std.specs.Prelude.{true, IfErr, IfOk, IfSome, IfNone, OnErr, OnOk};
 ghost use Rattle.std.specs.Arc.{arc_value};
 ghost use Rattle.std.specs.Bool.{OnTrue, OnFalse};
 ghost use Rattle.lane_core.specs.Lane.{WasFull};
@@ -112,7 +112,23 @@ impl Tx<()> for RingTx {
         self.number
     }
 
-    fn put(&mut self, _need: &mut (), item: Item) -> Result<(), Item> {
+    /// Puts an item behind those that were sent. With a refusal `full` rises by one, which is the
+    /// ring's own: only a step that found the lane full raises the seat's `full`.
+    fn put(&mut self, _need: &mut (), item: Item) -> Result<(), Item>
+        requires { MayFollow self.old.seat.me.0.origin self.old.seat.me.0.sent item }
+        ensures end { (self.new.seat.me.0.capacity ≡ self.old.seat.me.0.capacity)
+            × (self.new.number ≡ self.old.number)
+            × (self.new.seat.me.0.origin ≡ self.old.seat.me.0.origin)
+            × (self.new.seat.table_id ≡ self.old.seat.table_id) }
+        ensures put { OnOk result (
+            (self.new.seat.me.0.sent ≡ self.old.seat.me.0.sent ++ item ∷ [])
+            × (self.new.seat.me.0.full ≡ self.old.seat.me.0.full)) }
+        ensures refused { IfErr result (λ back. (back ≡ item)
+            × (self.new.seat.me.0.sent ≡ self.old.seat.me.0.sent)
+            × (self.new.seat.me.0.full ≡ self.old.seat.me.0.full + 1)) }
+        ensures was_full { OnErr result (WasFull self.old.seat.me.0.capacity
+            self.old.seat.me.0.sent) }
+    {
         if self.tail == self.limit && !self.look() {
             return Err(item);
         }
@@ -244,8 +260,8 @@ impl Rx<()> for RingRx {
         self.number
     }
 
-    /// Takes the next item. The last clause is the ring's own: None comes only of a step that found
-    /// the lane empty, since no other step raises the seat's `dry`.
+    /// Takes the next item. With None `dry` rises by one, which is the ring's own: only a step that
+    /// found the lane empty raises the seat's `dry`.
     fn take(&mut self, _need: &mut ()) -> Option<Item>
         ensures end { (self.new.number ≡ self.old.number)
             × (self.new.seat.me.0.origin ≡ self.old.seat.me.0.origin)
