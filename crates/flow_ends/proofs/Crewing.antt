@@ -2,6 +2,8 @@
 use Rattle.std.proofs.Common.{◌≡◌, ◌⊎◌, ◌∙◌, ◌==◌, ◌+◌, ◌<◌, ℕ, zero, suc, List, [], ◌∷◌, ◌++◌, inl, inr, refl, sym, ap, subst, arith, length, map, Some, slice_get}
 use Rattle.std.proofs.lemmas.Bool.{eqb-true}
 use Rattle.std.proofs.lemmas.Option.{same_Some}
+use Rattle.atomic_table.specs.Seated.{TableId}
+use Rattle.control_box.specs.Endpoints.{OwnerIs, PosterIs, ShareBoxes}
 use Rattle.jobs.specs.JobView.{JobView}
 use Rattle.flow_model.specs.Begin.{Begin, at_first}
 use Rattle.flow_model.specs.Lanes.{lanes_in}
@@ -94,3 +96,18 @@ all_made workers all (x ∷ its) are none = absurd (omega (arith, none))
 -- the beginning of all has the counts of each worker
 pub first_has_all : (setup : SetupView) (start : Begin) → start ≡ at_first setup → length start.states ≡ length (workers_in setup.job)
 first_has_all setup start is = ap (λ (b : Begin). length b.states) is ∙ length-map (workers_in setup.job) (λ (who : WorkerOf). _)
+
+-- a poster more, and a worker more with the owner of the poster's box
+pub share_more : (posters more : List PosterIs) (workers new : List WorkerIs) (poster : PosterIs) (worker : WorkerIs) → more ≡ posters ++ poster ∷ [] → new ≡ workers ++ worker ∷ [] → poster.within ≡ worker.owner.within
+    → ShareBoxes posters (map (λ (w : WorkerIs). w.owner) workers) → ShareBoxes more (map (λ (w : WorkerIs). w.owner) new)
+share_more posters more workers new poster worker boxed pushed same share =
+    let of_poster : PosterIs → TableId = λ p. p.within in
+    let of_owner : OwnerIs → TableId = λ o. o.within in
+    let owner : WorkerIs → OwnerIs = λ w. w.owner in
+    ap (map of_poster) boxed
+    ∙ (map-append of_poster posters (poster ∷ [])
+    ∙ (ap (λ l. l ++ poster.within ∷ []) share
+    ∙ (ap (λ z. map of_owner (map owner workers) ++ z ∷ []) same
+    ∙ (sym (map-append of_owner (map owner workers) (worker.owner ∷ []))
+    ∙ (ap (map of_owner) (sym (map-append owner workers (worker ∷ [])))
+    ∙ ap (λ ws. map of_owner (map owner ws)) (sym pushed))))))

@@ -1,6 +1,7 @@
 -- All lanes are made: each worker has its new endpoints, the feeder has its own, and they match.
 use Rattle.std.proofs.Common.{◌≡◌, ◌∙◌, ◌≤◌, ◌+◌, ℕ, zero, suc, List, [], ◌∷◌, ◌++◌, Bool, refl, sym, ap, subst, arith, length, map, Option, Some, None, slice_get, replicate}
-use Rattle.std.specs.Prelude.{Err, IfOk, Ok, OnOk, Result}
+use Rattle.std.specs.Prelude.{All, Err, IfOk, Ok, OnOk, Result}
+use Rattle.std.proofs.lemmas.List.Elements.{All-push}
 use Rattle.std.proofs.lemmas.Option.{same_Some}
 use Rattle.flow_dag.specs.declared.edge.Edge.{Edge}
 use Rattle.flow_dag.specs.declared.graph.Graph.{Graph}
@@ -161,6 +162,10 @@ module _ {T : Type 0} (lane : T → LaneId) (number : T → ℕ) (origin : T →
   }
 
 -- ---- a new endpoint
+
+-- one endpoint more that holds this many items
+pub hold_more : {T : Type 0} (capacity : T → ℕ) (old new : List T) (t : T) (n : ℕ) → new ≡ old ++ t ∷ [] → capacity t ≡ n → All (λ end. capacity end ≡ n) old → All (λ end. capacity end ≡ n) new
+hold_more {T} capacity old new t n pushed is all = subst (All (λ (end : T). capacity end ≡ n)) (sym pushed) (All-push (λ (end : T). capacity end ≡ n) old t all is)
 
 pub lane_edge : (job : JobView) (i : ℕ) (lane : Lane) → slice_get (lanes job) i ≡ Some lane → (edge : Edge) × (slice_get job.edges lane.edge ≡ Some edge)
 lane_edge job i lane at = let is = lane_is job i lane at in (is.edge, is.edge_is)

@@ -1,6 +1,6 @@
 // The endpoints of all lanes of a job, made one lane after another.
 ghost use Rattle.std.specs.Prelude.{◌≡◌, ℕ, ◌<◌, ◌≤◌, ◌∷◌, [], IfOk, IfSome, OnOk, Some, length};
-ghost use Rattle.std.specs.Prelude.{replicate, slice_get};
+ghost use Rattle.std.specs.Prelude.{All, replicate, slice_get};
 ghost use Rattle.flow_model.specs.Lanes.{lanes};
 ghost use Rattle.flow_model.specs.Setup.{setup_view};
 ghost use Rattle.flow_model.specs.Workers.{workers_in};
@@ -45,6 +45,8 @@ impl<L: Lanes> AllEndpoints<L> {
         ensures feeder { IfOk result (λ made. AreNewOuts (setup_view setup.now).job
             (outs_of L.Tx.lane L.Tx.number L.Tx.origin L.Tx.capacity L.Tx.sent L.Tx.full
             made.feeder.items)) }
+        ensures capacity { IfOk result (λ made. All (λ end. L.Tx.capacity end ≡ cap)
+            made.feeder.items) }
         ensures matched { IfOk result (λ made. AreMatched made.workers.items
             (endpoints L.Tx.lane L.Tx.number L.Tx.origin L.Tx.sent made.feeder.items)) }
     {
@@ -79,6 +81,7 @@ fn make_lane<L: Lanes>(
         (endpoints L.Tx.lane L.Tx.number L.Tx.origin L.Tx.sent (tx ∷ []))) }
     ensures rx { IfOk result (λ (tx, rx). AreNewAt (setup_view setup.now).job graph number
         (endpoints L.Rx.lane L.Rx.number L.Rx.origin L.Rx.taken (rx ∷ []))) }
+    ensures capacity { IfOk result (λ (tx, rx). L.Tx.capacity tx ≡ cap) }
     ensures lane { IfOk result (λ (tx, rx). L.Tx.lane tx ≡ L.Rx.lane rx) }
 {
     let from = setup.job.dag.edge(lane.edge).from;
@@ -86,6 +89,7 @@ fn make_lane<L: Lanes>(
 }
 
 // Adds a sending endpoint to its worker's side, or to the feeder's.
+#[tactic(auto, using(crate::proofs::Making::hold_more))]
 fn add_out<L: Lanes>(
     workers: &mut [Side<L>],
     feeder: &mut Vec<L::Tx>,
@@ -99,6 +103,9 @@ fn add_out<L: Lanes>(
         (endpoints L.Tx.lane L.Tx.number L.Tx.origin L.Tx.sent feeder.new.items
         ≡ with_fed sender (endpoints L.Tx.lane L.Tx.number L.Tx.origin L.Tx.sent (tx ∷ []))
         (endpoints L.Tx.lane L.Tx.number L.Tx.origin L.Tx.sent feeder.old.items)) }
+    ensures capacity { OnOk result ((n : ℕ) → L.Tx.capacity tx ≡ n
+        → All (λ end. L.Tx.capacity end ≡ n) feeder.old.items
+        → All (λ end. L.Tx.capacity end ≡ n) feeder.new.items) }
 {
     match sender {
         Some(worker) => add_out_at(workers, worker, tx),

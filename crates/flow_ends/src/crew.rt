@@ -1,9 +1,11 @@
 // The workers of a setup, each over its endpoints and with its box.
-ghost use Rattle.std.specs.Prelude.{◌≡◌, ℕ, ◌<◌, ◌≤◌, IfOk, Some, length, map, slice_get};
+ghost use Rattle.std.specs.Prelude.{◌≡◌, ℕ, ◌<◌, ◌≤◌, All, IfOk, Some, length, map, slice_get};
+ghost use Rattle.control_box.specs.Endpoints.{ShareBoxes};
 ghost use Rattle.flow_model.specs.Begin.{at_first};
 ghost use Rattle.flow_model.specs.Setup.{setup_view};
 ghost use Rattle.flow_model.specs.Workers.{workers_in};
 ghost use Rattle.flow_worker.specs.Parts.{AreNewEndpoints};
+ghost use Rattle.flow_worker.specs.Worker.{WorkerIs};
 ghost use Rattle.coordinator.specs.Starts.{AreNewOuts, AreUnused};
 ghost use Rattle.coordinator.specs.Views.{outs_of};
 ghost use Rattle.flow_ends.specs.Crews.{IsCrew};
@@ -39,9 +41,13 @@ impl<L: Lanes> Crew<L> {
             (at_first (setup_view setup.now)) crew.workers.items) }
         ensures posters { IfOk result (λ crew. AreUnused (setup_view setup.now)
             crew.posters.items) }
+        ensures boxes { IfOk result (λ crew. ShareBoxes crew.posters.items
+            (map (λ (w : WorkerIs). w.owner) crew.workers.items)) }
         ensures outs { IfOk result (λ crew. AreNewOuts (setup_view setup.now).job
             (outs_of L.Tx.lane L.Tx.number L.Tx.origin L.Tx.capacity L.Tx.sent L.Tx.full
             crew.outs.items)) }
+        ensures capacity { IfOk result (λ crew. All (λ end. L.Tx.capacity end ≡ cap)
+            crew.outs.items) }
         ensures matched { IfOk result (λ crew. AreMatched (map worker_side crew.workers.items)
             (map fed_end (outs_of L.Tx.lane L.Tx.number L.Tx.origin L.Tx.capacity L.Tx.sent
             L.Tx.full crew.outs.items))) }
@@ -68,9 +74,13 @@ impl<L: Lanes> Crew<L> {
             crew.workers.items) }
         ensures posters { IfOk result (λ crew. AreUnused (setup_view setup.now)
             crew.posters.items) }
+        ensures boxes { IfOk result (λ crew. ShareBoxes crew.posters.items
+            (map (λ (w : WorkerIs). w.owner) crew.workers.items)) }
         ensures outs { IfOk result (λ crew. AreNewOuts (setup_view setup.now).job
             (outs_of L.Tx.lane L.Tx.number L.Tx.origin L.Tx.capacity L.Tx.sent L.Tx.full
             crew.outs.items)) }
+        ensures capacity { IfOk result (λ crew. All (λ end. L.Tx.capacity end ≡ cap)
+            crew.outs.items) }
         ensures matched { IfOk result (λ crew. AreMatched (map worker_side crew.workers.items)
             (map fed_end (outs_of L.Tx.lane L.Tx.number L.Tx.origin L.Tx.capacity L.Tx.sent
             L.Tx.full crew.outs.items))) }
@@ -100,6 +110,8 @@ fn make_workers<L: Lanes>(
     requires states { length start.now.states ≡ length (workers_in (setup_view setup.now).job) }
     ensures workers { IfOk result (λ made. IsCrew (setup_view setup.now) start.now made.0.items) }
     ensures posters { IfOk result (λ made. AreUnused (setup_view setup.now) made.1.items) }
+    ensures boxes { IfOk result (λ made. ShareBoxes made.1.items
+        (map (λ (w : WorkerIs). w.owner) made.0.items)) }
     ensures sides { IfOk result (λ made. map worker_side made.0.items ≡ sides.items) }
 {
     let mut workers = Vec::new(alloc);

@@ -22,3 +22,6 @@ returns-clause-rx g c =
     new_at (setup_view c.args.setup.now).job c.args.graph c.args.number c.args.lane c.edge-from.result
     (record { lane = g.L.Rx.Rx.lane x.1; number = g.L.Rx.Rx.number x.1; origin = g.L.Rx.Rx.origin x.1; items = g.L.Rx.Rx.taken x.1 })
     c.requires.lane c.edge-from.ensures h.0 h.1 h.2) c.make.ensures.rx
+
+pub returns-clause-capacity : goal.returns-clause-capacity
+returns-clause-capacity g c = if_ok _ _ c.make.result (λ x h. h.1) c.make.ensures.tx

@@ -1,12 +1,12 @@
 use Rattle.std.proofs.Common.{◌≡◌, ◌∙◌, ◌++◌, ◌∷◌, [], ℕ, List, ap, arith, length, length-append, subst, sym}
 use Rattle.std.specs.Vec.Iter.{into_iter_items}
-use Rattle.control_box.specs.Endpoints.{PosterIs}
+use Rattle.control_box.specs.Endpoints.{OwnerIs, PosterIs}
 use Rattle.flow_model.specs.Setup.{setup_view}
 use Rattle.flow_model.proofs.SizeLemmas.{workers-few}
 use Rattle.flow_worker.specs.Parts.{AreNewEndpoints, EndpointIs, endpoints}
 use Rattle.flow_worker.specs.Worker.{IsWorker, WorkerIs}
 use Rattle.flow_ends.specs.Sides.{SideIs, worker_side}
-use Rattle.flow_ends.proofs.Crewing.{all_made, has_number, next_side, placed_more, side_is, side_made}
+use Rattle.flow_ends.proofs.Crewing.{all_made, has_number, next_side, placed_more, share_more, side_is, side_made}
 use Rattle.flow_ends.proofs.crew.make_workers.Goals as goal
 
 pub overflow_cast-number : goal.overflow_cast-number
@@ -58,6 +58,9 @@ loop-side-preserved g c =
           let e = length-append posters (c.in_ok-poster.poster ∷ []) in
           omega (arith, a, b, d, e, inv.boxes);
       unused = placed_more (λ w (p : PosterIs). (p.posted ≡ 0) × (p.loads ≡ [])) posters c.push-in-loop-side.new.self.items c.in_ok-poster.poster boxed inv.unused c.in_ok-poster.ensures.poster;
+      shared =
+          let same = c.in_ok-poster.ensures.same ∙ ap (λ (o : OwnerIs). o.within) (sym c.in_ok-worker.ensures.owner) in
+          share_more posters c.push-in-loop-side.new.self.items workers c.push.new.self.items c.in_ok-poster.poster worker boxed pushed same inv.shared;
     }
 
 pub returns-clause-workers : goal.returns-clause-workers
@@ -77,6 +80,9 @@ returns-clause-posters g c =
     let none = c.in-None.ensures.steps.0 in
     let all = all_made c.loop-side.workers.items c.args.sides.items (into_iter_items c.loop-side.side-iterator) inv.sides (omega (arith, none, inv.counted)) in
     (inv.boxes ∙ (all.0 ∙ c.requires.many), inv.unused)
+
+pub returns-clause-boxes : goal.returns-clause-boxes
+returns-clause-boxes g c = c.loop-side.invariant.shared
 
 pub returns-clause-sides : goal.returns-clause-sides
 returns-clause-sides g c =

@@ -1,13 +1,13 @@
 use Rattle.std.proofs.Common.{◌≡◌, ◌++◌, ℕ, [], map, length, Some, slice_get}
 use Rattle.std.specs.Vec.Iter.{into_iter_items, into_iter_len}
-use Rattle.control_box.specs.Endpoints.{PosterIs}
+use Rattle.control_box.specs.Endpoints.{PosterIs, ShareBoxes}
 use Rattle.flow_model.specs.Setup.{setup_view}
 use Rattle.flow_worker.specs.Worker.{IsWorker, WorkerIs}
 use Rattle.flow_ends.specs.Sides.{worker_side}
 use Rattle.flow_ends.proofs.crew.make_workers.Given as goal
 
--- the workers so far have their numbers and their law, and each has a box; the sides that are left
--- are those of the others
+-- the workers so far have their numbers and their law, and each has a box, of which the poster has
+-- its place; the sides that are left are those of the others
 abbrev pub invariant-loop-side : goal.invariant-loop-side
 invariant-loop-side g l = record {
   may : (goal.iterator-loop-side g).can_next l.side-iterator;
@@ -20,4 +20,5 @@ invariant-loop-side g l = record {
   boxes : length l.posters.items ≡ length l.workers.items;
   unused :
       (w : ℕ) (p : PosterIs) → slice_get l.posters.items w ≡ Some p → (p.posted ≡ 0) × (p.loads ≡ []);
+  shared : ShareBoxes l.posters.items (map (λ (w : WorkerIs). w.owner) l.workers.items);
 }

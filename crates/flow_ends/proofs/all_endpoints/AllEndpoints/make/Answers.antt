@@ -1,6 +1,7 @@
 use Rattle.std.proofs.Common.{◌≡◌, ◌≤◌, ◌∙◌, ◌<◌, ◌+◌, ℕ, List, [], ◌∷◌, ap, sym, subst, arith, length}
 use Rattle.std.proofs.lemmas.List.{with_items_is}
-use Rattle.std.specs.Prelude.{IfSome}
+use Rattle.std.specs.Prelude.{All, IfSome}
+use Rattle.std.proofs.lemmas.List.Elements.{All-nil}
 use Rattle.std.specs.Vec.{with_items}
 use Rattle.flow_model.specs.Lanes.{lanes}
 use Rattle.flow_model.specs.Setup.{setup_view}
@@ -27,13 +28,18 @@ lane-lane-requires g c =
 
 pub loop-number-init : goal.loop-number-init
 loop-number-init g c =
-    marked_first (setup_view c.args.setup.now).job c.graph-graph.result c.workers.result c.in_ok-workers.workers.items _ c.workers.ensures.value c.in_ok-workers.ensures
-    (ap (λ ts. endpoints g.L.Tx.Tx.lane g.L.Tx.Tx.number g.L.Tx.Tx.origin g.L.Tx.Tx.sent ts) c.new-feeder.ensures.items)
+    let P : g.row.L-Tx.Denot → Type 0 = λ end. g.L.Tx.Tx.capacity end ≡ c.args.cap in
+    record {
+      sorted =
+          marked_first (setup_view c.args.setup.now).job c.graph-graph.result c.workers.result c.in_ok-workers.workers.items _ c.workers.ensures.value c.in_ok-workers.ensures
+          (ap (λ ts. endpoints g.L.Tx.Tx.lane g.L.Tx.Tx.number g.L.Tx.Tx.origin g.L.Tx.Tx.sent ts) c.new-feeder.ensures.items);
+      capacity = subst (All P) (sym c.new-feeder.ensures.items) (All-nil P);
+    }
 
 pub add_out-requires-after_bounds : goal.add_out-requires-after_bounds
 add_out-requires-after_bounds g c κs up =
     let job = (setup_view c.args.setup.now).job in
-    let long : length c.deref_mut.result.now ≡ length (workers_in job) = ap (λ (xs : List SideIs). length xs) c.deref_mut.ensures.value ∙ c.loop-number.invariant.1.1.many in
+    let long : length c.deref_mut.result.now ≡ length (workers_in job) = ap (λ (xs : List SideIs). length xs) c.deref_mut.ensures.value ∙ c.loop-number.invariant.sorted.1.1.many in
     subst (λ (n : ℕ). IfSome c.lane-lane.result.sender (λ w. w < n)) (sym long) (lane_sender job c.loop-number.number c.lane-lane.result c.lane-lane.ensures.lane)
 
 pub loop-number-preserved : goal.loop-number-preserved
@@ -55,21 +61,24 @@ loop-number-preserved g c =
     let there = c.deref_mut-in-loop-number.ensures.value ∙ first in
     let second : (with_items (with_items was middle) last).items ≡ last =
     with_items_is (with_items was middle) last (c.add_in.auto.workers ∙ (ap (λ (xs : List SideIs). length xs) there ∙ long)) in
-    let marked = mark_lane job graph i c.loop-number.invariant.0 lane T R was.items old c.lane-lane.ensures.lane c.in_ok-tx.ensures.tx c.in_ok-tx.ensures.rx c.in_ok-tx.ensures.lane c.loop-number.invariant.1 in
+    let marked = mark_lane job graph i c.loop-number.invariant.sorted.0 lane T R was.items old c.lane-lane.ensures.lane c.in_ok-tx.ensures.tx c.in_ok-tx.ensures.rx c.in_ok-tx.ensures.lane c.loop-number.invariant.sorted.1 in
     let m : middle ≡ with_out lane.sender (T ∷ []) was.items = c.in_ok-add_out.ensures.workers ∙ ap (with_out lane.sender (T ∷ [])) c.deref_mut.ensures.value in
     let n : last ≡ changed (more_in (R ∷ [])) lane.receiver middle = c.in_ok-add_in.ensures ∙ ap (changed (more_in (R ∷ [])) lane.receiver) there in
-    let all : (with_items (with_items was middle) last).items ≡ changed (more_in (R ∷ [])) lane.receiver (with_out lane.sender (T ∷ []) was.items) = second ∙ (n ∙ ap (changed (more_in (R ∷ [])) lane.receiver) m) in (
-      marked.0,
-      subst (λ (xs : List SideIs). AreMarked job graph (i + 1) marked.0 xs new) (sym all)
-          (subst (AreMarked job graph (i + 1) marked.0 (changed (more_in (R ∷ [])) lane.receiver (with_out lane.sender (T ∷ []) was.items))) (sym c.in_ok-add_out.ensures.feeder) marked.1),
-    )
+    let all : (with_items (with_items was middle) last).items ≡ changed (more_in (R ∷ [])) lane.receiver (with_out lane.sender (T ∷ []) was.items) = second ∙ (n ∙ ap (changed (more_in (R ∷ [])) lane.receiver) m) in record {
+      sorted = (
+        marked.0,
+        subst (λ (xs : List SideIs). AreMarked job graph (i + 1) marked.0 xs new) (sym all)
+            (subst (AreMarked job graph (i + 1) marked.0 (changed (more_in (R ∷ [])) lane.receiver (with_out lane.sender (T ∷ []) was.items))) (sym c.in_ok-add_out.ensures.feeder) marked.1),
+      );
+      capacity = c.in_ok-add_out.ensures.capacity c.args.cap c.in_ok-tx.ensures.capacity c.loop-number.invariant.capacity;
+    }
 
 pub returns-clause-workers : goal.returns-clause-workers
 returns-clause-workers g c w side there =
     let job = (setup_view c.args.setup.now).job in
     let all = ap (λ (t : Topology). length t.lanes) c.args.setup.now.topology_is in
     let le : length (lanes job) ≤ c.loop-number.number = omega (arith, c.len-count.ensures, all, c.loop-number-test.false) in
-    let inv = c.loop-number.invariant in
+    let inv = c.loop-number.invariant.sorted in
     marked_worker job c.graph-graph.result c.loop-number.number inv.0 c.loop-number.workers.items _ w side c.graph-graph.ensures.edges le inv.1 there
 
 pub returns-clause-feeder : goal.returns-clause-feeder
@@ -77,13 +86,16 @@ returns-clause-feeder g c =
     let job = (setup_view c.args.setup.now).job in
     let all = ap (λ (t : Topology). length t.lanes) c.args.setup.now.topology_is in
     let le : length (lanes job) ≤ c.loop-number.number = omega (arith, c.len-count.ensures, all, c.loop-number-test.false) in
-    let inv = c.loop-number.invariant in
+    let inv = c.loop-number.invariant.sorted in
     marked_feeder g.L.Tx.Tx.lane g.L.Tx.Tx.number g.L.Tx.Tx.origin g.L.Tx.Tx.capacity g.L.Tx.Tx.sent g.L.Tx.Tx.full job c.graph-graph.result c.loop-number.number inv.0 c.loop-number.workers.items c.loop-number.feeder.items c.graph-graph.ensures.edges le inv.1
+
+pub returns-clause-capacity : goal.returns-clause-capacity
+returns-clause-capacity g c = c.loop-number.invariant.capacity
 
 pub returns-clause-matched : goal.returns-clause-matched
 returns-clause-matched g c =
-    let inv = c.loop-number.invariant in
+    let inv = c.loop-number.invariant.sorted in
     marked_match (setup_view c.args.setup.now).job c.graph-graph.result c.loop-number.number inv.0 c.loop-number.workers.items _ inv.1
 
 pub returns-clause-many : goal.returns-clause-many
-returns-clause-many g c = c.loop-number.invariant.1.1.many
+returns-clause-many g c = c.loop-number.invariant.sorted.1.1.many
