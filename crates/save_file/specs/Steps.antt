@@ -6,7 +6,7 @@ use Rattle.std.specs.Ordering.{is_lt, nat_cmp}
 use Rattle.jobs.specs.JobView.{JobView}
 use Rattle.versions.specs.declared.request.Request.{Request}
 use Rattle.flow_model.specs.SetupView.{Worker}
-use Rattle.savepoint.specs.SaveReading.{Placed, Spelled, is_named_by, one_more, one_placed}
+use Rattle.savepoint.specs.SaveReading.{Placed, Spelled, is_worker_of, one_more, one_placed}
 use Rattle.savepoint.specs.SaveReading.{placed_of, spelled_of}
 use Rattle.savepoint.specs.declared.fault.SaveFault.{SaveFault}
 use Rattle.savepoint.specs.declared.fault.SaveFault.TheVariants as fault
@@ -15,9 +15,9 @@ abbrev pub spelled_with : List ℕ → ℤ → List ℕ → ℤ → Spelled
 spelled_with name place key count =
     record { name = name; place = place; key = key; count = count }
 
--- the worker counts, and has this node's name and this place
-abbrev pub is_named : JobView → List ℕ → ℤ → Worker → Bool
-is_named job name place who = is_named_by job (spelled_with name place [] (pos 0)) who
+-- the worker counts, has this node's name and this place, and is the one to which the key is led
+abbrev pub takes_key : JobView → List ℕ → ℤ → List ℕ → Worker → Bool
+takes_key job name place key who = is_worker_of job (spelled_with name place key (pos 0)) who
 
 -- the key comes before the other by its bytes
 abbrev pub is_before : List ℕ → List ℕ → Bool

@@ -1,21 +1,23 @@
 // Counts in their places.
-ghost use Rattle.std.specs.Prelude.{◌≡◌, ◌<◌, ◌&&◌, IfOk, length, nat_eq, option_copied, position};
+ghost use Rattle.std.specs.Prelude.{◌≡◌, ◌<◌, ◌≤◌, ◌==◌, ◌&&◌, IfOk, length, nat_eq, position};
+ghost use Rattle.std.specs.Prelude.{option_copied};
 ghost use Rattle.std.specs.Cmp.Lexicographic.{pointwise};
 ghost use Rattle.jobs.specs.Nodes.{is_count};
+ghost use Rattle.tuple_trace.specs.Spread.{spread_of};
 ghost use Rattle.flow_model.specs.Setup.{setup_view};
 ghost use Rattle.flow_model.specs.Workers.{nth_worker, workers_in};
 ghost use Rattle.savepoint.specs.SaveReading.{is_place as is_place_of};
 ghost use Rattle.savepoint.specs.SaveReading.{placed_of as placed_of_spelled};
 ghost use Rattle.savepoint.specs.SaveReading.{stands_behind as stands_behind_of};
-ghost use Rattle.save_file.specs.Steps.{is_before as is_before_of, is_named as is_named_of};
-ghost use Rattle.save_file.specs.Steps.{spelled_with};
+ghost use Rattle.save_file.specs.Steps.{is_before as is_before_of, spelled_with};
+ghost use Rattle.save_file.specs.Steps.{takes_key as takes_key_of};
 ghost use Rattle.save_file.specs.Views.{spelled_view};
 
 use flow_model::Setup;
 use jobs::{Func, NodeDef, TEXT_MAX};
 use std::alloc::Global;
 use std::marker::Model;
-use tuple_trace::{Bytes, NoMemory};
+use tuple_trace::{Bytes, NoMemory, spread};
 
 /// A count in its place: the worker's number, the key and the number.
 #[derive(Drop)]
@@ -42,7 +44,8 @@ pub(crate) struct Spelled<'c> {
     pub(crate) count: i64,
 }
 
-/// The count in its place. `None` if the named worker doesn't count, or the key is too long.
+/// The count in its place. `None` if the named worker doesn't count, or the key is too long or led
+/// to another worker.
 pub(crate) fn placed_of(
     alloc: Global,
     setup: &Setup,
@@ -74,7 +77,7 @@ fn placed_at(
     if key.len() > TEXT_MAX {
         return Ok(None);
     }
-    match worker_named(setup, name, place) {
+    match worker_with(setup, name, place, key) {
         Some(worker) => Ok(Some(Placed {
             worker,
             key: Bytes::from_slice(alloc, key)?,
@@ -84,21 +87,21 @@ fn placed_at(
     }
 }
 
-fn worker_named(setup: &Setup, name: &[u8], place: i64) -> Option<u32>
-    ensures { result ≡ position (is_named_of (setup_view setup.now).job name.now place)
+fn worker_with(setup: &Setup, name: &[u8], place: i64, key: &[u8]) -> Option<u32>
+    ensures { result ≡ position (takes_key_of (setup_view setup.now).job name.now place key.now)
         (workers_in (setup_view setup.now).job) }
 {
     for worker in 0..setup.workers() {
-        if is_named(setup, worker, name, place) {
+        if takes_key(setup, worker, name, place, key) {
             return Some(worker);
         }
     }
     None
 }
 
-fn is_named(setup: &Setup, worker: u32, name: &[u8], place: i64) -> bool
+fn takes_key(setup: &Setup, worker: u32, name: &[u8], place: i64, key: &[u8]) -> bool
     requires { worker < length (workers_in (setup_view setup.now).job) }
-    ensures { result ≡ is_named_of (setup_view setup.now).job name.now place
+    ensures { result ≡ takes_key_of (setup_view setup.now).job name.now place key.now
         (nth_worker (setup_view setup.now).job worker) }
 {
     let at = setup.worker_at(worker);
@@ -106,7 +109,7 @@ fn is_named(setup: &Setup, worker: u32, name: &[u8], place: i64) -> bool
     if !is_node(node, name) {
         return false;
     }
-    is_place(place, at.index)
+    is_led(is_place(place, at.index), key, node.workers, at.index)
 }
 
 // Whether the node counts and has this name.
@@ -120,6 +123,15 @@ fn counts(func: &Func) -> bool
     ensures { result ≡ is_count func.now }
 {
     matches!(func, Func::Count(_))
+}
+
+// Whether a worker is the one that is named, and the key is led to its place.
+fn is_led(named: bool, key: &[u8], workers: u32, place: u32) -> bool
+    requires some { 1 ≤ workers }
+    requires few { workers ≤ 8 }
+    ensures { result ≡ (named && (spread_of key.now workers == place)) }
+{
+    named && spread(key, workers) == place
 }
 
 fn is_place(number: i64, place: u32) -> bool

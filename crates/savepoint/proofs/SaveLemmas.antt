@@ -1,5 +1,5 @@
 -- A savepoint that is written is read again.
-use Rattle.std.proofs.Common.{FitsSigned, w64, ◌≡◌, ◌∙◌, ◌<◌, ◌≤◌, ◌^◌, ℕ, ℤ, zero, suc, List, [], ◌∷◌, inl, inr, refl, sym, subst, ap, arith, lit≤, true, false, Bool, length, map, nat_eq, nat_lt, Some, None, Ok, All, slice_get, take}
+use Rattle.std.proofs.Common.{FitsSigned, IsTrue, w64, ◌≡◌, ◌∙◌, ◌<◌, ◌≤◌, ◌^◌, ℕ, ℤ, zero, suc, List, [], ◌∷◌, inl, inr, refl, sym, subst, ap, arith, lit≤, true, false, Bool, length, map, nat_eq, nat_lt, Some, None, Ok, All, slice_get, take}
 use Rattle.std.specs.Prelude.{not}
 use Rattle.std.specs.Cmp.Lexicographic.{pointwise}
 use Rattle.std.specs.FinMap.{entries}
@@ -20,7 +20,7 @@ use Rattle.flow_model.specs.Workers.{workers_in}
 use Rattle.flow_model.proofs.ElementLemmas.{IsIn, at_of_all, in_any, in_flat_map, in_map, in_of_place, place_of_in}
 use Rattle.flow_model.proofs.WorkerLemmas.{IsWorker, all_workers, worker_with}
 use Rattle.savepoint.specs.Parts.{issued_up_to}
-use Rattle.savepoint.specs.SaveReading.{CanSave, begin_by, begin_in, counts_at, head_of, placed_from, save_of, spelled_from}
+use Rattle.savepoint.specs.SaveReading.{CanSave, begin_by, begin_in, counts_at, head_of, is_led_to, placed_from, save_of, spelled_from}
 use Rattle.savepoint.specs.SaveText.{head_record, save_text}
 use Rattle.savepoint.proofs.CutLemmas.{get_take, get_zip}
 use Rattle.savepoint.proofs.NumberLemmas.{head-decimal}
@@ -91,8 +91,8 @@ module _ (setup : SetupView) (rows : ℕ) (begin : Begin) (lawful : IsLawful set
       let n = (worker_with setup.job k p.0 z.0).0 in
       omega (arith, n)
 
-  -- a count is of a worker that counts, with a short text and a small number
-  of_worker : (q : Count) → IsIn q (all_counts workers) → IsWorker setup.job q.0 × (is_count q.0.func ≡ true) × (length q.1.0 ≤ 48) × FitsSigned w64 q.1.1
+  -- a count is of a worker that counts and to which its text is led, with a short text and a small number
+  of_worker : (q : Count) → IsIn q (all_counts workers) → IsWorker setup.job q.0 × (is_count q.0.func ≡ true) × (length q.1.0 ≤ 48) × FitsSigned w64 q.1.1 × (is_led_to setup.job q.1.0 q.0 ≡ true)
   of_worker q i =
       let p = in_flat_map counts_of q workers i in
       let e = in_map (λ (e : List ℕ × ℤ). (p.0.0, e)) q (entries p.0.1) p.2 in
@@ -101,11 +101,14 @@ module _ (setup : SetupView) (rows : ℕ) (begin : Begin) (lawful : IsLawful set
       let who : q.0 ≡ p.0.0 = ap (λ (r : Count). r.0) e.2 in
       let entry : q.1 ≡ e.0 = ap (λ (r : Count). r.1) e.2 in
       let each = at_of_all (λ (counts : Counts). All (λ (e : List ℕ × ℤ). (length e.0 ≤ 48) × FitsSigned w64 e.1) (entries counts)) p.0.1 begin.states can.short (in_of_place p.0.1 begin.states k.0 z.1) in
-      let one = at_of_all (λ (e : List ℕ × ℤ). (length e.0 ≤ 48) × FitsSigned w64 e.1) e.0 (entries p.0.1) each e.1 in (
+      let one = at_of_all (λ (e : List ℕ × ℤ). (length e.0 ≤ 48) × FitsSigned w64 e.1) e.0 (entries p.0.1) each e.1 in
+      let led : is_led_to setup.job e.0.0 p.0.0 ≡ true =
+      at_of_all (λ (e : List ℕ × ℤ). IsTrue (is_led_to setup.job e.0 p.0.0)) e.0 (entries p.0.1) (can.led k.0 p.0.0 p.0.1 z.0 z.1) e.1 in (
         subst (IsWorker setup.job) (sym who) (worker_with setup.job k.0 p.0.0 z.0).1,
         ap (λ (r : Worker). is_count r.func) who ∙ counts_here p.0 k.0 z.0 z.1 e.0 e.1 (is_count p.0.0.func) refl,
         subst (λ (e : List ℕ × ℤ). length e.0 ≤ 48) (sym entry) one.0,
         subst (λ (e : List ℕ × ℤ). FitsSigned w64 e.1) (sym entry) one.1,
+        subst (λ (r : Worker). is_led_to setup.job q.1.0 r ≡ true) (sym who) (subst (λ (e : List ℕ × ℤ). is_led_to setup.job e.0 p.0.0 ≡ true) (sym entry) led),
       )
     where
       counts_here : (p : Worker × Counts) (k : ℕ) → slice_get (workers_in setup.job) k ≡ Some p.0 → slice_get begin.states k ≡ Some p.1 → (e : List ℕ × ℤ) → IsIn e (entries p.1)
@@ -118,7 +121,7 @@ module _ (setup : SetupView) (rows : ℕ) (begin : Begin) (lawful : IsLawful set
 
   placed : placed_from setup.job 1 None (map (spelled_as setup.job) (all_counts workers)) ≡ Ok (map placed_as (all_counts workers))
   placed =
-      all-placed setup.job 1 None (all_counts workers) (λ q i. let w = of_worker q i in placed-count setup.job (distinct_names setup.job lawful) q w.0 w.1 w.2)
+      all-placed setup.job 1 None (all_counts workers) (λ q i. let w = of_worker q i in placed-count setup.job (distinct_names setup.job lawful) q w.0 w.1 w.2 w.4)
       (all_behind 0 workers None tt numbered)
 
   states : map (counts_at (map placed_as (all_counts workers))) (workers_in setup.job) ≡ begin.states

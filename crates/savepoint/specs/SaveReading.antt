@@ -1,8 +1,8 @@
 -- The beginning that the text of a savepoint tells.
 use Rattle.std.specs.Prelude.{◌≡◌, ◌<◌, ◌≤◌, ◌+◌, ◌-◌, ◌^◌, ◌==◌, ◌&&◌, ◌||◌, ℕ, ℤ, All, Bool}
-use Rattle.std.specs.Prelude.{FitsSigned, pos, negsuc, true, false, List, [], ◌∷◌, Option, Some}
-use Rattle.std.specs.Prelude.{None, Result, Ok, Err, length, map, filter, codes, nat_eq, nat_le}
-use Rattle.std.specs.Prelude.{nat_lt, option_map, position, slice_get, if◌then◌else◌}
+use Rattle.std.specs.Prelude.{FitsSigned, IsTrue, pos, negsuc, true, false, List, [], ◌∷◌, Option}
+use Rattle.std.specs.Prelude.{Some, None, Result, Ok, Err, length, map, filter, codes, nat_eq}
+use Rattle.std.specs.Prelude.{nat_le, nat_lt, option_map, position, slice_get, if◌then◌else◌}
 use Rattle.std.specs.Cmp.Lexicographic.{pointwise, slice_cmp}
 use Rattle.std.specs.FinMap.{entries, from_entries}
 use Rattle.std.specs.Int.{w64}
@@ -10,8 +10,10 @@ use Rattle.std.specs.Ordering.{nat_cmp}
 use Rattle.std.specs.Ordering.{is_lt}
 use Rattle.csv.specs.Reading.{default_config, records, strip_bom}
 use Rattle.tuple_trace.specs.Digits.{at_most, digits_of}
+use Rattle.tuple_trace.specs.Spread.{spread_of}
 use Rattle.jobs.specs.Nodes.{is_count}
 use Rattle.jobs.specs.JobView.{JobView}
+use Rattle.jobs.specs.declared.func.NodeDef.{NodeDef}
 use Rattle.keyed_state.specs.Counts.{Counts}
 use Rattle.jobs.specs.Limits.{text_max}
 use Rattle.payments.specs.Spelling.{number_of}
@@ -96,22 +98,31 @@ abbrev pub is_place : ℤ → ℕ → Bool
 is_place (pos n) place = n == place
 is_place (negsuc n) place = false
 
--- the worker counts, and is the one that is named
-abbrev pub is_named_by : JobView → Spelled → Worker → Bool
-is_named_by job spelled who =
+-- the place among a node's workers to which the spread of its keys leads this key
+abbrev pub place_of_key : Option NodeDef → List ℕ → ℕ
+place_of_key None key = 0
+place_of_key (Some def) key = spread_of key def.workers
+
+-- the spread of the job's keys leads this key to the worker
+abbrev pub is_led_to : JobView → List ℕ → Worker → Bool
+is_led_to job key who = place_of_key (slice_get job.nodes who.node) key == who.place
+
+-- the worker counts, is the one that is named, and is the one to which the key is led
+abbrev pub is_worker_of : JobView → Spelled → Worker → Bool
+is_worker_of job spelled who =
     is_count who.func
     && (is_text (name_of (slice_get job.nodes who.node)) spelled.name
-    && is_place spelled.place who.place)
+    && (is_place spelled.place who.place && is_led_to job spelled.key who))
 
 -- the count at the worker with this number
 abbrev pub placed_by : Spelled → ℕ → Placed
 placed_by spelled worker = record { worker = worker; key = spelled.key; count = spelled.count }
 
--- a count in its place, if the named worker counts and the key isn't too long
+-- a count in its place, if the named worker counts, the key is led to it and isn't too long
 abbrev pub placed_of : JobView → Spelled → Option Placed
 placed_of job spelled =
     if nat_le (length spelled.key) text_max
-    then option_map (placed_by spelled) (position (is_named_by job spelled) (workers_in job))
+    then option_map (placed_by spelled) (position (is_worker_of job spelled) (workers_in job))
     else None
 
 -- the count comes after the one before it: at a later worker, or with a later key by its bytes
@@ -177,8 +188,8 @@ abbrev pub save_of : SetupView → ℕ → List ℕ → Result Begin SaveFault
 save_of setup rows bytes = begin_in setup rows (records default_config (strip_bom bytes))
 
 -- What can be saved and read again: the row is one of the rows, and the requests are those that
--- are issued up to it. Each worker has counts of short keys that fit 64 bits. A worker that doesn't
--- count has none.
+-- are issued up to it. Each worker has counts of short keys that are led to it, and the counts fit
+-- 64 bits. A worker that doesn't count has none.
 pub record CanSave (setup : SetupView) (rows : ℕ) (begin : Begin) : Type 0 where
   pub within : begin.row ≤ rows
   pub row : begin.row < 2 ^ 63
@@ -188,6 +199,10 @@ pub record CanSave (setup : SetupView) (rows : ℕ) (begin : Begin) : Type 0 whe
   pub counts :
       (w : ℕ) (who : Worker) (counts : Counts) → slice_get (workers_in setup.job) w ≡ Some who →
       slice_get begin.states w ≡ Some counts → is_count who.func ≡ false → entries counts ≡ []
+  pub led :
+      (w : ℕ) (who : Worker) (counts : Counts) → slice_get (workers_in setup.job) w ≡ Some who →
+      slice_get begin.states w ≡ Some counts →
+      All (λ (e : List ℕ × ℤ). IsTrue (is_led_to setup.job e.0 who)) (entries counts)
   pub short :
       All (λ (counts : Counts).
       All (λ (e : List ℕ × ℤ). (length e.0 ≤ text_max) × FitsSigned w64 e.1) (entries counts))

@@ -15,7 +15,8 @@ pub enum SaveFault {
     Past(u64),
     /// The savepoint has another number of requests than are issued up to its row, which is this.
     Count(u64),
-    /// The record names no worker that counts, has a key that is too long, or comes too early.
+    /// The record names no worker that counts, has a key that is too long or that the job leads to
+    /// another worker, or comes too early.
     State(u64),
     /// Out of memory.
     NoMemory,

@@ -1,7 +1,7 @@
 //! The ten payments in two parts, cut after row 8.
 
 use crate::tests::texts::TEN;
-use crate::tests::{Around, Left, leaves};
+use crate::tests::{Around, Input, Left, leaves};
 
 /// What stands in files that a call doesn't change.
 const OLD: &str = "old\n";
@@ -73,7 +73,7 @@ fn resume(rt: HostRuntime) {
 }
 
 /// Savepoints that are refused, and the line. Where two codes hold, it is the first.
-const REFUSED: [(&str, &str); 10] = [
+const REFUSED: [(&str, &str); 11] = [
     ("", "fault 10 S1 record 0\n"),
     ("fries,save,8\n", "fault 10 S1 record 0\n"),
     ("fries,save,11,1\ntally,0,dee\n", "fault 10 S1 record 1\n"),
@@ -99,6 +99,10 @@ const REFUSED: [(&str, &str); 10] = [
         "fault 10 S4 record 3\n",
     ),
     ("fries,save,8,2\ntally,2,dee,1\n", "fault 10 S4 record 1\n"),
+    (
+        "fries,save,8,2\ntally,0,dee,1\ntally,0,gus,1\n",
+        "fault 10 S4 record 2\n",
+    ),
 ];
 
 #[test]
@@ -115,5 +119,93 @@ fn refused_savepoints(rt: HostRuntime) {
                 "{line} {save}"
             );
         }
+    }
+}
+
+const FOUR: &str = "source,account\ncard,ann\ncard,bob\ncard,ann\ncard,ann\n";
+
+/// A counter of two workers: `ann` and `bob` go to the second.
+const TWO: Input<'static> = Input {
+    job: r#"columns = ["account:text", "seen:number:own"]
+node = [
+  { name = "card", kind = "source" },
+  { name = "c", kind = "count", workers = 2, key = "account", add = 1, into = "seen" },
+  { name = "out", kind = "sink", columns = ["account", "seen"] },
+]
+edge = [{ from = "card", to = "c" }, { from = "c", to = "out" }]
+"#,
+    requests: "",
+    payments: FOUR,
+};
+
+/// A counter of three workers: `bob` goes to the second, and `ann` to the third.
+const THREE: Input<'static> = Input {
+    job: r#"columns = ["account:text", "seen:number:own"]
+node = [
+  { name = "card", kind = "source" },
+  { name = "c", kind = "count", workers = 3, key = "account", add = 1, into = "seen" },
+  { name = "out", kind = "sink", columns = ["account", "seen"] },
+]
+edge = [{ from = "card", to = "c" }, { from = "c", to = "out" }]
+"#,
+    requests: "",
+    payments: FOUR,
+};
+
+const COUNTED: &str = "fries,save,3,0\nc,1,ann,2\nc,1,bob,1\n";
+
+const FOURTH_ALERT: &str = "sink,row,account,seen\nout,4,ann,3\n";
+
+/// A job, a command, and the status, the line and the alerts that it leaves, if these are compared.
+type Call = (
+    Input<'static>,
+    &'static str,
+    u8,
+    &'static str,
+    Option<&'static str>,
+);
+
+const CALLS: [Call; 3] = [
+    (
+        TWO,
+        "save job requests payments alerts audit save 3",
+        0,
+        "rows 3 alerts 3 requests 0 refused 0\n",
+        None,
+    ),
+    (
+        TWO,
+        "resume job requests payments save alerts audit",
+        0,
+        "rows 1 alerts 1 requests 0 refused 0\n",
+        Some(FOURTH_ALERT),
+    ),
+    (
+        THREE,
+        "resume job requests payments save alerts audit",
+        10,
+        "fault 10 S4 record 1\n",
+        Some(OLD),
+    ),
+];
+
+/// The counts of two workers aren't read if the counter has three, which get other keys.
+#[test]
+fn another_number_of_workers(rt: HostRuntime) {
+    for (input, line, status, out, alerts) in CALLS {
+        let around = Around {
+            input,
+            before: [OLD, OLD, COUNTED],
+            failing: None,
+        };
+        let left = Left {
+            status,
+            out,
+            after: [alerts, None, Some(COUNTED)],
+        };
+        assert!(rt;
+            leaves(&rt, rt.alloc(), around, line, left),
+            "{line}: {status}"
+        );
     }
 }
