@@ -1,6 +1,7 @@
 // The whole message of a call.
-ghost use Rattle.std.specs.Prelude.{◌≡◌, [], ℕ, List, None, IfOk, IfSome, string_bytes};
+ghost use Rattle.std.specs.Prelude.{◌≡◌, [], ℕ, List, None, Some, IfOk, IfSome, string_bytes};
 ghost use Rattle.advice.specs.Codes.{code_of, refusal_code};
+ghost use Rattle.advice.specs.Table.{help_view, help_with};
 ghost use Rattle.advice.specs.Told.{Tells, message as message_of};
 
 use crate::call::{Call, title_of};
@@ -46,8 +47,9 @@ pub fn advice<L: Look>(alloc: Global, call: Call<'_>, look: &mut L) -> Result<St
 // ---- a message
 
 fn message(alloc: Global, head: &str, help: Help, detail: &str) -> Result<String, AllocError>
-    ensures text { IfOk result (λ text. string_bytes text ≡ message_of head.now help detail.now) }
-    ensures tells { (code : List ℕ) → help.code.now ≡ code →
+    ensures text { IfOk result (λ text. string_bytes text
+        ≡ message_of head.now (help_view help.entry) detail.now) }
+    ensures tells { (code : List ℕ) → help_with code ≡ Some (help_view help.entry) →
         IfOk result (λ text. Tells code (string_bytes text)) }
 {
     let Help { cause, cure, .. } = help;

@@ -1,7 +1,8 @@
 // Which row of the table tells of a fault.
-ghost use Rattle.std.specs.Prelude.{◌≡◌};
+ghost use Rattle.std.specs.Prelude.{◌≡◌, Some};
 ghost use Rattle.advice.specs.Codes.{code_of, job_code, payments_code, refusal_code, requests_code};
 ghost use Rattle.advice.specs.Codes.{audit_code, save_code};
+ghost use Rattle.advice.specs.Table.{help_view, help_with};
 
 use crate::table::*;
 use audit_laws::AuditFault;
@@ -12,8 +13,9 @@ use savepoint::SaveFault;
 use versions::QFault;
 
 /// What is said of a fault.
+#[tactic(auto, unfolding(crate::specs::Table::help_with))]
 pub fn help_of(fault: Fault) -> Help
-    ensures { result.code.now ≡ code_of fault }
+    ensures { help_with (code_of fault) ≡ Some (help_view result) }
 {
     match fault {
         Fault::Usage => USAGE,
@@ -33,8 +35,9 @@ pub fn help_of(fault: Fault) -> Help
     }
 }
 
+#[tactic(auto, unfolding(crate::specs::Table::help_with))]
 fn help_of_save(fault: SaveFault) -> Help
-    ensures { result.code.now ≡ save_code fault }
+    ensures { help_with (save_code fault) ≡ Some (help_view result) }
 {
     match fault {
         SaveFault::Shape(_) => S1,
@@ -45,8 +48,9 @@ fn help_of_save(fault: SaveFault) -> Help
     }
 }
 
+#[tactic(auto, unfolding(crate::specs::Table::help_with))]
 fn help_of_audit(fault: AuditFault) -> Help
-    ensures { result.code.now ≡ audit_code fault }
+    ensures { help_with (audit_code fault) ≡ Some (help_view result) }
 {
     match fault {
         AuditFault::Shape(_) => V1,
@@ -59,8 +63,9 @@ fn help_of_audit(fault: AuditFault) -> Help
     }
 }
 
+#[tactic(auto, unfolding(crate::specs::Table::help_with))]
 fn help_of_job(fault: JobFault) -> Help
-    ensures { result.code.now ≡ job_code fault }
+    ensures { help_with (job_code fault) ≡ Some (help_view result) }
 {
     match fault {
         JobFault::NotToml => J1,
@@ -77,8 +82,9 @@ fn help_of_job(fault: JobFault) -> Help
     }
 }
 
+#[tactic(auto, unfolding(crate::specs::Table::help_with))]
 fn help_of_requests(fault: ReqFileFault) -> Help
-    ensures { result.code.now ≡ requests_code fault }
+    ensures { help_with (requests_code fault) ≡ Some (help_view result) }
 {
     match fault {
         ReqFileFault::NotToml => F1,
@@ -88,8 +94,9 @@ fn help_of_requests(fault: ReqFileFault) -> Help
     }
 }
 
+#[tactic(auto, unfolding(crate::specs::Table::help_with))]
 fn help_of_payments(fault: PFault) -> Help
-    ensures { result.code.now ≡ payments_code fault }
+    ensures { help_with (payments_code fault) ≡ Some (help_view result) }
 {
     match fault {
         PFault::NoHeader => P1,
@@ -104,8 +111,9 @@ fn help_of_payments(fault: PFault) -> Help
 }
 
 /// What is said of a refused request.
+#[tactic(auto, unfolding(crate::specs::Table::help_with))]
 pub fn help_of_refusal(fault: QFault) -> Help
-    ensures { result.code.now ≡ refusal_code fault }
+    ensures { help_with (refusal_code fault) ≡ Some (help_view result) }
 {
     match fault {
         QFault::NoNode(_) => Q1,

@@ -21,4 +21,4 @@ pub use advice_text::advice;
 pub use call::Call;
 pub use codes::{help_of, help_of_refusal};
 pub use look::{HostLook, Look, ShelfLook};
-pub use table::Help;
+pub use table::{Help, HelpIn};

@@ -1,15 +1,19 @@
-//! What is said of each code. docs/ERRORS.md is made from these rows by tools/errors.
+//! What is said of each code. docs/ERRORS.md is made from these rows by tools/errors. A new row has
+//! its place in `specs/Table.antt` too.
 
-/// What is said of a code, in plain sentences.
+/// What is said of a code, in plain sentences. Contracts see them as lists of bytes.
 #[derive(Clone, Copy)]
-pub struct Help {
+pub struct HelpIn<T> {
     /// The code as it is printed, or the status of a fault that has no code.
-    pub code: &'static str,
+    pub code: T,
     /// What the code means.
-    pub cause: &'static str,
+    pub cause: T,
     /// What to do.
-    pub cure: &'static str,
+    pub cure: T,
 }
+
+/// A row of the table.
+pub type Help = HelpIn<&'static str>;
 
 pub const USAGE: Help = Help {
     code: "1",

@@ -1,4 +1,5 @@
 use Rattle.std.proofs.Common.{append_assoc}
+use Rattle.advice.specs.Table.{help_view}
 use Rattle.advice.proofs.advice_text.message.Goals as goal
 
 pub returns-clause-text : goal.returns-clause-text
@@ -8,7 +9,7 @@ pub returns-clause-tells : goal.returns-clause-tells
 returns-clause-tells c = λ code is. record {
   head = c.args.head.now;
   detail = c.args.detail.now;
-  help = c.args.help;
-  code_is = is;
+  help = help_view c.args.help;
+  help_is = is;
   text_is = returns-clause-text c;
 }
