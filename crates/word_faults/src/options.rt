@@ -1,0 +1,181 @@
+// What is wrong with the options of a command.
+use crate::forms::{Form, HelpLine, help_line};
+use crate::nearest::Nearest;
+use crate::shown::push_shown;
+use std::alloc::{AllocError, Global};
+use std::fmt::Write;
+use tuple_trace::{Word, digits_up_to};
+
+/// Appends the first thing that is wrong with the options among the words after a command.
+pub(crate) fn push_option_fault(
+    alloc: Global,
+    form: Form,
+    words: &[Word],
+    out: &mut String,
+) -> Result<(), AllocError> {
+    let mut awaited = None;
+    for word in words {
+        match awaited {
+            Some(line) => {
+                push_number_fault(line, word.as_str(), out)?;
+                awaited = None;
+            }
+            None => awaited = push_word_fault(alloc, form, words, word.as_str(), out)?,
+        }
+        if !out.is_empty() {
+            return Ok(());
+        }
+    }
+    push_awaited(awaited, out)
+}
+
+/// Appends what is wrong with a number, if its name or option has limits.
+pub(crate) fn push_number_fault(
+    line: HelpLine,
+    word: &str,
+    out: &mut String,
+) -> Result<(), AllocError> {
+    let Some(limits) = line.limits() else {
+        return Ok(());
+    };
+    let (name, least, most) = (line.name, limits.least, limits.most);
+    match digits_up_to(word.as_bytes(), most) {
+        Some(number) if number >= least => Ok(()),
+        _ => {
+            write!(out, "`{name}` is {least} to {most}, and here it is ")?;
+            push_shown(word, out)?;
+            out.push('.')
+        }
+    }
+}
+
+/// Whether a word asks for help or the version.
+pub(crate) fn is_alone(word: &str) -> bool {
+    word == "--help" || word == "-h" || word == "--version" || word == "-V"
+}
+
+/// Appends where a word stands that asks for help or the version.
+pub(crate) fn push_alone(word: &str, out: &mut String) -> Result<(), AllocError> {
+    push_shown(word, out)?;
+    out.push_str(" stands alone; `--help` may also be the one word after a command.")
+}
+
+fn push_awaited(awaited: Option<HelpLine>, out: &mut String) -> Result<(), AllocError> {
+    match awaited {
+        Some(line) => {
+            let name = line.name;
+            write!(out, "No number follows `{name}`.")
+        }
+        None => Ok(()),
+    }
+}
+
+// Appends what is wrong with a word, if it is an option. Returns the line of the option whose
+// number is the next word.
+fn push_word_fault(
+    alloc: Global,
+    form: Form,
+    words: &[Word],
+    word: &str,
+    out: &mut String,
+) -> Result<Option<HelpLine>, AllocError> {
+    let (name, value) = parts_of(word);
+    if !name.starts_with('-') {
+        return Ok(None);
+    }
+    let Some(line) = form.line(name) else {
+        push_no_option(alloc, form, name, out)?;
+        return Ok(None);
+    };
+    if count_of(words, name) > 1 {
+        write!(out, "`{name}` stands more than once.")?;
+        return Ok(None);
+    }
+    match value {
+        Some(value) => {
+            push_value_fault(line, value, out)?;
+            Ok(None)
+        }
+        None if line.takes_number() => Ok(Some(line)),
+        None => Ok(None),
+    }
+}
+
+fn push_value_fault(line: HelpLine, value: &str, out: &mut String) -> Result<(), AllocError> {
+    let name = line.name;
+    if line.takes_number() {
+        push_number_fault(line, value, out)
+    } else {
+        write!(out, "`{name}` takes no value.")
+    }
+}
+
+// An option, and its value if both are one word.
+fn parts_of(word: &str) -> (&str, Option<&str>) {
+    match word.split_once('=') {
+        Some((name, value)) => (name, Some(value)),
+        None => (word, None),
+    }
+}
+
+// How many of the words are this option.
+fn count_of(words: &[Word], option: &str) -> usize {
+    let mut count = 0usize;
+    for word in words {
+        if parts_of(word.as_str()).0 == option {
+            count = count.saturating_add(1);
+        }
+    }
+    count
+}
+
+fn push_no_option(
+    alloc: Global,
+    form: Form,
+    name: &str,
+    out: &mut String,
+) -> Result<(), AllocError> {
+    if is_alone(name) {
+        return push_alone(name, out);
+    }
+    if !name.starts_with("--") {
+        push_shown(name, out)?;
+        return out.push_str(" is no option; a name that begins with `-` is written as `./-x`.");
+    }
+    let command = form.command;
+    write!(out, "`{command}` has no option ")?;
+    push_shown(name, out)?;
+    push_near(alloc, form, name, out)?;
+    push_options(form, out)
+}
+
+fn push_near(alloc: Global, form: Form, name: &str, out: &mut String) -> Result<(), AllocError> {
+    let mut nearest = Nearest::new(name);
+    for line in form.help.lines() {
+        if let Some(line) = option_line(line) {
+            nearest.look(alloc, line.name)?;
+        }
+    }
+    nearest.push(out)
+}
+
+fn push_options(form: Form, out: &mut String) -> Result<(), AllocError> {
+    let mut has_some = false;
+    for line in form.help.lines() {
+        if let Some(line) = option_line(line) {
+            out.push_str(if has_some { ", " } else { " Its options are " })?;
+            push_shown(line.name, out)?;
+            has_some = true;
+        }
+    }
+    out.push_str(if has_some { "." } else { " It has none." })
+}
+
+fn option_line(line: &'static str) -> Option<HelpLine> {
+    let line = help_line(line)?;
+    if line.name.starts_with("--") {
+        Some(line)
+    } else {
+        None
+    }
+}
