@@ -10,7 +10,7 @@ _fries_options() {
     run) echo "--threads --capacity --ordered --help" ;;
     live | save | resume) echo "--threads --capacity --help" ;;
     plan | verify) echo "--ordered --help" ;;
-    make) echo "--threads --help" ;;
+    make) echo "--threads --ordered --help" ;;
     first | check) echo "--help" ;;
   esac
 }

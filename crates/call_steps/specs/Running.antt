@@ -116,6 +116,10 @@ serial_lines done = if done.ran.setup.ordered then serial_line
 abbrev pub run_lines : Done → List ℕ
 run_lines done = (refused_lines done.refused ++ serial_lines done) ++ summary_line (summary_of done)
 
+-- what is printed of rows that were made: only the summary, in either mode
+abbrev pub made_lines : Done → List ℕ
+made_lines done = summary_line (summary_of done)
+
 -- the call ran something that is so, and came to storing its files and printing the lines of that
 pub record Runs (IsSo : Done → Type 0) (alerts : List ℕ) (audit save : Option (List ℕ))
     (from : Option Begin) (old new : World) (answer : Answer) : Type 0 where

@@ -11,6 +11,7 @@ ghost use Rattle.call_steps.specs.Outcomes.{EndsAfterRun};
 ghost use Rattle.payments.specs.World.{world};
 ghost use Rattle.call_steps.specs.SetupFor.{AreSame};
 ghost use Rattle.call_steps.specs.Running.{audit_of, files_of, run_lines as run_lines_of, saved_of};
+ghost use Rattle.call_steps.specs.Running.{made_lines as made_lines_of};
 ghost use Rattle.call_steps.specs.Running.{serial_lines as serial_lines_of};
 ghost use Rattle.call_steps.specs.Running.{summary_of as summary_of_done, IsDoneOf, IsRunOf};
 ghost use Rattle.serial_order.specs.Serials.{serials};
@@ -300,6 +301,15 @@ pub fn run_lines(alloc: Global, done: &Done) -> Result<Bytes, NoMemory>
     lines.extend_from_slice(serial_lines(alloc, done)?.as_slice())?;
     lines.extend_from_slice(summary.as_bytes())?;
     Ok(lines)
+}
+
+/// What is printed of rows that were made: only the summary, in either mode.
+pub fn made_lines(alloc: Global, done: &Done) -> Result<Bytes, NoMemory>
+    requires { length done.now.ran.journals ≡ worker_count done.now.ran.setup.job.nodes }
+    ensures { IfOk result (λ lines. lines ≡ made_lines_of done.now) }
+{
+    let summary = summary_line(alloc, summary_of(done)?)?;
+    Bytes::from_slice(alloc, summary.as_bytes())
 }
 
 // The line of an ordered run, and nothing of any other.

@@ -160,6 +160,10 @@ make_threads = record {
   use_of = λ value rs. refl;
 }
 
+make_ordered : IsFlag (rules_of topic.Make) ordered_flag
+unfolding clap_on_literals
+make_ordered = record { rule = rule_called (rules_of topic.Make) (codes "ordered"); dashes = refl; long = refl; by_long = refl; takes = refl; use_of = λ rs. refl }
+
 save_job : IsName (rules_of topic.Save) 1 (codes "job")
 unfolding clap_on_literals
 save_job = record { rule = rule_at (rules_of topic.Save) 1; at = refl; one = refl; single = refl; last = refl; next = refl; by_id = refl; use_of = λ value rs. refl }
@@ -355,7 +359,7 @@ reads topic.First other = record { names = (first_payments, (first_alerts, (firs
 reads topic.Check other = record { names = (check_job, tt); options = tt; flags = tt }
 reads topic.Plan other = record { names = (plan_job, (plan_requests, tt)); options = tt; flags = (plan_ordered, tt) }
 reads topic.Run other = record { names = (run_job, (run_requests, (run_payments, (run_alerts, (run_audit, tt))))); options = (run_threads, (run_capacity, tt)); flags = (run_ordered, tt) }
-reads topic.Make other = record { names = (make_job, (make_seed, (make_rows, tt))); options = (make_threads, tt); flags = tt }
+reads topic.Make other = record { names = (make_job, (make_seed, (make_rows, tt))); options = (make_threads, tt); flags = (make_ordered, tt) }
 reads topic.Save other = record { names = (save_job, (save_requests, (save_payments, (save_alerts, (save_audit, (save_save, (save_rows, tt))))))); options = (save_threads, (save_capacity, tt)); flags = tt }
 reads topic.Resume other = record { names = (resume_job, (resume_requests, (resume_payments, (resume_save, (resume_alerts, (resume_audit, tt)))))); options = (resume_threads, (resume_capacity, tt)); flags = tt }
 reads topic.Live other = record { names = (live_job, (live_requests, (live_payments, (live_alerts, (live_audit, tt))))); options = (live_threads, (live_capacity, tt)); flags = tt }

@@ -47,12 +47,14 @@ pub record RunAsked : Type 0 where
   pub audit : Text
   pub size : EngineSize
 
--- what `make` is asked to do: the job file, the seed, how many rows, and by how many threads
+-- what `make` is asked to do: the job file, the seed, how many rows, by how many threads, and
+-- whether rows and requests are to have one order
 pub record MakeAsked : Type 0 where
   pub job : Text
   pub seed : ℕ
   pub rows : ℕ
   pub threads : ℕ
+  pub ordered : Bool
 
 -- what `save` is asked to do: a run, the savepoint that it is to write, and after how many rows
 pub record SaveAsked : Type 0 where
@@ -126,6 +128,7 @@ make_asked make = record {
   seed = make.seed;
   rows = make.rows;
   threads = make.threads;
+  ordered = make.ordered;
 }
 
 -- what the files of `resume` ask for

@@ -83,7 +83,7 @@ help_of topic.Run =
     ++ codes "\n"
     ++ codes "example: fries run job.toml requests.toml pay.csv alerts.csv audit.csv --threads 4\n"
 help_of topic.Make =
-    codes "usage: fries make JOB SEED ROWS [--threads N]\n"
+    codes "usage: fries make JOB SEED ROWS [--threads N] [--ordered]\n"
     ++ codes "\n"
     ++ codes "Makes rows from a seed, runs them without requests, and prints the summary alone.\n"
     ++ codes "\n"
@@ -91,6 +91,7 @@ help_of topic.Make =
     ++ codes "  SEED         what the rows are made from, 0 to 18446744073709551615\n"
     ++ codes "  ROWS         rows, 0 to 4294967295; times the weight of the job at most 1048576\n"
     ++ codes "  --threads N  threads, 1 to 16; without it, 1\n"
+    ++ codes "  --ordered    gives rows and requests one order; without requests nothing changes\n"
     ++ codes "\n"
     ++ codes "example: fries make job.toml 7 1000\n"
 help_of topic.Save =

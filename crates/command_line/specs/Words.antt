@@ -63,7 +63,7 @@ abbrev pub make_form : Form
 make_form = record {
   names = codes "job" ∷ codes "seed" ∷ codes "rows" ∷ [];
   options = threads_option ∷ [];
-  flags = [];
+  flags = ordered_flag ∷ [];
 }
 
 -- what may follow the word `save`
@@ -262,13 +262,13 @@ save_with files (Some rows) = option_map (save_after rows) files
 abbrev pub save_of : Values → Option SaveAsked
 save_of values = save_with (resume_of values) (number_in values after_max (codes "rows"))
 
--- a job file and three numbers, which are in range
-abbrev pub make_with : Text → Option ℕ → Option ℕ → Option ℕ → Option MakeAsked
-make_with job (Some seed) (Some rows) (Some threads) =
-    Some (record { job = job; seed = seed; rows = rows; threads = threads })
-make_with job None rows threads = None
-make_with job (Some seed) None threads = None
-make_with job (Some seed) (Some rows) None = None
+-- a job file and three numbers, which are in range, and the mode
+abbrev pub make_with : Text → Option ℕ → Option ℕ → Option ℕ → Bool → Option MakeAsked
+make_with job (Some seed) (Some rows) (Some threads) ordered =
+    Some (record { job = job; seed = seed; rows = rows; threads = threads; ordered = ordered })
+make_with job None rows threads ordered = None
+make_with job (Some seed) None threads ordered = None
+make_with job (Some seed) (Some rows) None ordered = None
 
 -- what the values of `make` ask for
 abbrev pub make_of : Values → Option MakeAsked
@@ -277,6 +277,7 @@ make_of values =
     (number_in values (2 ^ 64 - 1) (codes "seed"))
     (number_in values (2 ^ 32 - 1) (codes "rows"))
     (size_in 1 16 (values (codes "threads")))
+    (is_true (values (codes "ordered")))
 
 -- ---- words
 

@@ -94,6 +94,8 @@ pub struct Make {
     pub rows: u64,
     /// How many threads the engine has, 1 to 16.
     pub threads: u32,
+    /// Whether the run is in ordered mode.
+    pub ordered: bool,
 }
 
 /// The files of the command `save`, and after how many rows it stops.

@@ -79,7 +79,7 @@ pub(crate) fn form_of(topic: Topic) -> Form
         Topic::Make => Form {
             names: &["job", "seed", "rows"],
             options: &[THREADS],
-            flags: &[],
+            flags: &[ORDERED],
         },
         Topic::Save => Form {
             names: &[

@@ -105,7 +105,7 @@ example: fries run job.toml requests.toml pay.csv alerts.csv audit.csv --threads
 ";
 
 const MAKE: &str = "\
-usage: fries make JOB SEED ROWS [--threads N]
+usage: fries make JOB SEED ROWS [--threads N] [--ordered]
 
 Makes rows from a seed, runs them without requests, and prints the summary alone.
 
@@ -113,6 +113,7 @@ Makes rows from a seed, runs them without requests, and prints the summary alone
   SEED         what the rows are made from, 0 to 18446744073709551615
   ROWS         rows, 0 to 4294967295; times the weight of the job at most 1048576
   --threads N  threads, 1 to 16; without it, 1
+  --ordered    gives rows and requests one order; without requests nothing changes
 
 example: fries make job.toml 7 1000
 ";

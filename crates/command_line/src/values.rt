@@ -241,6 +241,7 @@ fn make_of(alloc: Global, values: &ArgMatches<'_>) -> Result<Make, WordsFault>
         seed,
         rows,
         threads,
+        ordered: is_true(values.get_str("ordered")),
     })
 }
 

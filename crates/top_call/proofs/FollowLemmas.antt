@@ -19,7 +19,7 @@ use Rattle.payments.specs.World.{World}
 use Rattle.call_steps.specs.Effects.{IsExcused}
 use Rattle.top_call.specs.Plan.{AnswersPlan, FollowsPlan, IsNoSetup, setup_lines}
 use Rattle.top_call.specs.Run.{AnswersRun, FollowsRun, IsNoRun}
-use Rattle.call_steps.specs.Running.{files_of, run_lines}
+use Rattle.call_steps.specs.Running.{files_of, made_lines, run_lines}
 use Rattle.call_steps.specs.Reading.{AreNoRequests, AreNoRows, AreRequestsOf, AreRowsOf, FollowsFile, RefusesJob, RefusesRequests, RefusesRows, TellsJob, TellsRequests}
 use Rattle.report.specs.declared.fault.Fault.{Fault}
 use Rattle.report.specs.declared.fault.Fault.TheVariants as fault
@@ -198,7 +198,7 @@ follows_make excludes have asked old new answer a =
           record {
             job = follows_read file.Job (λ bytes. IsJobIn bytes of.job) RefusesJob asked.job old new answer.fault (no_job excludes of.job) of.of_job;
             rows = λ job code tells refused. absurd (cc (sym (made job tells) ∙ refused));
-            done = λ job rows tells more. done_or_excused (run_lines r.done) old a.between new answer.fault r.lines.prints a.prints;
+            done = λ job rows tells more. done_or_excused (made_lines r.done) old a.between new answer.fault r.lines.prints a.prints;
           }
     ]
 

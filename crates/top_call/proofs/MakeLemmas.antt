@@ -1,5 +1,5 @@
 -- Rows that are made, and run without requests.
-use Rattle.std.proofs.Common.{◌≡◌, ◌≢◌, ◌∙◌, [], List, Option, Ok, Err, refl, false}
+use Rattle.std.proofs.Common.{◌≡◌, ◌≢◌, ◌∙◌, [], List, Option, Ok, Err, refl}
 use Rattle.command_line.specs.Asked.{MakeAsked}
 use Rattle.jobs.specs.JobView.{JobView}
 use Rattle.payments.specs.Files.{Files}
@@ -21,7 +21,7 @@ unfolding judged_from
 judged_none job = refl
 
 pub made_run : (asked : MakeAsked) (files : Option Files) (job : JobView) (rows : List Row) (done : Done) → IsJobOf files asked.job job → made_rows job asked.seed asked.rows ≡ Ok rows
-    → IsRunOf AreSame false job [] rows done → IsMadeRun asked files done
+    → IsRunOf AreSame asked.ordered job [] rows done → IsMadeRun asked files done
 made_run asked files job rows done of made run =
     record { job = job; rows = rows; of_job = of; of_rows = made; run = run; accepted = run.refused ∙ (run.setup.refused ∙ judged_none job) }
 

@@ -32,7 +32,7 @@ use Rattle.top_call.specs.Resume.{IsNoResume}
 use Rattle.flow_model.specs.SetupView.{SetupView}
 use Rattle.flow_model.specs.Setup.{setup_view}
 use Rattle.call_steps.specs.Live.{live_fault, live_lines}
-use Rattle.call_steps.specs.Running.{files_of, run_lines}
+use Rattle.call_steps.specs.Running.{files_of, made_lines, run_lines}
 use Rattle.live_control.specs.Asking.{AsksIs}
 use Rattle.top_call.specs.Sure.{IsSure, IsSureStatus, SureCallsEndWell}
 use Rattle.call_steps.specs.declared.answer.Answer.{Answer}
@@ -260,7 +260,7 @@ answers_own (Make asked) was now old new answer a sure later first last =
     let before = sure_before answer.fault a.between new a.prints later in
     elim a.outcome [
       | inl s ↦ stopped_own _ old a.between answer s (not_made_own asked old.shelf.files old a.between s.why sure before s.cause)
-      | inr r ↦ prints_own (run_lines r.done) old.out a.between.out answer.fault sure.out before.out r.lines.prints
+      | inr r ↦ prints_own (made_lines r.done) old.out a.between.out answer.fault sure.out before.out r.lines.prints
     ]
 answers_own (Save asked) was now old new answer a sure later first last =
     let before = sure_before answer.fault a.between new a.prints later in

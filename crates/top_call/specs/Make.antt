@@ -1,5 +1,5 @@
 -- What a call of `make` answers, why, and what it leaves.
-use Rattle.std.specs.Prelude.{◌≡◌, ◌≢◌, ◌⊎◌, ⊤, List, [], Option, None, Some, Ok, Err, false}
+use Rattle.std.specs.Prelude.{◌≡◌, ◌≢◌, ◌⊎◌, ⊤, List, [], Option, None, Some, Ok, Err}
 use Rattle.command_line.specs.Asked.{MakeAsked}
 use Rattle.jobs.specs.JobView.{JobView}
 use Rattle.payments.specs.Causes.{Faults}
@@ -15,7 +15,7 @@ use Rattle.payments.specs.World.{World}
 use Rattle.call_steps.specs.Effects.{IsExcused, PrintsFault}
 use Rattle.call_steps.specs.SetupFor.{AreSame}
 use Rattle.call_steps.specs.Reading.{FollowsJob, IsJobOf, IsNoJob, TellsJob}
-use Rattle.call_steps.specs.Running.{IsRunOf, run_lines}
+use Rattle.call_steps.specs.Running.{IsRunOf, made_lines}
 use Rattle.call_steps.specs.declared.answer.Answer.{Answer}
 use Rattle.call_steps.specs.declared.running.Done.{Done}
 
@@ -25,7 +25,7 @@ pub record IsMadeRun (asked : MakeAsked) (files : Option Files) (done : Done) : 
   pub rows : List Row
   pub of_job : IsJobOf files asked.job job
   pub of_rows : made_rows job asked.seed asked.rows ≡ Ok rows
-  pub run : IsRunOf AreSame false job [] rows done
+  pub run : IsRunOf AreSame asked.ordered job [] rows done
   pub accepted : done.refused ≡ []
 
 -- no rows are made for the job, for this fault; memory may run out
@@ -47,7 +47,7 @@ IsNotMade asked files old new why =
 pub record RunsMade (asked : MakeAsked) (old new : World) (answer : Answer) : Type 0 where
   pub done : Done
   pub is_so : IsMadeRun asked old.shelf.files done
-  pub lines : PrintsLines (run_lines done) old new answer.fault
+  pub lines : PrintsLines (made_lines done) old new answer.fault
   pub refused : answer.refused ≡ done.refused
   pub ran : answer.ran ≡ Some done.ran
   pub start : answer.start ≡ None

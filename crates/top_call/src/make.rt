@@ -7,9 +7,9 @@ ghost use Rattle.payments.specs.Made.{made_rows};
 ghost use Rattle.top_call.specs.Make.{EndsMake, IsMadeRun, IsNotMade, MakesNoRows};
 ghost use Rattle.payments.specs.World.{world};
 ghost use Rattle.call_steps.specs.Effects.{Prints};
-ghost use Rattle.call_steps.specs.Running.{run_lines as run_lines_of};
+ghost use Rattle.call_steps.specs.Running.{made_lines as made_lines_of};
 
-use call_steps::{Answer, Done, job_in, print, run_lines, run_on_threads};
+use call_steps::{Answer, Done, job_in, made_lines, print, run_on_threads};
 use command_line::{EngineSize, Make};
 use jobs::Job;
 use payments::{Shelf, Sink, make_rows};
@@ -88,7 +88,7 @@ where
         threads: make.threads,
         capacity: CAPACITY,
     };
-    Ok(run_on_threads(rt, alloc, gate, size, job, &requests, &rows, false)?)
+    Ok(run_on_threads(rt, alloc, gate, size, job, &requests, &rows, make.ordered)?)
 }
 
 #[tactic(auto, using(crate::proofs::MakeLemmas::makes_no_rows))]
@@ -104,9 +104,9 @@ fn rows_made(alloc: Global, job: &Job, make: &Make) -> Result<Rows, Fault>
 #[tactic(auto, using(call_steps::proofs::PrintLemmas::prints_nothing))]
 fn print_run<O: Sink>(alloc: Global, done: &Done, out: &mut O) -> Result<(), Fault>
     requires { length done.now.ran.journals ≡ worker_count done.now.ran.setup.job.nodes }
-    ensures { Prints (run_lines_of done.now)
+    ensures { Prints (made_lines_of done.now)
         (O.state out.old) (O.state out.new) (result_err result) }
 {
-    let lines = run_lines(alloc, done)?;
+    let lines = made_lines(alloc, done)?;
     print(out, lines.as_slice())
 }

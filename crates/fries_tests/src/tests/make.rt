@@ -66,8 +66,8 @@ fn largest_make(rt: HostRuntime) {
 }
 
 /// Runs of rows that are made, by one thread or by more, and what they print. The numbers of alerts
-/// were counted by another program.
-const MADE: [(&str, &str); 7] = [
+/// were counted by another program. In ordered mode no line `serial` is printed.
+const MADE: [(&str, &str); 10] = [
     ("make chain 7 0", "rows 0 alerts 0 requests 0 refused 0\n"),
     (
         "make chain 7 1000",
@@ -91,6 +91,18 @@ const MADE: [(&str, &str); 7] = [
     ),
     (
         "make payments 7 5000",
+        "rows 5000 alerts 837 requests 0 refused 0\n",
+    ),
+    (
+        "make chain 7 1000 --ordered",
+        "rows 1000 alerts 518 requests 0 refused 0\n",
+    ),
+    (
+        "make --ordered chain 7 --threads=4 1000",
+        "rows 1000 alerts 518 requests 0 refused 0\n",
+    ),
+    (
+        "make payments 7 --ordered 5000",
         "rows 5000 alerts 837 requests 0 refused 0\n",
     ),
 ];

@@ -9,7 +9,7 @@ const FILES: [(&str, &str); 3] = [("j", CHAIN), ("r", ""), ("p", FOUR_PAYMENTS)]
 const USAGE: &str = "fault 1 usage\n";
 
 /// Words that are no full form. The first line has none.
-const FAULTY_WORDS: [&str; 46] = [
+const FAULTY_WORDS: [&str; 47] = [
     "",
     "help",
     "help run",
@@ -46,7 +46,8 @@ const FAULTY_WORDS: [&str; 46] = [
     "make j 18446744073709551616 1",
     "make j -7 1",
     "make j 7 1 --capacity 2",
-    "make j 7 1 --ordered",
+    "make j 7 1 --ordered --ordered",
+    "make j 7 1 --ordered=true",
     "first",
     "firsts p alerts.csv 10000 2 5000",
     "First p alerts.csv 10000 2 5000",
