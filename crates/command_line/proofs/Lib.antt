@@ -4,3 +4,5 @@ pub mod RowLemmas
 pub mod TopicRules
 pub mod TopicLemmas
 pub mod WalkLemmas
+pub mod TakesLemmas
+pub mod TopicTakes

@@ -1,10 +1,11 @@
 -- The rows that `clap` holds, beside the values that were found.
 use Rattle.std.proofs.Common.{◌≡◌, ◌∙◌, List, [], ◌∷◌, ◌++◌, Bool, true, false, Some, None, refl, sym, ap, inl, inr, not, ◌||◌, map, rules, subst}
-use Rattle.std.proofs.lemmas.Bool.{and_parts, cases_Bool, or_parts}
+use Rattle.std.proofs.lemmas.Bool.{and_parts, cases_Bool, or_parts, or_right}
 use Rattle.std.proofs.lemmas.Slice.Eq.{bytes_eq-Decides}
 use Rattle.std.specs.List.{fold, list_all}
 use Rattle.std.specs.Prelude.{slice_get}
 use Rattle.std.specs.Str.{bytes_eq}
+use Rattle.clap.specs.Takes.{is_given}
 use Rattle.clap.specs.Walk.{Row, Rule, Text, default_rows, first_of, has_row, reading_by, with_default, with_values, without}
 use Rattle.clap.specs.declared.builder.value_parser.Reading.{Reading}
 use Rattle.clap.specs.declared.builder.value_parser.Reading.TheVariants.{AsWritten}
@@ -36,6 +37,20 @@ first_of-rows id (pair ∷ found) =
       | inl same ↦ rw same refl
       | inr other ↦ rw other (first_of-rows id found)
     ]
+
+-- what was found stays found
+pub found_more : (id : Text) (found : List (Text × Text)) (pair : Text × Text) → is_found id found ≡ true → is_found id (found ++ pair ∷ []) ≡ true
+found_more id [] pair is = absurd (cc is)
+found_more id (x ∷ found) pair is =
+    elim (cases_Bool (bytes_eq x.0 id)) [
+      | inl same ↦ rw same refl
+      | inr other ↦ rw other (found_more id found pair (rw other at is))
+    ]
+
+-- the last pair is found
+pub found_end : (id : Text) (found : List (Text × Text)) (pair : Text × Text) → bytes_eq pair.0 id ≡ true → is_found id (found ++ pair ∷ []) ≡ true
+found_end id [] pair same = rw same refl
+found_end id (x ∷ found) pair same = or_right (bytes_eq x.0 id) (is_found id (found ++ pair ∷ [])) (found_end id found pair same)
 
 -- ---- one more row
 
@@ -144,3 +159,38 @@ defaults-off id [] rs off = refl
 defaults-off id (a ∷ rules) rs off =
     let (here, later) = and_parts (is_off a.defaults) (list_all (λ (x : Rule). is_off x.defaults) rules) off in
     defaults-off id rules (with_default rs a) later ∙ with_default-off id rs a here
+
+-- ---- what the words gave
+
+-- a value that was found was given by the words
+pub given_rows : (id : Text) (found : List (Text × Text)) → is_found id found ≡ true → is_given id (rows found) ≡ true
+given_rows id [] is = absurd (cc is)
+given_rows id (pair ∷ found) is =
+    elim (cases_Bool (bytes_eq pair.0 id)) [
+      | inl same ↦ rw same refl
+      | inr other ↦ rw other (given_rows id found (rw other at is))
+    ]
+
+given_more : (id : Text) (rs : List Row) (r : Row) → is_given id rs ≡ true → is_given id (rs ++ r ∷ []) ≡ true
+given_more id [] r given = absurd (cc given)
+given_more id (x ∷ rs) r given =
+    elim (cases_Bool (bytes_eq x.id id)) [
+      | inl same ↦ rw same (rw same at given)
+      | inr other ↦ rw other (given_more id rs r (rw other at given))
+    ]
+
+given_default_rows : (id aid : Text) (how : Reading) (defaults : List Text) (rs : List Row) → has_row aid rs ≡ false → is_given id rs ≡ true → is_given id (default_rows aid how defaults rs) ≡ true
+given_default_rows id aid how [] rs none given = given
+given_default_rows id aid how (v ∷ vs) rs none given = rw (with_values-none aid how DefaultValue (v ∷ vs) rs none) (given_more id rs _ given)
+
+given_default : (id : Text) (rs : List Row) (a : Rule) → is_given id rs ≡ true → is_given id (with_default rs a) ≡ true
+given_default id rs a given =
+    elim (cases_Bool (has_row a.id rs)) [
+      | inl has ↦ rw has given
+      | inr none ↦ rw none (given_default_rows id a.id (reading_by a) a.defaults rs none given)
+    ]
+
+-- what the words gave stays given where the defaults come
+pub given_defaults : (id : Text) (rules : List Rule) (rs : List Row) → is_given id rs ≡ true → is_given id (fold with_default rs rules) ≡ true
+given_defaults id [] rs given = given
+given_defaults id (a ∷ rules) rs given = given_defaults id rules (with_default rs a) (given_default id rs a given)

@@ -31,28 +31,42 @@ unfolding walked
 stopped_walk c names w p [] e = rw (append-nil p.1) e
 stopped_walk c names w p (x ∷ ws) e = rw e (rw append_assoc at (stopped_walk c names (record w { stopped = Some (p.0, p.1 ++ x ∷ []) }) (p.0, p.1 ++ x ∷ []) ws refl))
 
-abbrev top_rules : List Rule
+abbrev pub top_rules : List Rule
 top_rules = (built program_app).top.rules
 
-abbrev top_names : Names
+abbrev pub top_names : Names
 top_names = names_of (built program_app)
 
 stops_at : (word : Text) (ws : List Text) → (walked top_rules top_names (walk_from nothing_held) word).stopped ≡ Some (word, []) → stop_after top_rules top_names (word ∷ ws) ≡ Some (word, ws)
 stops_at word ws stops = stopped_walk top_rules top_names (walked top_rules top_names (walk_from nothing_held) word) (word, []) ws stops
 
+-- the walk over the program's words stops at a command
+pub stops : (about : Topic) (ws : List Text) → about ≢ topic.Program → stop_after top_rules top_names (word_of about ∷ ws) ≡ Some (word_of about, ws)
+unfolding clap_on_literals
+stops topic.Program ws other = absurd (other refl)
+stops topic.First ws other = stops_at (codes "first") ws refl
+stops topic.Check ws other = stops_at (codes "check") ws refl
+stops topic.Plan ws other = stops_at (codes "plan") ws refl
+stops topic.Run ws other = stops_at (codes "run") ws refl
+stops topic.Make ws other = stops_at (codes "make") ws refl
+stops topic.Save ws other = stops_at (codes "save") ws refl
+stops topic.Resume ws other = stops_at (codes "resume") ws refl
+stops topic.Live ws other = stops_at (codes "live") ws refl
+stops topic.Verify ws other = stops_at (codes "verify") ws refl
+
 -- the words after a command go to it
 pub enters : (about : Topic) (ws : List Text) → about ≢ topic.Program → subcommand_of program_app (word_of about ∷ ws) ≡ Some (word_of about, rows_after (rules_of about) [] ws)
 unfolding clap_on_literals
 enters topic.Program ws other = absurd (other refl)
-enters topic.First ws other = ap (entered (built program_app)) (stops_at (codes "first") ws refl)
-enters topic.Check ws other = ap (entered (built program_app)) (stops_at (codes "check") ws refl)
-enters topic.Plan ws other = ap (entered (built program_app)) (stops_at (codes "plan") ws refl)
-enters topic.Run ws other = ap (entered (built program_app)) (stops_at (codes "run") ws refl)
-enters topic.Make ws other = ap (entered (built program_app)) (stops_at (codes "make") ws refl)
-enters topic.Save ws other = ap (entered (built program_app)) (stops_at (codes "save") ws refl)
-enters topic.Resume ws other = ap (entered (built program_app)) (stops_at (codes "resume") ws refl)
-enters topic.Live ws other = ap (entered (built program_app)) (stops_at (codes "live") ws refl)
-enters topic.Verify ws other = ap (entered (built program_app)) (stops_at (codes "verify") ws refl)
+enters topic.First ws other = ap (entered (built program_app)) (stops topic.First ws other)
+enters topic.Check ws other = ap (entered (built program_app)) (stops topic.Check ws other)
+enters topic.Plan ws other = ap (entered (built program_app)) (stops topic.Plan ws other)
+enters topic.Run ws other = ap (entered (built program_app)) (stops topic.Run ws other)
+enters topic.Make ws other = ap (entered (built program_app)) (stops topic.Make ws other)
+enters topic.Save ws other = ap (entered (built program_app)) (stops topic.Save ws other)
+enters topic.Resume ws other = ap (entered (built program_app)) (stops topic.Resume ws other)
+enters topic.Live ws other = ap (entered (built program_app)) (stops topic.Live ws other)
+enters topic.Verify ws other = ap (entered (built program_app)) (stops topic.Verify ws other)
 
 -- ---- the values
 

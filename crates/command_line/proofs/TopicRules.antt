@@ -1,7 +1,7 @@
 -- The rules of each command read its form, by computing.
 use Rattle.std.proofs.Common.{◌≡◌, ◌≢◌, ℕ, List, [], true, refl, codes}
 use Rattle.std.specs.Prelude.{unwrap_or, find}
-use Rattle.clap.specs.Simple.{built, help_shape, is_simple, label_of, new_rule}
+use Rattle.clap.specs.Simple.{Shape, built, help_shape, is_simple, label_of, new_rule}
 use Rattle.clap.specs.Walk.{Rule, Text, answers_to, arg_by_index, arg_by_long}
 use Rattle.clap.proofs.OnLiterals.{clap_on_literals}
 use Rattle.command_line.specs.Apps.{program_app}
@@ -23,9 +23,13 @@ word_of topic.Resume = codes "resume"
 word_of topic.Live = codes "live"
 word_of topic.Verify = codes "verify"
 
--- the rules of a command, as it is built
+-- a command, as it is built
+abbrev pub shape_at : Topic → Shape
+shape_at about = unwrap_or (find (λ s. answers_to (word_of about) (label_of s)) (built program_app).subs) help_shape
+
+-- its rules
 abbrev pub rules_of : Topic → List Rule
-rules_of about = (unwrap_or (find (λ s. answers_to (word_of about) (label_of s)) (built program_app).subs) help_shape).rules
+rules_of about = (shape_at about).rules
 
 pub program_is_simple : is_simple program_app ≡ true
 unfolding clap_on_literals
@@ -42,59 +46,59 @@ rule_called rules id = unwrap_or (arg_by_long rules id) (new_rule [])
 -- a name, an option and a flag of a command, by computing
 first_payments : IsName (rules_of topic.First) 1 (codes "payments")
 unfolding clap_on_literals
-first_payments = record { rule = rule_at (rules_of topic.First) 1; at = refl; one = refl; single = refl; last = refl; next = refl; by_id = refl; use_of = λ value rs. refl }
+first_payments = record { rule = rule_at (rules_of topic.First) 1; at = refl; one = refl; single = refl; last = refl; next = refl; by_id = refl; use_of = λ value rs. refl; passes = λ value rs. refl }
 
 first_alerts : IsName (rules_of topic.First) 2 (codes "alerts")
 unfolding clap_on_literals
-first_alerts = record { rule = rule_at (rules_of topic.First) 2; at = refl; one = refl; single = refl; last = refl; next = refl; by_id = refl; use_of = λ value rs. refl }
+first_alerts = record { rule = rule_at (rules_of topic.First) 2; at = refl; one = refl; single = refl; last = refl; next = refl; by_id = refl; use_of = λ value rs. refl; passes = λ value rs. refl }
 
 first_min : IsName (rules_of topic.First) 3 (codes "min")
 unfolding clap_on_literals
-first_min = record { rule = rule_at (rules_of topic.First) 3; at = refl; one = refl; single = refl; last = refl; next = refl; by_id = refl; use_of = λ value rs. refl }
+first_min = record { rule = rule_at (rules_of topic.First) 3; at = refl; one = refl; single = refl; last = refl; next = refl; by_id = refl; use_of = λ value rs. refl; passes = λ value rs. refl }
 
 first_after : IsName (rules_of topic.First) 4 (codes "after")
 unfolding clap_on_literals
-first_after = record { rule = rule_at (rules_of topic.First) 4; at = refl; one = refl; single = refl; last = refl; next = refl; by_id = refl; use_of = λ value rs. refl }
+first_after = record { rule = rule_at (rules_of topic.First) 4; at = refl; one = refl; single = refl; last = refl; next = refl; by_id = refl; use_of = λ value rs. refl; passes = λ value rs. refl }
 
 first_min2 : IsName (rules_of topic.First) 5 (codes "min2")
 unfolding clap_on_literals
-first_min2 = record { rule = rule_at (rules_of topic.First) 5; at = refl; one = refl; single = refl; last = refl; next = refl; by_id = refl; use_of = λ value rs. refl }
+first_min2 = record { rule = rule_at (rules_of topic.First) 5; at = refl; one = refl; single = refl; last = refl; next = refl; by_id = refl; use_of = λ value rs. refl; passes = λ value rs. refl }
 
 check_job : IsName (rules_of topic.Check) 1 (codes "job")
 unfolding clap_on_literals
-check_job = record { rule = rule_at (rules_of topic.Check) 1; at = refl; one = refl; single = refl; last = refl; next = refl; by_id = refl; use_of = λ value rs. refl }
+check_job = record { rule = rule_at (rules_of topic.Check) 1; at = refl; one = refl; single = refl; last = refl; next = refl; by_id = refl; use_of = λ value rs. refl; passes = λ value rs. refl }
 
 plan_job : IsName (rules_of topic.Plan) 1 (codes "job")
 unfolding clap_on_literals
-plan_job = record { rule = rule_at (rules_of topic.Plan) 1; at = refl; one = refl; single = refl; last = refl; next = refl; by_id = refl; use_of = λ value rs. refl }
+plan_job = record { rule = rule_at (rules_of topic.Plan) 1; at = refl; one = refl; single = refl; last = refl; next = refl; by_id = refl; use_of = λ value rs. refl; passes = λ value rs. refl }
 
 plan_requests : IsName (rules_of topic.Plan) 2 (codes "requests")
 unfolding clap_on_literals
-plan_requests = record { rule = rule_at (rules_of topic.Plan) 2; at = refl; one = refl; single = refl; last = refl; next = refl; by_id = refl; use_of = λ value rs. refl }
+plan_requests = record { rule = rule_at (rules_of topic.Plan) 2; at = refl; one = refl; single = refl; last = refl; next = refl; by_id = refl; use_of = λ value rs. refl; passes = λ value rs. refl }
 
 plan_ordered : IsFlag (rules_of topic.Plan) ordered_flag
 unfolding clap_on_literals
-plan_ordered = record { rule = rule_called (rules_of topic.Plan) (codes "ordered"); dashes = refl; long = refl; by_long = refl; takes = refl; use_of = λ rs. refl }
+plan_ordered = record { rule = rule_called (rules_of topic.Plan) (codes "ordered"); dashes = refl; long = refl; by_long = refl; takes = refl; use_of = λ rs. refl; passes = λ rs. refl }
 
 run_job : IsName (rules_of topic.Run) 1 (codes "job")
 unfolding clap_on_literals
-run_job = record { rule = rule_at (rules_of topic.Run) 1; at = refl; one = refl; single = refl; last = refl; next = refl; by_id = refl; use_of = λ value rs. refl }
+run_job = record { rule = rule_at (rules_of topic.Run) 1; at = refl; one = refl; single = refl; last = refl; next = refl; by_id = refl; use_of = λ value rs. refl; passes = λ value rs. refl }
 
 run_requests : IsName (rules_of topic.Run) 2 (codes "requests")
 unfolding clap_on_literals
-run_requests = record { rule = rule_at (rules_of topic.Run) 2; at = refl; one = refl; single = refl; last = refl; next = refl; by_id = refl; use_of = λ value rs. refl }
+run_requests = record { rule = rule_at (rules_of topic.Run) 2; at = refl; one = refl; single = refl; last = refl; next = refl; by_id = refl; use_of = λ value rs. refl; passes = λ value rs. refl }
 
 run_payments : IsName (rules_of topic.Run) 3 (codes "payments")
 unfolding clap_on_literals
-run_payments = record { rule = rule_at (rules_of topic.Run) 3; at = refl; one = refl; single = refl; last = refl; next = refl; by_id = refl; use_of = λ value rs. refl }
+run_payments = record { rule = rule_at (rules_of topic.Run) 3; at = refl; one = refl; single = refl; last = refl; next = refl; by_id = refl; use_of = λ value rs. refl; passes = λ value rs. refl }
 
 run_alerts : IsName (rules_of topic.Run) 4 (codes "alerts")
 unfolding clap_on_literals
-run_alerts = record { rule = rule_at (rules_of topic.Run) 4; at = refl; one = refl; single = refl; last = refl; next = refl; by_id = refl; use_of = λ value rs. refl }
+run_alerts = record { rule = rule_at (rules_of topic.Run) 4; at = refl; one = refl; single = refl; last = refl; next = refl; by_id = refl; use_of = λ value rs. refl; passes = λ value rs. refl }
 
 run_audit : IsName (rules_of topic.Run) 5 (codes "audit")
 unfolding clap_on_literals
-run_audit = record { rule = rule_at (rules_of topic.Run) 5; at = refl; one = refl; single = refl; last = refl; next = refl; by_id = refl; use_of = λ value rs. refl }
+run_audit = record { rule = rule_at (rules_of topic.Run) 5; at = refl; one = refl; single = refl; last = refl; next = refl; by_id = refl; use_of = λ value rs. refl; passes = λ value rs. refl }
 
 run_threads : IsOption (rules_of topic.Run) threads_option
 unfolding clap_on_literals
@@ -110,6 +114,7 @@ run_threads = record {
   called = refl;
   by_id = refl;
   use_of = λ value rs. refl;
+  passes = λ value rs. refl;
 }
 
 run_capacity : IsOption (rules_of topic.Run) capacity_option
@@ -126,23 +131,24 @@ run_capacity = record {
   called = refl;
   by_id = refl;
   use_of = λ value rs. refl;
+  passes = λ value rs. refl;
 }
 
 run_ordered : IsFlag (rules_of topic.Run) ordered_flag
 unfolding clap_on_literals
-run_ordered = record { rule = rule_called (rules_of topic.Run) (codes "ordered"); dashes = refl; long = refl; by_long = refl; takes = refl; use_of = λ rs. refl }
+run_ordered = record { rule = rule_called (rules_of topic.Run) (codes "ordered"); dashes = refl; long = refl; by_long = refl; takes = refl; use_of = λ rs. refl; passes = λ rs. refl }
 
 make_job : IsName (rules_of topic.Make) 1 (codes "job")
 unfolding clap_on_literals
-make_job = record { rule = rule_at (rules_of topic.Make) 1; at = refl; one = refl; single = refl; last = refl; next = refl; by_id = refl; use_of = λ value rs. refl }
+make_job = record { rule = rule_at (rules_of topic.Make) 1; at = refl; one = refl; single = refl; last = refl; next = refl; by_id = refl; use_of = λ value rs. refl; passes = λ value rs. refl }
 
 make_seed : IsName (rules_of topic.Make) 2 (codes "seed")
 unfolding clap_on_literals
-make_seed = record { rule = rule_at (rules_of topic.Make) 2; at = refl; one = refl; single = refl; last = refl; next = refl; by_id = refl; use_of = λ value rs. refl }
+make_seed = record { rule = rule_at (rules_of topic.Make) 2; at = refl; one = refl; single = refl; last = refl; next = refl; by_id = refl; use_of = λ value rs. refl; passes = λ value rs. refl }
 
 make_rows : IsName (rules_of topic.Make) 3 (codes "rows")
 unfolding clap_on_literals
-make_rows = record { rule = rule_at (rules_of topic.Make) 3; at = refl; one = refl; single = refl; last = refl; next = refl; by_id = refl; use_of = λ value rs. refl }
+make_rows = record { rule = rule_at (rules_of topic.Make) 3; at = refl; one = refl; single = refl; last = refl; next = refl; by_id = refl; use_of = λ value rs. refl; passes = λ value rs. refl }
 
 make_threads : IsOption (rules_of topic.Make) threads_option
 unfolding clap_on_literals
@@ -158,39 +164,40 @@ make_threads = record {
   called = refl;
   by_id = refl;
   use_of = λ value rs. refl;
+  passes = λ value rs. refl;
 }
 
 make_ordered : IsFlag (rules_of topic.Make) ordered_flag
 unfolding clap_on_literals
-make_ordered = record { rule = rule_called (rules_of topic.Make) (codes "ordered"); dashes = refl; long = refl; by_long = refl; takes = refl; use_of = λ rs. refl }
+make_ordered = record { rule = rule_called (rules_of topic.Make) (codes "ordered"); dashes = refl; long = refl; by_long = refl; takes = refl; use_of = λ rs. refl; passes = λ rs. refl }
 
 save_job : IsName (rules_of topic.Save) 1 (codes "job")
 unfolding clap_on_literals
-save_job = record { rule = rule_at (rules_of topic.Save) 1; at = refl; one = refl; single = refl; last = refl; next = refl; by_id = refl; use_of = λ value rs. refl }
+save_job = record { rule = rule_at (rules_of topic.Save) 1; at = refl; one = refl; single = refl; last = refl; next = refl; by_id = refl; use_of = λ value rs. refl; passes = λ value rs. refl }
 
 save_requests : IsName (rules_of topic.Save) 2 (codes "requests")
 unfolding clap_on_literals
-save_requests = record { rule = rule_at (rules_of topic.Save) 2; at = refl; one = refl; single = refl; last = refl; next = refl; by_id = refl; use_of = λ value rs. refl }
+save_requests = record { rule = rule_at (rules_of topic.Save) 2; at = refl; one = refl; single = refl; last = refl; next = refl; by_id = refl; use_of = λ value rs. refl; passes = λ value rs. refl }
 
 save_payments : IsName (rules_of topic.Save) 3 (codes "payments")
 unfolding clap_on_literals
-save_payments = record { rule = rule_at (rules_of topic.Save) 3; at = refl; one = refl; single = refl; last = refl; next = refl; by_id = refl; use_of = λ value rs. refl }
+save_payments = record { rule = rule_at (rules_of topic.Save) 3; at = refl; one = refl; single = refl; last = refl; next = refl; by_id = refl; use_of = λ value rs. refl; passes = λ value rs. refl }
 
 save_alerts : IsName (rules_of topic.Save) 4 (codes "alerts")
 unfolding clap_on_literals
-save_alerts = record { rule = rule_at (rules_of topic.Save) 4; at = refl; one = refl; single = refl; last = refl; next = refl; by_id = refl; use_of = λ value rs. refl }
+save_alerts = record { rule = rule_at (rules_of topic.Save) 4; at = refl; one = refl; single = refl; last = refl; next = refl; by_id = refl; use_of = λ value rs. refl; passes = λ value rs. refl }
 
 save_audit : IsName (rules_of topic.Save) 5 (codes "audit")
 unfolding clap_on_literals
-save_audit = record { rule = rule_at (rules_of topic.Save) 5; at = refl; one = refl; single = refl; last = refl; next = refl; by_id = refl; use_of = λ value rs. refl }
+save_audit = record { rule = rule_at (rules_of topic.Save) 5; at = refl; one = refl; single = refl; last = refl; next = refl; by_id = refl; use_of = λ value rs. refl; passes = λ value rs. refl }
 
 save_save : IsName (rules_of topic.Save) 6 (codes "save")
 unfolding clap_on_literals
-save_save = record { rule = rule_at (rules_of topic.Save) 6; at = refl; one = refl; single = refl; last = refl; next = refl; by_id = refl; use_of = λ value rs. refl }
+save_save = record { rule = rule_at (rules_of topic.Save) 6; at = refl; one = refl; single = refl; last = refl; next = refl; by_id = refl; use_of = λ value rs. refl; passes = λ value rs. refl }
 
 save_rows : IsName (rules_of topic.Save) 7 (codes "rows")
 unfolding clap_on_literals
-save_rows = record { rule = rule_at (rules_of topic.Save) 7; at = refl; one = refl; single = refl; last = refl; next = refl; by_id = refl; use_of = λ value rs. refl }
+save_rows = record { rule = rule_at (rules_of topic.Save) 7; at = refl; one = refl; single = refl; last = refl; next = refl; by_id = refl; use_of = λ value rs. refl; passes = λ value rs. refl }
 
 save_threads : IsOption (rules_of topic.Save) threads_option
 unfolding clap_on_literals
@@ -206,6 +213,7 @@ save_threads = record {
   called = refl;
   by_id = refl;
   use_of = λ value rs. refl;
+  passes = λ value rs. refl;
 }
 
 save_capacity : IsOption (rules_of topic.Save) capacity_option
@@ -222,31 +230,32 @@ save_capacity = record {
   called = refl;
   by_id = refl;
   use_of = λ value rs. refl;
+  passes = λ value rs. refl;
 }
 
 resume_job : IsName (rules_of topic.Resume) 1 (codes "job")
 unfolding clap_on_literals
-resume_job = record { rule = rule_at (rules_of topic.Resume) 1; at = refl; one = refl; single = refl; last = refl; next = refl; by_id = refl; use_of = λ value rs. refl }
+resume_job = record { rule = rule_at (rules_of topic.Resume) 1; at = refl; one = refl; single = refl; last = refl; next = refl; by_id = refl; use_of = λ value rs. refl; passes = λ value rs. refl }
 
 resume_requests : IsName (rules_of topic.Resume) 2 (codes "requests")
 unfolding clap_on_literals
-resume_requests = record { rule = rule_at (rules_of topic.Resume) 2; at = refl; one = refl; single = refl; last = refl; next = refl; by_id = refl; use_of = λ value rs. refl }
+resume_requests = record { rule = rule_at (rules_of topic.Resume) 2; at = refl; one = refl; single = refl; last = refl; next = refl; by_id = refl; use_of = λ value rs. refl; passes = λ value rs. refl }
 
 resume_payments : IsName (rules_of topic.Resume) 3 (codes "payments")
 unfolding clap_on_literals
-resume_payments = record { rule = rule_at (rules_of topic.Resume) 3; at = refl; one = refl; single = refl; last = refl; next = refl; by_id = refl; use_of = λ value rs. refl }
+resume_payments = record { rule = rule_at (rules_of topic.Resume) 3; at = refl; one = refl; single = refl; last = refl; next = refl; by_id = refl; use_of = λ value rs. refl; passes = λ value rs. refl }
 
 resume_save : IsName (rules_of topic.Resume) 4 (codes "save")
 unfolding clap_on_literals
-resume_save = record { rule = rule_at (rules_of topic.Resume) 4; at = refl; one = refl; single = refl; last = refl; next = refl; by_id = refl; use_of = λ value rs. refl }
+resume_save = record { rule = rule_at (rules_of topic.Resume) 4; at = refl; one = refl; single = refl; last = refl; next = refl; by_id = refl; use_of = λ value rs. refl; passes = λ value rs. refl }
 
 resume_alerts : IsName (rules_of topic.Resume) 5 (codes "alerts")
 unfolding clap_on_literals
-resume_alerts = record { rule = rule_at (rules_of topic.Resume) 5; at = refl; one = refl; single = refl; last = refl; next = refl; by_id = refl; use_of = λ value rs. refl }
+resume_alerts = record { rule = rule_at (rules_of topic.Resume) 5; at = refl; one = refl; single = refl; last = refl; next = refl; by_id = refl; use_of = λ value rs. refl; passes = λ value rs. refl }
 
 resume_audit : IsName (rules_of topic.Resume) 6 (codes "audit")
 unfolding clap_on_literals
-resume_audit = record { rule = rule_at (rules_of topic.Resume) 6; at = refl; one = refl; single = refl; last = refl; next = refl; by_id = refl; use_of = λ value rs. refl }
+resume_audit = record { rule = rule_at (rules_of topic.Resume) 6; at = refl; one = refl; single = refl; last = refl; next = refl; by_id = refl; use_of = λ value rs. refl; passes = λ value rs. refl }
 
 resume_threads : IsOption (rules_of topic.Resume) threads_option
 unfolding clap_on_literals
@@ -262,6 +271,7 @@ resume_threads = record {
   called = refl;
   by_id = refl;
   use_of = λ value rs. refl;
+  passes = λ value rs. refl;
 }
 
 resume_capacity : IsOption (rules_of topic.Resume) capacity_option
@@ -278,27 +288,28 @@ resume_capacity = record {
   called = refl;
   by_id = refl;
   use_of = λ value rs. refl;
+  passes = λ value rs. refl;
 }
 
 live_job : IsName (rules_of topic.Live) 1 (codes "job")
 unfolding clap_on_literals
-live_job = record { rule = rule_at (rules_of topic.Live) 1; at = refl; one = refl; single = refl; last = refl; next = refl; by_id = refl; use_of = λ value rs. refl }
+live_job = record { rule = rule_at (rules_of topic.Live) 1; at = refl; one = refl; single = refl; last = refl; next = refl; by_id = refl; use_of = λ value rs. refl; passes = λ value rs. refl }
 
 live_requests : IsName (rules_of topic.Live) 2 (codes "requests")
 unfolding clap_on_literals
-live_requests = record { rule = rule_at (rules_of topic.Live) 2; at = refl; one = refl; single = refl; last = refl; next = refl; by_id = refl; use_of = λ value rs. refl }
+live_requests = record { rule = rule_at (rules_of topic.Live) 2; at = refl; one = refl; single = refl; last = refl; next = refl; by_id = refl; use_of = λ value rs. refl; passes = λ value rs. refl }
 
 live_payments : IsName (rules_of topic.Live) 3 (codes "payments")
 unfolding clap_on_literals
-live_payments = record { rule = rule_at (rules_of topic.Live) 3; at = refl; one = refl; single = refl; last = refl; next = refl; by_id = refl; use_of = λ value rs. refl }
+live_payments = record { rule = rule_at (rules_of topic.Live) 3; at = refl; one = refl; single = refl; last = refl; next = refl; by_id = refl; use_of = λ value rs. refl; passes = λ value rs. refl }
 
 live_alerts : IsName (rules_of topic.Live) 4 (codes "alerts")
 unfolding clap_on_literals
-live_alerts = record { rule = rule_at (rules_of topic.Live) 4; at = refl; one = refl; single = refl; last = refl; next = refl; by_id = refl; use_of = λ value rs. refl }
+live_alerts = record { rule = rule_at (rules_of topic.Live) 4; at = refl; one = refl; single = refl; last = refl; next = refl; by_id = refl; use_of = λ value rs. refl; passes = λ value rs. refl }
 
 live_audit : IsName (rules_of topic.Live) 5 (codes "audit")
 unfolding clap_on_literals
-live_audit = record { rule = rule_at (rules_of topic.Live) 5; at = refl; one = refl; single = refl; last = refl; next = refl; by_id = refl; use_of = λ value rs. refl }
+live_audit = record { rule = rule_at (rules_of topic.Live) 5; at = refl; one = refl; single = refl; last = refl; next = refl; by_id = refl; use_of = λ value rs. refl; passes = λ value rs. refl }
 
 live_threads : IsOption (rules_of topic.Live) threads_option
 unfolding clap_on_literals
@@ -314,6 +325,7 @@ live_threads = record {
   called = refl;
   by_id = refl;
   use_of = λ value rs. refl;
+  passes = λ value rs. refl;
 }
 
 live_capacity : IsOption (rules_of topic.Live) capacity_option
@@ -330,27 +342,28 @@ live_capacity = record {
   called = refl;
   by_id = refl;
   use_of = λ value rs. refl;
+  passes = λ value rs. refl;
 }
 
 verify_job : IsName (rules_of topic.Verify) 1 (codes "job")
 unfolding clap_on_literals
-verify_job = record { rule = rule_at (rules_of topic.Verify) 1; at = refl; one = refl; single = refl; last = refl; next = refl; by_id = refl; use_of = λ value rs. refl }
+verify_job = record { rule = rule_at (rules_of topic.Verify) 1; at = refl; one = refl; single = refl; last = refl; next = refl; by_id = refl; use_of = λ value rs. refl; passes = λ value rs. refl }
 
 verify_requests : IsName (rules_of topic.Verify) 2 (codes "requests")
 unfolding clap_on_literals
-verify_requests = record { rule = rule_at (rules_of topic.Verify) 2; at = refl; one = refl; single = refl; last = refl; next = refl; by_id = refl; use_of = λ value rs. refl }
+verify_requests = record { rule = rule_at (rules_of topic.Verify) 2; at = refl; one = refl; single = refl; last = refl; next = refl; by_id = refl; use_of = λ value rs. refl; passes = λ value rs. refl }
 
 verify_payments : IsName (rules_of topic.Verify) 3 (codes "payments")
 unfolding clap_on_literals
-verify_payments = record { rule = rule_at (rules_of topic.Verify) 3; at = refl; one = refl; single = refl; last = refl; next = refl; by_id = refl; use_of = λ value rs. refl }
+verify_payments = record { rule = rule_at (rules_of topic.Verify) 3; at = refl; one = refl; single = refl; last = refl; next = refl; by_id = refl; use_of = λ value rs. refl; passes = λ value rs. refl }
 
 verify_audit : IsName (rules_of topic.Verify) 4 (codes "audit")
 unfolding clap_on_literals
-verify_audit = record { rule = rule_at (rules_of topic.Verify) 4; at = refl; one = refl; single = refl; last = refl; next = refl; by_id = refl; use_of = λ value rs. refl }
+verify_audit = record { rule = rule_at (rules_of topic.Verify) 4; at = refl; one = refl; single = refl; last = refl; next = refl; by_id = refl; use_of = λ value rs. refl; passes = λ value rs. refl }
 
 verify_ordered : IsFlag (rules_of topic.Verify) ordered_flag
 unfolding clap_on_literals
-verify_ordered = record { rule = rule_called (rules_of topic.Verify) (codes "ordered"); dashes = refl; long = refl; by_long = refl; takes = refl; use_of = λ rs. refl }
+verify_ordered = record { rule = rule_called (rules_of topic.Verify) (codes "ordered"); dashes = refl; long = refl; by_long = refl; takes = refl; use_of = λ rs. refl; passes = λ rs. refl }
 
 -- the rules of each command read its form
 pub reads : (about : Topic) → about ≢ topic.Program → Reads (rules_of about) (form_of about)

@@ -1,12 +1,13 @@
 -- What `clap`'s walk over the words after a command finds, for a command with any names, options and flags.
-use Rattle.std.proofs.Common.{◌≡◌, ◌∙◌, ◌+◌, ℕ, List, [], ◌∷◌, ◌++◌, Bool, true, false, not, ◌&&◌, ◌==◌, Option, Some, None, refl, sym, ap, inl, inr, subst, codes, if◌then◌else◌, take, drop, length}
+use Rattle.std.proofs.Common.{◌≡◌, ◌∙◌, ◌+◌, ℕ, List, [], ◌∷◌, ◌++◌, Bool, true, false, not, ◌&&◌, ◌||◌, ◌==◌, Option, Some, None, refl, sym, ap, inl, inr, subst, codes, if◌then◌else◌, take, drop, length}
 use Rattle.std.proofs.lemmas.Bool.{and_right, cases_Bool, not-true}
 use Rattle.std.proofs.lemmas.List.{take-append-drop}
 use Rattle.std.specs.List.{fold}
 use Rattle.std.specs.Prelude.{⊤, find, option_and_then}
 use Rattle.std.specs.Str.{bytes_eq}
 use Rattle.clap.specs.Lexer.{long_of, short_of}
-use Rattle.clap.specs.Walk.{Held, Row, Rule, Text, Walk, arg_by_id, arg_by_index, arg_by_long, idle, is_multiple, is_pending, most_values, next_position, nothing_held, option, positional_held, rows_after, settled, takes_several, takes_values, used, walk_from, walked, with_default, with_values, without}
+use Rattle.clap.specs.Takes.{use_passes}
+use Rattle.clap.specs.Walk.{Held, Row, Rule, Text, Walk, arg_by_id, arg_by_index, arg_by_long, has_row, idle, is_multiple, is_pending, most_values, next_position, nothing_held, option, positional_held, rows_after, settled, takes_several, takes_values, used, walk_from, walked, with_default, with_values, without}
 use Rattle.clap.specs.declared.builder.value_parser.Reading.TheVariants.{AsWritten}
 use Rattle.clap.specs.declared.parser.matches.ValueSource.TheVariants.{CommandLine}
 use Rattle.command_line.specs.Form.{Flag, Form, Parts, ValueOption, at_end, found_after, has_start, is_flag, is_found, is_name, is_option, no_parts, with_flag, with_name, with_option, with_start, with_value, with_word}
@@ -22,11 +23,15 @@ pub record IsPlainWord (word : Text) : Type 0 where
 plain_from : (b : ℕ) (rest : Text) → (b == 45) ≡ false → IsPlainWord (b ∷ rest)
 plain_from b rest other = record { dashes = rw other refl; long = rw other refl; short = rw other refl }
 
-plain_name : (word : Text) → is_name word ≡ true → IsPlainWord word
+pub plain_name : (word : Text) → is_name word ≡ true → IsPlainWord word
 plain_name [] name = absurd (cc name)
 plain_name (b ∷ rest) name = plain_from b rest (not-true (b == 45) name)
 
 -- ---- how a command's rules read its form
+
+-- a use of this rule passes if nothing was used under this name yet
+abbrev pub PassesOnce : Rule → List Text → Text → Type 0
+PassesOnce rule given id = (rs : List Row) → use_passes false rule given rs ≡ ((not (has_row id rs) || false) && true)
 
 -- a value is used by this rule under this name
 abbrev pub IsUsed : Rule → List Text → Text → Text → Type 0
@@ -42,6 +47,7 @@ pub record IsName (rules : List Rule) (place : ℕ) (id : Text) : Type 0 where
   pub next : next_position rule place ≡ place + 1
   pub by_id : arg_by_id rules rule.id ≡ Some rule
   pub use_of : (value : Text) → IsUsed rule (value ∷ []) id value
+  pub passes : (value : Text) → PassesOnce rule (value ∷ []) id
 
 -- the rules of names from a place on
 abbrev pub AreNames : List Rule → ℕ → List Text → Type 0
@@ -61,6 +67,7 @@ pub record IsOption (rules : List Rule) (o : ValueOption) : Type 0 where
   pub called : bytes_eq rule.id rule.id ≡ true
   pub by_id : arg_by_id rules rule.id ≡ Some rule
   pub use_of : (value : Text) → IsUsed rule (value ∷ []) o.id value
+  pub passes : (value : Text) → PassesOnce rule (value ∷ []) o.id
 
 abbrev pub AreOptions : List Rule → List ValueOption → Type 0
 AreOptions rules [] = ⊤
@@ -74,6 +81,7 @@ pub record IsFlag (rules : List Rule) (f : Flag) : Type 0 where
   pub by_long : arg_by_long rules f.id ≡ Some rule
   pub takes : takes_values rule ≡ false
   pub use_of : IsUsed rule [] f.id (codes "true")
+  pub passes : PassesOnce rule [] f.id
 
 abbrev pub AreFlags : List Rule → List Flag → Type 0
 AreFlags rules [] = ⊤
@@ -85,7 +93,7 @@ pub record Reads (rules : List Rule) (form : Form) : Type 0 where
   pub options : AreOptions rules form.options
   pub flags : AreFlags rules form.flags
 
-option_found : (rules : List Rule) (p : ValueOption → Bool) (os : List ValueOption) (o : ValueOption) → AreOptions rules os → find p os ≡ Some o → (p o ≡ true) × IsOption rules o
+pub option_found : (rules : List Rule) (p : ValueOption → Bool) (os : List ValueOption) (o : ValueOption) → AreOptions rules os → find p os ≡ Some o → (p o ≡ true) × IsOption rules o
 option_found rules p [] o all is = absurd (cc is)
 option_found rules p (x ∷ os) o all is =
     elim (cases_Bool (p x)) [
@@ -93,7 +101,7 @@ option_found rules p (x ∷ os) o all is =
       | inr fails ↦ option_found rules p os o all.1 (rw fails at is)
     ]
 
-flag_found : (rules : List Rule) (p : Flag → Bool) (fs : List Flag) (f : Flag) → AreFlags rules fs → find p fs ≡ Some f → (p f ≡ true) × IsFlag rules f
+pub flag_found : (rules : List Rule) (p : Flag → Bool) (fs : List Flag) (f : Flag) → AreFlags rules fs → find p fs ≡ Some f → (p f ≡ true) × IsFlag rules f
 flag_found rules p [] f all is = absurd (cc is)
 flag_found rules p (x ∷ fs) f all is =
     elim (cases_Bool (p x)) [
@@ -112,7 +120,7 @@ pub record Stands (w : Walk) : Type 0 where
 abbrev pub between : ℕ → Held → Walk
 between place held = record { held = held; waiting = idle; position = place; is_trailing = false; stopped = None }
 
-walked_name : (rules : List Rule) (w : Walk) (word id : Text) (is : IsName rules w.position id) → Stands w → IsPlainWord word
+pub walked_name : (rules : List Rule) (w : Walk) (word id : Text) (is : IsName rules w.position id) → Stands w → IsPlainWord word
     → walked rules [] w word ≡ between (next_position is.rule w.position) (record (settled rules w.held) { pending = Some (is.rule.id, word ∷ []) })
 unfolding walked
 walked_name rules w word id is s p =
@@ -125,12 +133,12 @@ walked_opens : (rules : List Rule) (w : Walk) (o : ValueOption) (is : IsOption r
 unfolding walked
 walked_opens rules w o is s = rw (s.stopped, s.trailing, s.waiting, is.dashes, is.long, is.by_long, is.takes) refl
 
-walked_joined : (rules : List Rule) (w : Walk) (o : ValueOption) (value : Text) (is : IsOption rules o) → Stands w
+pub walked_joined : (rules : List Rule) (w : Walk) (o : ValueOption) (value : Text) (is : IsOption rules o) → Stands w
     → walked rules [] w (o.start ++ value) ≡ between w.position (record { rows = used is.rule (value ∷ []) (settled rules w.held).rows; pending = None; skip = w.held.skip })
 unfolding walked
 walked_joined rules w o value is s = rw (s.stopped, s.trailing, s.waiting, is.dashes_joined value, is.joined value, is.by_long, is.takes) refl
 
-walked_flag : (rules : List Rule) (w : Walk) (f : Flag) (is : IsFlag rules f) → Stands w
+pub walked_flag : (rules : List Rule) (w : Walk) (f : Flag) (is : IsFlag rules f) → Stands w
     → walked rules [] w f.word ≡ between w.position (record { rows = used is.rule [] (settled rules w.held).rows; pending = None; skip = w.held.skip })
 unfolding walked
 walked_flag rules w f is s = rw (s.stopped, s.trailing, s.waiting, is.dashes, is.long, is.by_long, is.takes) refl
@@ -142,7 +150,7 @@ pub record Waits (w : Walk) (id : Text) : Type 0 where
   pub stopped : w.stopped ≡ None
   pub pending : w.held.pending ≡ Some (id, [])
 
-walked_value : (rules : List Rule) (w : Walk) (o : ValueOption) (word : Text) (is : IsOption rules o) → Waits w is.rule.id → IsPlainWord word
+pub walked_value : (rules : List Rule) (w : Walk) (o : ValueOption) (word : Text) (is : IsOption rules o) → Waits w is.rule.id → IsPlainWord word
     → walked rules [] w word ≡ between w.position (record w.held { pending = Some (is.rule.id, word ∷ []) })
 unfolding walked
 walked_value rules w o word is s p = rw (s.stopped, s.trailing, s.waiting, p.dashes, p.long, p.short, is.by_id, s.pending, is.called, is.most) refl
@@ -168,7 +176,7 @@ abbrev pub Follows : List Rule → Walk → Parts → Option Text → Type 0
 Follows rules w parts None = At rules w parts
 Follows rules w parts (Some id) = WaitsAt rules w parts id
 
-chosen : (a b : Bool) (x next : Parts) → (if not a && b then Some x else None) ≡ Some next → (a ≡ false) × (b ≡ true) × (x ≡ next)
+pub chosen : (a b : Bool) (x next : Parts) → (if not a && b then Some x else None) ≡ Some next → (a ≡ false) × (b ≡ true) × (x ≡ next)
 chosen true b x next is = absurd (cc is)
 chosen false true x next is = (refl, refl, cc is)
 chosen false false x next is = absurd (cc is)
@@ -268,7 +276,7 @@ step_option rules form w parts (Some o) word next reads at is made =
     let same_parts : record parts { waiting = Some o.id } ≡ next = cc made in
     subst (λ (p : Parts). Follows rules (walked rules [] w word) p p.waiting) same_parts opened
 
-step : (rules : List Rule) (form : Form) (w : Walk) (parts : Parts) (waiting : Option Text) (word : Text) (next : Parts) → Reads rules form → Follows rules w parts waiting
+pub step : (rules : List Rule) (form : Form) (w : Walk) (parts : Parts) (waiting : Option Text) (word : Text) (next : Parts) → Reads rules form → Follows rules w parts waiting
     → with_word form parts waiting word ≡ Some next → Follows rules (walked rules [] w word) next next.waiting
 step rules form w parts None word next reads at made = step_option rules form w parts (find (is_option word) form.options) word next reads at refl made
 step rules form w parts (Some id) word next reads at made = step_value rules w parts id word next at made
@@ -281,7 +289,7 @@ ended rules w parts [] None found at is = let same : parts.found ≡ found = cc 
 ended rules w parts [] (Some id) found at is = absurd (cc is)
 ended rules w parts (id ∷ names) waiting found at is = absurd (cc is)
 
-walks : (rules : List Rule) (form : Form) (words : List Text) (w : Walk) (parts : Parts) (found : List (Text × Text)) → Reads rules form → Follows rules w parts parts.waiting
+pub walks : (rules : List Rule) (form : Form) (words : List Text) (w : Walk) (parts : Parts) (found : List (Text × Text)) → Reads rules form → Follows rules w parts parts.waiting
     → found_after form parts words ≡ Some found → (settled rules (fold (walked rules []) w words).held).rows ≡ rows found
 unfolding found_after
 walks rules form [] w parts found reads at is = ended rules w parts parts.names parts.waiting found at is
@@ -295,13 +303,16 @@ walks rules form (word ∷ words) w parts found reads at is =
     ] in
     go (with_word form parts parts.waiting word) refl is
 
+-- the walk begins where nothing was found
+pub start_at : (rules : List Rule) (form : Form) → Reads rules form → At rules (walk_from nothing_held) (no_parts form)
+start_at rules form reads = record {
+  stands = record { waiting = refl; trailing = refl; stopped = refl };
+  names = reads.names;
+  held = refl;
+}
+
 -- the rows that clap has at the end of the words are those of what was found, and then the defaults
 pub rows_after-found : (rules : List Rule) (form : Form) (words : List Text) (found : List (Text × Text)) → Reads rules form → found_after form (no_parts form) words ≡ Some found
     → rows_after rules [] words ≡ fold with_default (rows found) rules
 rows_after-found rules form words found reads is =
-    let start : At rules (walk_from nothing_held) (no_parts form) = record {
-      stands = record { waiting = refl; trailing = refl; stopped = refl };
-      names = reads.names;
-      held = refl;
-    } in
-    ap (λ (rs : List Row). fold with_default rs rules) (walks rules form words (walk_from nothing_held) (no_parts form) found reads start is)
+    ap (λ (rs : List Row). fold with_default rs rules) (walks rules form words (walk_from nothing_held) (no_parts form) found reads (start_at rules form reads) is)

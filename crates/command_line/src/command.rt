@@ -1,6 +1,7 @@
-ghost use Rattle.std.specs.Prelude.{◌≡◌, ◌≢◌, ◌≤◌, IfOk, IfErr, IfSome, Some, None, drop, length};
+ghost use Rattle.std.specs.Prelude.{◌≡◌, ◌≢◌, ◌≤◌, IfOk, IfErr, IfSome, Some, None, drop, length, true};
 ghost use Rattle.std.specs.Prelude.{slice_get};
-ghost use Rattle.clap.specs.Words.{subcommand_of, subcommand_rows_of};
+ghost use Rattle.clap.specs.Words.{kind_of, subcommand_of, subcommand_rows_of, takes};
+ghost use Rattle.clap.specs.declared.error.kind.ErrorKind.TheVariants.{OutOfMemory as MemoryRanOut};
 ghost use Rattle.command_line.specs.Apps.{program_app};
 ghost use Rattle.command_line.specs.Asked.{IsSized, asked_by};
 ghost use Rattle.command_line.specs.Words.{asked_after, asked_alone, asked_of};
@@ -15,7 +16,7 @@ use crate::apps::program;
 use crate::form::form_of;
 use crate::parts::has_form;
 use crate::values::command_with;
-use clap::ArgMatches;
+use clap::{ArgMatches, Error};
 use std::alloc::Global;
 use tuple_trace::{NoMemory, Word};
 
@@ -203,26 +204,24 @@ fn command_after<'w>(
     if !has_form(alloc, &form_of(topic), &words[1..])? {
         return Err(WordsFault::Usage);
     }
-    let matches = matches_of(alloc, words)?;
+    let Ok(matches) = matches_of(alloc, words) else {
+        return Err(WordsFault::NoMemory);
+    };
     match matches.subcommand_matches(words[0]) {
         Some(values) => command_with(alloc, topic, values),
-        None => Err(WordsFault::NoMemory),
+        None => unreachable!(),
     }
 }
 
-// What `clap` reads in the words.
-fn matches_of<'w>(alloc: Global, words: &'w [&'w str]) -> Result<ArgMatches<'w>, WordsFault>
+// What `clap` reads in the words of a full form. It refuses none of them: an error says only that
+// memory ran out.
+fn matches_of<'w>(alloc: Global, words: &'w [&'w str]) -> Result<ArgMatches<'w>, Error>
+    requires { takes program_app (texts words.now) ≡ true }
     ensures matches { IfOk result (λ matches. subcommand_rows_of matches
         ≡ subcommand_of program_app (texts words.now)) }
-    ensures memory { IfErr result (λ fault. fault ≡ OutOfMemory) }
+    ensures memory { IfErr result (λ error. kind_of error ≡ MemoryRanOut) }
 {
-    let Ok(program) = program(alloc) else {
-        return Err(WordsFault::NoMemory);
-    };
-    match program.try_get_matches_from(words) {
-        Ok(matches) => Ok(matches),
-        Err(_) => Err(WordsFault::NoMemory),
-    }
+    program(alloc)?.try_get_matches_from(words)
 }
 
 fn topic_of(word: &str) -> Option<Topic>
