@@ -157,9 +157,10 @@ const LIVE: &str = "\
 usage: fries live JOB REQUESTS PAYMENTS ALERTS AUDIT [OPTIONS]
 
 Runs payments through a job, while the standard input releases its requests.
-Each line feed there releases the next request. It changes operators once the payments that it
-waits for are read, and after the last payment if it isn't released by then. The command ends once
-the input has ended or has released all requests.
+Each line feed there releases the next request. A request is issued once it is released and its
+`after` payments are fed, or without a release after the last payment. It overtakes payments that
+wait, so these may meet the new operators too. The command ends once the input has ended or has
+released all requests.
 
   JOB           file to read: a job as TOML
   REQUESTS      file to read: requests as TOML
