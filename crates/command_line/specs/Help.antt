@@ -6,7 +6,7 @@ use Rattle.command_line.specs.declared.topic.Topic.TheVariants as topic
 
 -- the line that `--version` prints
 abbrev pub version_line : Text
-version_line = codes "fries 0.1.0\n"
+version_line = codes "fries 0.2.0\n"
 
 -- the text that `--help` prints: of the program, or of one command
 abbrev pub help_of : Topic → Text

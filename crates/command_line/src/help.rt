@@ -28,7 +28,7 @@ pub fn version_text() -> &'static str
     VERSION
 }
 
-const VERSION: &str = "fries 0.1.0\n";
+const VERSION: &str = "fries 0.2.0\n";
 
 const PROGRAM: &str = "\
 fries - changes operators of a dataflow while payments flow through it

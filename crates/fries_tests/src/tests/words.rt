@@ -193,8 +193,8 @@ fn threads_after_the_names(rt: HostRuntime) {
 
 /// Words that ask for a text, and how it begins or is.
 const TEXTS: [(&str, &str); 3] = [
-    ("--version", "fries 0.1.0\n"),
-    ("-V", "fries 0.1.0\n"),
+    ("--version", "fries 0.2.0\n"),
+    ("-V", "fries 0.2.0\n"),
     (
         "check --help",
         "usage: fries check JOB
