@@ -7,7 +7,7 @@ use Rattle.marker_align.specs.declared.decision.Act.TheVariants.{Turn, Process, 
 use Rattle.marker_align.specs.declared.decision.Due.{Due}
 use Rattle.marker_align.specs.declared.held.Hand.TheVariants.{Empty}
 use Rattle.sink_journal.specs.declared.journal.Entry.{Entry}
-use Rattle.sink_journal.specs.declared.journal.Entry.TheVariants.{Met, Marked, Turned}
+use Rattle.sink_journal.specs.declared.journal.Entry.TheVariants.{Ended, Met, Marked, Turned}
 use Rattle.tuple_trace.specs.declared.tuple.Item.{Item}
 use Rattle.tuple_trace.specs.declared.tuple.Tuple.{Tuple}
 use Rattle.flow_model.specs.SetupView.{SetupView, Worker as WorkerOf}
@@ -16,8 +16,8 @@ use Rattle.flow_worker.specs.Pairs.{EachPair, total}
 use Rattle.flow_worker.specs.Endpoints.{Gains, LaneInIs, LaneOutIs, SameButMemory, SameIn, SameOut, all_sent, all_taken}
 use Rattle.flow_worker.specs.Worker.{WorkerIs}
 use Rattle.flow_worker.specs.Steps.{HasClosed, HasProcessed, HasTurned, all_emptied, emptied, ended_entries, laid_down, marked_entries}
-use Rattle.flow_worker.specs.Turning.{HasDone, SameEndpoints, added, moves}
-use Rattle.flow_worker.proofs.Pairs.{each_same}
+use Rattle.flow_worker.specs.Turning.{GrowsByOneAct, HasDone, SameEndpoints, added, moves}
+use Rattle.flow_worker.proofs.Pairs.{each_same, pairs_keep}
 
 -- ---- pairs
 
@@ -63,7 +63,7 @@ drop_front : (xs ys : List Entry) → drop (length xs) (xs ++ ys) ≡ ys
 drop_front [] ys = refl
 drop_front (x ∷ xs) ys = drop_front xs ys
 
-added_is : (w v : WorkerIs) (new : List Entry) → v.journal ≡ w.journal ++ new → added w v ≡ new
+pub added_is : (w v : WorkerIs) (new : List Entry) → v.journal ≡ w.journal ++ new → added w v ≡ new
 added_is w v new e = ap (drop (length w.journal)) e ∙ drop_front w.journal new
 
 pub none_added : (w v : WorkerIs) (x : Entry) → v.journal ≡ w.journal → Contains (added w v) x → ⊥
@@ -95,7 +95,7 @@ no_met_ends l t [] h = h
 no_met_ends l t (a ∷ more) (inl e) = cc
 no_met_ends l t (a ∷ more) (inr h) = no_met_ends l t more h
 
-no_turned_ends : (r : ℕ) (ins : List LaneInIs) → IsIn (Turned r) (ended_entries ins) → ⊥
+pub no_turned_ends : (r : ℕ) (ins : List LaneInIs) → IsIn (Turned r) (ended_entries ins) → ⊥
 no_turned_ends r [] h = h
 no_turned_ends r (a ∷ more) (inl e) = cc
 no_turned_ends r (a ∷ more) (inr h) = no_turned_ends r more h
@@ -116,6 +116,28 @@ turned_turn_is q mask r ins h = go (in_cases (Turned q) (marked_entries mask r 0
     go (inl k) = absurd (turned_marks_is q mask r 0 ins k)
     go (inr (inl e)) = cc
     go (inr (inr k)) = absurd k
+
+pub marked_none : (mask r i : ℕ) (ins : List LaneInIs) → ((k : ℕ) (a : LaneInIs) → slice_get ins k ≡ Some a → has mask (i + k) ≡ true → ⊥) → marked_entries mask r i ins ≡ []
+marked_none mask r i [] f = refl
+marked_none mask r i (a ∷ more) f =
+    go (has mask i) refl (marked_none mask r (i + 1) more (λ k b g h. f (suc k) b g (subst (λ n. has mask n ≡ true) (omega arith) h)))
+  where
+    go : (b : Bool) → has mask i ≡ b → marked_entries mask r (i + 1) more ≡ [] → cond b (Marked a.number r ∷ []) [] ++ marked_entries mask r (i + 1) more ≡ []
+    go true e none = absurd (f 0 a refl (subst (λ n. has mask n ≡ true) (omega arith) e))
+    go false e none = none
+
+-- the entries of an act read only the numbers of the lanes
+marked_same : (mask r i : ℕ) (xs ys : List LaneInIs) → EachPair SameIn xs ys → marked_entries mask r i ys ≡ marked_entries mask r i xs
+marked_same mask r i [] [] p = refl
+marked_same mask r i [] (b ∷ ys) p = absurd p
+marked_same mask r i (a ∷ xs) [] p = absurd p
+marked_same mask r i (a ∷ xs) (b ∷ ys) p = (
+    let head : cond (has mask i) (Marked b.number r ∷ []) [] ≡ cond (has mask i) (Marked a.number r ∷ []) [] = ap (λ n. cond (has mask i) (Marked n r ∷ []) []) p.0.1 in
+    let tail = marked_same mask r (i + 1) xs ys p.1 in
+    λ k. head k ++ tail k)
+
+ended_same : (xs ys : List LaneInIs) → EachPair SameIn xs ys → ended_entries ys ≡ ended_entries xs
+ended_same xs ys p = pairs_keep SameIn (λ (a : LaneInIs). Ended a.number) xs ys (λ a b s. ap Ended s.1) p
 
 pub emptied_none : (mask i : ℕ) (ins : List LaneInIs) → ((k : ℕ) (a : LaneInIs) → slice_get ins k ≡ Some a → has mask (i + k) ≡ true → ⊥) → emptied mask i ins ≡ ins
 emptied_none mask i [] f = refl
@@ -250,6 +272,22 @@ grew_done setup who None Close w v l d = close_grew w v d l
 grew_done setup who (Some due) Close w v l d = close_grew w v d l
 grew_done setup who None Nothing w v l d = absurd d
 grew_done setup who (Some due) Nothing w v l d = absurd d
+
+-- an act adds its own entries to a journal, whose lanes are the worker's
+pub acts_done : (setup : SetupView) (who : WorkerOf) (due : Option Due) (act : Act) (w v before : WorkerIs) → w.journal ≡ before.journal → due ≡ before.due → EachPair SameIn before.ins w.ins
+    → HasDone setup who due act w v → GrowsByOneAct before v
+acts_done setup who None (Turn r) w v b j e p d = absurd d
+acts_done setup who (Some due) (Turn r) w v b j e p d =
+    let new : List Entry = marked_entries due.lanes due.request 0 w.ins ++ Turned due.request ∷ [] in
+    (new, whole_turn setup due w v d ∙ ap (λ xs. xs ++ new) j, inr (inr (inl (due, sym e, ap (λ xs. xs ++ Turned due.request ∷ []) (marked_same due.lanes due.request 0 b.ins w.ins p)))))
+acts_done setup who None (Process place) w v b j e p d =
+    let new : List Entry = Met d.at.number d.tuple ∷ [] in (new, d.journal ∙ ap (λ xs. xs ++ new) j, inr (inl (d.at.number, d.tuple, refl)))
+acts_done setup who (Some due) (Process place) w v b j e p d =
+    let new : List Entry = Met d.at.number d.tuple ∷ [] in (new, d.journal ∙ ap (λ xs. xs ++ new) j, inr (inl (d.at.number, d.tuple, refl)))
+acts_done setup who None Close w v b j e p d = (ended_entries w.ins, d.journal ∙ ap (λ xs. xs ++ ended_entries w.ins) j, inr (inr (inr (ended_same b.ins w.ins p))))
+acts_done setup who (Some due) Close w v b j e p d = (ended_entries w.ins, d.journal ∙ ap (λ xs. xs ++ ended_entries w.ins) j, inr (inr (inr (ended_same b.ins w.ins p))))
+acts_done setup who None Nothing w v b j e p d = absurd d
+acts_done setup who (Some due) Nothing w v b j e p d = absurd d
 
 -- a tuple was met only where the act was one
 pub met_done : (setup : SetupView) (who : WorkerOf) (due : Option Due) (act : Act) (w v : WorkerIs) (before : WorkerIs) (l : ℕ) (t : Tuple) → w.journal ≡ before.journal → HasDone setup who due act w v

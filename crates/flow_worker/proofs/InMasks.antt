@@ -1,5 +1,6 @@
 -- The masks beside a worker's hands.
 use Rattle.std.proofs.Common.{◌≡◌, ◌∙◌, ℕ, zero, suc, ◌+◌, ◌<◌, ◌≤◌, ◌||◌, ◌&&◌, not, nat_lt, List, [], ◌∷◌, Bool, true, false, cond, Some, None, get_or, set, length, refl, sym, ap, subst, arith, bit_and, bit_or}
+use Rattle.std.specs.Prelude.{◌↔◌, IsTrue}
 use Rattle.std.proofs.lemmas.Bool.Decides.{nat_tests}
 use Rattle.std.proofs.lemmas.List.{length-set}
 use Rattle.flow_dag.specs.Masks.{has}
@@ -13,7 +14,7 @@ use Rattle.flow_worker.specs.Pairs.{Each}
 use Rattle.flow_worker.specs.Steps.{all_emptied, emptied, laid_down}
 use Rattle.flow_worker.proofs.HandMasks.{each_set, mask_kept, mask_set, passes_get}
 use Rattle.flow_worker.proofs.MaskLemmas.{has_and, has_or, has_zero}
-use Rattle.flow_worker.proofs.Pairs.{each_get, each_map, sum_grows}
+use Rattle.flow_worker.proofs.Pairs.{each_get, each_map, sum_grows, sum_moved}
 use Rattle.flow_worker.proofs.Taking.{set_laid}
 
 -- ---- all hands are empty
@@ -178,6 +179,12 @@ marked_masks e t t' newest lanes all count ins without long is are = record {
   newest_is = fed_left newest lanes 0 ins are.newest_is;
   few = let n = length_left lanes 0 ins in let f = are.few in omega (arith, n, f);
 }
+
+pub took_at : (ins items : List LaneInIs) (place : ℕ) (d lane z : LaneInIs) (took answer : Bool) → items ≡ ins → place < length items → lane ≡ get_or items place d → (IsTrue took ↔ (length lane.taken < length z.taken)) → took ≡ answer
+    → IsTrue answer ↔ (all_taken ins < all_taken (set items place z))
+took_at ins items place d lane z took answer same l at h e =
+    let all = sum_moved (λ (a : LaneInIs). length a.taken) items place d z took l (subst (λ (a : LaneInIs). IsTrue took ↔ (length a.taken < length z.taken)) at h) in
+    subst (λ (xs : List LaneInIs). IsTrue answer ↔ (all_taken xs < all_taken (set items place z))) same (subst (λ (b : Bool). IsTrue b ↔ (all_taken items < all_taken (set items place z))) e all)
 
 pub filled_grows : (place : ℕ) (xs ys : List LaneInIs) → FilledAt place xs ys → place < length xs → all_taken xs ≤ all_taken ys
 filled_grows place xs ys f l = rw f.set_is (sum_grows (λ (a : LaneInIs). length a.taken) xs place f.at f.at l f.filled.grew)

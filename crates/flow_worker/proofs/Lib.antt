@@ -15,6 +15,7 @@ pub mod Taking
 pub mod LimitLemmas
 pub mod ActLemmas
 pub mod TurnLemmas
+pub mod Overtaking
 pub mod OutLanes
 pub mod OutputPlaces
 pub mod OutputLemmas

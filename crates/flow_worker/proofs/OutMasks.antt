@@ -1,5 +1,6 @@
 -- The mask beside a worker's lanes out.
 use Rattle.std.proofs.Common.{◌≡◌, ◌∙◌, ◌⊎◌, inl, inr, ℕ, zero, suc, ◌+◌, ◌<◌, ◌≤◌, ◌==◌, ◌||◌, nat_lt, List, [], ◌∷◌, Bool, true, false, cond, get_or, set, length, refl, sym, ap, subst, arith}
+use Rattle.std.specs.Prelude.{◌↔◌, IsTrue}
 use Rattle.std.specs.List.{list_any}
 use Rattle.std.proofs.lemmas.Bool.Decides.{eqb_tells, nat_tests}
 use Rattle.std.proofs.lemmas.List.{length-append, length-set, nil_from_length}
@@ -9,7 +10,7 @@ use Rattle.flow_worker.specs.Masks.{AreMarked, FlushedAt, IsMarkOf, IsMaskWith, 
 use Rattle.flow_worker.specs.Pairs.{Each, EachPair}
 use Rattle.flow_worker.proofs.HandMasks.{each_set, passes_get, passes_set, passes_within}
 use Rattle.flow_worker.proofs.MaskLemmas.{has_zero}
-use Rattle.flow_worker.proofs.Pairs.{each_get, each_true, pairs_each, sum_grows}
+use Rattle.flow_worker.proofs.Pairs.{each_get, each_true, pairs_each, sum_grows, sum_moved}
 
 no_item : (o : LaneOutIs) → o.waiting ≡ [] → is_waiting o ≡ false
 no_item o e = let n : length o.waiting ≡ 0 = ap length e in grind (arith, nat_tests)
@@ -187,6 +188,12 @@ steady_set outs place z l f e =
   where
     go : (a : LaneOutIs) → Flushed a z → IsSteadyOut a → IsSteadyOut z
     go a f h = rw (f.same.2, f.planned_is) h
+
+pub moved_at : (outs items : List LaneOutIs) (place : ℕ) (d lane z : LaneOutIs) (moved : Bool) → items ≡ outs → place < length items → lane ≡ get_or items place d → (IsTrue moved ↔ (length lane.sent < length z.sent))
+    → IsTrue moved ↔ (all_sent outs < all_sent (set items place z))
+moved_at outs items place d lane z moved same l at h =
+    subst (λ (xs : List LaneOutIs). IsTrue moved ↔ (all_sent xs < all_sent (set items place z))) same
+    (sum_moved (λ (o : LaneOutIs). length o.sent) items place d z moved l (subst (λ (o : LaneOutIs). IsTrue moved ↔ (length o.sent < length z.sent)) at h))
 
 pub flushed_grows : (place : ℕ) (xs ys : List LaneOutIs) → FlushedAt place xs ys → place < length xs → all_sent xs ≤ all_sent ys
 flushed_grows place xs ys f l = rw f.set_is (sum_grows (λ (o : LaneOutIs). length o.sent) xs place f.at f.at l f.flushed.grew)

@@ -1,5 +1,7 @@
 -- Two lists, place by place.
-use Rattle.std.proofs.Common.{◌≡◌, inl, inr, Some, slice_get, ℕ, zero, suc, ◌+◌, ◌<◌, ◌≤◌, List, [], ◌∷◌, set, get_or, length, refl, ap, sym, subst, arith, add-one, take, drop, ◌++◌, append_assoc, drop-cons, map}
+use Rattle.std.proofs.Common.{◌≡◌, Bool, true, false, inl, inr, Some, slice_get, ℕ, zero, suc, ◌+◌, ◌<◌, ◌≤◌, List, [], ◌∷◌, set, get_or, length, refl, ap, sym, subst, arith, add-one, take, drop, ◌++◌, append_assoc, drop-cons, map}
+use Rattle.std.specs.Prelude.{◌↔◌, IsTrue}
+use Rattle.std.proofs.Math.Nat.{eq-or-lt_of_le}
 use Rattle.std.proofs.lemmas.List.{drop-set-lt}
 use Rattle.std.proofs.lemmas.Grind.{take-set_at}
 use Rattle.flow_model.proofs.ElementLemmas.{IsIn}
@@ -50,6 +52,16 @@ sum_grows f xs n d z l h = omega (arith, sum_set f xs n d z l)
 
 pub sum_rises : {A : Type 0} (f : A → ℕ) (xs : List A) (n : ℕ) (d z : A) → n < length xs → f (get_or xs n d) < f z → total f xs < total f (set xs n z)
 sum_rises f xs n d z l h = omega (arith, sum_set f xs n d z l)
+
+pub sum_moved : {A : Type 0} (f : A → ℕ) (xs : List A) (n : ℕ) (d z : A) (moved : Bool) → n < length xs → (IsTrue moved ↔ (f (get_or xs n d) < f z)) → IsTrue moved ↔ (total f xs < total f (set xs n z))
+sum_moved f xs n d z moved l h = ((λ t. sum_rises f xs n d z l (h.0 t)), (λ t. h.1 (omega (arith, t, sum_set f xs n d z l))))
+
+-- a number that rises only if something moved is the same if nothing did
+pub not_moved : (a b : ℕ) (moved : Bool) → a ≤ b → (IsTrue moved ↔ (a < b)) → moved ≡ false → b ≡ a
+not_moved a b moved grew h still = elim (eq-or-lt_of_le grew) [
+  | inl e ↦ sym e
+  | inr l ↦ (let m : moved ≡ true = h.1 l in absurd (cc))
+]
 
 pub each_get : {A : Type 0} (P : A → Type 0) (xs : List A) (n : ℕ) (d : A) → Each P xs → n < length xs → P (get_or xs n d)
 each_get P [] n d e l = absurd (omega arith)

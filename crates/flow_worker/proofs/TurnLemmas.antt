@@ -1,6 +1,6 @@
 -- What the steps of a turn come to.
-use Rattle.std.proofs.Common.{◌≡◌, ◌∙◌, ◌⊎◌, inl, inr, ℕ, ◌<◌, ◌≤◌, List, [], ◌∷◌, ◌++◌, Bool, true, false, ◌||◌, cond, length, refl, sym, ap, subst, arith, Option, Some}
-use Rattle.std.specs.Prelude.{◌↔◌, IfSome, IsTrue}
+use Rattle.std.proofs.Common.{◌≡◌, ◌∙◌, ◌⊎◌, inl, inr, ℕ, ◌<◌, ◌≤◌, List, [], ◌∷◌, ◌++◌, Bool, true, false, ◌||◌, cond, length, refl, sym, ap, subst, arith, Option, Some, append-nil}
+use Rattle.std.specs.Prelude.{◌↔◌, All, IfSome, IsTrue}
 use Rattle.std.specs.List.{list_any}
 use Rattle.std.proofs.lemmas.Bool.Decides.{nat_tests}
 use Rattle.control_box.specs.Endpoints.{OwnerIs}
@@ -20,15 +20,15 @@ use Rattle.flow_worker.specs.Endpoints.{Filled, Flushed, LaneInIs, LaneOutIs, Sa
 use Rattle.flow_model.specs.Dues.{IsDueOf}
 use Rattle.flow_worker.specs.Worker.{IsPlaced, IsWorker, WorkerIs, edges_of, hands}
 use Rattle.flow_worker.specs.Steps.{MemoryOnly, PollsOnly, PutsOnly, TakesOnly}
-use Rattle.flow_worker.specs.Turning.{DryWhereEmpty, FullWhereWaiting, HasCause, HasDone, IsDone, IsHeld, IsTurn, NotEarly, Overtakes, Polled, SameEndpoints, TurnsAtPost, moves}
+use Rattle.flow_worker.specs.Turning.{DryWhereEmpty, FullWhereWaiting, HasCause, HasDone, IsDone, IsHeld, IsTurn, NotEarly, Overtakes, Polled, PollsOnce, SameEndpoints, TurnsAtPost, moves}
 use Rattle.flow_worker.specs.declared.worker.Turn as turn_type
 use Rattle.flow_worker.specs.declared.worker.Turn.TheVariants as turn
-use Rattle.flow_worker.proofs.Pairs.{each_same, pairs_keep, pairs_then}
+use Rattle.flow_worker.proofs.Pairs.{each_same, not_moved, pairs_keep, pairs_then}
 use Rattle.flow_worker.proofs.Keeping.{keeps_memory, keeps_poll, keeps_puts, keeps_takes}
 use Rattle.flow_worker.proofs.Steadying.{KeepsAgreement, KeepsSteady, worker_agreement}
 use Rattle.flow_worker.proofs.Deciding.{all_hands, turn_first, turns_if}
 use Rattle.flow_worker.proofs.Acting.{done_law, head_places}
-use Rattle.flow_worker.proofs.ActLemmas.{done_turned, emptied_none, ends_done, grew_done, in_then, memory_same, met_done, none_added, one_longer, out_then, pairs_map, polls_done, same_in, total_grows, turned_done}
+use Rattle.flow_worker.proofs.ActLemmas.{acts_done, done_turned, emptied_none, ends_done, grew_done, in_then, memory_same, met_done, none_added, one_longer, out_then, pairs_map, polls_done, same_in, total_grows, turned_done}
 
 -- ---- what waits
 
@@ -55,6 +55,16 @@ waiting_none (o ∷ more) e = let p = parts (is_waiting o) (list_any is_waiting 
     none [] q e = q
     none (x ∷ xs) q e = absurd (let l : 0 < length o.waiting = rw q (omega arith) in let t : is_waiting o ≡ true = grind (arith, nat_tests) in cc)
 
+-- ---- nothing was put or taken
+
+pub put_none : (w v : WorkerIs) (put : Bool) → PutsOnly w v → (IsTrue put ↔ (all_sent w.outs < all_sent v.outs)) → put ≡ false → all_sent v.outs ≡ all_sent w.outs
+put_none w v put p moved none =
+    not_moved (all_sent w.outs) (all_sent v.outs) put (total_grows Flushed (λ (o : LaneOutIs). length o.sent) w.outs v.outs (λ a b f. f.grew) p.outs) moved none
+
+pub took_none : (w v : WorkerIs) (took : Bool) → TakesOnly w v → (IsTrue took ↔ (all_taken w.ins < all_taken v.ins)) → took ≡ false → all_taken v.ins ≡ all_taken w.ins
+took_none w v took p moved none =
+    not_moved (all_taken w.ins) (all_taken v.ins) took (total_grows Filled (λ (a : LaneInIs). length a.taken) w.ins v.ins (λ a b f. f.grew) p.ins) moved none
+
 -- ---- a worker that has closed
 
 module _ (setup : SetupView) (agrees : KeepsAgreement setup) (w v : WorkerIs) (law : (begin : Begin) × IsWorker setup begin w) (p : PutsOnly w v) (closed : w.closed ≡ true) where
@@ -67,6 +77,9 @@ module _ (setup : SetupView) (agrees : KeepsAgreement setup) (w v : WorkerIs) (l
   no_poll : (n : ℕ) → Polled w v n → ⊥
   no_poll n q = one_longer w.owner.polls n (sym (ap (λ (x : WorkerIs). x.owner.polls) p.rest) ∙ q)
 
+  still_polls : v.owner.polls ≡ w.owner.polls
+  still_polls = ap (λ (x : WorkerIs). x.owner.polls) p.rest
+
   pub closed_turn : (result : turn_type.Turn) → HasCause result w v → IsTurn setup result w v
   closed_turn result cause = record {
     law = λ begin h. keeps_puts setup begin w v p h;
@@ -77,6 +90,8 @@ module _ (setup : SetupView) (agrees : KeepsAgreement setup) (w v : WorkerIs) (l
       outs = pairs_map Flushed SameOut w.outs v.outs (λ a b f. f.same) p.outs;
       within = ap (λ (x : WorkerIs). x.owner.within) p.rest;
     };
+    grows = ([], same_journal ∙ sym (append-nil w.journal), inl refl);
+    polls = ((λ c. still_polls), (λ c. absurd (cc (c, closed))));
     overtakes = λ l t c. absurd (none_added w v (Met l t) same_journal c);
     at_post = λ ne n due q. absurd (no_poll n q);
     early = λ r due c. absurd (none_added w v (Turned r) same_journal c);
@@ -94,9 +109,14 @@ module _ (setup : SetupView) (agrees : KeepsAgreement setup) (w v : WorkerIs) (l
         λ d. waiting_some v.outs e d.1,
       )
 
-  pub closed_idle : list_any is_waiting v.outs ≡ true → IsTurn setup turn.Idle w v
-  closed_idle e = closed_turn turn.Idle
-      ((λ c. absurd (cc (c, closed))), (λ c. pairs_map Flushed FullWhereWaiting w.outs v.outs (λ a b f. f.full) p.outs), (λ d. waiting_some v.outs e d.1))
+  pub closed_idle : list_any is_waiting v.outs ≡ true → all_sent v.outs ≡ all_sent w.outs → IsTurn setup turn.Idle w v
+  closed_idle e same = closed_turn turn.Idle (
+    (λ c. absurd (cc (c, closed))),
+    (λ c. pairs_map Flushed FullWhereWaiting w.outs v.outs (λ a b f. f.full) p.outs),
+    (let j : length v.journal ≡ length w.journal = ap length same_journal in
+        let t : all_taken v.ins ≡ all_taken w.ins = ap all_taken (ap (λ (x : WorkerIs). x.ins) p.rest) in (omega (arith, j, t, same), same_journal)),
+    (λ d. waiting_some v.outs e d.1),
+  )
 
 -- ---- a worker that has not
 
@@ -124,6 +144,12 @@ module _ (setup : SetupView) (agrees : KeepsAgreement setup) (keeps : KeepsStead
 
     polls3 : Polled w w3 n
     polls3 = polls.polls ∙ ap (λ (o : OwnerIs). o.polls ++ n ∷ []) owner2
+
+    rises3 : All (λ poll. poll ≤ n) w.owner.polls
+    rises3 = subst (λ (o : OwnerIs). All (λ poll. poll ≤ n) o.polls) owner2 polls.rises
+
+    polls_once : (v : WorkerIs) → v.owner.polls ≡ w3.owner.polls → PollsOnce w v
+    polls_once v same = ((λ c. absurd (cc (c, open_))), (λ c. (n, same ∙ polls3, rises3)))
 
     ins3 : w3.ins ≡ w2.ins
     ins3 = ap (λ (x : WorkerIs). x.ins) polls.rest
@@ -186,6 +212,14 @@ module _ (setup : SetupView) (agrees : KeepsAgreement setup) (keeps : KeepsStead
         let u : all_taken w1.ins ≡ all_taken w.ins = ap all_taken (ap (λ (x : WorkerIs). x.ins) puts.rest) in
         omega (arith, j, t, s, u, more)
 
+    pub moves_none : all_sent w1.outs ≡ all_sent w.outs → all_taken w2.ins ≡ all_taken w1.ins → moves w3 ≡ moves w
+    moves_none no_put no_take =
+        let j : length w3.journal ≡ length w.journal = ap length journal3 in
+        let s : all_sent w3.outs ≡ all_sent w1.outs = ap all_sent outs3 in
+        let t : all_taken w3.ins ≡ all_taken w2.ins = ap all_taken ins3 in
+        let u : all_taken w1.ins ≡ all_taken w.ins = ap all_taken (ap (λ (x : WorkerIs). x.ins) puts.rest) in
+        omega (arith, j, s, t, u, no_put, no_take)
+
     -- where the poll shows a due of a head, the decision is its turn
     head_turns : (due : Due) → w.due ≡ Some due → due.head ≡ true → w.owner.turned < n → decided (hands w3) w3.due posted w3.next ≡ Turn due.request
     head_turns due e head l =
@@ -207,11 +241,14 @@ module _ (setup : SetupView) (agrees : KeepsAgreement setup) (keeps : KeepsStead
             outs = pairs_map SameButMemory SameOut w3.outs v.outs memory_same m.outs;
             within = ap (λ (x : WorkerIs). x.owner.within) m.rest;
           });
+          grows = ([], same ∙ sym (append-nil w.journal), inl refl);
+          polls = polls_once v (ap (λ (x : WorkerIs). x.owner.polls) m.rest);
           overtakes = λ l t c. absurd (none_added w v (Met l t) same c);
           at_post = λ ne. absurd (ne refl);
           early = λ r due c. absurd (none_added w v (Turned r) same c);
           cause = record {
             journal = same;
+            due = ap (λ (x : WorkerIs). x.due) m.rest ∙ due3;
             in_force = ap (λ (x : WorkerIs). x.in_force) m.rest ∙ ap (λ (x : WorkerIs). x.in_force) rest3;
             counts = ap (λ (x : WorkerIs). x.counts) m.rest ∙ ap (λ (x : WorkerIs). x.counts) rest3;
             planned_is = pairs_keep SameButMemory planned w3.outs v.outs (λ a b e. ap planned e) m.outs ∙ pairs_keep Flushed planned w.outs w3.outs (λ a b f. f.planned_is) flushed;
@@ -229,6 +266,8 @@ module _ (setup : SetupView) (agrees : KeepsAgreement setup) (keeps : KeepsStead
       law = law3;
       agreement = worker_agreement setup law.0 w3 agrees (law3 law.0 law.1);
       endpoints = ends3;
+      grows = ([], journal3 ∙ sym (append-nil w.journal), inl refl);
+      polls = polls_once w3 refl;
       overtakes = λ l t c. absurd (none_added w w3 (Met l t) journal3 c);
       at_post = λ ne m due q e head l. absurd (subst (λ (a : Act). IsHeld a w3) (head_turns due e head (same_poll m q l)) held);
       early = λ r due c. absurd (none_added w w3 (Turned r) journal3 c);
@@ -245,8 +284,8 @@ module _ (setup : SetupView) (agrees : KeepsAgreement setup) (keeps : KeepsStead
     pub held_moved : IsHeld (decided (hands w3) w3.due posted w3.next) w3 → moves w < moves w3 → IsTurn setup turn.Moved w w3
     held_moved held more = held_turn turn.Moved held (more, not_done)
 
-    pub held_idle : IsHeld (decided (hands w3) w3.due posted w3.next) w3 → IsTurn setup turn.Idle w w3
-    held_idle held = held_turn turn.Idle held (
+    pub held_idle : IsHeld (decided (hands w3) w3.due posted w3.next) w3 → moves w3 ≡ moves w → IsTurn setup turn.Idle w w3
+    held_idle held same = held_turn turn.Idle held (
       (λ c. record {
         dry = pairs_map Filled DryWhereEmpty w.ins w3.ins (λ a b f. f.dry) filled;
         full = pairs_map Flushed FullWhereWaiting w.outs w3.outs (λ a b f. f.full) flushed;
@@ -258,6 +297,7 @@ module _ (setup : SetupView) (agrees : KeepsAgreement setup) (keeps : KeepsStead
         nothing = held;
       }),
       (λ c. absurd (cc (c, open_))),
+      (same, journal3),
       not_done,
     )
 
@@ -319,6 +359,8 @@ module _ (setup : SetupView) (agrees : KeepsAgreement setup) (keeps : KeepsStead
         law = law_v;
         agreement = worker_agreement setup law.0 v agrees (law_v law.0 law.1);
         endpoints = ends_then v (ends_done setup h3.who w3.due act w3 v done);
+        grows = acts_done setup h3.who w3.due act w3 v w journal3 due3 ends3.ins done;
+        polls = polls_once v (polls_done setup h3.who w3.due act w3 v done);
         overtakes = overtakes_v;
         at_post = λ ne. at_post_v;
         early = early_v;

@@ -1,6 +1,7 @@
 -- What the steps of a turn do.
-use Rattle.std.specs.Prelude.{◌≡◌, ℕ, zero, suc, ◌+◌, ◌<◌, ◌==◌, List, [], ◌∷◌, ◌++◌, true, get_or}
-use Rattle.std.specs.Prelude.{length, map, set, Option, Some, None, slice_get, if◌then◌else◌}
+use Rattle.std.specs.Prelude.{◌≡◌, ℕ, zero, suc, ◌+◌, ◌<◌, ◌≤◌, ◌==◌, List, [], ◌∷◌, ◌++◌, true}
+use Rattle.std.specs.Prelude.{All, length, map, set, Option, Some, None, slice_get, get_or}
+use Rattle.std.specs.Prelude.{if◌then◌else◌}
 use Rattle.flow_dag.specs.Masks.{has}
 use Rattle.jobs.specs.JobView.{JobView}
 use Rattle.jobs.specs.declared.func.Func.{Func}
@@ -40,6 +41,7 @@ pub record PollsOnly (w v : WorkerIs) (n : ℕ) : Type 0 where
   pub within : v.owner.within ≡ w.owner.within
   pub turned : v.owner.turned ≡ w.owner.turned
   pub polls : v.owner.polls ≡ w.owner.polls ++ n ∷ []
+  pub rises : All (λ poll. poll ≤ n) w.owner.polls
 
 -- memory for what will be written
 pub record MemoryOnly (w v : WorkerIs) : Type 0 where

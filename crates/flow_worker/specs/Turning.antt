@@ -1,6 +1,7 @@
 -- What one turn of a worker promises.
 use Rattle.std.specs.Prelude.{◌≡◌, ◌≢◌, ◌⊎◌, ◌↔◌, ⊤, ℕ, ◌+◌, ◌<◌, List, [], ◌∷◌, ◌++◌, Bool, true}
-use Rattle.std.specs.Prelude.{false, length, map, Option, Some, None, IsTrue, Contains, drop}
+use Rattle.std.specs.Prelude.{◌≤◌, false, length, map, Option, Some, None, IsTrue, All, Contains}
+use Rattle.std.specs.Prelude.{drop}
 use Rattle.std.specs.List.{list_any}
 use Rattle.tuple_trace.specs.Counts.{Rose}
 use Rattle.tuple_trace.specs.declared.tuple.Tuple.{Tuple}
@@ -19,11 +20,25 @@ use Rattle.flow_worker.specs.Pairs.{Each, EachPair}
 use Rattle.flow_worker.specs.Endpoints.{LaneInIs, LaneOutIs, SameIn, SameOut, all_sent, all_taken}
 use Rattle.flow_worker.specs.Endpoints.{planned}
 use Rattle.flow_worker.specs.Worker.{IsWorker, WorkerIs, hands}
-use Rattle.flow_worker.specs.Steps.{HasClosed, HasProcessed, HasTurned, MemoryOnly}
+use Rattle.flow_worker.specs.Steps.{HasClosed, HasProcessed, HasTurned, MemoryOnly, ended_entries}
+use Rattle.flow_worker.specs.Steps.{marked_entries}
 use Rattle.flow_worker.specs.declared.worker.acting.Acted.{Acted}
 use Rattle.flow_worker.specs.declared.worker.acting.Acted.TheVariants.{Did, Held, Starved}
 use Rattle.flow_worker.specs.declared.worker.Turn as turn_type
 use Rattle.flow_worker.specs.declared.worker.Turn.TheVariants as turn
+
+-- what one act adds to the journal: nothing, a tuple, the markers and the turn of the next due, or
+-- the end of each lane
+abbrev pub IsFromOneAct : WorkerIs → List Entry → Type 0
+IsFromOneAct w new = (new ≡ [])
+    ⊎ ((lane : ℕ) × (tuple : Tuple) × (new ≡ Met lane tuple ∷ []))
+    ⊎ ((due : Due) × (w.due ≡ Some due)
+    × (new ≡ marked_entries due.lanes due.request 0 w.ins ++ Turned due.request ∷ []))
+    ⊎ (new ≡ ended_entries w.ins)
+
+-- the journal only grows, and by one act
+abbrev pub GrowsByOneAct : WorkerIs → WorkerIs → Type 0
+GrowsByOneAct w v = (new : List Entry) × (v.journal ≡ w.journal ++ new) × IsFromOneAct w new
 
 -- what a turn added to the journal
 abbrev pub added : WorkerIs → WorkerIs → List Entry
@@ -32,6 +47,12 @@ added w v = drop (length w.journal) v.journal
 -- the box was polled once, and the poll returned this number
 abbrev pub Polled : WorkerIs → WorkerIs → ℕ → Type 0
 Polled w v n = v.owner.polls ≡ w.owner.polls ++ n ∷ []
+
+-- a worker that has not closed polls its box once, and what it polls never falls; a closed one
+-- doesn't poll
+abbrev pub PollsOnce : WorkerIs → WorkerIs → Type 0
+PollsOnce w v = (w.closed ≡ true → v.owner.polls ≡ w.owner.polls)
+    × (w.closed ≡ false → (n : ℕ) × Polled w v n × All (λ poll. poll ≤ n) w.owner.polls)
 
 -- the number shows the worker's next due, which it heads
 abbrev pub ShowsHead : WorkerIs → ℕ → Type 0
@@ -90,20 +111,26 @@ pub record IsIdle (w v : WorkerIs) : Type 0 where
   pub posted_is : posted ≡ true ↔ w.owner.turned < number
   pub nothing : IsHeld (decided (hands v) v.due posted v.next) v
 
--- out of memory: journal, function, counts and planned items are as before, and the worker has
--- not closed
+-- out of memory: journal, next due, function, counts and planned items are as before, and the
+-- worker has not closed
 pub record IsAsBefore (w v : WorkerIs) : Type 0 where
   pub journal : v.journal ≡ w.journal
+  pub due : v.due ≡ w.due
   pub in_force : v.in_force ≡ w.in_force
   pub counts : v.counts ≡ w.counts
   pub planned_is : map planned v.outs ≡ map planned w.outs
   pub unclosed : v.closed ≡ false
 
+-- no item was sent or taken, and the journal is as before
+abbrev pub NothingMoved : WorkerIs → WorkerIs → Type 0
+NothingMoved w v = (moves v ≡ moves w) × (v.journal ≡ w.journal)
+
 -- the cause of each outcome
 abbrev pub HasCause : turn_type.Turn → WorkerIs → WorkerIs → Type 0
 HasCause turn.Moved w v = (moves w < moves v) × ¬ IsDone v
 HasCause turn.Idle w v = (w.closed ≡ false → IsIdle w v)
-    × (w.closed ≡ true → EachPair FullWhereWaiting w.outs v.outs) × ¬ IsDone v
+    × (w.closed ≡ true → EachPair FullWhereWaiting w.outs v.outs)
+    × NothingMoved w v × ¬ IsDone v
 HasCause turn.Done w v = IsDone v
 HasCause turn.NoMemory w v = IsAsBefore w v
 
@@ -121,10 +148,25 @@ pub record IsTurn (setup : SetupView) (result : turn_type.Turn) (w v : WorkerIs)
   -- the visits of the processed tuples agree with the turns
   pub agreement : Agreement setup v.journal
   pub endpoints : SameEndpoints w v
+  pub grows : GrowsByOneAct w v
+  pub polls : PollsOnce w v
   pub overtakes : Overtakes w v
   pub at_post : result ≢ turn.NoMemory → TurnsAtPost w v
   pub early : NotEarly w v
   pub cause : HasCause result w v
+
+-- ---- turns that follow each other
+
+-- each worker of the list is the one before it after one turn; the first stands before the list
+abbrev pub AreTurns : SetupView → WorkerIs → List WorkerIs → Type 0
+AreTurns setup w [] = ⊤
+AreTurns setup w (v ∷ more) =
+    ((result : turn_type.Turn) × IsTurn setup result w v) × AreTurns setup v more
+
+-- the journal is the earlier one, or goes on with the turn for the request
+abbrev pub TurnsNext : ℕ → WorkerIs → WorkerIs → Type 0
+TurnsNext r w v = (v.journal ≡ w.journal)
+    ⊎ ((more : List Entry) × (v.journal ≡ w.journal ++ Turned r ∷ more))
 
 -- ---- the parts of a turn
 

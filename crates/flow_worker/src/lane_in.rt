@@ -1,4 +1,4 @@
-ghost use Rattle.std.specs.Prelude.{◌≡◌, ◌≢◌, ℕ, ◌+◌, ◌<◌, ◌≤◌, [], IsTrue, false, length};
+ghost use Rattle.std.specs.Prelude.{◌≡◌, ◌≢◌, ℕ, ◌+◌, ◌<◌, ◌≤◌, ◌↔◌, [], IsTrue, false, length};
 ghost use Rattle.marker_align.specs.declared.held.Hand.TheVariants.{Empty};
 ghost use Rattle.flow_worker.specs.Endpoints.{Filled};
 ghost use Rattle.flow_worker.specs.Masks.{is_empty};
@@ -84,7 +84,7 @@ impl<L: Lanes> LaneIn<L> {
     /// Takes the next item into the hand if the hand is empty. Returns whether it took one.
     pub fn fill(&mut self, need: &mut L::Need) -> bool
         ensures filled { Filled self.old self.new }
-        ensures moved { IsTrue result → length self.old.taken < length self.new.taken }
+        ensures moved { IsTrue result ↔ (length self.old.taken < length self.new.taken) }
         ensures holds { IsTrue result → is_empty self.new.hand ≡ false }
         ensures kept { result ≡ false → self.new.hand ≡ self.old.hand }
     {

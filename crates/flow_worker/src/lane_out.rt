@@ -1,5 +1,5 @@
 ghost use Rattle.std.specs.Prelude.{◌≡◌, ℕ, ◌+◌, ◌<◌, ◌≤◌, [], ◌∷◌, ◌++◌, length, OnOk, OnErr};
-ghost use Rattle.std.specs.Prelude.{IsTrue};
+ghost use Rattle.std.specs.Prelude.{◌↔◌, IsTrue};
 ghost use Rattle.flow_worker.specs.Pairs.{Each, EachPair};
 ghost use Rattle.flow_worker.specs.Endpoints.{Flushed, HasRoom, IsSteadyOut, LaneOutIs, Reserved};
 ghost use Rattle.flow_worker.specs.Endpoints.{SameButMemory, all_sent, is_waiting};
@@ -97,7 +97,7 @@ impl<L: Lanes> LaneOut<L> {
     pub fn flush(&mut self, need: &mut L::Need) -> bool
         requires steady { IsSteadyOut self.old }
         ensures flushed { Flushed self.old self.new }
-        ensures moved { IsTrue result → length self.old.sent < length self.new.sent }
+        ensures moved { IsTrue result ↔ (length self.old.sent < length self.new.sent) }
         ensures memory { self.new.memory ≡ self.old.memory }
     {
         let mut moved = false;
@@ -131,7 +131,7 @@ impl<L: Lanes> LaneOut<L> {
 pub fn flush_all<L: Lanes>(outs: &mut [LaneOut<L>], need: &mut L::Need) -> bool
     requires steady { Each IsSteadyOut outs.old }
     ensures flushed { EachPair Flushed outs.old outs.new }
-    ensures moved { IsTrue result → all_sent outs.old < all_sent outs.new }
+    ensures moved { IsTrue result ↔ (all_sent outs.old < all_sent outs.new) }
 {
     let mut moved = false;
     for out in outs {

@@ -1,6 +1,6 @@
 // The lanes into a worker, with masks over its hands.
 ghost use Rattle.std.specs.Prelude.{◌≡◌, ◌+◌, ◌<◌, ◌≤◌, ◌++◌, [], ◌∷◌, IsTrue, None, Some, false};
-ghost use Rattle.std.specs.Prelude.{length, map, slice_get};
+ghost use Rattle.std.specs.Prelude.{◌↔◌, length, map, slice_get};
 ghost use Rattle.std.specs.Option.{option_copied};
 ghost use Rattle.marker_align.specs.Decision.{decided, next_tuple as next_tuple_of, turn};
 ghost use Rattle.marker_align.specs.declared.held.Hand.TheVariants.{Empty, Holds};
@@ -82,7 +82,7 @@ impl<L: Lanes> LanesIn<L> {
     /// Takes into each empty hand. Returns whether any took an item.
     pub fn fill(&mut self, need: &mut L::Need) -> bool
         ensures filled { EachPair Filled self.old self.new }
-        ensures moved { IsTrue result → all_taken self.old < all_taken self.new }
+        ensures moved { IsTrue result ↔ (all_taken self.old < all_taken self.new) }
     {
         if self.len() == 1 {
             return self.fill_at(0, need);
@@ -94,7 +94,7 @@ impl<L: Lanes> LanesIn<L> {
     #[inline(never)]
     fn fill_each(&mut self, need: &mut L::Need) -> bool
         ensures filled { EachPair Filled self.old self.new }
-        ensures moved { IsTrue result → all_taken self.old < all_taken self.new }
+        ensures moved { IsTrue result ↔ (all_taken self.old < all_taken self.new) }
     {
         let mut moved = false;
         let mut left = self.empty_places();
@@ -118,7 +118,7 @@ impl<L: Lanes> LanesIn<L> {
     fn fill_at(&mut self, place: u32, need: &mut L::Need) -> bool
         requires within { place < length self.old }
         ensures filled { FilledAt place self.old self.new }
-        ensures moved { IsTrue result → all_taken self.old < all_taken self.new }
+        ensures moved { IsTrue result ↔ (all_taken self.old < all_taken self.new) }
     {
         let lane = &mut self.lanes[place as usize];
         if !lane.fill(need) {

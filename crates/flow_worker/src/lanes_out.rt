@@ -1,6 +1,6 @@
 // The lanes out of a worker, with a mask of those on which an item waits.
 ghost use Rattle.std.specs.Prelude.{◌≡◌, ◌<◌, ◌≤◌, [], ◌∷◌, IsTrue, OnErr, OnOk, get_or};
-ghost use Rattle.std.specs.Prelude.{if◌then◌else◌, length, ◌++◌};
+ghost use Rattle.std.specs.Prelude.{◌↔◌, if◌then◌else◌, length, ◌++◌};
 ghost use Rattle.std.specs.List.{list_any};
 ghost use Rattle.flow_dag.specs.Masks.{has};
 ghost use Rattle.tuple_trace.specs.declared.tuple.Item.TheVariants.{Mark, Last};
@@ -77,7 +77,7 @@ impl<L: Lanes> LanesOut<L> {
     pub fn flush(&mut self, need: &mut L::Need) -> bool
         requires steady { Each IsSteadyOut self.old }
         ensures flushed { EachPair Flushed self.old self.new }
-        ensures moved { IsTrue result → all_sent self.old < all_sent self.new }
+        ensures moved { IsTrue result ↔ (all_sent self.old < all_sent self.new) }
     {
         if self.len() == 1 {
             return self.flush_at(0, need);
@@ -90,7 +90,7 @@ impl<L: Lanes> LanesOut<L> {
     fn flush_marked(&mut self, need: &mut L::Need) -> bool
         requires steady { Each IsSteadyOut self.old }
         ensures flushed { EachPair Flushed self.old self.new }
-        ensures moved { IsTrue result → all_sent self.old < all_sent self.new }
+        ensures moved { IsTrue result ↔ (all_sent self.old < all_sent self.new) }
     {
         if self.len() > 128 {
             return self.flush_each(need);
@@ -124,7 +124,7 @@ impl<L: Lanes> LanesOut<L> {
         requires within { place < length self.old }
         requires steady { Each IsSteadyOut self.old }
         ensures flushed { FlushedAt place self.old self.new }
-        ensures moved { IsTrue result → all_sent self.old < all_sent self.new }
+        ensures moved { IsTrue result ↔ (all_sent self.old < all_sent self.new) }
     {
         let lane = &mut self.lanes[place as usize];
         let moved = lane.flush(need);
@@ -137,7 +137,7 @@ impl<L: Lanes> LanesOut<L> {
     fn flush_each(&mut self, need: &mut L::Need) -> bool
         requires steady { Each IsSteadyOut self.old }
         ensures flushed { EachPair Flushed self.old self.new }
-        ensures moved { IsTrue result → all_sent self.old < all_sent self.new }
+        ensures moved { IsTrue result ↔ (all_sent self.old < all_sent self.new) }
     {
         self.room = 0;
         self.waiting = u128::MAX;

@@ -20,10 +20,12 @@ mod lane_in;
 mod lane_out;
 mod lanes_in;
 mod lanes_out;
+mod laws;
 mod masks;
 mod outputs;
 mod parts;
 mod worker;
 
+pub use laws::control_overtakes_tuples;
 pub use parts::{Opened, Parts, Worked};
 pub use worker::{Turn, Worker};

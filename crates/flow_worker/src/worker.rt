@@ -275,8 +275,8 @@ impl<L: Lanes> Worker<L> {
     /// `setup` is the one that the worker was made for. `gate` is called directly before a tuple is
     /// processed, with the node, the worker's place there, and the number of earlier tuples.
     ///
-    /// After [`Turn::NoMemory`] the journal, function, counts and planned items are as before the
-    /// turn, and what was taken is in the hands. The turn may be called again.
+    /// After [`Turn::NoMemory`] the journal, next due, function, counts and planned items are as
+    /// before the turn, and what was taken is in the hands. The turn may be called again.
     pub fn turn<G: Gate>(&mut self, need: &mut L::Need, setup: &Setup, gate: &G) -> Turn
         requires law { (begin : Begin) × IsWorker (setup_view setup.now) begin self.old }
         ensures { IsTurn (setup_view setup.now) result self.old self.new }
@@ -308,14 +308,14 @@ impl<L: Lanes> Worker<L> {
     fn put_waiting(&mut self, need: &mut L::Need) -> bool
         requires steady { Each IsSteadyOut self.old.outs }
         ensures puts { PutsOnly self.old self.new }
-        ensures moved { IsTrue result → all_sent self.old.outs < all_sent self.new.outs }
+        ensures moved { IsTrue result ↔ (all_sent self.old.outs < all_sent self.new.outs) }
     {
         self.outs.flush(need)
     }
 
     fn take_into_hands(&mut self, need: &mut L::Need) -> bool
         ensures takes { TakesOnly self.old self.new }
-        ensures moved { IsTrue result → all_taken self.old.ins < all_taken self.new.ins }
+        ensures moved { IsTrue result ↔ (all_taken self.old.ins < all_taken self.new.ins) }
     {
         self.ins.fill(need)
     }

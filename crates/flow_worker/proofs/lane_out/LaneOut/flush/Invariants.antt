@@ -1,4 +1,5 @@
 use Rattle.std.proofs.Common.{◌≡◌, ◌<◌, ◌≤◌, ◌++◌, length, true}
+use Rattle.std.specs.Prelude.{◌↔◌}
 use Rattle.std.specs.VecDeque.{deque_capacity}
 use Rattle.flow_worker.proofs.lane_out.LaneOut.flush.Given as goal
 
@@ -12,7 +13,7 @@ invariant-loop-item g l = record {
   full : l.fn.self.full ≤ g.L.Tx.Tx.full l.self-inside.end;
   grew : length l.fn.self.sent ≤ length (g.L.Tx.Tx.sent l.self-inside.end);
   memory : deque_capacity l.self-inside.waiting ≡ l.fn.self.memory;
-  moved : l.moved ≡ true → length l.fn.self.sent < length (g.L.Tx.Tx.sent l.self-inside.end);
+  moved : l.moved ≡ true ↔ (length l.fn.self.sent < length (g.L.Tx.Tx.sent l.self-inside.end));
 }
 
 abbrev pub decreases-loop-item : goal.decreases-loop-item

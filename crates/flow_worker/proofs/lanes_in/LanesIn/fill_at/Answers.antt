@@ -1,8 +1,7 @@
-use Rattle.std.proofs.Common.{◌∙◌, ◌<◌, ◌≤◌, List, set, length, sym, ap, subst, arith}
-use Rattle.flow_worker.specs.Endpoints.{LaneInIs, all_taken}
+use Rattle.std.proofs.Common.{◌∙◌, ◌<◌, ◌≤◌, List, length, sym, ap, subst, true, false, arith}
+use Rattle.flow_worker.specs.Endpoints.{LaneInIs}
 use Rattle.flow_worker.specs.Masks.{issued_of, is_empty}
-use Rattle.flow_worker.proofs.InMasks.{other_masks, same_masks, tuple_masks, was_empty}
-use Rattle.flow_worker.proofs.Pairs.{sum_rises}
+use Rattle.flow_worker.proofs.InMasks.{other_masks, same_masks, took_at, tuple_masks, was_empty}
 use Rattle.flow_worker.proofs.lanes_in.LanesIn.fill_at.Goals as goal
 
 pub invariant_of-self : goal.invariant_of-self
@@ -25,19 +24,24 @@ pub invariant_of-self-in_default : goal.invariant_of-self-in_default
 invariant_of-self-in_default g c =
     let l : c.args.place < length c.self.inside.lanes.items = subst (λ (xs : List LaneInIs). c.args.place < length xs) (sym c.self.view_is) c.requires.within in
     other_masks c.self.inside.empty c.self.inside.tuples c.with_place-self-inside.result c.self.inside.newest c.args.place c.self.inside.lanes.items c.fill.new.self _ l (c.fill.ensures.holds c.if-not-fill.false) (sym c.in_default.is ∙ (c.issued_in.ensures ∙ ap issued_of c.hand.ensures))
-    (sym (ap (λ (a : LaneInIs). is_empty a.hand) c.index_mut-lane.ensures.value) ∙ was_empty c.index_mut-lane.result.now c.fill.new.self c.fill.ensures.filled (c.fill.ensures.moved c.if-not-fill.false)) c.with_place-self-inside.ensures c.self.invariant
+    (sym (ap (λ (a : LaneInIs). is_empty a.hand) c.index_mut-lane.ensures.value) ∙ was_empty c.index_mut-lane.result.now c.fill.new.self c.fill.ensures.filled (c.fill.ensures.moved.0 c.if-not-fill.false)) c.with_place-self-inside.ensures c.self.invariant
+
+pub returns-then-not-fill-clause-moved : goal.returns-then-not-fill-clause-moved
+returns-then-not-fill-clause-moved g c =
+    let l : c.args.place < length c.self.inside.lanes.items = subst (λ (xs : List LaneInIs). c.args.place < length xs) (sym c.self.view_is) c.requires.within in
+    took_at c.args.self.now c.self.inside.lanes.items c.args.place _ _ c.fill.new.self c.fill.result false c.self.view_is l c.index_mut-lane.ensures.value c.fill.ensures.moved c.if-not-fill.true
 
 pub returns-then-self-issued-clause-moved : goal.returns-then-self-issued-clause-moved
-returns-then-self-issued-clause-moved g c u =
+returns-then-self-issued-clause-moved g c =
     let l : c.args.place < length c.self.inside.lanes.items = subst (λ (xs : List LaneInIs). c.args.place < length xs) (sym c.self.view_is) c.requires.within in
-    subst (λ (xs : List LaneInIs). all_taken xs < all_taken (set c.self.inside.lanes.items c.args.place c.fill.new.self)) c.self.view_is (sum_rises (λ (a : LaneInIs). length a.taken) c.self.inside.lanes.items c.args.place _ c.fill.new.self l (subst (λ (a : LaneInIs). length a.taken < length c.fill.new.self.taken) c.index_mut-lane.ensures.value (c.fill.ensures.moved c.if-not-fill.false)))
+    took_at c.args.self.now c.self.inside.lanes.items c.args.place _ _ c.fill.new.self c.fill.result true c.self.view_is l c.index_mut-lane.ensures.value c.fill.ensures.moved c.if-not-fill.false
 
 pub returns-else-self-issued-clause-moved : goal.returns-else-self-issued-clause-moved
-returns-else-self-issued-clause-moved g c u =
+returns-else-self-issued-clause-moved g c =
     let l : c.args.place < length c.self.inside.lanes.items = subst (λ (xs : List LaneInIs). c.args.place < length xs) (sym c.self.view_is) c.requires.within in
-    subst (λ (xs : List LaneInIs). all_taken xs < all_taken (set c.self.inside.lanes.items c.args.place c.fill.new.self)) c.self.view_is (sum_rises (λ (a : LaneInIs). length a.taken) c.self.inside.lanes.items c.args.place _ c.fill.new.self l (subst (λ (a : LaneInIs). length a.taken < length c.fill.new.self.taken) c.index_mut-lane.ensures.value (c.fill.ensures.moved c.if-not-fill.false)))
+    took_at c.args.self.now c.self.inside.lanes.items c.args.place _ _ c.fill.new.self c.fill.result true c.self.view_is l c.index_mut-lane.ensures.value c.fill.ensures.moved c.if-not-fill.false
 
 pub returns-in_default-clause-moved : goal.returns-in_default-clause-moved
-returns-in_default-clause-moved g c u =
+returns-in_default-clause-moved g c =
     let l : c.args.place < length c.self.inside.lanes.items = subst (λ (xs : List LaneInIs). c.args.place < length xs) (sym c.self.view_is) c.requires.within in
-    subst (λ (xs : List LaneInIs). all_taken xs < all_taken (set c.self.inside.lanes.items c.args.place c.fill.new.self)) c.self.view_is (sum_rises (λ (a : LaneInIs). length a.taken) c.self.inside.lanes.items c.args.place _ c.fill.new.self l (subst (λ (a : LaneInIs). length a.taken < length c.fill.new.self.taken) c.index_mut-lane.ensures.value (c.fill.ensures.moved c.if-not-fill.false)))
+    took_at c.args.self.now c.self.inside.lanes.items c.args.place _ _ c.fill.new.self c.fill.result true c.self.view_is l c.index_mut-lane.ensures.value c.fill.ensures.moved c.if-not-fill.false

@@ -1,7 +1,6 @@
-use Rattle.std.proofs.Common.{◌∙◌, ◌<◌, List, set, length, sym, ap, subst}
-use Rattle.flow_worker.specs.Endpoints.{Flushed, LaneOutIs, all_sent}
-use Rattle.flow_worker.proofs.Pairs.{sum_rises}
-use Rattle.flow_worker.proofs.OutMasks.{cleared_marks, flushed_marks}
+use Rattle.std.proofs.Common.{◌∙◌, ◌<◌, List, length, sym, ap, subst}
+use Rattle.flow_worker.specs.Endpoints.{Flushed, LaneOutIs}
+use Rattle.flow_worker.proofs.OutMasks.{cleared_marks, flushed_marks, moved_at}
 use Rattle.flow_worker.proofs.lanes_out.LanesOut.flush_at.Goals as goal
 use Rattle.flow_worker.proofs.lanes_out.LanesOut.flush_at.Goals.{else-not-is_waiting-via-then-not-is_waiting+else-place-lt128, else-not-is_waiting-via-else-not-is_waiting}
 
@@ -21,14 +20,15 @@ invariant_of-self-else-not-is_waiting g c =
     flushed_marks c.self.inside.waiting c.self.inside.room c.args.place c.self.inside.lanes.items c.flush-moved.new.self _ l (subst (λ (o : LaneOutIs). Flushed o c.flush-moved.new.self) c.index_mut-lane.ensures.value c.flush-moved.ensures.flushed) (c.flush-moved.ensures.memory ∙ ap (λ (o : LaneOutIs). o.memory) c.index_mut-lane.ensures.value) c.self.invariant
 
 pub returns-then-place-lt128-clause-moved : goal.returns-then-place-lt128-clause-moved
-returns-then-place-lt128-clause-moved g c u =
+returns-then-place-lt128-clause-moved g c =
     let l : c.args.place < length c.self.inside.lanes.items = subst (λ (xs : List LaneOutIs). c.args.place < length xs) (sym c.self.view_is) c.requires.within in
-    subst (λ (xs : List LaneOutIs). all_sent xs < all_sent (set c.self.inside.lanes.items c.args.place c.flush-moved.new.self)) c.self.view_is (sum_rises (λ (o : LaneOutIs). length o.sent) c.self.inside.lanes.items c.args.place _ c.flush-moved.new.self l (subst (λ (o : LaneOutIs). length o.sent < length c.flush-moved.new.self.sent) c.index_mut-lane.ensures.value (c.flush-moved.ensures.moved u)))
+    moved_at c.args.self.now c.self.inside.lanes.items c.args.place _ _ c.flush-moved.new.self c.flush-moved.result c.self.view_is l c.index_mut-lane.ensures.value c.flush-moved.ensures.moved
 
 pub returns-else-not-is_waiting-clause-moved : goal.returns-else-not-is_waiting-clause-moved
-returns-else-not-is_waiting-clause-moved g c u =
+returns-else-not-is_waiting-clause-moved g c =
     let l : c.args.place < length c.self.inside.lanes.items = subst (λ (xs : List LaneOutIs). c.args.place < length xs) (sym c.self.view_is) c.requires.within in
+    let moved = moved_at c.args.self.now c.self.inside.lanes.items c.args.place _ _ c.flush-moved.new.self c.flush-moved.result c.self.view_is l c.index_mut-lane.ensures.value c.flush-moved.ensures.moved in
     elim c.else-not-is_waiting.branch [
-      | else-not-is_waiting-via-then-not-is_waiting+else-place-lt128 w ↦ rw w.self-is (subst (λ (xs : List LaneOutIs). all_sent xs < all_sent (set c.self.inside.lanes.items c.args.place c.flush-moved.new.self)) c.self.view_is (sum_rises (λ (o : LaneOutIs). length o.sent) c.self.inside.lanes.items c.args.place _ c.flush-moved.new.self l (subst (λ (o : LaneOutIs). length o.sent < length c.flush-moved.new.self.sent) c.index_mut-lane.ensures.value (c.flush-moved.ensures.moved u))))
-      | else-not-is_waiting-via-else-not-is_waiting w ↦ rw w.self-is (subst (λ (xs : List LaneOutIs). all_sent xs < all_sent (set c.self.inside.lanes.items c.args.place c.flush-moved.new.self)) c.self.view_is (sum_rises (λ (o : LaneOutIs). length o.sent) c.self.inside.lanes.items c.args.place _ c.flush-moved.new.self l (subst (λ (o : LaneOutIs). length o.sent < length c.flush-moved.new.self.sent) c.index_mut-lane.ensures.value (c.flush-moved.ensures.moved u))))
+      | else-not-is_waiting-via-then-not-is_waiting+else-place-lt128 w ↦ rw w.self-is moved
+      | else-not-is_waiting-via-else-not-is_waiting w ↦ rw w.self-is moved
     ]

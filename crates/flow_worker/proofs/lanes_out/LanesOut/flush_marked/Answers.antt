@@ -1,9 +1,11 @@
-use Rattle.std.proofs.Common.{◌<◌, ◌≤◌, ℕ, List, Option, Some, length, sym, subst, arith}
-use Rattle.flow_worker.specs.Endpoints.{Flushed, IsSteadyOut, LaneOutIs}
+use Rattle.std.proofs.Common.{◌≡◌, ◌<◌, ◌≤◌, ℕ, List, Option, Some, length, refl, sym, subst, true, arith}
+use Rattle.std.specs.Prelude.{◌↔◌}
+use Rattle.flow_worker.specs.Endpoints.{Flushed, IsSteadyOut, LaneOutIs, all_sent}
 use Rattle.flow_worker.specs.Masks.{IsTakenFrom}
 use Rattle.flow_worker.specs.Pairs.{Each}
 use Rattle.flow_worker.proofs.HandMasks.{IsLeft, first_left, none_left, skip_left, step_left}
 use Rattle.flow_worker.proofs.OutMasks.{first_flushed, flushed_grows, steady_set}
+use Rattle.flow_worker.proofs.Pairs.{not_moved}
 use Rattle.flow_worker.proofs.lanes_out.LanesOut.flush_marked.Goals as goal
 use Rattle.flow_worker.proofs.lanes_out.LanesOut.flush_marked.Goals.{else-place-len-via-then-place-len+else-flush_at, else-place-len-via-else-place-len}
 
@@ -14,7 +16,7 @@ loop-place-init g c =
       left = first_left Flushed c.waiting_places-left.result c.args.self.now (first_flushed c.waiting_places-left.result c.args.self.now few c.waiting_places-left.ensures);
       steady = c.requires.steady;
       grew = omega arith;
-      moved = λ e. absurd (cc);
+      moved = ((λ e. absurd (cc)), (λ m. absurd (omega (arith, m))));
     }
 
 pub flush_at-requires-clause-steady : goal.flush_at-requires-clause-steady
@@ -28,14 +30,14 @@ loop-place-preserved-then-flush_at g c =
     let f = c.flush_at.ensures.flushed in
     let taken : IsTakenFrom before (Some place) after = subst (λ (o : Option ℕ). IsTakenFrom before o after) c.in-Some.is c.take_place.ensures in
     let grew = c.loop-place.invariant.grew in
-    let more = c.flush_at.ensures.moved c.if-flush_at.true in
+    let more = c.flush_at.ensures.moved.0 c.if-flush_at.true in
     let l : place < length c.loop-place.self = let a = c.if-place-len.true in let b = c.len-in-Some.ensures in omega (arith, a, b) in
     let w : place < length c.args.self.now = let e = c.loop-place.invariant.left.long in omega (arith, l, e) in
     record {
       left = subst (λ (xs : List LaneOutIs). IsLeft Flushed after c.args.self.now xs) (sym f.set_is) (step_left Flushed place before after c.args.self.now c.loop-place.self f.at taken w f.flushed c.loop-place.invariant.left);
       steady = subst (Each IsSteadyOut) (sym f.set_is) (steady_set c.loop-place.self place f.at l f.flushed c.loop-place.invariant.steady);
       grew = omega (arith, grew, more);
-      moved = λ e. omega (arith, grew, more);
+      moved = ((λ e. omega (arith, grew, more)), (λ m. refl));
     }
 
 pub loop-place-preserved : goal.loop-place-preserved
@@ -51,11 +53,12 @@ loop-place-preserved g c =
           let l : place < length c.loop-place.self = let a = w.if-place-len.true in let b = c.len-in-Some.ensures in omega (arith, a, b) in
           let m : place < length c.args.self.now = let e = c.loop-place.invariant.left.long in omega (arith, l, e) in
           let more = flushed_grows place c.loop-place.self w.flush_at.new.self f l in
+          let same = not_moved (all_sent c.loop-place.self) (all_sent w.flush_at.new.self) w.flush_at.result more w.flush_at.ensures.moved w.if-flush_at.false in
           rw w.self-is (record {
             left = subst (λ (xs : List LaneOutIs). IsLeft Flushed after c.args.self.now xs) (sym f.set_is) (step_left Flushed place before after c.args.self.now c.loop-place.self f.at taken m f.flushed c.loop-place.invariant.left);
             steady = subst (Each IsSteadyOut) (sym f.set_is) (steady_set c.loop-place.self place f.at l f.flushed c.loop-place.invariant.steady);
             grew = omega (arith, grew, more);
-            moved = λ e. let n = c.loop-place.invariant.moved e in omega (arith, n, more);
+            moved = subst (λ n. c.loop-place.moved ≡ true ↔ (all_sent c.args.self.now < n)) (sym same) c.loop-place.invariant.moved;
           }))
       | else-place-len-via-else-place-len w ↦ (
           let far : length c.args.self.now ≤ place = let a = w.if-place-len.false in let b = c.len-in-Some.ensures in let e = c.loop-place.invariant.left.long in omega (arith, a, b, e) in
@@ -63,7 +66,7 @@ loop-place-preserved g c =
             left = skip_left Flushed place before after c.args.self.now c.loop-place.self taken far c.loop-place.invariant.left;
             steady = c.loop-place.invariant.steady;
             grew = grew;
-            moved = λ e. c.loop-place.invariant.moved e;
+            moved = c.loop-place.invariant.moved;
           }))
     ]
 

@@ -1,4 +1,5 @@
 use Rattle.std.proofs.Common.{◌≡◌, ◌<◌, ◌≤◌, true}
+use Rattle.std.specs.Prelude.{◌↔◌}
 use Rattle.flow_worker.specs.Endpoints.{Flushed, IsSteadyOut, all_sent}
 use Rattle.flow_worker.specs.Pairs.{Each}
 use Rattle.flow_worker.proofs.HandMasks.{IsLeft}
@@ -9,7 +10,7 @@ invariant-loop-place g l = record {
   left : IsLeft Flushed l.left l.fn.self l.self;
   steady : Each IsSteadyOut l.self;
   grew : all_sent l.fn.self ≤ all_sent l.self;
-  moved : l.moved ≡ true → all_sent l.fn.self < all_sent l.self;
+  moved : l.moved ≡ true ↔ (all_sent l.fn.self < all_sent l.self);
 }
 
 abbrev pub decreases-loop-place : goal.decreases-loop-place
