@@ -1,8 +1,11 @@
 // Files that are read, and what they hold.
-ghost use Rattle.std.specs.Prelude.{◌≡◌, IfOk, IfErr, OnOk};
+ghost use Rattle.std.specs.Prelude.{◌≡◌, All, IfOk, IfErr, OnOk};
 ghost use Rattle.jobs.specs.Job.{job_view};
+ghost use Rattle.jobs.specs.Limits.{HasShortTexts};
 ghost use Rattle.jobs.specs.Nodes.{AreFromSources};
 ghost use Rattle.job_file.specs.RequestSizes.{AreFew};
+ghost use Rattle.tuple_trace.specs.declared.row.Row.{Row};
+ghost use Rattle.versions.specs.Kept.{HaveLimits};
 ghost use Rattle.flow_model.specs.Setup.{setup_view};
 ghost use Rattle.call_steps.specs.Reading.{AreNoRequests, AreNoRows, AreRequestsOf, AreRowsOf};
 ghost use Rattle.call_steps.specs.Reading.{IsJobOf, IsNoJob, IsNoStart, IsRead, IsStartOf};
@@ -41,6 +44,7 @@ pub fn requests_in<S: Shelf>(
     ensures requests { IfOk result (λ requests.
         AreRequestsOf (S.state shelf.old).files name.now (job_view job.now) requests) }
     ensures few { IfOk result AreFew }
+    ensures limits { IfOk result HaveLimits }
     ensures kept { OnOk result (S.state shelf.new ≡ S.state shelf.old) }
     ensures files { (S.state shelf.new).files ≡ (S.state shelf.old).files }
     ensures target { (S.state shelf.new).target ≡ (S.state shelf.old).target }
@@ -62,6 +66,7 @@ pub fn rows_in<S: Shelf>(
     ensures rows { IfOk result (λ rows.
         AreRowsOf (S.state shelf.old).files name.now (job_view job.now) rows) }
     ensures sources { IfOk result (λ rows. AreFromSources (job_view job.now) rows) }
+    ensures texts { IfOk result (λ rows. All (λ (row : Row). HasShortTexts row.tuple) rows) }
     ensures kept { OnOk result (S.state shelf.new ≡ S.state shelf.old) }
     ensures files { (S.state shelf.new).files ≡ (S.state shelf.old).files }
     ensures target { (S.state shelf.new).target ≡ (S.state shelf.old).target }
