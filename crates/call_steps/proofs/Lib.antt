@@ -3,6 +3,7 @@ pub mod ReadLemmas
 pub mod RunLemmas
 pub mod FileLemmas
 pub mod StartLemmas
+pub mod AcceptedLemmas
 pub mod PartLemmas
 pub mod LiveLemmas
 pub mod AuditLemmas

@@ -11,7 +11,8 @@ use Rattle.flow_model.specs.Requests.{afters}
 use Rattle.flow_model.specs.Run.{IsRun, IsRunSince}
 use Rattle.flow_model.specs.Setup.{setup_view}
 use Rattle.flow_model.specs.declared.setup.Setup.{Setup}
-use Rattle.savepoint.specs.Parts.{first_of, issued_up_to}
+use Rattle.savepoint.specs.Parts.{first_of, issued_up_to, start_of}
+use Rattle.savepoint.specs.SaveReading.{CanSave}
 use Rattle.call_steps.specs.SetupFor.{AreSame, IsSetupFor}
 use Rattle.call_steps.specs.declared.running.Done.{Done}
 
@@ -22,7 +23,8 @@ pub record HasWorkers (done : Done) : Type 0 where
 
 -- The rows up to `row` were run, with the requests that are issued up to there. The setup is that
 -- of the job and all its requests, without the later requests and their plans. What the run leaves
--- is consistent, and judging refused just these.
+-- is consistent, and judging refused just these. Where it ends can be saved, so the text that is
+-- written of it is read again.
 pub record IsFirstPart (row : ℕ) (job : JobView) (requests : List Request) (rows : List Row)
     (done : Done) : Type 0 where
   pub whole : Setup
@@ -32,6 +34,8 @@ pub record IsFirstPart (row : ℕ) (job : JobView) (requests : List Request) (ro
       (issued_up_to row (length rows) (afters (setup_view whole).requests))
   pub run : IsRun (setup_view done.ran.setup) (take row rows) (record_view done.ran)
   pub consistent : IsConsistent (take row rows) (record_view done.ran)
+  pub can_save : CanSave (setup_view whole) (length rows)
+      (start_of done.row (record_view done.ran))
   pub refused : done.refused ≡ whole.judged.refused
   pub count : done.requests ≡ length requests
 

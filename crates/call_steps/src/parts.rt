@@ -1,9 +1,12 @@
 // The two parts of a run with a savepoint between them.
-ghost use Rattle.std.specs.Prelude.{◌≡◌, ◌≤◌, IfOk, length, min, take};
+ghost use Rattle.std.specs.Prelude.{◌≡◌, ◌<◌, ◌≤◌, ◌^◌, All, IfOk, length, min, take};
 ghost use Rattle.jobs.specs.Job.{job_view};
+ghost use Rattle.jobs.specs.Limits.{HasShortTexts};
 ghost use Rattle.jobs.specs.Nodes.{AreFromSources};
 ghost use Rattle.job_file.specs.RequestSizes.{AreFew};
 ghost use Rattle.tuple_trace.specs.Rows.{AreRows};
+ghost use Rattle.tuple_trace.specs.declared.row.Row.{Row as RowIs};
+ghost use Rattle.versions.specs.Kept.{HaveLimits};
 ghost use Rattle.flow_model.specs.Setup.{setup_view};
 ghost use Rattle.flow_model.specs.Workers.{workers_in};
 ghost use Rattle.command_line.specs.Asked.{IsSize};
@@ -17,7 +20,7 @@ use flow_model::{Setup, Start, runs_are_consistent};
 use jobs::Job;
 use lane_ring::RingLanes;
 use save_file::issued_up_to;
-use savepoint::first_of;
+use savepoint::{first_of, first_parts_can_be_saved};
 use std::alloc::Global;
 use std::sync::Wait;
 use std::thread::Threads;
@@ -27,7 +30,7 @@ use versions::Requests;
 /// Judges the requests, and runs the first `most` rows, or all if there are fewer.
 ///
 /// They run with the accepted requests that are issued up to there. Their plans are those of all
-/// requests.
+/// requests. Where the run ends can be saved.
 ///
 /// The one error is out of memory.
 pub fn run_first_part<R, G>(
@@ -45,15 +48,18 @@ where
     G: Gate + Sync,
     requires size { IsSize size }
     requires few { AreFew requests.now }
+    requires limits { HaveLimits requests.now }
     requires sources { AreFromSources (job_view job) rows.now }
+    requires texts { All (λ (row : RowIs). HasShortTexts row.tuple) rows.now }
     ensures run { IfOk result (IsFirstPart (min most (length rows.now))
         (job_view job) requests.now rows.now) }
     ensures workers { IfOk result HasWorkers }
 {
-    let count = rows.len() as u64;
+    let count = count_of(rows)?;
     let row = most.min(count);
     let first = first_rows(alloc, rows, row)?;
     let setup = setup_of(alloc, job, requests, false)?;
+    first_parts_can_be_saved(&setup, rows);
     let turned = issued_up_to(&setup, row, count);
     let part = first_of(setup, turned);
     runs_are_consistent(&part, &first);
@@ -61,6 +67,18 @@ where
     let flown = run_flow(rt, alloc, &RingLanes, part, &first, threads, capacity, gate)?;
     let ran = flown.record(alloc)?;
     done_of(alloc, ran, requests, &first)
+}
+
+// How many rows there are. No memory holds 2^63 of them.
+fn count_of(rows: &Rows) -> Result<u64, NoMemory>
+    ensures count { IfOk result (λ count. count ≡ length rows.now) }
+    ensures small { IfOk result (λ count. count < 2 ^ 63) }
+{
+    let count = rows.len() as u64;
+    if count > i64::MAX as u64 {
+        return Err(NoMemory);
+    }
+    Ok(count)
 }
 
 // Copies of the first rows.
