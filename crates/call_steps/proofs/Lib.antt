@@ -5,5 +5,6 @@ pub mod FileLemmas
 pub mod StartLemmas
 pub mod AcceptedLemmas
 pub mod PartLemmas
+pub mod OneRunLemmas
 pub mod LiveLemmas
 pub mod AuditLemmas

@@ -5,6 +5,7 @@ pub mod Outcomes
 pub mod SetupFor
 pub mod Running
 pub mod Parts
+pub mod OneRun
 pub mod Live
 pub mod inner
 pub mod Audits

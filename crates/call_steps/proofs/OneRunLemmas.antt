@@ -1,0 +1,65 @@
+-- What `save` and then `resume` leave over the same files are parts of one run.
+use Rattle.std.proofs.Common.{◌≡◌, ◌∙◌, ◌≤◌, ℕ, List, Result, Ok, length, take, ap, subst, sym}
+use Rattle.jobs.specs.JobView.{JobView}
+use Rattle.jobs.specs.Nodes.{AreFromSources}
+use Rattle.tuple_trace.specs.Rows.{AreRows}
+use Rattle.tuple_trace.specs.declared.row.Row.{Row}
+use Rattle.versions.specs.declared.request.Request.{Request}
+use Rattle.flow_model.specs.Begin.{Begin}
+use Rattle.flow_model.specs.Consistent.{IsConsistent}
+use Rattle.flow_model.specs.Record.{record_view}
+use Rattle.flow_model.specs.Requests.{afters}
+use Rattle.flow_model.specs.Run.{IsRun, IsRunSince, Ran}
+use Rattle.flow_model.specs.Setup.{setup_view}
+use Rattle.flow_model.specs.SetupView.{SetupView}
+use Rattle.flow_model.specs.declared.setup.Setup.{Setup}
+use Rattle.savepoint.specs.Parts.{AreParts, first_of, issued_up_to, joined, start_of}
+use Rattle.savepoint.specs.SaveReading.{save_of}
+use Rattle.savepoint.specs.SaveText.{save_text}
+use Rattle.savepoint.specs.declared.fault.SaveFault.{SaveFault}
+use Rattle.savepoint.proofs.PartsLemmas.{parts_run}
+use Rattle.savepoint.proofs.SaveLemmas.{save-reads}
+use Rattle.call_steps.specs.OneRun.{AreOneRun, GoesOn}
+use Rattle.call_steps.specs.Parts.{IsFirstPart}
+use Rattle.call_steps.specs.Running.{saved_of}
+use Rattle.call_steps.specs.declared.running.Done.{Done}
+
+-- the text of a first part is read as where it ended
+pub saved_reads : (rows : List Row) (row : ℕ) (job : JobView) (requests : List Request) (first : Done) → (f : IsFirstPart row job requests rows first)
+    → save_of (setup_view f.whole) (length rows) (saved_of first) ≡ Ok (start_of row (record_view first.ran))
+saved_reads rows row job requests first f =
+    let begin : Begin = start_of first.row (record_view first.ran) in
+    let reads : save_of (setup_view f.whole) (length rows) (save_text (setup_view f.whole).job begin) ≡ Ok begin =
+    save-reads (setup_view f.whole) (length rows) begin f.whole.job.lawful f.can_save in
+    let of_job : (setup_view first.ran.setup).job ≡ (setup_view f.whole).job = ap (λ (s : SetupView). s.job) f.cut in
+    let saved : save_of (setup_view f.whole) (length rows) (saved_of first) ≡ Ok begin =
+    ap (λ (j : JobView). save_of (setup_view f.whole) (length rows) (save_text j begin)) of_job ∙ reads in
+    subst (λ (n : ℕ). save_of (setup_view f.whole) (length rows) (saved_of first) ≡ Ok (start_of n (record_view first.ran))) f.row_is saved
+
+-- so what goes on from there is the second part
+are_parts : (setup : Setup) (rows : List Row) (row : ℕ) (job : JobView) (requests : List Request) (start : Begin) (first second : Done) → (f : IsFirstPart row job requests rows first)
+    → GoesOn (setup_view f.whole) requests rows setup start first second → AreParts (setup_view setup) rows row (record_view first.ran) (record_view second.ran)
+are_parts setup rows row job requests start first second f g =
+    let both : ◌≡◌ {A = Result Begin SaveFault} (Ok (start_of row (record_view first.ran))) (Ok start) = sym (saved_reads rows row job requests first f) ∙ g.reads in
+    let begun : start_of row (record_view first.ran) ≡ start = cc in
+    let cut : IsRun (first_of (setup_view f.whole) (issued_up_to row (length rows) (afters (setup_view f.whole).requests))) (take row rows) (record_view first.ran) =
+    subst (λ (s : SetupView). IsRun s (take row rows) (record_view first.ran)) f.cut f.run in
+    record {
+      within = subst (λ (n : ℕ). n ≤ length rows) f.row_is f.can_save.within;
+      begins = subst (λ (s : SetupView). IsRun (first_of s (issued_up_to row (length rows) (afters s.requests))) (take row rows) (record_view first.ran)) (sym g.same) cut;
+      goes_on = subst (λ (b : Begin). IsRunSince b (setup_view setup) rows (record_view second.ran)) (sym begun) g.run.run;
+    }
+
+pub are_one_run : (setup : Setup) (rows : List Row) → AreRows rows → ((ran : Ran) → IsRun (setup_view setup) rows ran → AreFromSources (setup_view setup).job rows → IsConsistent rows ran)
+    → (row : ℕ) (job : JobView) (requests : List Request) (start : Begin) (first second : Done) → AreFromSources job rows → (f : IsFirstPart row job requests rows first)
+    → GoesOn (setup_view f.whole) requests rows setup start first second → AreOneRun (setup_view setup) rows row (record_view first.ran) (record_view second.ran)
+are_one_run setup rows are law row job requests start first second sources f g =
+    let parts : AreParts (setup_view setup) rows row (record_view first.ran) (record_view second.ran) = are_parts setup rows row job requests start first second f g in
+    let run : IsRun (setup_view setup) rows (joined (setup_view setup) (record_view first.ran) (record_view second.ran)) =
+    parts_run setup rows row (record_view first.ran) (record_view second.ran) are parts in
+    let of_job : (setup_view setup).job ≡ job = ap (λ (s : SetupView). s.job) g.same ∙ f.setup.job_is in
+    record {
+      parts = parts;
+      run = run;
+      consistent = law (joined (setup_view setup) (record_view first.ran) (record_view second.ran)) run (subst (λ (j : JobView). AreFromSources j rows) (sym of_job) sources);
+    }
