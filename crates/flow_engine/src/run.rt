@@ -1,11 +1,13 @@
 // A run of a setup on threads.
 ghost use Rattle.std.specs.Prelude.{◌≡◌, ◌≤◌, IfOk, false, length, map, true};
 ghost use Rattle.std.specs.List.{range_with_len};
+ghost use Rattle.control_box.specs.Endpoints.{ShareBoxes};
 ghost use Rattle.jobs.specs.Nodes.{AreFromSources};
 ghost use Rattle.flow_model.specs.Begin.{at_first};
 ghost use Rattle.flow_model.specs.Run.{IsRun, IsRunSince};
 ghost use Rattle.flow_model.specs.Setup.{setup_view};
 ghost use Rattle.flow_model.specs.Workers.{workers_in};
+ghost use Rattle.flow_worker.specs.Worker.{WorkerIs};
 ghost use Rattle.coordinator.specs.Feeding.{IsFeeder};
 ghost use Rattle.flow_ends.specs.Crews.{IsCrew};
 ghost use Rattle.flow_ends.specs.Ended.{fed_end, record_of};
@@ -260,6 +262,8 @@ where
     requires matched { AreMatched (map worker_side workers.items)
         (map fed_end (F.feeder feeder).outs) }
     requires feeder { IsFeeder F.LIVE (setup_view setup.now) B.begin rows.now (F.feeder feeder) }
+    requires boxes { ShareBoxes (F.feeder feeder).boxes.posters
+        (map (λ (w : WorkerIs). w.owner) workers.items) }
     ensures kept { (seed : F.Seed) → F.kept seed (F.feeder feeder).feeds (F.rest feeder)
         → IfOk result (λ (ended, rest). F.kept seed ended.feeds rest) }
     ensures run { IfOk result (λ (ended, rest). HasRun F.LIVE B.begin (setup_view setup.now)

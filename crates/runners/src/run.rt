@@ -1,11 +1,12 @@
 ghost use Rattle.std.specs.Prelude.{◌≡◌, ◌<◌, ◌+◌, ◌≤◌, IfOk, IsTrue, OnOk, length, map, vec_len};
 ghost use Rattle.std.specs.List.{All, range_with_len};
+ghost use Rattle.control_box.specs.Endpoints.{ShareBoxes};
 ghost use Rattle.crossbeam_queue.specs.SegTies.{IsSegPassOf};
 ghost use Rattle.jobs.specs.Nodes.{AreFromSources};
 ghost use Rattle.flow_model.specs.Setup.{setup_view};
 ghost use Rattle.flow_worker.specs.Pairs.{Each};
 ghost use Rattle.flow_worker.specs.Turning.{IsDone};
-ghost use Rattle.flow_worker.specs.Worker.{IsWorker};
+ghost use Rattle.flow_worker.specs.Worker.{IsWorker, WorkerIs};
 ghost use Rattle.coordinator.specs.Feeding.{IsFeeder};
 ghost use Rattle.runners.specs.Crew.{AreWorkers, HasFed, fixed_in, number_in, runner_of};
 ghost use Rattle.runner.specs.Rule.{Agrees, AreListed, HasEachOf, HasEnded, numbers};
@@ -58,8 +59,8 @@ pub struct Load<'q, 's: 'q, L: Lanes + 'q, F: Drop, C: Charter + 'q> {
 /// so too, after each visit of the feeder. If a thread can't be started, the others do its work. If
 /// none was started, the caller keeps all runners, and yields to nobody.
 ///
-/// `workers` stand in the order of their numbers, and come back so. The one error is out of memory;
-/// it gives up the workers and the feeder.
+/// `workers` stand in the order of their numbers, and come back so. The feeder's boxes are theirs.
+/// The one error is out of memory; it gives up the workers and the feeder.
 pub fn run_all<R, L: Lanes + Sync, G: Gate + Sync, F: Feeding<L> + Drop, B: Beginning>(
     rt: &R,
     alloc: Global,
@@ -77,6 +78,8 @@ where
     requires few { threads ≤ 16 }
     requires workers { AreWorkers (setup_view setup.now) B.begin workers.items }
     requires feeder { IsFeeder F.LIVE (setup_view setup.now) B.begin rows.now (F.feeder feeder) }
+    requires boxes { ShareBoxes (F.feeder feeder).boxes.posters
+        (map (λ (w : WorkerIs). w.owner) workers.items) }
     requires rows { AreFromSources (setup_view setup.now).job rows.now }
     ensures workers { IfOk result (λ r. AreWorkers (setup_view setup.now) B.begin r.workers.items) }
     ensures done { IfOk result (λ r. Each IsDone r.workers.items) }

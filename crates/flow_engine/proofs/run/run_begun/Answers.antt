@@ -1,6 +1,8 @@
 use Rattle.std.proofs.Common.{List, false, map, subst, sym}
+use Rattle.control_box.specs.Endpoints.{PosterIs, ShareBoxes}
 use Rattle.flow_model.specs.Begin.{Begin}
 use Rattle.flow_model.specs.Setup.{setup_view}
+use Rattle.flow_worker.specs.Worker.{WorkerIs}
 use Rattle.coordinator.specs.Feeding.{IsFeeder}
 use Rattle.coordinator.specs.Views.{OutIs}
 use Rattle.flow_ends.specs.Ended.{fed_end}
@@ -14,3 +16,7 @@ run_over-requires-clause-matched g c κs within =
 pub run_over-requires-clause-feeder : goal.run_over-requires-clause-feeder
 run_over-requires-clause-feeder g c κs within =
     subst (λ (b : Begin). IsFeeder false (setup_view c.args.setup.now) b c.args.rows.now c.in_ok-feeder.feeder) (sym c.requires.begin) (c.in_ok-feeder.ensures.law c.args.rows.now)
+
+pub run_over-requires-clause-boxes : goal.run_over-requires-clause-boxes
+run_over-requires-clause-boxes g c κs within =
+    subst (λ (posters : List PosterIs). ShareBoxes posters (map (λ (w : WorkerIs). w.owner) c.in_ok-workers.field-0.workers.items)) (sym c.in_ok-feeder.ensures.boxes) c.in_ok-workers.ensures.boxes
