@@ -15,7 +15,7 @@ use Rattle.flow_model.specs.Planned.{IsPlanned}
 use Rattle.flow_model.specs.Workers.{workers_in}
 use Rattle.flow_model.proofs.WorkerLemmas.{item_at}
 use Rattle.coordinator.specs.Boxes.{AreCountedWith, ArePosted, AreReady, IsUnready, LastAtLeast, MayPost, SameBoxes, SameLoads, SamePosts}
-use Rattle.coordinator.specs.Numbers.{covered_to, node_at, node_in, number_of}
+use Rattle.coordinator.specs.Numbers.{covered_to, node_at, node_in, number_of, posted_number}
 use Rattle.coordinator.proofs.ListLemmas.{Pairs, also_there, get_set_other, get_set_same, here_or_not, pairs_map, pairs_set, same_some}
 
 -- ---- numbers
@@ -64,6 +64,27 @@ number_uncovered setup from w r n e is =
 
 pub number_grows : (setup : SetupView) (from w r : ℕ) → number_of setup from w r ≤ number_of setup from w (suc r)
 number_grows setup from w r = let s = covered_rises setup (node_at setup w) r in omega (arith, s)
+
+-- ---- the last post
+
+-- a request that was turned before the beginning has no number
+pub none_posted : (setup : SetupView) (turned w r : ℕ) → r ≤ turned → posted_number setup turned w r ≡ 0
+none_posted setup turned w zero le = refl
+none_posted setup turned w (suc r) le = go (is_head setup (suc r) (node_at setup w)) (none_posted setup turned w r (omega (arith, le)))
+  where
+    go : (b : Bool) → posted_number setup turned w r ≡ 0 → cond b (number_of setup turned w (suc r)) (posted_number setup turned w r) ≡ 0
+    go true h = let grows = covered_grows setup (node_at setup w) (suc r) turned le in omega (arith, grows)
+    go false h = h
+
+pub posted_within : (setup : SetupView) (turned w r : ℕ) → posted_number setup turned w r ≤ number_of setup turned w r
+posted_within setup turned w zero = omega arith
+posted_within setup turned w (suc r) = go (is_head setup (suc r) (node_at setup w)) (posted_within setup turned w r)
+  where
+    go : (b : Bool) → posted_number setup turned w r ≤ number_of setup turned w r → cond b (number_of setup turned w (suc r)) (posted_number setup turned w r) ≤ number_of setup turned w (suc r)
+    go true h = omega arith
+    go false h = let grows = number_grows setup turned w r in omega (arith, h, grows)
+
+-- ---- heads
 
 -- a head is covered
 head_planned : (setup : SetupView) → IsPlanned setup → (r node : ℕ) → is_head setup r node ≡ true → covers setup r node ≡ true

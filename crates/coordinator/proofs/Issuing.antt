@@ -12,11 +12,11 @@ use Rattle.flow_model.specs.SetupView.{SetupView}
 use Rattle.flow_model.specs.Workers.{workers_in}
 use Rattle.coordinator.specs.Boxes.{AreBoxes, AreCountedWith, ArePosted, AreReady, AsIssued, IsUnready, LastAtLeast, SameBoxes, SameLoads, SamePosts, SomeBelow}
 use Rattle.coordinator.specs.Feeding.{IsFeeding}
-use Rattle.coordinator.specs.Numbers.{node_at, number_of}
+use Rattle.coordinator.specs.Numbers.{node_at, number_of, posted_number}
 use Rattle.coordinator.specs.Steps.{Issues}
 use Rattle.coordinator.specs.Views.{BoxesIs, FeederIs}
 use Rattle.coordinator.specs.declared.feeding.FeedTurn.TheVariants.{Idle, Moved}
-use Rattle.coordinator.proofs.Asking.{number_covered, number_grows, number_uncovered, number_within, shown_ready}
+use Rattle.coordinator.proofs.Asking.{none_posted, number_covered, number_uncovered, number_within, posted_within, shown_ready}
 use Rattle.coordinator.proofs.ListLemmas.{also_in, also_there}
 
 pub few_covered : (setup : SetupView) (turned issued : ℕ) (b : BoxesIs) → AreBoxes setup turned issued b → issued < 2 ^ 64 - 1 → (w n : ℕ) → slice_get b.covered w ≡ Some n → n < 2 ^ 64 - 1
@@ -31,9 +31,7 @@ asked_boxes_are setup turned issued old mid law e b s le ready = record {
   counted = λ w n g. law.counted w n (ap (λ (l : List ℕ). slice_get l w) (sym e) ∙ g);
   posted = λ w p g.
       let r = also_there mid.posters old.posters w (sym b.0) (slice_get_within mid.posters w p g) in
-      let was = law.posted w r.0 r.1 in
-      let same = s w r.0 p r.1 g in
-      omega (arith, was, same);
+      s w r.0 p r.1 g ∙ law.posted w r.0 r.1;
   ready_within = le;
   ready_are = subst (λ (c : List ℕ). AreReady c mid.ready mid.posters) (sym e) ready;
 }
@@ -53,7 +51,7 @@ pub may_post : (setup : SetupView) (turned issued : ℕ) (b : BoxesIs) → AreBo
     → (w n : ℕ) (p : PosterIs) → slice_get b.covered w ≡ Some n → slice_get b.posters w ≡ Some p → HasShownReady (n + 1) p.loads × (p.posted ≤ n)
 may_post setup turned issued b law e w n p c g =
     let is = law.counted w n c in
-    (shown_ready n p.loads (subst (λ k. LastAtLeast k p.loads) (sym is) (all_shown setup turned issued b law e w p g)), (let le = law.posted w p g in omega (arith, le, is)))
+    (shown_ready n p.loads (subst (λ k. LastAtLeast k p.loads) (sym is) (all_shown setup turned issued b law e w p g)), (let same = law.posted w p g in let le = posted_within setup turned w issued in omega (arith, same, le, is)))
 
 -- the boxes after the issue of the next request
 module _ (setup : SetupView) (turned issued : ℕ) (mid new : BoxesIs) (law : AreBoxes setup turned issued mid) (le : turned ≤ issued)
@@ -79,16 +77,12 @@ module _ (setup : SetupView) (turned issued : ℕ) (mid new : BoxesIs) (law : Ar
       let r = also_in new.posters new.covered w as_many (slice_get_within new.posters w q g) in
       r.1 ∙ ap Some (counted_next w r.0 r.1)
 
-  posted_at_most : (w : ℕ) (p q : PosterIs) → slice_get mid.posters w ≡ Some p → q.posted ≡ cond (is_head setup (issued + 1) (node_at setup w)) (number_of setup turned w (issued + 1)) p.posted
-      → q.posted ≤ number_of setup turned w (issued + 1)
-  posted_at_most w p q g e =
-      let was = law.posted w p g in
-      let grows = number_grows setup turned w issued in
-      go (is_head setup (issued + 1) (node_at setup w)) e (subst (λ k. p.posted ≤ number_of setup turned w k) (sym one) (omega (arith, was, grows)))
-    where
-      go : (b : Bool) → q.posted ≡ cond b (number_of setup turned w (issued + 1)) p.posted → p.posted ≤ number_of setup turned w (issued + 1) → q.posted ≤ number_of setup turned w (issued + 1)
-      go true e h = omega (arith, e)
-      go false e h = omega (arith, e, h)
+  posted_next : (w : ℕ) (p q : PosterIs) → slice_get mid.posters w ≡ Some p → q.posted ≡ cond (is_head setup (issued + 1) (node_at setup w)) (number_of setup turned w (issued + 1)) p.posted
+      → q.posted ≡ posted_number setup turned w (issued + 1)
+  posted_next w p q g e =
+      e ∙ (ap (cond (is_head setup (issued + 1) (node_at setup w)) (number_of setup turned w (issued + 1))) (law.posted w p g)
+      ∙ (ap (λ k. cond (is_head setup k (node_at setup w)) (number_of setup turned w k) (posted_number setup turned w issued)) one
+      ∙ ap (posted_number setup turned w) (sym one)))
 
   pub next_boxes : new.ready ≡ 0 → AreBoxes setup turned (issued + 1) new
   next_boxes none = record {
@@ -97,7 +91,7 @@ module _ (setup : SetupView) (turned issued : ℕ) (mid new : BoxesIs) (law : Ar
     counted = counted_next;
     posted = λ w q g.
         let r = also_there new.posters mid.posters w (sym boxes.0) (slice_get_within new.posters w q g) in
-        posted_at_most w r.0 q r.1 (posts_are w (number_of setup turned w (issued + 1)) r.0 q (new_number w q g) r.1 g);
+        posted_next w r.0 q r.1 (posts_are w (number_of setup turned w (issued + 1)) r.0 q (new_number w q g) r.1 g);
     ready_within = omega (arith, none);
     ready_are = λ w n p lt c g. absurd (omega (arith, lt, none));
   }
@@ -153,7 +147,7 @@ first_boxes setup turned b ps e n none = subst (AreBoxes setup turned turned) (s
   one_each = n;
   one_number_each = length_zeros (length ps);
   counted = λ w m g. (let z = all_zero (length ps) w m g in omega (arith, z));
-  posted = λ w p g. (let z = none w p g in omega (arith, z));
+  posted = λ w p g. none w p g ∙ sym (none_posted setup turned w turned (omega arith));
   ready_within = omega arith;
   ready_are = λ w m p lt c g. absurd (omega (arith, lt));
 })

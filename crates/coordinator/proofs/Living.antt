@@ -24,7 +24,7 @@ use Rattle.coordinator.specs.declared.feeding.FeedTurn.TheVariants.{Idle}
 use Rattle.coordinator.proofs.ListLemmas.{get_set_same}
 use Rattle.coordinator.proofs.LiveLemmas.{at_released, at_replicate, get_released, get_unreleased}
 use Rattle.coordinator.proofs.Starting.{new_feeder}
-use Rattle.coordinator.proofs.Telling.{boxes_kept, begun_kept, done_stopped, ended_told, ends_kept, fed_told, issued_told, moved_grew, posts_kept, starved}
+use Rattle.coordinator.proofs.Telling.{boxes_kept, begun_kept, done_stopped, ended_told, ends_kept, entries_told, fed_told, issued_told, moved_grew, posts_kept, starved}
 use Rattle.coordinator.proofs.Loading.{loaded_unreleased, loads_once, not_shown, shown_released}
 use Rattle.coordinator.proofs.Waiting.{issued_is, law_loads, law_unloads, plain, waits_plain}
 use Rattle.coordinator.proofs.LiveSteps.{exist_kept, feeding_kept, first_kept, heard_kept, not_before_kept, released_kept, waiting}
@@ -138,6 +138,7 @@ is_live_turn setup rows released old new turn lo ln first s hears =
       boxes = boxes_kept setup xs rows old new turn s;
       begun = begun_kept setup xs rows old new turn s;
       loads = loads_once (length setup.requests) released lo ln hears;
+      one_entry = entries_told setup xs rows old new turn s;
       issued = λ r e. let t = issued_told setup xs rows old new turn s r e in (due_now setup rows released old new turn lo ln first s hears t.0, t.1);
       unissued = posts_kept setup xs rows old new turn s;
       fed = λ r e. let t = fed_told setup xs rows old new turn s r e in (none_due setup rows released old new turn lo ln first s hears t, has_heard setup rows released old new turn lo ln first s hears t);

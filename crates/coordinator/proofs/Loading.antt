@@ -6,7 +6,7 @@ use Rattle.sink_journal.specs.declared.journal.Feed.TheVariants.{Fed, Issued}
 use Rattle.flow_model.proofs.ElementLemmas.{Before, IsIn, before_cases, contains_of_in, in_of_contains}
 use Rattle.coordinator.specs.Boxes.{LastAtLeast, LoadedBelow}
 use Rattle.coordinator.specs.Live.{AreHeard, Hears}
-use Rattle.coordinator.specs.Turning.{LoadsOnce}
+use Rattle.coordinator.specs.Turning.{AtMostOneMore}
 
 all_snoc : (xs : List ℕ) (x n : ℕ) → All (λ y. y ≤ n) (xs ++ x ∷ []) → x ≤ n
 all_snoc [] x n all = all 0 0 (omega arith)
@@ -46,7 +46,7 @@ not_shown requests released k lo ln (inl h) lt le last = let more = h.1 in absur
 not_shown requests released k lo ln (inr h) lt le (earlier, load, e, more) =
     let same : released ≡ load = last_same lo earlier released load (sym h.0 ∙ e) in absurd (omega (arith, le, more, same))
 
-pub loads_once : (requests released : ℕ) (lo ln : List ℕ) → Hears requests released lo ln → LoadsOnce lo ln
+pub loads_once : (requests released : ℕ) (lo ln : List ℕ) → Hears requests released lo ln → AtMostOneMore lo ln
 loads_once requests released lo ln (inl h) = inl h.0
 loads_once requests released lo ln (inr h) = inr (released, h.0)
 

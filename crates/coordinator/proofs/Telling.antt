@@ -15,7 +15,7 @@ use Rattle.coordinator.specs.Views.{FeederIs, OutIs, end_of}
 use Rattle.coordinator.specs.Due.{HasHeard, IsDue, NoneIsDue}
 use Rattle.coordinator.specs.Feeding.{IsFeeder, IsFeeding}
 use Rattle.coordinator.specs.Steps.{IsAhead, IsReached, Steps, fed_item}
-use Rattle.coordinator.specs.Turning.{Grew, IsTurn, Waits}
+use Rattle.coordinator.specs.Turning.{AtMostOneMore, Grew, IsTurn, Waits}
 use Rattle.coordinator.specs.declared.feeding.FeedTurn.{FeedTurn}
 use Rattle.coordinator.specs.declared.feeding.FeedTurn.TheVariants.{Done, Idle, Moved, NoMemory}
 use Rattle.coordinator.proofs.Keeping.{keeps}
@@ -50,6 +50,23 @@ ends_kept setup xs rows old new Idle (inr (inr (inr h))) =
     ap (λ f. map end_of f.outs) h.3.4 ∙ map_kept old.outs old.ended o (record o { full = h.3.1 }) h.3.2 refl
 ends_kept setup xs rows old new Done (inr (inr (inr h))) = ap (λ f. map end_of f.outs) h.3.1
 ends_kept setup xs rows old new NoMemory (inr (inr (inr h))) = ap (λ f. map end_of f.outs) h.3
+
+-- ---- entries
+
+pub entries_told : (setup : SetupView) (xs : List ℕ) (rows : List Row) (old new : FeederIs) (turn : FeedTurn) → Steps setup xs rows old new turn → AtMostOneMore old.feeds new.feeds
+entries_told setup xs rows old new turn (inl h) = inl (ap (λ f. f.feeds) h.1)
+entries_told setup xs rows old new Moved (inr (inl h)) = inr (Issued (old.issued + 1), ap (λ f. f.feeds) h.2.3)
+entries_told setup xs rows old new Idle (inr (inl h)) = inl (ap (λ f. f.feeds) h.2.4)
+entries_told setup xs rows old new Done (inr (inl h)) = absurd h.2
+entries_told setup xs rows old new NoMemory (inr (inl h)) = inl (ap (λ f. f.feeds) h.2)
+entries_told setup xs rows old new Moved (inr (inr (inl h))) = inr (Fed (old.row + 1), ap (λ f. f.feeds) h.3.6)
+entries_told setup xs rows old new Idle (inr (inr (inl h))) = inl (ap (λ f. f.feeds) h.3.8)
+entries_told setup xs rows old new Done (inr (inr (inl h))) = absurd h.3
+entries_told setup xs rows old new NoMemory (inr (inr (inl h))) = inl (ap (λ f. f.feeds) h.3)
+entries_told setup xs rows old new Moved (inr (inr (inr h))) = inl (ap (λ f. f.feeds) h.3.2)
+entries_told setup xs rows old new Idle (inr (inr (inr h))) = inl (ap (λ f. f.feeds) h.3.4)
+entries_told setup xs rows old new Done (inr (inr (inr h))) = inr (Stopped, ap (λ f. f.feeds) h.3.1)
+entries_told setup xs rows old new NoMemory (inr (inr (inr h))) = inl (ap (λ f. f.feeds) h.3)
 
 -- ---- issues
 
@@ -303,6 +320,7 @@ is_turn setup rows old new turn s =
       boxes = boxes_kept setup xs rows old new turn s;
       begun = begun_kept setup xs rows old new turn s;
       loads = inl (loads_kept setup xs rows old new turn s);
+      one_entry = entries_told setup xs rows old new turn s;
       issued = λ r e. let t = issued_told setup xs rows old new turn s r e in (due_now setup rows new.loads old t.0, t.1);
       unissued = posts_kept setup xs rows old new turn s;
       fed = λ r e. let t = fed_told setup xs rows old new turn s r e in (none_due setup rows new.loads old t, none_heard setup rows old new t);

@@ -5,7 +5,7 @@ use Rattle.control_box.specs.Endpoints.{HasShownReady, PosterIs}
 use Rattle.flow_model.specs.Covers.{covers, is_head}
 use Rattle.flow_model.specs.SetupView.{SetupView}
 use Rattle.flow_model.specs.Workers.{workers_in}
-use Rattle.coordinator.specs.Numbers.{node_at, number_of}
+use Rattle.coordinator.specs.Numbers.{node_at, number_of, posted_number}
 use Rattle.coordinator.specs.Views.{BoxesIs}
 
 -- the last of the loads is at least this number
@@ -73,8 +73,9 @@ ArePosted setup request covered old new =
     → slice_get new w ≡ Some q
     → q.posted ≡ (if is_head setup request (node_at setup w) then n else p.posted)
 
--- The boxes once these requests are issued: how many of them cover each worker is known, no worker
--- has a post of a later one, and the first boxes are ready for the next one.
+-- The boxes once these requests are issued. How many of them cover each worker is known. Each box
+-- has the number of the last of them that its worker heads. The first boxes are ready for the next
+-- request.
 pub record AreBoxes (setup : SetupView) (turned issued : ℕ) (boxes : BoxesIs) : Type 0 where
   pub one_each : length boxes.posters ≡ length (workers_in setup.job)
   pub one_number_each : length boxes.covered ≡ length boxes.posters
@@ -82,7 +83,7 @@ pub record AreBoxes (setup : SetupView) (turned issued : ℕ) (boxes : BoxesIs) 
       (w n : ℕ) → slice_get boxes.covered w ≡ Some n → n ≡ number_of setup turned w issued
   pub posted :
       (w : ℕ) (p : PosterIs) → slice_get boxes.posters w ≡ Some p
-      → p.posted ≤ number_of setup turned w issued
+      → p.posted ≡ posted_number setup turned w issued
   pub ready_within : boxes.ready ≤ length boxes.posters
   pub ready_are : AreReady boxes.covered boxes.ready boxes.posters
 

@@ -1,6 +1,6 @@
 -- The numbers of requests in the boxes of workers.
 use Rattle.std.specs.Prelude.{ℕ, zero, suc, ◌-◌, Option, Some, None, slice_get, if◌then◌else◌}
-use Rattle.flow_model.specs.Covers.{covers}
+use Rattle.flow_model.specs.Covers.{covers, is_head}
 use Rattle.flow_model.specs.SetupView.{SetupView, Worker}
 use Rattle.flow_model.specs.Workers.{workers_in}
 
@@ -23,3 +23,12 @@ covered_to setup node (suc r) =
 abbrev pub number_of : SetupView → ℕ → ℕ → ℕ → ℕ
 number_of setup turned worker request =
     covered_to setup (node_at setup worker) request - covered_to setup (node_at setup worker) turned
+
+-- The number in a worker's box once the requests up to this one are issued. It is that of the last
+-- of them that the worker heads, and 0 if there is none. A request that was turned before the
+-- beginning has the number 0.
+abbrev pub posted_number : SetupView → ℕ → ℕ → ℕ → ℕ
+posted_number setup turned worker zero = 0
+posted_number setup turned worker (suc r) =
+    if is_head setup (suc r) (node_at setup worker)
+    then number_of setup turned worker (suc r) else posted_number setup turned worker r

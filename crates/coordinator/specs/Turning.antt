@@ -61,14 +61,14 @@ Grew old new =
     ⊎ ((place : ℕ) × (o : OutIs) × (q : OutIs) × (item : Item) × (slice_get old.outs place ≡ Some o)
     × (slice_get new.outs place ≡ Some q) × (q.sent ≡ o.sent ++ item ∷ []))
 
--- the loads of releases are as before, or one more
-abbrev pub LoadsOnce : List ℕ → List ℕ → Type 0
-LoadsOnce old new = (new ≡ old) ⊎ ((load : ℕ) × (new ≡ old ++ load ∷ []))
+-- the list is as before, or has one item more
+abbrev pub AtMostOneMore : {A : Type 0} → List A → List A → Type 0
+AtMostOneMore {A} old new = (new ≡ old) ⊎ ((item : A) × (new ≡ old ++ item ∷ []))
 
 -- One turn: the law holds after it from every beginning from which it held before. Endpoints and
--- boxes stay what they are. A request is issued only once it is due and as it has to be, and
--- otherwise nothing is posted. A row is fed, and a lane ended, only if no request is due. Each
--- outcome has its cause.
+-- boxes stay what they are. The feed gets at most one entry. A request is issued only once it is
+-- due and as it has to be, and otherwise nothing is posted. A row is fed, and a lane ended, only if
+-- no request is due. Each outcome has its cause.
 pub record IsTurn (live : Bool) (setup : SetupView) (rows : List Row) (answer : FeedTurn)
     (old new : FeederIs) : Type 0 where
   pub law :
@@ -76,7 +76,8 @@ pub record IsTurn (live : Bool) (setup : SetupView) (rows : List Row) (answer : 
   pub endpoints : map end_of new.outs ≡ map end_of old.outs
   pub boxes : SameBoxes old.boxes.posters new.boxes.posters
   pub begun : (new.begin_row ≡ old.begin_row) × (new.begin_turned ≡ old.begin_turned)
-  pub loads : LoadsOnce old.loads new.loads
+  pub loads : AtMostOneMore old.loads new.loads
+  pub one_entry : AtMostOneMore old.feeds new.feeds
   pub issued :
       (r : ℕ) → new.feeds ≡ old.feeds ++ feed.Issued r ∷ []
       → IsDue live setup rows new.loads old

@@ -1,16 +1,16 @@
 -- What was made and done for a setup is so for any setup that differs in the rows that its requests wait for.
-use Rattle.std.proofs.Common.{◌≡◌, ◌∙◌, ◌-◌, ◌≤◌, ℕ, zero, suc, List, [], ◌∷◌, cond, length, refl, sym, ap, subst, arith}
+use Rattle.std.proofs.Common.{◌≡◌, ◌∙◌, ◌-◌, ℕ, zero, suc, List, [], ◌∷◌, cond, length, refl, sym, ap, arith}
 use Rattle.tuple_trace.specs.declared.row.Row.{Row}
 use Rattle.versions.specs.Kept.{AreInOrder}
 use Rattle.versions.specs.declared.request.Request.{Request}
 use Rattle.flow_model.specs.Begin.{Begin}
-use Rattle.flow_model.specs.Covers.{covers}
+use Rattle.flow_model.specs.Covers.{covers, is_head}
 use Rattle.flow_model.specs.Requests.{afters}
 use Rattle.flow_model.specs.SetupView.{SetupView}
 use Rattle.flow_model.specs.Waiting.{with_afters}
 use Rattle.coordinator.specs.Boxes.{AreBoxes}
 use Rattle.coordinator.specs.Feeding.{AreRising, IsFeeding}
-use Rattle.coordinator.specs.Numbers.{covered_to, number_of, node_at}
+use Rattle.coordinator.specs.Numbers.{covered_to, number_of, node_at, posted_number}
 use Rattle.coordinator.specs.Views.{BoxesIs, FeederIs}
 
 -- ---- the rows
@@ -40,12 +40,16 @@ module _ (setup : SetupView) (requests : List Request) where
   number_same : (turned w r : ℕ) → number_of moved turned w r ≡ number_of setup turned w r
   number_same turned w r = λ i. covered_same (node_at setup w) r i - covered_same (node_at setup w) turned i
 
+  posted_same : (turned w r : ℕ) → posted_number moved turned w r ≡ posted_number setup turned w r
+  posted_same turned w zero = refl
+  posted_same turned w (suc r) = λ i. cond (is_head setup (suc r) (node_at setup w)) (number_same turned w (suc r) i) (posted_same turned w r i)
+
   boxes_moved : (turned issued : ℕ) (b : BoxesIs) → AreBoxes setup turned issued b → AreBoxes moved turned issued b
   boxes_moved turned issued b h = record {
     one_each = h.one_each;
     one_number_each = h.one_number_each;
     counted = λ w n g. h.counted w n g ∙ sym (number_same turned w issued);
-    posted = λ w p g. subst (λ k. p.posted ≤ k) (sym (number_same turned w issued)) (h.posted w p g);
+    posted = λ w p g. h.posted w p g ∙ sym (posted_same turned w issued);
     ready_within = h.ready_within;
     ready_are = h.ready_are;
   }
