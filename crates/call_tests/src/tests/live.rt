@@ -1,6 +1,7 @@
 //! Calls of `live`, and what they leave.
 mod beside;
 mod releases;
+mod telling;
 
 use payments::{Calls, MemoryShelf};
 use std::alloc::Global;
