@@ -2,12 +2,16 @@ use std::sync::atomic::{AtomicBool, Ordering};
 use std::thread;
 use tuple_trace::Gate;
 
-/// How often a gate looks before it gives up.
+/// How often a gate looks for a worker on another thread before it gives up.
 const LOOKS: u32 = 1_000_000;
 
-// Waits until the word is set. False if it wasn't set within the limit.
-fn seen_set(word: &AtomicBool) -> bool {
-    for _ in 0..LOOKS {
+/// How often a gate looks for an issue before it gives up. The thread that it holds may be the one
+/// that issues, and nothing comes then. On a busy machine each look may take some milliseconds.
+const LOOKS_FOR_AN_ISSUE: u32 = 1_000;
+
+// Waits until the word is set. False if it wasn't set within so many looks.
+fn seen_set(word: &AtomicBool, looks: u32) -> bool {
+    for _ in 0..looks {
         if word.load(Ordering::SeqCst) {
             return true;
         }
@@ -39,7 +43,7 @@ impl UntilIssued {
 
 impl Gate for UntilIssued {
     fn pass(&self, node: u32, _worker: u32, place: u64) {
-        if node == 1 && place == 0 && !seen_set(&self.issued) {
+        if node == 1 && place == 0 && !seen_set(&self.issued, LOOKS_FOR_AN_ISSUE) {
             self.missed.store(true, Ordering::SeqCst);
         }
     }
@@ -80,7 +84,7 @@ impl Meeting {
 
     fn hold(&self, mine: &AtomicBool, theirs: &AtomicBool) {
         mine.store(true, Ordering::SeqCst);
-        if !seen_set(theirs) {
+        if !seen_set(theirs, LOOKS) {
             self.missed.store(true, Ordering::SeqCst);
         }
     }
