@@ -5,12 +5,14 @@ use Rattle.std.proofs.lemmas.List.{length-map}
 use Rattle.std.proofs.lemmas.Simd.{map-map}
 use Rattle.std.proofs.lemmas.Option.{same_Some}
 use Rattle.lane_core.specs.Lane.{LaneId}
+use Rattle.jobs.specs.Nodes.{AreFromSources}
 use Rattle.sink_journal.specs.declared.journal.Feed.{Feed}
 use Rattle.tuple_trace.specs.declared.row.Row.{Row}
 use Rattle.versions.specs.declared.request.Request.{Request}
-use Rattle.flow_model.specs.Begin.{Begin}
+use Rattle.flow_model.specs.Begin.{Begin, at_first}
+use Rattle.flow_model.specs.Consistent.{IsConsistent}
 use Rattle.flow_model.specs.Requests.{afters}
-use Rattle.flow_model.specs.Run.{IsRunSince}
+use Rattle.flow_model.specs.Run.{IsRun, IsRunSince, Ran}
 use Rattle.flow_model.specs.Setup.{setup_view}
 use Rattle.flow_model.specs.SetupView.{SetupView}
 use Rattle.flow_model.specs.Waiting.{with_afters}
@@ -194,3 +196,16 @@ pub run_recorded : (live : Bool) (begin : Begin) (rows : List Row) (feeds : List
     → IsRunSince begin (setup_view made) rows (record_of (setup_view made) feeds crew)
 run_recorded live begin rows feeds crew asked made h is =
     subst (λ (v : SetupView). IsRunSince begin v rows (record_of v feeds crew)) (sym (view_recorded live feeds asked made is)) h.run
+
+-- what a run leaves is consistent, if all runs of the recorded setup are
+pub consistent_recorded : (live : Bool) (rows : List Row) (feeds : List Feed) (crew : List WorkedIs) (asked made : Setup) → HasRun live (at_first (setup_view asked)) (setup_view asked) rows feeds crew → IsRecorded live feeds asked made
+    → AreFromSources (setup_view asked).job rows → ((ran : Ran) → IsRun (setup_view made) rows ran → AreFromSources (setup_view made).job rows → IsConsistent rows ran)
+    → IsConsistent rows (record_of (setup_view made) feeds crew)
+consistent_recorded false rows feeds crew asked made h is sources law =
+    law (record_of (setup_view made) feeds crew)
+    (subst (λ (s : Setup). IsRun (setup_view s) rows (record_of (setup_view s) feeds crew)) (sym is) h.run)
+    (subst (λ (s : Setup). AreFromSources (setup_view s).job rows) (sym is) sources)
+consistent_recorded true rows feeds crew asked made h is sources law =
+    law (record_of (setup_view made) feeds crew)
+    (subst (λ (v : SetupView). IsRun v rows (record_of v feeds crew)) (sym is.0) h.run)
+    (subst (λ (v : SetupView). AreFromSources v.job rows) (sym is.0) sources)

@@ -4,6 +4,7 @@ ghost use Rattle.std.specs.List.{range_with_len};
 ghost use Rattle.control_box.specs.Endpoints.{ShareBoxes};
 ghost use Rattle.jobs.specs.Nodes.{AreFromSources};
 ghost use Rattle.flow_model.specs.Begin.{at_first};
+ghost use Rattle.flow_model.specs.Consistent.{IsConsistent};
 ghost use Rattle.flow_model.specs.Run.{IsRun, IsRunSince};
 ghost use Rattle.flow_model.specs.Setup.{setup_view};
 ghost use Rattle.flow_model.specs.Workers.{workers_in};
@@ -20,7 +21,7 @@ use crate::Flown;
 use crate::recorded::recorded_by;
 use coordinator::{Feeder, Feeding};
 use flow_ends::{Crew, Ended, end_run, endpoints_stay_matched, workers_read_no_rows};
-use flow_model::{Setup, Start};
+use flow_model::{Setup, Start, runs_are_consistent};
 use flow_worker::Worker;
 use lane_core::Lanes;
 use runners::{Beginning, Ran, run_all};
@@ -38,8 +39,8 @@ use tuple_trace::{Gate, NoMemory, Rows};
 /// called before each tuple that a worker processes, and after each request that is issued.
 ///
 /// The record of what it returns is a run of the setup and the rows, however many threads there are
-/// and however they are scheduled. The one error is out of memory. A thread that can't be started
-/// is no error: the others do its work.
+/// and however they are scheduled. Every row is consistent in it. The one error is out of memory. A
+/// thread that can't be started is no error: the others do its work.
 pub fn run_flow<R, L: Lanes + Sync, G: Gate + Sync>(
     rt: &R,
     alloc: Global,
@@ -61,6 +62,8 @@ where
     ensures crew { IfOk result (λ flown. map number_of flown.crew.items
         ≡ range_with_len 0 (length (workers_in (setup_view setup).job))) }
     ensures run { IfOk result (λ flown. IsRun (setup_view setup) rows.now
+        (record_of (setup_view setup) flown.feeds flown.crew.items)) }
+    ensures consistent { IfOk result (λ flown. IsConsistent rows.now
         (record_of (setup_view setup) flown.feeds flown.crew.items)) }
 {
     let (flown, ()) = run_with::<R, L, G, Feeder<L>>(
@@ -113,12 +116,15 @@ where
         ≡ range_with_len 0 (length (workers_in (setup_view setup).job))) }
     ensures run { IfOk result (λ (flown, rest). IsRun (setup_view flown.setup) rows.now
         (record_of (setup_view flown.setup) flown.feeds flown.crew.items)) }
+    ensures consistent { IfOk result (λ (flown, rest). IsConsistent rows.now
+        (record_of (setup_view flown.setup) flown.feeds flown.crew.items)) }
 {
     let (ended, rest) = run_seeded::<R, L, G, F, Brand>(
         rt, alloc, form, &setup, seed, rows, threads, cap, gate,
     )?;
     let (feeds, crew) = (ended.feeds, ended.workers);
     let setup = recorded_by::<L, F>(alloc, setup, &feeds)?;
+    runs_are_consistent(&setup, rows);
     Ok((Flown { setup, feeds, crew }, rest))
 }
 
