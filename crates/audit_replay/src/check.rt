@@ -2,6 +2,7 @@ ghost use Rattle.std.specs.Prelude.{◌≡◌, ◌<◌, ◌^◌, All, IfErr, IfO
 ghost use Rattle.std.specs.FinMap.{entries};
 ghost use Rattle.jobs.specs.Job.{job_view};
 ghost use Rattle.jobs.specs.Nodes.{AreFromSources};
+ghost use Rattle.flow_model.specs.Consistent.{IsConsistent};
 ghost use Rattle.flow_model.specs.Record.{record_view};
 ghost use Rattle.flow_model.specs.Run.{IsRun, Ran, ran_as};
 ghost use Rattle.flow_model.specs.Setup.{setup_view};
@@ -21,7 +22,7 @@ use audit_laws::{
     AuditFault, checked_journals_are_a_run, runs_fit_their_lines, texts_of_runs_have_no_fault,
     texts_tell_the_run,
 };
-use flow_model::{RunRecord, Setup};
+use flow_model::{RunRecord, Setup, runs_are_consistent};
 use journal_law::check_law;
 use report::noted;
 use sink_journal::{Feed, Feeds, Noted};
@@ -43,6 +44,7 @@ pub fn check_audit(
 ) -> Result<RunRecord, AuditFault>
     requires { AreFromSources (job_view setup.job) rows.now }
     ensures run { IfOk result (λ ran. IsRun (setup_view setup) rows.now (record_view ran)) }
+    ensures consistent { IfOk result (λ ran. IsConsistent rows.now (record_view ran)) }
     ensures fits { IfOk result (λ ran. Fits (map noted_as setup.judged.refused) bytes.now
         (record_view ran)) }
     ensures same { IfOk result (λ ran. ran.setup ≡ setup) }
@@ -55,6 +57,7 @@ pub fn check_audit(
         Fits (map noted_as setup.judged.refused) bytes.now run →
         IfErr result (λ fault. fault ≡ OutOfMemory) }
 {
+    runs_are_consistent(&setup, rows);
     match rebuild(alloc, &setup, rows, bytes) {
         Ok((feeds, restored)) => Ok(RunRecord {
             setup,
