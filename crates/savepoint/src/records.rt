@@ -1,7 +1,9 @@
 ghost use Rattle.std.specs.Prelude.{◌≡◌, ◌≤◌, ◌++◌, ℕ, IfOk, List, length, map};
 ghost use Rattle.std.specs.List.{zip};
+ghost use Rattle.jobs.specs.Nodes.{AreFromSources};
 ghost use Rattle.tuple_trace.specs.Rows.{AreRows};
 ghost use Rattle.tuple_trace.specs.declared.row.Row.{Row};
+ghost use Rattle.flow_model.specs.Consistent.{IsConsistent};
 ghost use Rattle.flow_model.specs.Record.{record_view};
 ghost use Rattle.flow_model.specs.Run.{IsRun};
 ghost use Rattle.flow_model.specs.Setup.{setup_view};
@@ -49,7 +51,8 @@ pub fn first_of(setup: Setup, turned: u64) -> Setup
     }
 }
 
-/// Joins two records to one. If they are parts of a run, the result is the whole run.
+/// Joins two records to one. If they are parts of a run, the result is the whole run, in which each
+/// row is whole at each request.
 ///
 /// The first feed loses its stop and is followed by the second. Each first journal loses the ends
 /// of its lanes and is followed by the second. The counts are those of the second record. The only
@@ -66,6 +69,10 @@ pub fn join(
     ensures run { IfOk result (λ ran. (rows : List Row) (row : ℕ) → AreRows rows →
         AreParts (setup_view setup) rows row (record_view first) (record_view second) →
         IsRun (setup_view setup) rows (record_view ran)) }
+    ensures consistent { IfOk result (λ ran. (rows : List Row) (row : ℕ) → AreRows rows →
+        AreFromSources (setup_view setup).job rows →
+        AreParts (setup_view setup) rows row (record_view first) (record_view second) →
+        IsConsistent rows (record_view ran)) }
 {
     let Left {
         feeds,
