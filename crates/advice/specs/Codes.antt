@@ -63,8 +63,9 @@ audit_code (audit.Lane lane) = codes "V5"
 audit_code (audit.State worker) = codes "V6"
 audit_code audit.NoMemory = codes "7"
 
--- a file that is too long: the savepoint and the audit have rows of their own
+-- a file that is too long: payments, the savepoint and the audit have rows of their own
 abbrev pub long_code : FileIs → List ℕ
+long_code file.Payments = codes "9 payments"
 long_code file.Save = codes "9 save"
 long_code file.Audit = codes "9 audit"
 long_code _ = codes "9"

@@ -8,7 +8,7 @@ use Rattle.advice.specs.declared.table.TheConstants.{J10, F1, F2, F3, P1, P2, P3
 use Rattle.advice.specs.declared.table.TheConstants.{S1, S2, S3, S4, V1, V2, V3, V4, V5, V6, Q1}
 use Rattle.advice.specs.declared.table.TheConstants.{Q2, Q3, Q4, Q5, Q6, Q7, Q8, Q9, READ}
 use Rattle.advice.specs.declared.table.TheConstants.{READ_ASKS, WRITE, OUT, MEMORY, REFUSED, LONG}
-use Rattle.advice.specs.declared.table.TheConstants.{LONG_SAVE, LONG_AUDIT}
+use Rattle.advice.specs.declared.table.TheConstants.{LONG_PAYMENTS, LONG_SAVE, LONG_AUDIT}
 
 -- a row with the bytes of its texts
 abbrev pub help_of_texts : List ℕ → List ℕ → List ℕ → HelpIn (List ℕ)
@@ -29,4 +29,4 @@ help_with = help_among (map (λ row. help_of_texts row.code.now row.cause.now ro
     USAGE ∷ J1 ∷ J2 ∷ J3 ∷ J4 ∷ J5 ∷ J6 ∷ J7 ∷ J8 ∷ J9 ∷ J10 ∷ F1 ∷ F2 ∷ F3 ∷ P1 ∷ P2 ∷ P3 ∷
     P4 ∷ P5 ∷ P6 ∷ P7 ∷ S1 ∷ S2 ∷ S3 ∷ S4 ∷ V1 ∷ V2 ∷ V3 ∷ V4 ∷ V5 ∷ V6 ∷ Q1 ∷ Q2 ∷ Q3 ∷ Q4 ∷
     Q5 ∷ Q6 ∷ Q7 ∷ Q8 ∷ Q9 ∷ READ ∷ READ_ASKS ∷ WRITE ∷ OUT ∷ MEMORY ∷ REFUSED ∷ LONG ∷
-    LONG_SAVE ∷ LONG_AUDIT ∷ []))
+    LONG_PAYMENTS ∷ LONG_SAVE ∷ LONG_AUDIT ∷ []))

@@ -4,23 +4,23 @@ ghost use Rattle.advice.specs.Codes.{code_of, refusal_code};
 ghost use Rattle.advice.specs.Table.{help_view, help_with};
 ghost use Rattle.advice.specs.Told.{Tells, message as message_of};
 
+use crate::audit_places::{actor_place, record_place};
 use crate::call::{Call, title_of};
 use crate::codes::{help_of, help_of_refusal};
-use crate::job_places::job_place;
 use crate::look::Look;
-use crate::place::Place;
-use crate::request_places::{push_number, push_refused, request_place};
-use crate::row_places::{audit_place, row_place, save_place};
-use crate::shown::push_shown;
+use crate::row_places::{row_place, save_place};
 use crate::table::{Help, REFUSED};
+use audit_laws::AuditFault;
 use job_file::read_job;
 use payments::PFault;
 use report::{Fault, FileIs};
 use std::alloc::{AllocError, Global};
 use std::fmt::Write;
 use toml::Table;
+use toml_places::{Place, TomlFile, job_place, push_reason, push_refused, request_place};
 use tuple_trace::{Bytes, NoMemory};
 use versions::Refused;
+use word_faults::{opening, push_shown, word_fault};
 
 /// What is told of a call whose status isn't 0, and nothing of any other.
 ///
@@ -97,13 +97,24 @@ fn head_of(alloc: Global, call: Call<'_>, fault: Fault, note: &str) -> Result<St
         Fault::Read(file) | Fault::Write(file) | Fault::Long(file) => {
             push_file(call, file, &mut out)?
         }
-        Fault::Usage => out.push_str("fries: usage")?,
+        Fault::Usage => push_usage(call, &mut out)?,
         Fault::NoMemory => out.push_str("fries: memory")?,
     }
     if !note.is_empty() {
         write!(out, " ({note})")?;
     }
     Ok(out)
+}
+
+// The first line of a fault of the words, after the help of the program if there are none.
+fn push_usage(call: Call<'_>, out: &mut String) -> Result<(), AllocError> {
+    let help = opening(call.words);
+    out.push_str(help)?;
+    out.push_str(if help.is_empty() {
+        "fries: usage"
+    } else {
+        "\nfries: usage"
+    })
 }
 
 fn push_coded(
@@ -150,12 +161,45 @@ fn place_of<L: Look>(
             Some(save) => save_place(alloc, save.as_slice(), fault),
             None => Ok(Place::new(alloc)),
         },
-        Fault::Audit(fault) => match file_of(alloc, call, FileIs::Audit, look) {
-            Some(audit) => audit_place(alloc, audit.as_slice(), fault),
-            None => Ok(Place::new(alloc)),
-        },
+        Fault::Audit(fault) => audit_place(alloc, call, fault, look),
         Fault::Long(file) => limit_place(alloc, file),
-        Fault::Usage | Fault::Read(_) | Fault::Write(_) | Fault::NoMemory => Ok(Place::new(alloc)),
+        Fault::Usage => Ok(Place {
+            note: String::new(alloc),
+            detail: word_fault(alloc, call.words)?,
+        }),
+        Fault::Read(_) | Fault::Write(_) | Fault::NoMemory => Ok(Place::new(alloc)),
+    }
+}
+
+// The line of a record of the audit, or the names of a worker or a lane.
+fn audit_place<L: Look>(
+    alloc: Global,
+    call: Call<'_>,
+    fault: AuditFault,
+    look: &mut L,
+) -> Result<Place, AllocError> {
+    match fault {
+        AuditFault::Shape(number) | AuditFault::Refused(number) | AuditFault::Feed(number) => {
+            match file_of(alloc, call, FileIs::Audit, look) {
+                Some(audit) => record_place(alloc, audit.as_slice(), number),
+                None => Ok(Place::new(alloc)),
+            }
+        }
+        AuditFault::Law(_) | AuditFault::Lane(_) | AuditFault::State(_) => {
+            match file_of(alloc, call, FileIs::Job, look) {
+                Some(job) => actor_place_by(alloc, job.as_slice(), fault),
+                None => Ok(Place::new(alloc)),
+            }
+        }
+        AuditFault::NoMemory => Ok(Place::new(alloc)),
+    }
+}
+
+// What the bytes of a job file tell of a worker or a lane.
+fn actor_place_by(alloc: Global, job: &[u8], fault: AuditFault) -> Result<Place, AllocError> {
+    match read_job(alloc, job) {
+        Ok(job) => actor_place(alloc, &job, fault),
+        Err(_) => Ok(Place::new(alloc)),
     }
 }
 
@@ -167,15 +211,25 @@ fn payments_place<L: Look>(
 ) -> Result<Place, AllocError> {
     let job = file_of(alloc, call, FileIs::Job, look);
     let rows = file_of(alloc, call, FileIs::Payments, look);
-    let rows = match &rows {
-        Some(rows) => rows.as_slice(),
+    let job = match &job {
+        Some(job) => job.as_slice(),
+        None if call.is_first() => FIRST_JOB.as_bytes(),
         None => &[],
     };
-    match &job {
-        Some(job) => row_place_by(alloc, job.as_slice(), rows, fault),
-        None => row_place(alloc, None, rows, fault),
-    }
+    row_place_by(alloc, job, slice_of(&rows), fault)
 }
+
+// What the job of the command `first` has in common with a job file: its columns, its source, and
+// its weight.
+const FIRST_JOB: &str = r#"
+columns = ["account:text", "merchant:text", "amount:cents", "tags:text"]
+node = [
+    {name = "card", kind = "source"},
+    {name = "big", kind = "filter", when = []},
+    {name = "alerts", kind = "sink", columns = []},
+]
+edge = [{from = "card", to = "big"}, {from = "big", to = "alerts"}]
+"#;
 
 // What the bytes of a payments file and of a job file tell of the place of a fault.
 fn row_place_by(
@@ -204,33 +258,69 @@ fn file_of<L: Look>(alloc: Global, call: Call<'_>, file: FileIs, look: &mut L) -
 
 // ---- refused requests
 
+// The documents of a call with refused requests, as far as they can be looked at again.
+#[derive(Clone, Copy)]
+struct Documents<'a> {
+    job: Option<&'a Table>,
+    requests: Option<TomlFile<'a>>,
+}
+
 fn refusals_text<L: Look>(
     alloc: Global,
     call: Call<'_>,
     look: &mut L,
 ) -> Result<String, AllocError> {
+    let job = file_of(alloc, call, FileIs::Job, look);
+    let requests = file_of(alloc, call, FileIs::Requests, look);
+    let job = table_of(alloc, slice_of(&job));
+    refusals_text_by(alloc, call, job.as_ref(), slice_of(&requests))
+}
+
+fn slice_of(bytes: &Option<Bytes>) -> &[u8] {
+    match bytes {
+        Some(bytes) => bytes.as_slice(),
+        None => &[],
+    }
+}
+
+fn table_of(alloc: Global, bytes: &[u8]) -> Option<Table> {
+    toml::table_from_slice(alloc, bytes).ok()
+}
+
+fn refusals_text_by(
+    alloc: Global,
+    call: Call<'_>,
+    job: Option<&Table>,
+    bytes: &[u8],
+) -> Result<String, AllocError> {
+    let table = table_of(alloc, bytes);
+    let requests = match &table {
+        Some(table) => Some(TomlFile { table, bytes }),
+        None => None,
+    };
+    let documents = Documents { job, requests };
     let mut head = String::new(alloc);
     push_file(call, FileIs::Requests, &mut head)?;
     let mut out = message(alloc, head.as_str(), REFUSED, "")?;
-    let bytes = file_of(alloc, call, FileIs::Requests, look);
-    let bytes = match &bytes {
-        Some(bytes) => bytes.as_slice(),
-        None => &[],
-    };
-    let table = toml::table_from_slice(alloc, bytes).ok();
-    for refused in call.refused {
-        let file = match &table {
-            Some(table) => Some((table, bytes)),
-            None => None,
-        };
-        out.push_str(refusal_text(alloc, file, *refused)?.as_str())?;
-    }
+    push_refusals(alloc, documents, call.refused, &mut out)?;
     Ok(out)
+}
+
+fn push_refusals(
+    alloc: Global,
+    documents: Documents<'_>,
+    all: &[Refused],
+    out: &mut String,
+) -> Result<(), AllocError> {
+    for refused in all {
+        out.push_str(refusal_text(alloc, documents, *refused)?.as_str())?;
+    }
+    Ok(())
 }
 
 fn refusal_text(
     alloc: Global,
-    file: Option<(&Table, &[u8])>,
+    documents: Documents<'_>,
     refused: Refused,
 ) -> Result<String, AllocError>
     ensures { IfOk result (λ text. Tells (refusal_code refused.fault) (string_bytes text)) }
@@ -238,9 +328,9 @@ fn refusal_text(
     let help = help_of_refusal(refused.fault);
     let code = help.code;
     let mut head = format!(in alloc; "{code} at ")?;
-    push_refused(file, refused, &mut head)?;
-    let mut number = String::new(alloc);
-    push_number(refused.fault, &mut number)?;
-    let detail = detail_line(alloc, number.as_str())?;
+    push_refused(documents.requests, refused, &mut head)?;
+    let mut reason = String::new(alloc);
+    push_reason(documents.job, documents.requests, refused, &mut reason)?;
+    let detail = detail_line(alloc, reason.as_str())?;
     message(alloc, head.as_str(), help, detail.as_str())
 }

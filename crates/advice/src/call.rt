@@ -2,6 +2,7 @@
 use report::{Fault, FileIs};
 use tuple_trace::Word;
 use versions::Refused;
+use word_faults::name_at;
 
 /// A call of the program: its words, without the program's own name, and what it came to.
 #[derive(Clone, Copy)]
@@ -28,6 +29,14 @@ pub(crate) fn title_of(file: FileIs) -> &'static str {
 }
 
 impl<'a> Call<'a> {
+    /// Whether the command is `first`, which has a job of its own.
+    pub(crate) fn is_first(self) -> bool {
+        match self.words.first() {
+            Some(command) => command.as_str() == "first",
+            None => false,
+        }
+    }
+
     /// The name of a file, if the words have one for it.
     pub(crate) fn name_of(self, file: FileIs) -> Option<&'a Word> {
         let (command, rest) = self.words.split_first()?;
@@ -73,27 +82,4 @@ fn files_of(command: &Word) -> &'static [FileIs] {
         ],
         _ => &[],
     }
-}
-
-// The name at a place among these words. Options and their numbers are no names.
-fn name_at(words: &[Word], place: usize) -> Option<&Word> {
-    let mut names = 0usize;
-    let mut is_number = false;
-    for word in words {
-        if is_number {
-            is_number = false;
-        } else if word.as_str().starts_with('-') {
-            is_number = takes_number(word);
-        } else if names == place {
-            return Some(word);
-        } else {
-            names = names.wrapping_add(1);
-        }
-    }
-    None
-}
-
-// Whether the next word is the number of this option.
-fn takes_number(option: &Word) -> bool {
-    option.as_str() == "--threads" || option.as_str() == "--capacity"
 }

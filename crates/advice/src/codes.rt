@@ -29,6 +29,7 @@ pub fn help_of(fault: Fault) -> Help
         Fault::Write(FileIs::Out) => OUT,
         Fault::Write(_) => WRITE,
         Fault::NoMemory => MEMORY,
+        Fault::Long(FileIs::Payments) => LONG_PAYMENTS,
         Fault::Long(FileIs::Save) => LONG_SAVE,
         Fault::Long(FileIs::Audit) => LONG_AUDIT,
         Fault::Long(_) => LONG,

@@ -7,12 +7,10 @@
 #![tactic(auto)]
 
 mod advice_text;
+mod audit_places;
 mod call;
 mod codes;
-mod job_places;
 mod look;
-mod place;
-mod request_places;
 mod row_places;
 mod shown;
 mod table;

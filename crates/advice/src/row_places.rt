@@ -1,13 +1,12 @@
-// What a payments file, a savepoint or an audit tells of the place of a fault.
-use crate::place::Place;
-use crate::shown::{line_at, push_bytes};
-use audit_laws::AuditFault;
+// What a payments file or a savepoint tells of the place of a fault.
+use crate::shown::push_bytes;
 use csv::{ByteRecord, Reader, ReaderBuilder};
 use jobs::{ColumnKind, Job, is_source, weight};
 use payments::PFault;
 use savepoint::SaveFault;
 use std::alloc::{AllocError, Global};
 use std::fmt::Write;
+use toml_places::{Place, line_at};
 
 /// How many tuples a run may bring to its nodes.
 const WORK_MAX: u64 = 1 << 20;
@@ -66,22 +65,10 @@ pub(crate) fn save_place(
     Ok(place)
 }
 
-/// What the bytes of an audit tell of the place of a fault.
-pub(crate) fn audit_place(
-    alloc: Global,
-    bytes: &[u8],
-    fault: AuditFault,
-) -> Result<Place, AllocError> {
-    let mut place = Place::new(alloc);
-    match fault {
-        AuditFault::Shape(number) | AuditFault::Refused(number) | AuditFault::Feed(number) => {
-            if let Some(found) = record_at(alloc, bytes, number) {
-                found.push_line(&mut place.note)?;
-            }
-        }
-        AuditFault::Law(_) | AuditFault::Lane(_) | AuditFault::State(_) | AuditFault::NoMemory => {}
-    }
-    Ok(place)
+/// The line of a record, if there is one with this number. The first record has number 0.
+pub(crate) fn record_line(alloc: Global, bytes: &[u8], number: u64) -> Option<u64> {
+    let found = record_at(alloc, bytes, number)?;
+    Some(found.line)
 }
 
 // A record, with the line that it begins at and the number of fields of the header.
@@ -102,7 +89,8 @@ impl Found {
                 write!(
                     place.detail,
                     "It has {count} fields, and the header has {width}."
-                )
+                )?;
+                self.push_breaks(&mut place.detail)
             }
             PFault::Source(_) => self.push_field(0, &mut place.detail),
             PFault::Value(_, column) | PFault::TextLong(_, column) => match job {
@@ -121,6 +109,23 @@ impl Found {
         write!(out, "line {line}")
     }
 
+    // Asks for a quote that is left open, if the fields have line breaks in them.
+    fn push_breaks(&self, out: &mut String) -> Result<(), AllocError> {
+        let mut lines = 1u64;
+        for place in 0..self.cells.len() {
+            if let Some(field) = self.cells.get(place) {
+                lines = lines.saturating_add(break_count(field));
+            }
+        }
+        if lines == 1 {
+            return Ok(());
+        }
+        write!(
+            out,
+            " The record goes over {lines} lines: is a quote left open?"
+        )
+    }
+
     fn push_field(&self, place: usize, out: &mut String) -> Result<(), AllocError> {
         match self.cells.get(place) {
             Some(field) => {
@@ -131,6 +136,11 @@ impl Found {
             None => Ok(()),
         }
     }
+}
+
+// How many line breaks a field has before its last byte.
+fn break_count(field: &[u8]) -> u64 {
+    line_at(field, field.len().saturating_sub(1)).saturating_sub(1)
 }
 
 // The record of a row: the header is that of row 0.

@@ -138,7 +138,7 @@ pub const P6: Help = Help {
 pub const P7: Help = Help {
     code: "P7",
     cause: "There are more rows than the weight of the job allows.",
-    cure: "Run fewer rows at a time, or make the job lighter.",
+    cure: "Run fewer rows at a time (docs/SAVEPOINTS.md, Long files), or make the job lighter.",
 };
 
 pub const S1: Help = Help {
@@ -186,19 +186,19 @@ pub const V3: Help = Help {
 pub const V4: Help = Help {
     code: "V4",
     cause: "This worker's steps break the law of a worker: no worker of the engine does that.",
-    cure: "Don't trust the audit: records of it are missing, or were added or changed.",
+    cure: "Don't trust it: records are missing or changed. One of `live` or `resume` isn't judged.",
 };
 
 pub const V5: Help = Help {
     code: "V5",
     cause: "What came by this lane isn't what was sent on it.",
-    cure: "Don't trust the audit: records of it are missing, or were added or changed.",
+    cure: "Don't trust it: records are missing or changed. One of `live` or `resume` isn't judged.",
 };
 
 pub const V6: Help = Help {
     code: "V6",
     cause: "This worker's counts aren't those that its steps make.",
-    cure: "Don't trust the audit: records of it are missing, or were added or changed.",
+    cure: "Don't trust it: records are missing or changed. One of `live` or `resume` isn't judged.",
 };
 
 pub const Q1: Help = Help {
@@ -294,7 +294,13 @@ pub const REFUSED: Help = Help {
 pub const LONG: Help = Help {
     code: "9",
     cause: "The file is longer than the program reads.",
-    cure: "Shorten it; payments may be cut into several files, for several runs.",
+    cure: "Shorten it.",
+};
+
+pub const LONG_PAYMENTS: Help = Help {
+    code: "9 payments",
+    cause: "The file is longer than the program reads.",
+    cure: "Cut it into several files, for several runs: docs/SAVEPOINTS.md, Long files.",
 };
 
 pub const LONG_SAVE: Help = Help {

@@ -1,9 +1,11 @@
 //! Whole messages: files with a fault, and what is told of it. Wanted texts are written by hand.
 
+mod audit_faults;
 mod file_faults;
 mod job_faults;
 mod request_faults;
 mod row_faults;
+mod wrong_words;
 
 use advice::{Call, ShelfLook, advice};
 use payments::{Calls, MemoryShelf};
@@ -98,7 +100,8 @@ fn shelf_of(alloc: Global, files: &[(&str, &str)]) -> Result<MemoryShelf, NoMemo
     Ok(shelf)
 }
 
-fn words_of(alloc: Global, words: &[&str]) -> Result<Vec<Word>, NoMemory> {
+/// The words of a command line.
+pub fn words_of(alloc: Global, words: &[&str]) -> Result<Vec<Word>, NoMemory> {
     let mut list = Vec::new(alloc);
     for text in words {
         list.push(word(alloc, text)?)?;

@@ -10,6 +10,8 @@ const CASES: &[(&[&str], Option<Fault>, &str)] = &[
         Some(Fault::Usage),
         "fries: usage
   These words have no form that the program knows.
+  `run` takes 5 names (JOB REQUESTS PAYMENTS ALERTS AUDIT), and here is 1: REQUESTS, PAYMENTS, \
+ALERTS, AUDIT are missing. Type `fries run --help`.
   Type `fries --help` for the forms of all commands.
 ",
     ),
@@ -85,7 +87,7 @@ const CASES: &[(&[&str], Option<Fault>, &str)] = &[
         "fries: job file `j`
   The file is longer than the program reads.
   At most 1048576 bytes are read of it.
-  Shorten it; payments may be cut into several files, for several runs.
+  Shorten it.
 ",
     ),
     (
@@ -94,7 +96,7 @@ const CASES: &[(&[&str], Option<Fault>, &str)] = &[
         "fries: request file `requests.toml`
   The file is longer than the program reads.
   At most 1048576 bytes are read of it.
-  Shorten it; payments may be cut into several files, for several runs.
+  Shorten it.
 ",
     ),
     (
@@ -103,7 +105,7 @@ const CASES: &[(&[&str], Option<Fault>, &str)] = &[
         "fries: payments file `pay.csv`
   The file is longer than the program reads.
   At most 67108864 bytes are read of it.
-  Shorten it; payments may be cut into several files, for several runs.
+  Cut it into several files, for several runs: docs/SAVEPOINTS.md, Long files.
 ",
     ),
     // A file that can't be looked at again, and a name that would disturb a terminal.
@@ -113,6 +115,15 @@ const CASES: &[(&[&str], Option<Fault>, &str)] = &[
         "fries: job file `a?b`: J7 node 3
   The node lies on a cycle: tuples could come back to it.
   Remove an edge of the cycle, so that all ways end at sinks.
+",
+    ),
+    (
+        &["first", "p", "a", "1", "2", "3"],
+        Some(Fault::Payments(PFault::Header)),
+        "fries: payments file `p`: P2
+  The first record isn't `source` and the names of the job's columns, in their order.
+  The header of this job is `source,account,merchant,amount,tags`.
+  Correct the header; leave out the columns that the job marks `own`.
 ",
     ),
     (

@@ -17,17 +17,78 @@ const CASES: &[Case] = &[
     Case {
         old: "kind = \"sink\"",
         new: "kind = \"drain\"",
-        told: "fries: job file `job.toml`: J2 kind
+        told: "fries: job file `job.toml`: J2 kind (node 2, `out`, kind `drain`, line 12)
   This key is missing, isn't in the layout, or its value isn't of the form it asks for.
+  Line 14 has `kind = \"drain\"`; `kind` is to be source, filter, map, enrich, count, split, \
+replicate or sink, as a string.
+  Compare the keys of the file with the layout in docs/JOBS.md.
+",
+    },
+    Case {
+        old: "100]]",
+        new: "100.0]]",
+        told: "fries: job file `job.toml`: J2 when (node 1, `big`, kind `filter`, line 7)
+  This key is missing, isn't in the layout, or its value isn't of the form it asks for.
+  Line 10 has `when = [[\"amount\", \">=\", 100.0]]`; `when` is to be an array of arrays \
+`[column, test, literal]`, as [[\"amount\", \">=\", 5000]]; tests are = != < <= > >=, \
+and literals whole numbers (amounts in cents) or strings.
+  Compare the keys of the file with the layout in docs/JOBS.md.
+",
+    },
+    Case {
+        old: "when =",
+        new: "whn =",
+        told: "fries: job file `job.toml`: J2 unknown (node 1, `big`, kind `filter`, line 7)
+  This key is missing, isn't in the layout, or its value isn't of the form it asks for.
+  Line 10 has `whn = [[\"amount\", \">=\", 100]]`; its keys are `name`, `kind`, `workers`, \
+`roof`, `when`.
+  Compare the keys of the file with the layout in docs/JOBS.md.
+",
+    },
+    Case {
+        old: "columns = [\"account\"]\n",
+        new: "",
+        told: "fries: job file `job.toml`: J2 columns (node 2, `out`, kind `sink`, line 12)
+  This key is missing, isn't in the layout, or its value isn't of the form it asks for.
+  It has no `columns`; `columns` is to be an array of names of columns, as strings.
+  Compare the keys of the file with the layout in docs/JOBS.md.
+",
+    },
+    Case {
+        old: "amount:cents",
+        new: "amount:cent",
+        told: "fries: job file `job.toml`: J2 columns
+  This key is missing, isn't in the layout, or its value isn't of the form it asks for.
+  Line 1 has `columns = [\"account:text\", \"amount:cent\", \"seen:number:own\"]`, and \
+`amount:cent` is no column; each column is to be a string `NAME:KIND` or `NAME:KIND:own`, with a \
+NAME of a-z, 0-9 and _, and text, number or cents as KIND.
+  Compare the keys of the file with the layout in docs/JOBS.md.
+",
+    },
+    Case {
+        old: "from = \"big\"",
+        new: "from = \"big\"\nport = -1",
+        told: "fries: job file `job.toml`: J2 port (edge 1, `big` to `out`, line 21)
+  This key is missing, isn't in the layout, or its value isn't of the form it asks for.
+  Line 23 has `port = -1`; `port` is to be a whole number, 0 or more.
+  Compare the keys of the file with the layout in docs/JOBS.md.
+",
+    },
+    Case {
+        old: "[[edge]]",
+        new: "[tables.risks]\nann = 1.5\n[[edge]]",
+        told: "fries: job file `job.toml`: J2 tables (table `risks`)
+  This key is missing, isn't in the layout, or its value isn't of the form it asks for.
+  Its entry `ann` is to be a whole number or a string.
   Compare the keys of the file with the layout in docs/JOBS.md.
 ",
     },
     Case {
         old: "kind = \"filter\"",
         new: "kind = \"filter\"\nworkers = 9",
-        told: "fries: job file `job.toml`: J3 workers 9
+        told: "fries: job file `job.toml`: J3 workers 9 (node 1, `big`, kind `filter`, line 7)
   A count or a size in the job file is outside its limit.
-  A node has 1 to 8 workers, and a source or a sink has 1.
+  Line 10 has `workers = 9`. A node has 1 to 8 workers, and a source or a sink has 1.
   Bring the count or the size within its limit.
 ",
     },
@@ -93,7 +154,8 @@ to = "a"
         new: "[\"amont\"",
         told: "fries: job file `job.toml`: J8 node 1 (`big`, kind `filter`, line 7)
   A column, test or literal of this node doesn't fit, or an entry of its table doesn't.
-  The job's columns are `account:text`, `amount:cents`, `seen:number:own`.
+  Line 10 has `when = [[\"amont\", \">=\", 100]]`, and `amont` is no column of the job. \
+The job's columns are `account:text`, `amount:cents`, `seen:number:own`.
   Check each column's name and kind; a text takes only the tests `=` and `!=`.
 ",
     },

@@ -28,17 +28,19 @@ const FAULTS: &[Case] = &[
     Case {
         old: "from",
         new: "form",
-        told: "fries: request file `requests.toml`: F2 from
+        told: "fries: request file `requests.toml`: F2 from \
+(request 1, change 1 of `big`, line 4)
   This key is missing, isn't in the layout, or its value isn't of the form it asks for.
+  It has no `from`; `from` is to be the version of the node, a whole number, 0 or more.
   Compare the keys of the file with the layout in docs/REQUESTS.md.
 ",
     },
     Case {
         old: "after = 1",
         new: "after = 1048577",
-        told: "fries: request file `requests.toml`: F3 after 1048577
+        told: "fries: request file `requests.toml`: F3 after 1048577 (request 1, line 1)
   A count or a size in the request file is outside its limit.
-  A request's `after` is 0 to 1,048,576.
+  Line 2 has `after = 1048577`. A request's `after` is 0 to 1,048,576.
   Bring the count or the size within its limit.
 ",
     },
@@ -80,7 +82,7 @@ const REFUSALS: &[Case] = &[
         new: "from = 1",
         told: "Q4 at request 1, line 1, change 1 of `big`
   The change was written for another version of its node than the one in force.
-  The node has version 0.
+  The node has version 0; `from = 0` is right for it now.
   See what the accepted requests before it changed, and then correct `from`.
 ",
     },
@@ -89,6 +91,17 @@ const REFUSALS: &[Case] = &[
         new: "amont",
         told: "Q5 at request 1, line 1, change 1 of `big`
   The new function doesn't fit the job: a column, a table, a test or a literal.
+  Line 8 has `when = [[\"amont\", \">=\", 200]]`, and `amont` is no column of the job. \
+The job's columns are `account:text`, `amount:cents`, `seen:number:own`.
+  Check each name against the job, and each literal against its column's kind.
+",
+    },
+    Case {
+        old: "kind = \"filter\"\nwhen = [[\"amount\", \">=\", 200]]",
+        new: "kind = \"enrich\"\nkey = \"account\"\ninto = \"seen\"\ntable = \"risks\"\nother = 1",
+        told: "Q5 at request 1, line 1, change 1 of `big`
+  The new function doesn't fit the job: a column, a table, a test or a literal.
+  It names the table `risks`, and the job has none. A request brings no table of its own.
   Check each name against the job, and each literal against its column's kind.
 ",
     },
@@ -168,7 +181,7 @@ fn is_refusal(alloc: Global, case: Case) -> Result<bool, NoMemory> {
     let refused = judged.refused.as_slice();
     let told = case.told;
     let told = format!(in alloc; "{HEAD}{told}")?;
-    let files = [("requests.toml", text.as_str())];
+    let files = [("requests.toml", text.as_str()), ("job.toml", JOB)];
     is_told(alloc, &files, RUN, None, refused, told.as_str())
 }
 

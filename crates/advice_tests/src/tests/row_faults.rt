@@ -39,6 +39,15 @@ const CASES: &[Case] = &[
 ",
     },
     Case {
+        old: "ann,1.00\n",
+        new: "\"ann,1.00\n",
+        told: "fries: payments file `pay.csv`: P3 row 1 (line 2)
+  This row has another number of fields than the header.
+  It has 2 fields, and the header has 3. The record goes over 2 lines: is a quote left open?
+  Write one field for each column, and quote a field that has a comma.
+",
+    },
+    Case {
         old: "card,bob",
         new: "crad,bob",
         told: "fries: payments file `pay.csv`: P4 row 2 (line 3)
@@ -96,7 +105,7 @@ fn too_many_rows_are_told(rt: HostRuntime) {
     let told = "fries: payments file `pay.csv`: P7 row 524289
   There are more rows than the weight of the job allows.
   The weight is 2, so 524288 rows are the most.
-  Run fewer rows at a time, or make the job lighter.
+  Run fewer rows at a time (docs/SAVEPOINTS.md, Long files), or make the job lighter.
 ";
     let told = is_told_of(rt.alloc(), ROWS, PFault::TooMuch(524_289), told);
     assert!(rt; matches!(told, Ok(true)));
@@ -107,7 +116,7 @@ fn too_many_rows_of_make_are_told(rt: HostRuntime) {
     let told = "fries: made rows: P7 row 524289
   There are more rows than the weight of the job allows.
   The weight is 2, so 524288 rows are the most.
-  Run fewer rows at a time, or make the job lighter.
+  Run fewer rows at a time (docs/SAVEPOINTS.md, Long files), or make the job lighter.
 ";
     let words = ["make", "job.toml", "--threads=2", "7", "524289"];
     let fault = Some(Fault::Payments(PFault::TooMuch(524_289)));

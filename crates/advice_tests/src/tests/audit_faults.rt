@@ -1,0 +1,73 @@
+use crate::tests::{JOB, is_told};
+use audit_laws::AuditFault;
+use report::Fault;
+use std::alloc::Global;
+use tuple_trace::NoMemory;
+
+const CASES: &[(AuditFault, &str)] = &[
+    (
+        AuditFault::Law(0),
+        "V4 worker 0 (`big`, its worker 0)
+  This worker's steps break the law of a worker: no worker of the engine does that.
+  Don't trust it: records are missing or changed. One of `live` or `resume` isn't judged.
+",
+    ),
+    (
+        AuditFault::Lane(0),
+        "V5 lane 0 (`card` to `big` 0)
+  What came by this lane isn't what was sent on it.
+  Don't trust it: records are missing or changed. One of `live` or `resume` isn't judged.
+",
+    ),
+    (
+        AuditFault::Lane(1),
+        "V5 lane 1 (`big` 0 to `out` 0)
+  What came by this lane isn't what was sent on it.
+  Don't trust it: records are missing or changed. One of `live` or `resume` isn't judged.
+",
+    ),
+    (
+        AuditFault::State(1),
+        "V6 worker 1 (`out`, its worker 0)
+  This worker's counts aren't those that its steps make.
+  Don't trust it: records are missing or changed. One of `live` or `resume` isn't judged.
+",
+    ),
+    (
+        AuditFault::Feed(1),
+        "V3 record 1 (line 2)
+  The audit has other rows or requests than the files. This record differs first.
+  Give the payments and the requests that were run; no part of a run is verified.
+",
+    ),
+];
+
+const VERIFY: &[&str] = &[
+    "verify",
+    "job.toml",
+    "requests.toml",
+    "pay.csv",
+    "audit.csv",
+];
+
+const FILES: &[(&str, &str)] = &[("job.toml", JOB), ("audit.csv", "feed\nfed\n")];
+
+// Whether this is told of a fault of the audit.
+fn is_case(alloc: Global, fault: AuditFault, told: &str) -> Result<bool, NoMemory> {
+    let told = format!(in alloc; "fries: audit file `audit.csv`: {told}")?;
+    is_told(
+        alloc,
+        FILES,
+        VERIFY,
+        Some(Fault::Audit(fault)),
+        &[],
+        told.as_str(),
+    )
+}
+
+#[test]
+fn workers_and_lanes_are_told_by_their_nodes(rt: HostRuntime) {
+    for (fault, told) in CASES {
+        assert!(rt; matches!(is_case(rt.alloc(), *fault, told), Ok(true)));
+    }
+}
