@@ -161,7 +161,7 @@ pub const S3: Help = Help {
 
 pub const S4: Help = Help {
     code: "S4",
-    cause: "This record is of no worker that counts, its key is too long, or it comes too early.",
+    cause: "Its worker doesn't count, or its key goes to another, is too long, or comes too early.",
     cure: "Give the job of the run that was saved, and the savepoint as it was written.",
 };
 
