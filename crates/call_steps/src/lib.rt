@@ -32,5 +32,5 @@ pub use live::{LiveDone, leave_live, run_live};
 pub use parts::{run_first_part, run_later_part};
 pub use printing::{print, print_made};
 pub use reading::{job_in, requests_in, rows_in, start_in};
-pub use running::{Done, Outputs, leave_run, made_lines, run_in_order, run_lines, run_on_threads};
+pub use running::{Done, Outputs, leave_run, made_lines, run_in_order, run_on_threads};
 pub use setup::setup_of;
