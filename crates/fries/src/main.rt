@@ -66,9 +66,13 @@ fn is_live(words: &[Word]) -> bool {
     }
 }
 
-// Tells on the standard error what ended the call, or why requests were refused. What comes of that
-// changes nothing.
+// Tells on the standard error how many payments a later part left out, and then what ended the call
+// or why requests were refused. What comes of that changes nothing.
 fn tell(rt: &HostRuntime, alloc: Global, words: &[Word], outcome: &Outcome) {
+    if let Some(start) = &outcome.start {
+        let row = start.row;
+        let _ = eprint!(rt; "fries: rows skipped, since the savepoint stands after them: {row}\n");
+    }
     let call = Call {
         words,
         fault: outcome.fault,
