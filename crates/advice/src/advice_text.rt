@@ -211,12 +211,16 @@ fn payments_place<L: Look>(
 ) -> Result<Place, AllocError> {
     let job = file_of(alloc, call, FileIs::Job, look);
     let rows = file_of(alloc, call, FileIs::Payments, look);
-    let job = match &job {
+    row_place_by(alloc, job_text(call, &job), slice_of(&rows), fault)
+}
+
+// The text of the job file, or that of the job of `first`.
+fn job_text<'a>(call: Call<'_>, job: &'a Option<Bytes>) -> &'a [u8] {
+    match job {
         Some(job) => job.as_slice(),
         None if call.is_first() => FIRST_JOB.as_bytes(),
         None => &[],
-    };
-    row_place_by(alloc, job, slice_of(&rows), fault)
+    }
 }
 
 // What the job of the command `first` has in common with a job file: its columns, its source, and
@@ -287,11 +291,11 @@ fn table_of(alloc: Global, bytes: &[u8]) -> Option<Table> {
     toml::table_from_slice(alloc, bytes).ok()
 }
 
-fn refusals_text_by(
+fn refusals_text_by<'a>(
     alloc: Global,
     call: Call<'_>,
-    job: Option<&Table>,
-    bytes: &[u8],
+    job: Option<&'a Table>,
+    bytes: &'a [u8],
 ) -> Result<String, AllocError> {
     let table = table_of(alloc, bytes);
     let requests = match &table {
