@@ -291,6 +291,13 @@ fn table_of(alloc: Global, bytes: &[u8]) -> Option<Table> {
     toml::table_from_slice(alloc, bytes).ok()
 }
 
+fn toml_file<'a>(table: &'a Option<Table>, bytes: &'a [u8]) -> Option<TomlFile<'a>> {
+    match table {
+        Some(table) => Some(TomlFile { table, bytes }),
+        None => None,
+    }
+}
+
 fn refusals_text_by<'a>(
     alloc: Global,
     call: Call<'_>,
@@ -298,10 +305,7 @@ fn refusals_text_by<'a>(
     bytes: &'a [u8],
 ) -> Result<String, AllocError> {
     let table = table_of(alloc, bytes);
-    let requests = match &table {
-        Some(table) => Some(TomlFile { table, bytes }),
-        None => None,
-    };
+    let requests = toml_file(&table, bytes);
     let documents = Documents { job, requests };
     let mut head = String::new(alloc);
     push_file(call, FileIs::Requests, &mut head)?;
