@@ -1,6 +1,7 @@
-"""What the tools for users share: their words, and how they tell that something is wrong."""
+"""What the tools for users share: their words, calls of the program, and how faults are told."""
 import argparse
 import os
+import subprocess
 import sys
 
 from audits import AuditFault
@@ -20,6 +21,42 @@ def words_of(name, doc):
         description="\n".join([head, *rest]).strip(),
         formatter_class=argparse.RawDescriptionHelpFormatter,
     )
+
+
+class Given:
+    """A file under the name that was given. What only this process can read is copied once."""
+
+    def __init__(self, name, copy):
+        self.name = name
+        self.place = name
+        # A pipe is read once, and the descriptors of `<(..)` aren't open in the program.
+        if name.exists() and (name.parts[:2] == ("/", "dev") or not name.is_file()):
+            copy.write_bytes(name.read_bytes())
+            self.place = copy
+
+    def __fspath__(self):
+        return os.fspath(self.place)
+
+    def __str__(self):
+        return str(self.name)
+
+    def is_copy(self):
+        return self.place != self.name
+
+
+def lines_of(fries, *words):
+    """The lines that a command prints. Statuses 0 and 8 are those of commands that are done."""
+    copies = [word for word in words if isinstance(word, Given) and word.is_copy()]
+    # `check` is the first call. If the program is built for it, that is told there at once.
+    errors = None if words[0] == "check" and not copies else subprocess.PIPE
+    how = {"stdout": subprocess.PIPE, "stderr": errors, "universal_newlines": True}
+    done = subprocess.run([str(fries), *map(os.fspath, words)], check=False, **how)
+    if done.returncode in (0, 8):
+        return done.stdout.splitlines()
+    said = done.stderr or ""
+    for copy in copies:
+        said = said.replace(os.fspath(copy), str(copy))
+    raise ToolFault(f"fries {words[0]}: {done.stdout.strip()}\n{said.strip()}".strip())
 
 
 def run(name, main):
