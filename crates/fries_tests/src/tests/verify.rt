@@ -8,7 +8,14 @@ use std::thread::Threads;
 const VERIFY: &str = "verify job.toml requests.toml payments.csv audit.csv";
 
 /// Whether `verify` ends so over the chain, these payments and this audit.
-fn says<R>(rt: &R, alloc: Global, payments: &str, audit: &str, status: u8, line: &str) -> bool
+fn says<'a, R>(
+    rt: &R,
+    alloc: Global,
+    payments: &'a str,
+    audit: &'a str,
+    status: u8,
+    line: &'a str,
+) -> bool
 where
     R: Threads + Wait + Copy + Send + Sync + 'static,
 {
