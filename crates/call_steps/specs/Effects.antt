@@ -1,7 +1,7 @@
 -- What a call leaves of the files and the output.
 use Rattle.std.specs.Prelude.{◌≡◌, ◌⊎◌, ◌≤◌, ◌++◌, ℕ, List, Option, None, Some, option_map}
 use Rattle.payments.specs.Causes.{Faults, GainsPrefix, GainsProperPrefix, WriteFailed}
-use Rattle.payments.specs.Files.{HoldsProperPrefix, with_bytes}
+use Rattle.payments.specs.Files.{with_bytes}
 use Rattle.payments.specs.World.{SinkState, World}
 use Rattle.tuple_trace.specs.Counts.{Rose}
 use Rattle.report.specs.FaultWords.{fault_line}
@@ -27,19 +27,12 @@ pub record FileText : Type 0 where
   pub name : List ℕ
   pub text : List ℕ
 
--- the file was made and holds this text; nothing else changes, and nothing is printed
+-- the file holds this text; nothing else changes, and nothing is printed
 pub record StoresWhole (text : FileText) (old new : World) : Type 0 where
   pub files : new.shelf.files ≡ with_bytes old.shelf.files text.name text.text
   pub faults : new.shelf.faults ≡ old.shelf.faults
-  pub target : new.shelf.target ≡ Some text.name
+  pub draft : new.shelf.draft ≡ None
   pub out : new.out ≡ old.out
-
--- storing the text was broken off: if the file couldn't be made nothing changed, else it holds the
--- first bytes of the text and not all of them
-pub record StoresPart (text : FileText) (old new : World) : Type 0 where
-  pub unmade : new.shelf.target ≡ None → new.shelf.files ≡ old.shelf.files
-  pub part : (new.shelf.target ≡ None)
-      ⊎ HoldsProperPrefix old.shelf.files new.shelf.files text.name text.text
 
 -- why the file wasn't stored
 abbrev pub StoresNot : FileIs → List ℕ → Faults → Faults → Fault → Type 0

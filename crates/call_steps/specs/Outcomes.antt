@@ -2,7 +2,7 @@
 use Rattle.std.specs.Prelude.{◌≡◌, ◌⊎◌, ◌∷◌, ℕ, List, [], Option, None, Some}
 use Rattle.payments.specs.Causes.{Faults}
 use Rattle.payments.specs.World.{World}
-use Rattle.call_steps.specs.Effects.{FileText, Prints, StoresNot, StoresPart, StoresWhole}
+use Rattle.call_steps.specs.Effects.{FileText, Prints, StoresNot, StoresWhole}
 use Rattle.call_steps.specs.declared.answer.Answer.{Answer}
 use Rattle.report.specs.declared.fault.Fault.{Fault}
 use Rattle.report.specs.declared.fault.Fault.TheVariants as fault
@@ -20,7 +20,7 @@ pub record Stops (Cause : Faults → Faults → Fault → Type 0) (old new : Wor
   pub answer_is : answer ≡ stopped why
   pub cause : Cause old.shelf.faults new.shelf.faults why
   pub files : new.shelf.files ≡ old.shelf.files
-  pub target : new.shelf.target ≡ old.shelf.target
+  pub draft : new.shelf.draft ≡ old.shelf.draft
   pub out : new.out ≡ old.out
 
 -- ---- from then on
@@ -30,12 +30,13 @@ pub record PrintsLines (lines : List ℕ) (old new : World) (answer : Option Fau
   pub shelf : new.shelf ≡ old.shelf
   pub prints : Prints lines old.out new.out answer
 
--- storing a text was broken off, and nothing is printed
+-- storing a text was broken off: every file is as before, and nothing is printed
 pub record StopsStoring (text : FileText) (old new : World) (answer : Option Fault) : Type 0 where
   pub why : Fault
   pub answer_is : answer ≡ Some why
   pub cause : StoresNot text.is text.name old.shelf.faults new.shelf.faults why
-  pub part : StoresPart text old new
+  pub files : new.shelf.files ≡ old.shelf.files
+  pub draft : new.shelf.draft ≡ None
   pub out : new.out ≡ old.out
 
 -- how storing texts one after the other and then printing lines ends

@@ -39,7 +39,7 @@ pub fn audited_run<S: Shelf>(
     ensures verdict { HaveOneVerdict setup rows.now }
     ensures kept { OnOk result (S.state shelf.new ≡ S.state shelf.old) }
     ensures files { (S.state shelf.new).files ≡ (S.state shelf.old).files }
-    ensures target { (S.state shelf.new).target ≡ (S.state shelf.old).target }
+    ensures draft { (S.state shelf.new).draft ≡ (S.state shelf.old).draft }
     ensures cause { IfErr result (IsNoAudit (S.state shelf.old).files name.now setup rows.now
         (S.state shelf.old).faults (S.state shelf.new).faults) }
 {

@@ -26,7 +26,7 @@ pub fn job_in<S: Shelf>(alloc: Global, name: &Word, shelf: &mut S) -> Result<Job
     ensures job { IfOk result (λ job. IsJobOf (S.state shelf.old).files name.now (job_view job)) }
     ensures kept { OnOk result (S.state shelf.new ≡ S.state shelf.old) }
     ensures files { (S.state shelf.new).files ≡ (S.state shelf.old).files }
-    ensures target { (S.state shelf.new).target ≡ (S.state shelf.old).target }
+    ensures draft { (S.state shelf.new).draft ≡ (S.state shelf.old).draft }
     ensures cause { IfErr result (IsNoJob (S.state shelf.old).files name.now
         (S.state shelf.old).faults (S.state shelf.new).faults) }
 {
@@ -47,7 +47,7 @@ pub fn requests_in<S: Shelf>(
     ensures limits { IfOk result HaveLimits }
     ensures kept { OnOk result (S.state shelf.new ≡ S.state shelf.old) }
     ensures files { (S.state shelf.new).files ≡ (S.state shelf.old).files }
-    ensures target { (S.state shelf.new).target ≡ (S.state shelf.old).target }
+    ensures draft { (S.state shelf.new).draft ≡ (S.state shelf.old).draft }
     ensures cause { IfErr result (AreNoRequests (S.state shelf.old).files name.now
         (job_view job.now)
         (S.state shelf.old).faults (S.state shelf.new).faults) }
@@ -69,7 +69,7 @@ pub fn rows_in<S: Shelf>(
     ensures texts { IfOk result (λ rows. All (λ (row : Row). HasShortTexts row.tuple) rows) }
     ensures kept { OnOk result (S.state shelf.new ≡ S.state shelf.old) }
     ensures files { (S.state shelf.new).files ≡ (S.state shelf.old).files }
-    ensures target { (S.state shelf.new).target ≡ (S.state shelf.old).target }
+    ensures draft { (S.state shelf.new).draft ≡ (S.state shelf.old).draft }
     ensures cause { IfErr result (AreNoRows (S.state shelf.old).files name.now (job_view job.now)
         (S.state shelf.old).faults (S.state shelf.new).faults) }
 {
@@ -89,7 +89,7 @@ pub fn start_in<S: Shelf>(
         (setup_view setup.now) rows) }
     ensures kept { OnOk result (S.state shelf.new ≡ S.state shelf.old) }
     ensures files { (S.state shelf.new).files ≡ (S.state shelf.old).files }
-    ensures target { (S.state shelf.new).target ≡ (S.state shelf.old).target }
+    ensures draft { (S.state shelf.new).draft ≡ (S.state shelf.old).draft }
     ensures cause { IfErr result (IsNoStart (S.state shelf.old).files name.now
         (setup_view setup.now) rows (S.state shelf.old).faults (S.state shelf.new).faults) }
 {
@@ -108,7 +108,7 @@ pub(crate) fn read_file<S: Shelf>(
     ensures bytes { IfOk result (λ bytes. IsRead file (S.state shelf.old).files name.now bytes) }
     ensures kept { OnOk result (S.state shelf.new ≡ S.state shelf.old) }
     ensures files { (S.state shelf.new).files ≡ (S.state shelf.old).files }
-    ensures target { (S.state shelf.new).target ≡ (S.state shelf.old).target }
+    ensures draft { (S.state shelf.new).draft ≡ (S.state shelf.old).draft }
     ensures cause { IfErr result (IsUnread file (λ why bytes. ⊥) (S.state shelf.old).files name.now
         (S.state shelf.old).faults (S.state shelf.new).faults) }
 {

@@ -1,6 +1,6 @@
-ghost use Rattle.std.specs.Prelude.{◌≡◌, ◌⊎◌, None, Some, IfErr, OnErr, OnOk};
+ghost use Rattle.std.specs.Prelude.{◌≡◌, None, IfErr, OnErr, OnOk};
 ghost use Rattle.std.specs.Result.{result_err};
-ghost use Rattle.payments.specs.Files.{HoldsProperPrefix, with_bytes};
+ghost use Rattle.payments.specs.Files.{with_bytes};
 ghost use Rattle.call_steps.specs.Outcomes.{EndsStoring};
 ghost use Rattle.payments.specs.World.{world};
 ghost use Rattle.call_steps.specs.Effects.{StoresNot};
@@ -54,17 +54,13 @@ pub fn write_texts<S: Shelf, O: Sink>(
     print(out, texts.lines.as_slice())
 }
 
-// Makes the file with its text. After a fault the file wasn't made, or it holds a part of the text.
+// Makes the file hold its text. After a fault it is as before.
 fn store_text<S: Shelf>(shelf: &mut S, text: &FileText<'_>) -> Result<(), Fault>
     ensures whole { OnOk result ((S.state shelf.new).files ≡
         with_bytes (S.state shelf.old).files text.now.name text.now.text) }
     ensures counts { OnOk result ((S.state shelf.new).faults ≡ (S.state shelf.old).faults) }
-    ensures target { OnOk result ((S.state shelf.new).target ≡ Some text.now.name) }
-    ensures unmade { OnErr result ((S.state shelf.new).target ≡ None →
-        (S.state shelf.new).files ≡ (S.state shelf.old).files) }
-    ensures part { OnErr result (((S.state shelf.new).target ≡ None)
-        ⊎ HoldsProperPrefix (S.state shelf.old).files (S.state shelf.new).files
-        text.now.name text.now.text) }
+    ensures as_before { OnErr result ((S.state shelf.new).files ≡ (S.state shelf.old).files) }
+    ensures closed { (S.state shelf.new).draft ≡ None }
     ensures cause { IfErr result
         (StoresNot text.now.is text.now.name
         (S.state shelf.old).faults (S.state shelf.new).faults) }

@@ -3,9 +3,12 @@
 //! the standard error, in sentences.
 #![tactic(auto)]
 
+mod streams;
+
+use crate::streams::{Lines, name_standard_output};
 use advice::{Call, HostLook, advice};
 use live_control::StdIn;
-use payments::{HostShelf, StdOut};
+use payments::{HostFault, HostShelf, StdOut};
 use report::{Fault, FileIs};
 use std::alloc::{AllocError, Global};
 use std::fs::File;
@@ -23,11 +26,11 @@ fn main(rt: HostRuntime) -> ExitCode {
         return ExitCode::from(Fault::Write(FileIs::Out).status());
     };
     let alloc = rt.alloc();
-    let Ok(words) = words_of(&rt, alloc) else {
+    let Ok((words, to_errors)) = words_of(&rt, alloc) else {
         return ExitCode::from(Fault::NoMemory.status());
     };
-    let mut shelf = HostShelf::new(rt);
-    let mut out = StdOut::new(rt);
+    let mut shelf = HostShelf::new(rt, alloc);
+    let mut out = StdOut::new(Lines { rt, to_errors });
     let mut asks = StdIn::new(rt.reader());
     let gate = Telling {
         rt,
@@ -35,6 +38,7 @@ fn main(rt: HostRuntime) -> ExitCode {
     };
     let outcome = fries(&rt, alloc, &words, &mut shelf, &mut out, &mut asks, &gate);
     tell(&rt, alloc, &words, &outcome);
+    tell_why(&rt, outcome.fault, shelf.why());
     let status = outcome.status;
     // The program ends here, so the record isn't freed entry by entry.
     let _kept = ManuallyDrop::new(outcome);
@@ -83,6 +87,21 @@ fn tell(rt: &HostRuntime, alloc: Global, words: &[Word], outcome: &Outcome) {
     }
 }
 
+// Tells why the system refused a file.
+fn tell_why(rt: &HostRuntime, fault: Option<Fault>, why: Option<HostFault>) {
+    let file = match fault {
+        Some(Fault::Read(file) | Fault::Write(file)) => file,
+        _ => return,
+    };
+    match why {
+        Some(why) if file != FileIs::Asks && file != FileIs::Out => {
+            let sentence = why.sentence();
+            let _ = eprint!(rt; "  The system's answer: {sentence}.\n");
+        }
+        _ => {}
+    }
+}
+
 // A file that is opened gets the least descriptor that is free. If the program is started without
 // one of the three standard ones, the first file would get it, and what is printed would land in
 // that file. So `/dev/null` takes it first, open for reading only: a write to it is refused.
@@ -94,9 +113,9 @@ fn take_standard_descriptors<R: Files>(rt: &R) -> io::Result<[R::File; 3]> {
     ])
 }
 
-// The words after the program's name. Words that aren't UTF-8 are read as none. The one error is
-// out of memory.
-fn words_of(rt: &HostRuntime, alloc: Global) -> Result<Vec<Word>, AllocError> {
+// The words after the program's name, and whether one of them is the standard output. Words that
+// aren't UTF-8 are read as none. The one error is out of memory.
+fn words_of(rt: &HostRuntime, alloc: Global) -> Result<(Vec<Word>, bool), AllocError> {
     let mut words = Vec::new(alloc);
     match env::args(rt) {
         Ok(args) => {
@@ -107,5 +126,6 @@ fn words_of(rt: &HostRuntime, alloc: Global) -> Result<Vec<Word>, AllocError> {
         Err(error) if error.kind() == ErrorKind::OutOfMemory => return Err(AllocError),
         Err(_) => {}
     }
-    Ok(words)
+    let to_errors = name_standard_output(alloc, &mut words)?;
+    Ok((words, to_errors))
 }

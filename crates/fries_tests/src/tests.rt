@@ -56,8 +56,6 @@ pub enum Wanted<'a> {
     Something,
     /// It holds this text.
     Text(&'a str),
-    /// It holds the first bytes of this text, in this number.
-    Part(&'a str, usize),
     /// It holds the alerts of rows that are sent by themselves.
     Alone(ByThemselves<'a>),
 }
@@ -196,9 +194,6 @@ fn is_stored(alloc: Global, bytes: Option<&[u8]>, wanted: Wanted<'_>) -> Result<
     match (bytes, wanted) {
         (_, Wanted::Any) | (None, Wanted::Nothing) | (Some(_), Wanted::Something) => Ok(true),
         (Some(bytes), Wanted::Text(text)) => Ok(bytes == text.as_bytes()),
-        (Some(bytes), Wanted::Part(text, count)) => {
-            Ok(bytes.len() == count && text.as_bytes().starts_with(bytes))
-        }
         (Some(bytes), Wanted::Alone(rows)) => are_alerts(alloc, bytes, rows),
         _ => Ok(false),
     }

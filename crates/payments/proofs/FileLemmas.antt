@@ -1,17 +1,16 @@
 -- Files that are written piece by piece.
-use Rattle.std.proofs.Common.{◌+◌, ◌<◌, ◌≤◌, get_or, Result, Ok, Err, subst, ◌≡◌, ℕ, List, [], ◌++◌, Option, None, Some, Bool, true, false, cond, refl, sym, ◌∙◌, ap, take, drop, length, ◌-◌, arith, take-append-drop, append_assoc}
+use Rattle.std.proofs.Common.{◌+◌, ◌<◌, ◌≤◌, get_or, subst, ◌≡◌, ℕ, List, [], ◌++◌, Option, None, Some, Bool, true, false, cond, refl, sym, ◌∙◌, ap, take, drop, length, ◌-◌, arith, take-append-drop, append_assoc}
 use Rattle.std.proofs.lemmas.Grind.{common_steps}
 use Rattle.std.proofs.lemmas.List.{drop_all}
-use Rattle.std.specs.Prelude.{unwrap_or, nat_eq, option_map, IfOk, IfSome}
+use Rattle.std.specs.Prelude.{unwrap_or, nat_eq, option_map}
 use Rattle.std.specs.Ordering.{nat_cmp, eq_by_cmp, is_eq}
 use Rattle.std.specs.Cmp.{tied_itself, unsigned_ties}
 use Rattle.std.specs.Cmp.Lexicographic.{slice_cmp, pointwise, nat_list_cmp_total, lists_ties}
 use Rattle.std.specs.FinMap as map
-use Rattle.payments.specs.Memory.{entries_of, open_name, stored_files}
+use Rattle.payments.specs.Memory.{stored_files}
 use Rattle.payments.specs.declared.memory.File.{File}
-use Rattle.payments.specs.declared.shelf.ShelfFault.{ShelfFault}
 use Rattle.payments.proofs.Rest.{drop-item}
-use Rattle.payments.specs.Files.{Files, with_bytes, with_more}
+use Rattle.payments.specs.Files.{Draft, Files, draft_with, longer_draft, with_bytes, with_more}
 
 twice : {X : Type 0} (b : Bool) (x y z : X) → cond b x (cond b y z) ≡ cond b x z
 twice true x y z = refl
@@ -52,16 +51,18 @@ pub option_map-append : (old now : Option (List ℕ)) (done piece : List ℕ) �
 option_map-append None now done piece is = ap (λ w. option_map (λ w. w ++ piece) w) is
 option_map-append (Some w) now done piece is = ap (λ w. option_map (λ w. w ++ piece) w) is ∙ ap (λ t. Some t) (append_assoc w done piece)
 
--- the newest file has grown
-pub files-grown : (result : Result ℕ ShelfFault) (is_open : Bool) (last : Option File) (file new : File) (stored : List File) (piece : List ℕ) → last ≡ Some file
-    → IfOk result (λ n. new ≡ record file { bytes = file.bytes ++ take n piece })
-    → IfOk result (λ n. IfSome (open_name is_open last) (λ name. ◌≡◌ {A = Option Files} (Some (map.from_entries (entries_of (Some new) stored))) (with_more (Some (map.from_entries (entries_of last stored))) name (take n piece))))
-files-grown (Err e) is_open last file new stored piece is more = more
-files-grown (Ok n) false last file new stored piece is more = tt
-files-grown (Ok n) true last file new stored piece is more =
-    let P : Option File → Type 0 = λ last. IfSome (open_name true last) (λ name. ◌≡◌ {A = Option Files} (Some (map.from_entries (entries_of (Some new) stored))) (with_more (Some (map.from_entries (entries_of last stored))) name (take n piece))) in
-    let Q : File → Type 0 = λ new. ◌≡◌ {A = Option Files} (Some (map.from_entries (entries_of (Some new) stored))) (with_more (Some (map.from_entries (entries_of (Some file) stored))) file.name (take n piece)) in
-    subst P (sym is) (subst Q (sym more) (sym (with_more-with_bytes (Some (map.from_entries (entries_of None stored))) _ file.name file.bytes (take n piece) refl)))
+-- a draft that has been begun, with one more piece
+pub draft_grown : (old : Option Files) (name done piece : List ℕ) → Some (longer_draft (draft_with old name done) piece) ≡ Some (draft_with old name (done ++ piece))
+draft_grown old name done piece =
+    let made : Option Files → Option Draft = λ files. Some (record { name = name; files = files }) in
+    ap made (with_more-with_bytes old (with_bytes old name done) name done piece refl)
+
+-- a file in memory has grown, and so has the draft that it is
+pub memory_grown : (files : Files) (file new : File) (piece : List ℕ) → new ≡ record file { bytes = file.bytes ++ piece }
+    → Some (draft_with (Some files) new.name new.bytes) ≡ Some (longer_draft (draft_with (Some files) file.name file.bytes) piece)
+memory_grown files file new piece is =
+    subst (λ (f : File). Some (draft_with (Some files) f.name f.bytes) ≡ Some (longer_draft (draft_with (Some files) file.name file.bytes) piece)) (sym is)
+    (sym (draft_grown (Some files) file.name file.bytes piece))
 
 pub get-insert_found : (m : Files) (k v q : List ℕ) → pointwise nat_eq q k ≡ true → map.get (map.insert m k v) q ≡ Some v
 get-insert_found m k v q same = get-insert m k v q ∙ ap (λ b. cond b (Some v) (map.get m q)) same

@@ -1,5 +1,5 @@
 -- Files by their names.
-use Rattle.std.specs.Prelude.{◌≡◌, ◌<◌, ℕ, List, [], ◌++◌, length, Option, option_map, unwrap_or}
+use Rattle.std.specs.Prelude.{ℕ, List, [], ◌++◌, Option, option_map, unwrap_or}
 use Rattle.std.specs.Cmp.Lexicographic.{slice_cmp}
 use Rattle.std.specs.Ordering.{nat_cmp}
 use Rattle.std.specs.FinMap as map
@@ -25,17 +25,20 @@ abbrev pub with_more : Option Files → List ℕ → List ℕ → Option Files
 with_more files name bytes =
     option_map (λ files. map.insert files name (bytes_of files name ++ bytes)) files
 
--- the files, with the first bytes of a text under a name
-pub record HoldsPrefix (old new : Option Files) (name text : List ℕ) : Type 0 where
-  pub done : List ℕ
-  pub left : List ℕ
-  pub text_is : text ≡ done ++ left
-  pub holds : new ≡ with_bytes old name done
+-- a file that is being written: its name, and the files as they are once it is kept, if they are
+-- told
+pub record Draft : Type 0 where
+  pub name : List ℕ
+  pub files : Option Files
 
--- the files, with the first bytes of a text under a name, but not all of them
-pub record HoldsProperPrefix (old new : Option Files) (name text : List ℕ) : Type 0 where
-  pub done : List ℕ
-  pub left : List ℕ
-  pub text_is : text ≡ done ++ left
-  pub some : 0 < length left
-  pub holds : new ≡ with_bytes old name done
+-- the name of a draft, if there is one
+abbrev pub draft_name : Option Draft → Option (List ℕ)
+draft_name draft = option_map (λ draft. draft.name) draft
+
+-- a draft of a file with these bytes
+abbrev pub draft_with : Option Files → List ℕ → List ℕ → Draft
+draft_with files name bytes = record { name = name; files = with_bytes files name bytes }
+
+-- a draft with more bytes at its end
+abbrev pub longer_draft : Draft → List ℕ → Draft
+longer_draft draft bytes = record draft { files = with_more draft.files draft.name bytes }

@@ -1,6 +1,7 @@
 -- What the files and the output of the system have counted.
-use Rattle.std.specs.Prelude.{ℕ, List, Option, None, option_map}
+use Rattle.std.specs.Prelude.{ℕ, Option, None, option_map}
 use Rattle.payments.specs.Causes.{Faults}
+use Rattle.payments.specs.Files.{Draft}
 use Rattle.payments.specs.World.{ShelfState, SinkState}
 use Rattle.payments.specs.declared.host.HostShelf.{HostShelf}
 use Rattle.payments.specs.declared.host.StdOut.{StdOut}
@@ -13,16 +14,16 @@ host_faults_of shelf = record {
   failed = shelf.failed;
 }
 
--- the file that takes what is appended
-abbrev pub host_target_of : {R File Folder : Type 0} → HostShelf R File Folder → Option (List ℕ)
-host_target_of shelf = option_map (λ target. target.name) shelf.target
+-- the draft, if there is one
+abbrev pub host_draft_of : {R File Folder : Type 0} → HostShelf R File Folder → Option Draft
+host_draft_of shelf = option_map (λ draft. record { name = draft.name; files = None }) shelf.draft
 
 -- the files of the system as a shelf, which tells none of their bytes
 abbrev pub host_state_of : {R File Folder : Type 0} → HostShelf R File Folder → ShelfState
 host_state_of shelf = record {
   files = None;
   faults = host_faults_of shelf;
-  target = host_target_of shelf;
+  draft = host_draft_of shelf;
 }
 
 -- how many writes to the output have failed

@@ -1,9 +1,9 @@
 -- A shelf and a sink in memory: what they hold, and what they answer.
-use Rattle.std.specs.Prelude.{◌+◌, ◌-◌, ◌^◌, min, max, nat_eq, nat_le, length, Result, Ok, Err, if◌then◌else◌, ℕ, Bool, true, false, List, ◌∷◌, Option, None, Some, map as map_list}
+use Rattle.std.specs.Prelude.{◌+◌, ◌-◌, ◌^◌, min, max, nat_eq, nat_le, length, Result, Ok, Err, if◌then◌else◌, ℕ, Bool, List, Option, None, Some, option_map, map as map_list}
 use Rattle.std.specs.List.{list_any}
 use Rattle.std.specs.FinMap as map
 use Rattle.payments.specs.Causes.{Faults}
-use Rattle.payments.specs.Files.{Files}
+use Rattle.payments.specs.Files.{Draft, Files, draft_with}
 use Rattle.payments.specs.World.{ShelfState, SinkState}
 use Rattle.payments.specs.declared.memory.File.{File}
 use Rattle.payments.specs.declared.memory.MemoryShelf.{MemoryShelf}
@@ -21,24 +21,14 @@ entry_of file = (file.name, file.bytes)
 abbrev pub stored_files : List File → Files
 stored_files stored = map.from_entries (map_list entry_of stored)
 
--- the files, the newest first
-abbrev pub entries_of : Option File → List File → List (List ℕ × List ℕ)
-entries_of None stored = map_list entry_of stored
-entries_of (Some last) stored = entry_of last ∷ map_list entry_of stored
-
 -- what a shelf in memory holds
 abbrev pub files_of : MemoryShelf → Files
-files_of shelf = map.from_entries (entries_of shelf.last shelf.stored.items)
+files_of shelf = stored_files shelf.stored.items
 
--- the name of the newest file, where it takes what is appended
-abbrev pub open_name : Bool → Option File → Option (List ℕ)
-open_name false last = None
-open_name true None = None
-open_name true (Some file) = Some file.name
-
--- the file that takes what is appended
-abbrev pub target_of : MemoryShelf → Option (List ℕ)
-target_of shelf = open_name shelf.is_open shelf.last
+-- the draft of a shelf in memory, if there is one
+abbrev pub draft_of : MemoryShelf → Option Draft
+draft_of shelf = option_map (λ file. draft_with (Some (files_of shelf)) file.name file.bytes)
+    shelf.draft
 
 -- what a shelf in memory has counted
 abbrev pub faults_of : MemoryShelf → Faults
@@ -53,7 +43,7 @@ abbrev pub shelf_state_of : MemoryShelf → ShelfState
 shelf_state_of shelf = record {
   files = Some (files_of shelf);
   faults = faults_of shelf;
-  target = target_of shelf;
+  draft = draft_of shelf;
 }
 
 -- which calls are to fail, and how many there were
@@ -104,7 +94,7 @@ abbrev pub read_of : MemoryShelf → List ℕ → ℕ → Result (List ℕ) Shel
 read_of shelf name limit =
     unless_due (plan_of shelf) shelf_fault.Failed (up_to limit (map.get (files_of shelf) name))
 
--- what it answers to a file that is to be made
+-- what it answers to a draft that is to be begun or kept
 abbrev pub create_of : MemoryShelf → Result (Unit {0}) ShelfFault
 create_of shelf = unless_due (plan_of shelf) shelf_fault.Failed (Ok tt)
 

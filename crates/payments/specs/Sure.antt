@@ -1,8 +1,8 @@
 -- A shelf and a sink that never fail.
 use Rattle.std.specs.Prelude.{ℕ, List, Option, None, Some}
 use Rattle.payments.specs.Causes.{Faults}
-use Rattle.payments.specs.Files.{Files}
-use Rattle.payments.specs.Memory.{files_of, target_of, written_of}
+use Rattle.payments.specs.Files.{Draft, Files}
+use Rattle.payments.specs.Memory.{draft_of, files_of, written_of}
 use Rattle.payments.specs.World.{ShelfState, SinkState}
 use Rattle.payments.specs.declared.sure.SureShelf.{SureShelf}
 use Rattle.payments.specs.declared.sure.SureSink.{SureSink}
@@ -11,9 +11,9 @@ use Rattle.payments.specs.declared.sure.SureSink.{SureSink}
 abbrev pub sure_files : SureShelf → Files
 sure_files shelf = files_of shelf.shelf
 
--- the file that takes what is appended
-abbrev pub sure_target : SureShelf → Option (List ℕ)
-sure_target shelf = target_of shelf.shelf
+-- the draft, if there is one
+abbrev pub sure_draft : SureShelf → Option Draft
+sure_draft shelf = draft_of shelf.shelf
 
 -- no read and no write has failed
 abbrev pub no_faults : Faults
@@ -24,7 +24,7 @@ abbrev pub sure_state_of : SureShelf → ShelfState
 sure_state_of shelf = record {
   files = Some (sure_files shelf);
   faults = no_faults;
-  target = sure_target shelf;
+  draft = sure_draft shelf;
 }
 
 -- what was written to a sure sink

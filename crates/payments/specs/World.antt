@@ -1,14 +1,14 @@
 -- What lies outside the program, as a call meets it: files, and an output.
 use Rattle.std.specs.Prelude.{ℕ, List, Option}
 use Rattle.payments.specs.Causes.{Faults}
-use Rattle.payments.specs.Files.{Files}
+use Rattle.payments.specs.Files.{Draft, Files}
 
--- the files, if they are told; how many reads and writes of them have failed; and the file that
--- takes what is appended
+-- the files, if they are told; how many reads and writes of them have failed; and the draft, if
+-- there is one
 pub record ShelfState : Type 0 where
   pub files : Option Files
   pub faults : Faults
-  pub target : Option (List ℕ)
+  pub draft : Option Draft
 
 -- what was written to a stream, if it is told, and how many writes of it have failed
 pub record SinkState : Type 0 where

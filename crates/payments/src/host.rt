@@ -1,5 +1,8 @@
-ghost use Rattle.std.specs.Prelude.{◌≡◌, None};
+ghost use Rattle.std.specs.Prelude.{◌≡◌, None, Some};
+ghost use Rattle.payments.specs.Causes.{WriteFailed};
 
+use crate::host_draft::{HostDraft, begin};
+use crate::host_fault::HostFault;
 use crate::{Shelf, ShelfFault, Sink, SinkFault};
 use std::alloc::Global;
 use std::fs;
@@ -9,41 +12,60 @@ use tuple_trace::{Bytes, Word};
 
 /// The files of the system. It tells none of their bytes.
 ///
+/// The draft of a regular file, or of one that isn't there, is a file in its folder:
+/// `.NAME.fries-draft` beside `NAME`. [`Shelf::keep`] waits until the disk has it, and moves it over
+/// the file, whose mode it has. Links are followed. What is no regular file is written as it is
+/// appended, and so is the standard output under the name `/dev/stdout`.
+///
 /// A write that takes nothing counts as a failure. So does a read of a name without a file.
 #[derive(Drop)]
-pub struct HostShelf<R: Files + Drop> {
+pub struct HostShelf<R: Files + Print + Drop> {
     rt: R,
-    target: Option<Target<R::File>>,
+    alloc: Global,
+    draft: Option<HostDraft<R::File>>,
     read_faults: u64,
     write_faults: u64,
     failed: Option<Word>,
+    why: Option<HostFault>,
 }
 
-#[derive(Drop)]
-struct Target<F> {
-    name: Word,
-    file: F,
-}
-
-impl<R: Files + Drop> HostShelf<R> {
-    ghost use Rattle.payments.specs.Host.{host_faults_of, host_target_of};
+impl<R: Files + Print + Drop> HostShelf<R> {
+    ghost use Rattle.payments.specs.Host.{host_draft_of, host_faults_of};
 
     /// The files that this runtime reaches. Takes no memory.
-    pub fn new(rt: R) -> Self
+    pub fn new(rt: R, alloc: Global) -> Self
         ensures faults { host_faults_of result ≡ record { reads = 0; writes = 0; failed = None } }
-        ensures target { host_target_of result ≡ None }
+        ensures draft { host_draft_of result ≡ None }
     {
         HostShelf {
             rt,
-            target: None,
+            alloc,
+            draft: None,
             read_faults: 0,
             write_faults: 0,
             failed: None,
+            why: None,
         }
+    }
+
+    /// Why the system refused the latest call that failed. None if none did.
+    pub fn why(&self) -> Option<HostFault> {
+        self.why
+    }
+
+    // Counts a write to this file that failed.
+    fn count_write(&mut self, name: Word, kind: ErrorKind)
+        ensures failed { WriteFailed (Some name) (host_faults_of self.old)
+            (host_faults_of self.new) }
+        ensures draft { self.new.draft ≡ self.old.draft }
+    {
+        self.write_faults = self.write_faults.saturating_add(1);
+        self.failed = Some(name);
+        self.why = Some(HostFault::of(kind));
     }
 }
 
-impl<R: Files + Drop> Shelf for HostShelf<R> {
+impl<R: Files + Print + Drop> Shelf for HostShelf<R> {
     ghost use Rattle.payments.specs.Host.{host_state_of};
 
     ghost state = { λ s. host_state_of s };
@@ -58,45 +80,60 @@ impl<R: Files + Drop> Shelf for HostShelf<R> {
             Ok(bytes) if bytes.len() as u64 > limit => Err(ShelfFault::Long),
             Ok(bytes) => Ok(Bytes::from_vec(bytes)),
             Err(error) if error.kind() == ErrorKind::OutOfMemory => Err(ShelfFault::NoMemory),
-            Err(_) => {
+            Err(error) => {
                 self.read_faults = self.read_faults.saturating_add(1);
                 self.failed = Some(kept);
+                self.why = Some(HostFault::of(error.kind()));
                 Err(ShelfFault::Failed)
             }
         }
     }
 
     fn create(&mut self, name: &Word) -> Result<(), ShelfFault> {
-        self.target = None;
+        self.draft = None;
         let name = name.clone().map_err(|_| ShelfFault::NoMemory)?;
-        match fs::create(&self.rt, name.as_str()) {
-            Ok(file) => {
-                self.target = Some(Target { name, file });
+        match begin(&self.rt, self.alloc, name.as_str()) {
+            Ok(way) => {
+                self.draft = Some(HostDraft { name, way });
                 Ok(())
             }
-            Err(_) => {
-                self.write_faults = self.write_faults.saturating_add(1);
-                self.failed = Some(name);
+            Err(error) if error.kind() == ErrorKind::OutOfMemory => Err(ShelfFault::NoMemory),
+            Err(error) => {
+                self.count_write(name, error.kind());
                 Err(ShelfFault::Failed)
             }
         }
     }
 
     fn append(&mut self, piece: &[u8]) -> Result<u64, ShelfFault> {
-        let name = match &self.target {
-            Some(target) => target.name.clone().map_err(|_| ShelfFault::NoMemory)?,
-            None => unreachable!(),
+        let Some(mut draft) = self.draft.take() else {
+            unreachable!()
         };
-        let taken = match &mut self.target {
-            Some(target) => target.file.write(piece).unwrap_or(0),
-            None => unreachable!(),
-        };
-        if taken == 0 {
-            self.write_faults = self.write_faults.saturating_add(1);
-            self.failed = Some(name);
-            return Err(ShelfFault::Failed);
+        match draft.way.write(&self.rt, piece) {
+            Ok(taken) => {
+                self.draft = Some(draft);
+                Ok(taken as u64)
+            }
+            Err(error) => {
+                draft.way.give_up(&self.rt);
+                self.count_write(draft.name, error.kind());
+                Err(ShelfFault::Failed)
+            }
         }
-        Ok(taken as u64)
+    }
+
+    fn keep(&mut self) -> Result<(), ShelfFault> {
+        let Some(draft) = self.draft.take() else {
+            unreachable!()
+        };
+        match draft.way.keep(&self.rt) {
+            Ok(()) => Ok(()),
+            Err(error) => {
+                draft.way.give_up(&self.rt);
+                self.count_write(draft.name, error.kind());
+                Err(ShelfFault::Failed)
+            }
+        }
     }
 }
 
@@ -108,8 +145,8 @@ fn read_up_to<F: Read + Drop>(alloc: Global, file: F, limit: u64) -> io::Result<
     Ok(bytes)
 }
 
-/// The standard output. It tells nothing of what was written. A write that takes nothing counts as
-/// a failure.
+/// A standard stream: what this runtime prints to. It tells nothing of what was written. A write
+/// that takes nothing counts as a failure.
 #[derive(Drop)]
 pub struct StdOut<R: Print + Drop> {
     rt: R,

@@ -14,6 +14,8 @@
 mod cells;
 mod fault_words;
 mod host;
+mod host_draft;
+mod host_fault;
 mod make;
 mod memory;
 mod read;
@@ -25,6 +27,7 @@ mod storing;
 mod sure;
 
 pub use host::{HostShelf, StdOut};
+pub use host_fault::HostFault;
 pub use make::make_rows;
 pub use memory::{Calls, MemoryShelf, MemorySink};
 pub use read::{PFault, read_rows};

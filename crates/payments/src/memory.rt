@@ -13,18 +13,16 @@ pub type Calls = Items<u64>;
 
 /// Files in memory. It tells what they hold, and fails at the calls that it was told to.
 ///
-/// Calls are numbered from 0 over reads, creations and appends alike. A read of a name without a
-/// file fails as well.
+/// Calls are numbered from 0 over all calls of [`Shelf`] alike. A read of a name without a file
+/// fails as well.
 #[derive(Debug, Drop)]
 pub struct MemoryShelf {
     alloc: Global,
     step: u64,
     failing: Calls,
     calls: u64,
-    /// The newest file, which alone takes what is appended.
-    last: Option<File>,
-    is_open: bool,
-    /// The older files, the newest first. Of those with one name the newest counts.
+    draft: Option<File>,
+    /// The files, the newest first. Of those with one name the newest counts.
     stored: Vec<File>,
     read_faults: u64,
     write_faults: u64,
@@ -39,13 +37,13 @@ struct File {
 
 impl MemoryShelf {
     ghost use Rattle.payments.specs.Causes.{Faults};
-    ghost use Rattle.payments.specs.Memory.{faults_of, files_of, plan_of, step_of, target_of};
+    ghost use Rattle.payments.specs.Memory.{draft_of, faults_of, files_of, plan_of, step_of};
 
     /// An empty shelf. An append takes at most `step` bytes, but at least one, and the calls with
     /// these numbers fail. Takes no memory.
     pub fn new(alloc: Global, step: u64, failing: Calls) -> Self
         ensures files { files_of result ≡ stored_files [] }
-        ensures target { target_of result ≡ None }
+        ensures draft { draft_of result ≡ None }
         ensures faults { faults_of result ≡ record { reads = 0; writes = 0; failed = None } }
         ensures plan { plan_of result ≡ record { failing = failing; calls = 0 } }
         ensures step { step_of result ≡ step }
@@ -55,8 +53,7 @@ impl MemoryShelf {
             step,
             failing,
             calls: 0,
-            last: None,
-            is_open: false,
+            draft: None,
             stored: Vec::new(alloc),
             read_faults: 0,
             write_faults: 0,
@@ -68,10 +65,7 @@ impl MemoryShelf {
     pub fn get(&self, name: &Word) -> Option<&Bytes>
         ensures { option_copied result ≡ map.get (files_of self.now) name.now }
     {
-        match &self.last {
-            Some(file) if name.as_str() == file.name.as_str() => Some(&file.bytes),
-            _ => newest(&self.stored, name),
-        }
+        newest(&self.stored, name)
     }
 
     /// How many reads have failed.
@@ -81,7 +75,7 @@ impl MemoryShelf {
         self.read_faults
     }
 
-    /// How many creations and appends have failed.
+    /// How many writes have failed: calls that begin a draft, append to it or keep it.
     pub fn write_faults(&self) -> u64
         ensures { result ≡ (faults_of self.now).writes }
     {
@@ -95,8 +89,7 @@ impl MemoryShelf {
         self.failed.as_ref()
     }
 
-    /// Puts a file on the shelf, in place of one with the same name. What is appended goes nowhere
-    /// until the next `create`.
+    /// Puts a file on the shelf, in place of one with the same name. A draft is given up.
     ///
     /// This is none of the calls that are counted. After [`ShelfFault::NoMemory`] the files are as
     /// before.
@@ -104,42 +97,24 @@ impl MemoryShelf {
         ensures ok { OnOk result (files_of self.new ≡ map.insert (files_of self.old) name bytes) }
         ensures err { IfErr result (λ fault. (fault ≡ ShelfFault.NoMemory)
             × (files_of self.new ≡ files_of self.old)) }
-        ensures closed { target_of self.new ≡ None }
+        ensures closed { draft_of self.new ≡ None }
         ensures faults { faults_of self.new ≡ faults_of self.old }
         ensures plan { plan_of self.new ≡ plan_of self.old }
         ensures step { step_of self.new ≡ step_of self.old }
     {
-        self.place(File { name, bytes })
-    }
-
-    fn place(&mut self, file: File) -> Result<(), ShelfFault>
-        ensures ok { OnOk result (files_of self.new
-            ≡ map.insert (files_of self.old) file.name file.bytes) }
-        ensures newest { OnOk result (self.new.last ≡ Some file) }
-        ensures err { IfErr result (λ fault. (fault ≡ ShelfFault.NoMemory)
-            × (files_of self.new ≡ files_of self.old)) }
-        ensures closed { self.new.is_open ≡ false }
-        ensures faults { faults_of self.new ≡ faults_of self.old }
-        ensures plan { plan_of self.new ≡ plan_of self.old }
-        ensures step { step_of self.new ≡ step_of self.old }
-    {
-        self.is_open = false;
-        if let Some(older) = self.last.take() {
-            if let Err(full) = self.stored.insert(0, older) {
-                self.last = Some(full.value);
-                return Err(ShelfFault::NoMemory);
-            }
-        }
-        self.last = Some(file);
-        Ok(())
+        self.draft = None;
+        let file = File { name, bytes };
+        self.stored
+            .insert(0, file)
+            .map_err(|_| ShelfFault::NoMemory)
     }
 }
 
 impl Shelf for MemoryShelf {
-    ghost use Rattle.payments.specs.Files.{Files, told_bytes, with_bytes, with_more};
+    ghost use Rattle.payments.specs.Files.{Files, draft_name, draft_with, longer_draft};
     ghost use Rattle.payments.specs.Causes.{Faults, ReadCause, WriteCause};
-    ghost use Rattle.payments.specs.Memory.{append_of, create_of, faults_of, files_of, plan_of};
-    ghost use Rattle.payments.specs.Memory.{read_of, shelf_state_of, step_of, target_of};
+    ghost use Rattle.payments.specs.Memory.{append_of, create_of, draft_of, faults_of, files_of};
+    ghost use Rattle.payments.specs.Memory.{plan_of, read_of, shelf_state_of, step_of};
 
     ghost state = { shelf_state_of };
 
@@ -149,7 +124,7 @@ impl Shelf for MemoryShelf {
         ensures plan { plan_of self.new ≡ after_call (plan_of self.old) }
         ensures step { step_of self.new ≡ step_of self.old }
         ensures files { files_of self.new ≡ files_of self.old }
-        ensures target { target_of self.new ≡ target_of self.old }
+        ensures draft { draft_of self.new ≡ draft_of self.old }
         ensures cause { ReadCause result name.now (faults_of self.old) (faults_of self.new) }
     {
         let fails = is_to_fail(&mut self.calls, &self.failing);
@@ -171,56 +146,78 @@ impl Shelf for MemoryShelf {
         ensures answer { result ≢ Err ShelfFault.NoMemory → result ≡ create_of self.old }
         ensures plan { plan_of self.new ≡ after_call (plan_of self.old) }
         ensures step { step_of self.new ≡ step_of self.old }
-        ensures made { OnOk result (files_of self.new
-            ≡ map.insert (files_of self.old) name.now []) }
-        ensures target { OnOk result (target_of self.new ≡ Some name.now) }
-        ensures unmade { OnErr result (files_of self.new ≡ files_of self.old) }
-        ensures closed { OnErr result (target_of self.new ≡ None) }
+        ensures begun { OnOk result (draft_of self.new
+            ≡ Some (draft_with (Some (files_of self.old)) name.now [])) }
+        ensures closed { OnErr result (draft_of self.new ≡ None) }
+        ensures files { files_of self.new ≡ files_of self.old }
         ensures cause { WriteCause result (Some name.now) (faults_of self.old)
             (faults_of self.new) }
     {
-        self.is_open = false;
+        self.draft = None;
         let fails = is_to_fail(&mut self.calls, &self.failing);
-        let kept = name.clone().map_err(|_| ShelfFault::NoMemory)?;
+        let name = name.clone().map_err(|_| ShelfFault::NoMemory)?;
         if fails {
             self.write_faults = self.write_faults.saturating_add(1);
-            self.failed = Some(kept);
+            self.failed = Some(name);
             return Err(ShelfFault::Failed);
         }
         let bytes = Bytes::new(self.alloc);
-        self.place(File { name: kept, bytes })?;
-        self.is_open = true;
+        self.draft = Some(File { name, bytes });
         Ok(())
     }
 
     fn append(&mut self, piece: &[u8]) -> Result<u64, ShelfFault>
-        requires made { IsSome (target_of self.old) }
+        requires begun { IsSome (draft_of self.old) }
         requires some { 0 < length piece.now }
         ensures answer { result ≢ Err ShelfFault.NoMemory
             → result ≡ append_of self.old (length piece.now) }
         ensures plan { plan_of self.new ≡ after_call (plan_of self.old) }
         ensures step { step_of self.new ≡ step_of self.old }
-        ensures more { IfOk result (λ n. IfSome (target_of self.old)
-            (λ name. Some (files_of self.new) ≡ with_more (Some (files_of self.old)) name
-            (take n piece.now))) }
-        ensures err { OnErr result (files_of self.new ≡ files_of self.old) }
-        ensures target { target_of self.new ≡ target_of self.old }
-        ensures cause { WriteCause result (target_of self.old) (faults_of self.old)
+        ensures more { IfOk result (λ n. IfSome (draft_of self.old) (λ draft.
+            draft_of self.new ≡ Some (longer_draft draft (take n piece.now)))) }
+        ensures closed { OnErr result (draft_of self.new ≡ None) }
+        ensures files { files_of self.new ≡ files_of self.old }
+        ensures cause { WriteCause result (draft_name (draft_of self.old)) (faults_of self.old)
             (faults_of self.new) }
     {
-        if is_to_fail(&mut self.calls, &self.failing) {
-            let name = match &self.last {
-                Some(file) => file.name.clone().map_err(|_| ShelfFault::NoMemory)?,
-                None => unreachable!(),
-            };
+        let fails = is_to_fail(&mut self.calls, &self.failing);
+        let Some(mut draft) = self.draft.take() else {
+            unreachable!()
+        };
+        if fails {
             self.write_faults = self.write_faults.saturating_add(1);
-            self.failed = Some(name);
+            self.failed = Some(draft.name);
             return Err(ShelfFault::Failed);
         }
-        match &mut self.last {
-            Some(file) => file.grow(self.step, piece),
-            None => unreachable!(),
+        let count = draft.grow(self.step, piece)?;
+        self.draft = Some(draft);
+        Ok(count)
+    }
+
+    fn keep(&mut self) -> Result<(), ShelfFault>
+        requires begun { IsSome (draft_of self.old) }
+        ensures answer { result ≢ Err ShelfFault.NoMemory → result ≡ create_of self.old }
+        ensures plan { plan_of self.new ≡ after_call (plan_of self.old) }
+        ensures step { step_of self.new ≡ step_of self.old }
+        ensures kept { OnOk result (IfSome (draft_of self.old) (λ draft.
+            Some (files_of self.new) ≡ draft.files)) }
+        ensures unkept { OnErr result (files_of self.new ≡ files_of self.old) }
+        ensures closed { draft_of self.new ≡ None }
+        ensures cause { WriteCause result (draft_name (draft_of self.old)) (faults_of self.old)
+            (faults_of self.new) }
+    {
+        let fails = is_to_fail(&mut self.calls, &self.failing);
+        let Some(draft) = self.draft.take() else {
+            unreachable!()
+        };
+        if fails {
+            self.write_faults = self.write_faults.saturating_add(1);
+            self.failed = Some(draft.name);
+            return Err(ShelfFault::Failed);
         }
+        self.stored
+            .insert(0, draft)
+            .map_err(|_| ShelfFault::NoMemory)
     }
 }
 

@@ -1,7 +1,7 @@
 ghost use Rattle.std.specs.Prelude.{◌≡◌, ◌≤◌, ◌<◌, ◌++◌, [], None, Some, length, take, option_map};
 ghost use Rattle.std.specs.Prelude.{IfOk, IfSome, IsSome, IsErrOf, OnErr, OnOk};
 ghost use Rattle.payments.specs.Causes.{ReadCause, WriteCause, SinkCause};
-ghost use Rattle.payments.specs.Files.{told_bytes, with_bytes, with_more};
+ghost use Rattle.payments.specs.Files.{draft_name, draft_with, longer_draft, told_bytes};
 ghost use Rattle.payments.specs.World.{ShelfState, SinkState};
 
 use std::alloc::Global;
@@ -17,14 +17,15 @@ pub enum ShelfFault {
     NoMemory,
 }
 
-/// Files by their names, read whole and written front to back.
+/// Files by their names, read and replaced whole.
 ///
-/// Whether a shelf tells what its files hold is its own choice: one in memory does, one over the
-/// host can't.
+/// A file that is written is a draft first, which [`Shelf::keep`] puts in the file's place. So a
+/// file is as it was or whole, whichever call fails. A shelf has one draft at most, and a write
+/// that fails gives it up. Whether a shelf tells what its files hold is its own choice: one in
+/// memory does, one over the host can't.
 pub trait Shelf {
     /// The files, if they are told; how many reads and writes have failed, and the file of the
-    /// latest failure; and the file that takes what is appended, which the latest `create` made.
-    /// A count never falls, and stays at 2^64 - 1.
+    /// latest failure; and the draft, if there is one. A count never falls, and stays at 2^64 - 1.
     ghost state: { Self → ShelfState };
 
     /// All bytes of a file, of which there are at most `limit`. A name without a file is read as no
@@ -36,29 +37,38 @@ pub trait Shelf {
         ensures long { IsErrOf result ShelfFault.Long →
             IfSome (told_bytes (state self.old).files name.now) (λ told. limit < length told) }
         ensures files { (state self.new).files ≡ (state self.old).files }
-        ensures target { (state self.new).target ≡ (state self.old).target }
+        ensures draft { (state self.new).draft ≡ (state self.old).draft }
         ensures cause { ReadCause result name.now (state self.old).faults (state self.new).faults };
 
-    /// Makes a file empty, whether or not there is one. What is appended from then on goes to it.
+    /// Begins an empty draft of a file, in place of any other draft. The file itself stays.
     fn create(&mut self, name: &Word) -> Result<(), ShelfFault>
-        ensures made { OnOk result
-            ((state self.new).files ≡ with_bytes (state self.old).files name.now []) }
-        ensures target { OnOk result ((state self.new).target ≡ Some name.now) }
-        ensures unmade { OnErr result ((state self.new).files ≡ (state self.old).files) }
-        ensures closed { OnErr result ((state self.new).target ≡ None) }
+        ensures begun { OnOk result ((state self.new).draft
+            ≡ Some (draft_with (state self.old).files name.now [])) }
+        ensures closed { OnErr result ((state self.new).draft ≡ None) }
+        ensures files { (state self.new).files ≡ (state self.old).files }
         ensures cause { WriteCause result (Some name.now)
             (state self.old).faults (state self.new).faults };
 
-    /// Appends the first bytes of a piece, at least one, and answers how many.
+    /// Appends the first bytes of a piece to the draft, at least one, and answers how many.
     fn append(&mut self, piece: &[u8]) -> Result<u64, ShelfFault>
-        requires made { IsSome (state self.old).target }
+        requires begun { IsSome (state self.old).draft }
         requires some { 0 < length piece.now }
         ensures count { IfOk result (λ n. (0 < n) × (n ≤ length piece.now)) }
-        ensures more { IfOk result (λ n. IfSome (state self.old).target (λ name.
-            (state self.new).files ≡ with_more (state self.old).files name (take n piece.now))) }
-        ensures err { OnErr result ((state self.new).files ≡ (state self.old).files) }
-        ensures target { (state self.new).target ≡ (state self.old).target }
-        ensures cause { WriteCause result (state self.old).target
+        ensures more { IfOk result (λ n. IfSome (state self.old).draft (λ draft.
+            (state self.new).draft ≡ Some (longer_draft draft (take n piece.now)))) }
+        ensures closed { OnErr result ((state self.new).draft ≡ None) }
+        ensures files { (state self.new).files ≡ (state self.old).files }
+        ensures cause { WriteCause result (draft_name (state self.old).draft)
+            (state self.old).faults (state self.new).faults };
+
+    /// Puts the draft in its file's place. There is no draft then.
+    fn keep(&mut self) -> Result<(), ShelfFault>
+        requires begun { IsSome (state self.old).draft }
+        ensures kept { OnOk result (IfSome (state self.old).draft (λ draft.
+            (state self.new).files ≡ draft.files)) }
+        ensures unkept { OnErr result ((state self.new).files ≡ (state self.old).files) }
+        ensures closed { (state self.new).draft ≡ None }
+        ensures cause { WriteCause result (draft_name (state self.old).draft)
             (state self.old).faults (state self.new).faults };
 }
 

@@ -1,25 +1,18 @@
-ghost use Rattle.std.specs.Prelude.{◌≡◌, ◌⊎◌, ◌++◌, None, Some, option_map, OnErr, OnOk};
+ghost use Rattle.std.specs.Prelude.{◌≡◌, ◌++◌, None, Some, option_map, OnErr, OnOk};
 ghost use Rattle.payments.specs.Causes.{WriteCause, SinkCause, GainsPrefix, GainsProperPrefix};
-ghost use Rattle.payments.specs.Files.{with_bytes, HoldsPrefix, HoldsProperPrefix};
+ghost use Rattle.payments.specs.Files.{with_bytes};
 
 use crate::{Shelf, ShelfFault, Sink, SinkFault};
 use tuple_trace::Word;
 
-/// Makes a file that holds this text and nothing else. Each append hands in all that is left of the
-/// text.
+/// Makes a file hold this text and nothing else. Each append hands in all that is left of the text.
 ///
-/// After an error the file is as before if it couldn't be made. Else it holds a prefix of the text,
-/// which isn't all of it. No other file changes.
+/// After an error the file is as before. No other file changes.
 pub fn store<S: Shelf>(shelf: &mut S, name: &Word, text: &[u8]) -> Result<(), ShelfFault>
     ensures whole { OnOk result
         ((S.state shelf.new).files ≡ with_bytes (S.state shelf.old).files name.now text.now) }
-    ensures target { OnOk result ((S.state shelf.new).target ≡ Some name.now) }
-    ensures part { OnErr result (((S.state shelf.new).files ≡ (S.state shelf.old).files)
-        ⊎ HoldsPrefix (S.state shelf.old).files (S.state shelf.new).files name.now text.now) }
-    ensures unmade { OnErr result ((S.state shelf.new).target ≡ None →
-        (S.state shelf.new).files ≡ (S.state shelf.old).files) }
-    ensures stopped { OnErr result (((S.state shelf.new).target ≡ None)
-        ⊎ HoldsProperPrefix (S.state shelf.old).files (S.state shelf.new).files name.now text.now) }
+    ensures as_before { OnErr result ((S.state shelf.new).files ≡ (S.state shelf.old).files) }
+    ensures closed { (S.state shelf.new).draft ≡ None }
     ensures cause { WriteCause result (Some name.now)
         (S.state shelf.old).faults (S.state shelf.new).faults }
 {
@@ -29,7 +22,7 @@ pub fn store<S: Shelf>(shelf: &mut S, name: &Word, text: &[u8]) -> Result<(), Sh
         let taken = shelf.append(rest)?;
         rest = &rest[taken as usize..];
     }
-    Ok(())
+    shelf.keep()
 }
 
 /// Writes a text to a stream. Each write hands in all that is left of it.

@@ -37,8 +37,8 @@ impl SureShelf {
         self.shelf.get(name)
     }
 
-    /// Puts a file on the shelf, in place of one with the same name. What is appended goes nowhere
-    /// until the next `create`. After [`ShelfFault::NoMemory`] the files are as before.
+    /// Puts a file on the shelf, in place of one with the same name. A draft is given up. After
+    /// [`ShelfFault::NoMemory`] the files are as before.
     pub fn put(&mut self, name: Word, bytes: Bytes) -> Result<(), ShelfFault>
         ensures ok { OnOk result (sure_files self.new
             ≡ map.insert (sure_files self.old) name bytes) }
@@ -67,6 +67,10 @@ impl Shelf for SureShelf {
 
     fn append(&mut self, piece: &[u8]) -> Result<u64, ShelfFault> {
         self.shelf.append(piece)
+    }
+
+    fn keep(&mut self) -> Result<(), ShelfFault> {
+        self.shelf.keep()
     }
 }
 

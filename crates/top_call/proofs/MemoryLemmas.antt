@@ -23,7 +23,7 @@ use Rattle.call_steps.proofs.FileLemmas.{follows_excused}
 -- nothing was read, stored or printed
 stops_for_memory : (Cause : Faults → Faults → Fault → Type 0) (old : World) (answer : Answer) → answer ≡ stopped fault.NoMemory → Cause old.shelf.faults old.shelf.faults fault.NoMemory → Stops Cause old old answer
 stops_for_memory Cause old answer is cause =
-    record { why = fault.NoMemory; answer_is = is; cause = cause; files = refl; target = refl; out = refl }
+    record { why = fault.NoMemory; answer_is = is; cause = cause; files = refl; draft = refl; out = refl }
 
 text_for_memory : (text : List ℕ) (old new : World) (answer : Answer) → answer ≡ stopped fault.NoMemory → PrintsFault answer.fault old new → AnswersText text old new answer
 text_for_memory text old new answer is prints = record {

@@ -46,7 +46,7 @@ fn run_first<S: Shelf>(alloc: Global, first: &First, shelf: &mut S) -> Result<Do
         ≡ worker_count done.ran.setup.job.nodes) }
     ensures kept { OnOk result (S.state shelf.new ≡ S.state shelf.old) }
     ensures files { (S.state shelf.new).files ≡ (S.state shelf.old).files }
-    ensures target { (S.state shelf.new).target ≡ (S.state shelf.old).target }
+    ensures draft { (S.state shelf.new).draft ≡ (S.state shelf.old).draft }
     ensures cause { IfErr result (AreNoRows (S.state shelf.old).files first.now.payments
         (asked_job (first_asked first.now))
         (S.state shelf.old).faults (S.state shelf.new).faults) }

@@ -106,7 +106,7 @@ where
     ensures workers { IfOk result (λ live. HasWorkers live.done) }
     ensures kept { OnOk result (S.state shelf.new ≡ S.state shelf.old) }
     ensures files { (S.state shelf.new).files ≡ (S.state shelf.old).files }
-    ensures target { (S.state shelf.new).target ≡ (S.state shelf.old).target }
+    ensures draft { (S.state shelf.new).draft ≡ (S.state shelf.old).draft }
     ensures asks { IfErr result (λ why. (Q.state asks.new ≡ Q.state asks.old)
         ⊎ (why ≡ OutOfMemory)) }
     ensures cause { IfErr result (IsNoRun (run_asked files.now) (S.state shelf.old).files

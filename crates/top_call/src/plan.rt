@@ -47,7 +47,7 @@ fn setup_in<S: Shelf>(alloc: Global, files: &PlanFiles, shelf: &mut S) -> Result
     ensures setup { IfOk result (IsSetupOf (plan_asked files.now) (S.state shelf.old).files) }
     ensures kept { OnOk result (S.state shelf.new ≡ S.state shelf.old) }
     ensures files { (S.state shelf.new).files ≡ (S.state shelf.old).files }
-    ensures target { (S.state shelf.new).target ≡ (S.state shelf.old).target }
+    ensures draft { (S.state shelf.new).draft ≡ (S.state shelf.old).draft }
     ensures cause { IfErr result (IsNoSetup (plan_asked files.now) (S.state shelf.old).files
         (S.state shelf.old).faults (S.state shelf.new).faults) }
 {

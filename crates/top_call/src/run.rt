@@ -66,7 +66,7 @@ where
         ≡ worker_count done.ran.setup.job.nodes) }
     ensures kept { OnOk result (S.state shelf.new ≡ S.state shelf.old) }
     ensures files { (S.state shelf.new).files ≡ (S.state shelf.old).files }
-    ensures target { (S.state shelf.new).target ≡ (S.state shelf.old).target }
+    ensures draft { (S.state shelf.new).draft ≡ (S.state shelf.old).draft }
     ensures cause { IfErr result (IsNoRun (run_asked files.now) (S.state shelf.old).files
         (S.state shelf.old).faults (S.state shelf.new).faults) }
 {

@@ -64,7 +64,7 @@ where
     ensures workers { IfOk result HasWorkers }
     ensures kept { OnOk result (S.state shelf.new ≡ S.state shelf.old) }
     ensures files { (S.state shelf.new).files ≡ (S.state shelf.old).files }
-    ensures target { (S.state shelf.new).target ≡ (S.state shelf.old).target }
+    ensures draft { (S.state shelf.new).draft ≡ (S.state shelf.old).draft }
     ensures cause { IfErr result (IsNoRun (save_asked files.now).run (S.state shelf.old).files
         (S.state shelf.old).faults (S.state shelf.new).faults) }
 {

@@ -280,7 +280,8 @@ fn faults_of_run(rt: HostRuntime) {
     }
 }
 
-// Calls 0 to 2 read, call 3 makes the alerts, and call 4 appends the first 16 bytes of them.
+// Calls 0 to 2 read, call 3 begins the alerts, and call 4 appends the first 16 bytes of them. They
+// were never kept.
 #[test]
 fn sixth_call_fails(rt: HostRuntime) {
     let around = Around {
@@ -295,41 +296,30 @@ fn sixth_call_fails(rt: HostRuntime) {
         failing: &[5],
         refusing: &[],
     };
-    let left = Left::alerts(6, "sink,row,account", "fault 6 alerts\n");
+    let left = Left {
+        ran: Ran::Something,
+        ..Left::lines(6, "fault 6 alerts\n")
+    };
     assert!(rt; leaves(&rt, rt.alloc(), &around, RUN, &left));
 }
 
-/// A call of the shelf that fails, the status and the line of the fault, and how many bytes of the
-/// alerts and of the audit are stored then, if they were made. Without a payment these have 38 and
-/// 84 bytes, and an append takes 16. The last call isn't made.
-const FAILING: [(u64, u8, &str, Option<usize>, Option<usize>); 15] = [
-    (0, 5, "fault 5 job\n", None, None),
-    (1, 5, "fault 5 requests\n", None, None),
-    (2, 5, "fault 5 payments\n", None, None),
-    (3, 6, "fault 6 alerts\n", None, None),
-    (4, 6, "fault 6 alerts\n", Some(0), None),
-    (5, 6, "fault 6 alerts\n", Some(16), None),
-    (6, 6, "fault 6 alerts\n", Some(32), None),
-    (7, 6, "fault 6 audit\n", Some(38), None),
-    (8, 6, "fault 6 audit\n", Some(38), Some(0)),
-    (9, 6, "fault 6 audit\n", Some(38), Some(16)),
-    (10, 6, "fault 6 audit\n", Some(38), Some(32)),
-    (11, 6, "fault 6 audit\n", Some(38), Some(48)),
-    (12, 6, "fault 6 audit\n", Some(38), Some(64)),
-    (13, 6, "fault 6 audit\n", Some(38), Some(80)),
-    (
-        14,
-        0,
-        "rows 0 alerts 0 requests 0 refused 0\n",
-        Some(38),
-        Some(84),
-    ),
+/// Calls of the shelf from the first to the last; the status and the line if one of them fails; and
+/// whether the alerts and the audit are whole then. Without a payment these have 38 and 84 bytes,
+/// and an append takes 16. The last call isn't made.
+const FAILING: [(u64, u64, u8, &str, bool, bool); 6] = [
+    (0, 0, 5, "fault 5 job\n", false, false),
+    (1, 1, 5, "fault 5 requests\n", false, false),
+    (2, 2, 5, "fault 5 payments\n", false, false),
+    (3, 7, 6, "fault 6 alerts\n", false, false),
+    (8, 15, 6, "fault 6 audit\n", true, false),
+    (16, 16, 0, "rows 0 alerts 0 requests 0 refused 0\n", true, true),
 ];
 
-fn part(text: &str, count: Option<usize>) -> Wanted<'_> {
-    match count {
-        Some(count) => Wanted::Part(text, count),
-        None => Wanted::Nothing,
+fn whole_or_none(text: &str, is_whole: bool) -> Wanted<'_> {
+    if is_whole {
+        Wanted::Text(text)
+    } else {
+        Wanted::Nothing
     }
 }
 
@@ -340,15 +330,10 @@ const FILES_WITHOUT_A_PAYMENT: [(&str, &str); 3] = [
 ];
 
 /// What is left of a row of `FAILING`.
-fn left_of(
-    status: u8,
-    out: &'static str,
-    alerts: Option<usize>,
-    audit: Option<usize>,
-) -> Left<'static> {
+fn left_of(status: u8, out: &'static str, alerts: bool, audit: bool) -> Left<'static> {
     Left {
-        alerts: part(HEADER, alerts),
-        audit: part(AUDIT_OF_NONE, audit),
+        alerts: whole_or_none(HEADER, alerts),
+        audit: whole_or_none(AUDIT_OF_NONE, audit),
         ran: if status == 5 {
             Ran::Nothing
         } else {
@@ -360,12 +345,14 @@ fn left_of(
 
 #[test]
 fn each_call_of_the_shelf_fails(rt: HostRuntime) {
-    for (failing, status, out, alerts, audit) in FAILING {
-        let around = Around {
-            failing: &[failing],
-            ..Around::of(&FILES_WITHOUT_A_PAYMENT)
-        };
+    for (first, last, status, out, alerts, audit) in FAILING {
         let left = left_of(status, out, alerts, audit);
-        assert!(rt; leaves(&rt, rt.alloc(), &around, RUN, &left), "{failing}");
+        for failing in first..=last {
+            let around = Around {
+                failing: &[failing],
+                ..Around::of(&FILES_WITHOUT_A_PAYMENT)
+            };
+            assert!(rt; leaves(&rt, rt.alloc(), &around, RUN, &left), "{failing}");
+        }
     }
 }

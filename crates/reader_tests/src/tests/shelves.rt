@@ -1,7 +1,7 @@
 // Shelves and sinks in memory and of the system.
 use payments::{
-    Calls, HostShelf, MemoryShelf, MemorySink, Shelf, ShelfFault, Sink, SinkFault, StdOut, store,
-    write_all,
+    Calls, HostFault, HostShelf, MemoryShelf, MemorySink, Shelf, ShelfFault, Sink, SinkFault, StdOut,
+    store, write_all,
 };
 use std::alloc::Global;
 use std::fs;
@@ -68,10 +68,11 @@ fn three_reads(shelf: &mut MemoryShelf, alloc: Global, pay: &Word, alerts: &Word
         && has_failed(shelf, (1, 0), "alerts.csv")
 }
 
-// A text in pieces of 16 bytes, of which the second is refused, and then all of it.
+// A text in pieces of 16 bytes, of which the second is refused, so that there is no file; and then
+// all of it.
 fn two_stores(shelf: &mut MemoryShelf, alerts: &Word) -> bool {
     store(shelf, alerts, HEADER) == Err(ShelfFault::Failed)
-        && holds(shelf, alerts, b"sink,row,account")
+        && shelf.get(alerts).is_none()
         && has_failed(shelf, (1, 1), "alerts.csv")
         && store(shelf, alerts, HEADER) == Ok(())
         && holds(shelf, alerts, HEADER)
@@ -87,6 +88,28 @@ fn sixth_call(alloc: Global) -> Option<bool> {
 #[test]
 fn sixth_call_fails(rt: HostRuntime) {
     assert_eq!(rt; sixth_call(rt.alloc()), Some(true));
+}
+
+// Whether storing a text of three pieces of 16 bytes over another one leaves the file as before if
+// this call fails. Call 0 begins it, calls 1 to 3 append, and call 4 keeps it.
+fn is_as_before_or_whole(alloc: Global, call: u64) -> Option<bool> {
+    let alerts = word(alloc, "alerts.csv")?;
+    let mut shelf = MemoryShelf::new(alloc, 16, Calls::from_slice(alloc, &[call]).ok()?);
+    let old = Bytes::from_slice(alloc, b"old\n").ok()?;
+    shelf.put(word(alloc, "alerts.csv")?, old).ok()?;
+    let stored = store(&mut shelf, &alerts, HEADER);
+    Some(if call < 5 {
+        stored == Err(ShelfFault::Failed) && holds(&shelf, &alerts, b"old\n")
+    } else {
+        stored == Ok(()) && holds(&shelf, &alerts, HEADER)
+    })
+}
+
+#[test]
+fn a_file_is_as_before_or_whole(rt: HostRuntime) {
+    for call in 0..6 {
+        assert_eq!(rt; is_as_before_or_whole(rt.alloc(), call), Some(true), "call {call}");
+    }
 }
 
 fn second_write(alloc: Global) -> Option<bool> {
@@ -114,18 +137,24 @@ fn lacks<S: Shelf>(shelf: &mut S, alloc: Global, missing: &Word, nowhere: &Word)
         && shelf.create(nowhere) == Err(ShelfFault::Failed)
 }
 
-fn files_of_the_system<R: Files + Drop>(alloc: Global, rt: R) -> Option<bool> {
+fn files_of_the_system<R: Files + Print + Drop>(alloc: Global, rt: R) -> Option<bool> {
     let name = word(alloc, "host_shelf.tmp")?;
     let missing = word(alloc, "no_such_file.tmp")?;
     let nowhere = word(alloc, "no_such_folder/file")?;
-    let mut shelf = HostShelf::new(rt);
-    let taken = takes_and_gives(&mut shelf, alloc, &name);
-    Some(taken && lacks(&mut shelf, alloc, &missing, &nowhere))
+    let mut shelf = HostShelf::new(rt, alloc);
+    let taken = store(&mut shelf, &name, b"an old one, which is longer\n") == Ok(())
+        && takes_and_gives(&mut shelf, alloc, &name);
+    Some(
+        taken
+            && lacks(&mut shelf, alloc, &missing, &nowhere)
+            && shelf.why() == Some(HostFault::Missing),
+    )
 }
 
 #[test]
 fn files_and_output_of_the_system(rt: HostRuntime) {
     assert_eq!(rt; files_of_the_system(rt.alloc(), rt), Some(true));
+    assert!(rt; fs::remove_file(&rt, ".host_shelf.tmp.fries-draft").is_err());
     assert!(rt; fs::remove_file(&rt, "host_shelf.tmp").is_ok());
     assert_eq!(rt; write_all(&mut StdOut::new(rt), b"written\n"), Ok(()));
 }

@@ -57,18 +57,21 @@ ended,out,0,1,,
 /// A status, the line that is printed, and what stands under `alerts`, `audit` and `save`.
 type Row = (u8, &'static str, &'static str, &'static str, &'static str);
 
-/// What `save` leaves if its call with this number fails: three reads, and then each file is made
-/// and appended to. The last row is without a fault.
-const SAVE_FAILS: [Row; 10] = [
+/// What `save` leaves if its call with this number fails: three reads, and then each file is begun,
+/// appended to and kept. The last row is without a fault.
+const SAVE_FAILS: [Row; 13] = [
     (5, "fault 5 job\n", OLD, OLD, OLD),
     (5, "fault 5 requests\n", OLD, OLD, OLD),
     (5, "fault 5 payments\n", OLD, OLD, OLD),
     (6, "fault 6 alerts\n", OLD, OLD, OLD),
-    (6, "fault 6 alerts\n", "", OLD, OLD),
+    (6, "fault 6 alerts\n", OLD, OLD, OLD),
+    (6, "fault 6 alerts\n", OLD, OLD, OLD),
     (6, "fault 6 audit\n", FIRST_ALERTS, OLD, OLD),
-    (6, "fault 6 audit\n", FIRST_ALERTS, "", OLD),
+    (6, "fault 6 audit\n", FIRST_ALERTS, OLD, OLD),
+    (6, "fault 6 audit\n", FIRST_ALERTS, OLD, OLD),
     (6, "fault 6 save\n", FIRST_ALERTS, FIRST_AUDIT, OLD),
-    (6, "fault 6 save\n", FIRST_ALERTS, FIRST_AUDIT, ""),
+    (6, "fault 6 save\n", FIRST_ALERTS, FIRST_AUDIT, OLD),
+    (6, "fault 6 save\n", FIRST_ALERTS, FIRST_AUDIT, OLD),
     (
         0,
         "rows 2 alerts 2 requests 0 refused 0\n",
@@ -79,15 +82,17 @@ const SAVE_FAILS: [Row; 10] = [
 ];
 
 /// What `resume` leaves: the savepoint is read after the payments, and isn't written.
-const RESUME_FAILS: [Row; 9] = [
+const RESUME_FAILS: [Row; 11] = [
     (5, "fault 5 job\n", OLD, OLD, SAVED),
     (5, "fault 5 requests\n", OLD, OLD, SAVED),
     (5, "fault 5 payments\n", OLD, OLD, SAVED),
     (5, "fault 5 save\n", OLD, OLD, SAVED),
     (6, "fault 6 alerts\n", OLD, OLD, SAVED),
-    (6, "fault 6 alerts\n", "", OLD, SAVED),
+    (6, "fault 6 alerts\n", OLD, OLD, SAVED),
+    (6, "fault 6 alerts\n", OLD, OLD, SAVED),
     (6, "fault 6 audit\n", LATER_ALERTS, OLD, SAVED),
-    (6, "fault 6 audit\n", LATER_ALERTS, "", SAVED),
+    (6, "fault 6 audit\n", LATER_ALERTS, OLD, SAVED),
+    (6, "fault 6 audit\n", LATER_ALERTS, OLD, SAVED),
     (
         0,
         "rows 2 alerts 2 requests 0 refused 0\n",

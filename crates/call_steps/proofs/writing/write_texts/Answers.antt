@@ -24,7 +24,8 @@ returns-in_err-store_text g c =
       why = c.in_err-store_text.field-0.0;
       answer_is = refl;
       cause = broken.cause;
-      part = record { unmade = broken.unmade; part = broken.part };
+      files = broken.as_before;
+      draft = broken.closed;
       out = refl;
     })))
 
@@ -43,6 +44,6 @@ loop-text-preserved g c new answer outcome =
     c.loop-text.invariant new answer
     (rw here (inr (
       stored,
-      record { files = whole.whole; faults = whole.counts; target = whole.target; out = refl },
+      record { files = whole.whole; faults = whole.counts; draft = whole.closed; out = refl },
       outcome,
     )))

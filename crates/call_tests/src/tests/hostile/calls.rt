@@ -8,21 +8,19 @@ const READS: [&str; 3] = ["fault 5 job\n", "fault 5 requests\n", "fault 5 paymen
 
 const LINES: &str = "rows 4 alerts 2 requests 0 refused 0\n";
 
-/// How many calls it takes to store a text: one makes the file, and the others append.
+/// How many calls it takes to store a text: the first begins it, the last keeps it, and the others
+/// append.
 fn calls_of(text: &str, step: usize) -> usize {
-    1usize.saturating_add(text.len().div_ceil(step.max(1)))
+    2usize.saturating_add(text.len().div_ceil(step.max(1)))
 }
 
-/// What stands of a text whose file is made by the call `making` if the call `failing` fails.
-fn part_of(text: &'static str, making: usize, failing: usize, step: usize) -> Stored<'static> {
-    if failing <= making {
-        return Stored::Made(false);
-    }
-    let appends = failing.saturating_sub(making.saturating_add(1));
-    let stored = appends.saturating_mul(step).min(text.len());
-    match text.as_bytes().get(..stored) {
-        Some(part) => Stored::Text(part),
-        None => Stored::Made(false),
+/// What stands of a text that the calls before `kept` store if the call `failing` fails: all of it,
+/// or no file as before.
+fn whole_or_none(text: &'static str, kept: usize, failing: usize) -> Stored<'static> {
+    if failing < kept {
+        Stored::Made(false)
+    } else {
+        Stored::Text(text.as_bytes())
     }
 }
 
@@ -40,11 +38,11 @@ pub fn left_at(failing: usize, step: usize) -> Left<'static> {
     if let Some(line) = READS.get(failing) {
         return Left::refused(5, line);
     }
-    let alerts = READS.len();
-    let audit = alerts.saturating_add(calls_of(TWO_ALERTS, step));
+    let audit = READS.len().saturating_add(calls_of(TWO_ALERTS, step));
+    let end = call_count(step);
     let (status, out) = if failing < audit {
         (6, "fault 6 alerts\n")
-    } else if failing < call_count(step) {
+    } else if failing < end {
         (6, "fault 6 audit\n")
     } else {
         (0, LINES)
@@ -52,8 +50,8 @@ pub fn left_at(failing: usize, step: usize) -> Left<'static> {
     Left {
         status,
         has_run: Some(true),
-        alerts: part_of(TWO_ALERTS, alerts, failing, step),
-        audit: part_of(AUDIT, audit, failing, step),
+        alerts: whole_or_none(TWO_ALERTS, audit, failing),
+        audit: whole_or_none(AUDIT, end, failing),
         out: Some(out),
     }
 }

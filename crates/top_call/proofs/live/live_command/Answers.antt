@@ -22,7 +22,7 @@ returns-in-Err g c = inl (record {
     answer_is = c.stopped.ensures;
     cause = c.in-Err.ensures.cause;
     files = c.in-Err.ensures.files;
-    target = c.in-Err.ensures.target;
+    draft = c.in-Err.ensures.draft;
     out = refl;
   };
   asks = elim c.in-Err.ensures.asks [

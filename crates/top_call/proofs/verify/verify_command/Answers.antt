@@ -7,7 +7,7 @@ returns-in-Err g c = inl (record {
   answer_is = c.stopped.ensures;
   cause = c.in-Err.ensures.cause;
   files = c.rebuild.ensures.files;
-  target = c.rebuild.ensures.target;
+  draft = c.rebuild.ensures.draft;
   out = refl;
 })
 

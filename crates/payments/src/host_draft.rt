@@ -1,0 +1,167 @@
+// What a file of the host is written to before it is whole.
+ghost use Rattle.std.specs.Prelude.{◌<◌, ◌≤◌, length, IfOk};
+
+use std::alloc::Global;
+use std::fs::{self, OpenFile, OpenOptions, Permissions};
+use std::io::{self, ErrorKind, Write};
+use std::os::unix::fs::OpenOptionsExt;
+use std::path::{Path, PathBuf};
+use std::rt::Files;
+use tuple_trace::Word;
+
+/// The mode of a draft until it gets that of the file: only its owner may read it.
+const PRIVATE: u32 = 0o600;
+
+/// The draft of a file of the host.
+#[derive(Drop)]
+pub(crate) struct HostDraft<F> {
+    pub(crate) name: Word,
+    pub(crate) way: Way<F>,
+}
+
+/// Where the bytes of a draft go.
+#[derive(Drop)]
+pub(crate) enum Way<F> {
+    /// To the standard output.
+    Printed,
+    /// Straight to what has the name, which is no regular file.
+    Straight(F),
+    /// To a file in the same folder, which is moved to the path once it is whole.
+    Beside {
+        file: F,
+        beside: PathBuf,
+        path: PathBuf,
+    },
+}
+
+/// What has a name before it is written.
+#[derive(Drop)]
+enum Found<F> {
+    Nothing,
+    Regular(Permissions),
+    Other(F),
+}
+
+impl<F: Write + OpenFile + Drop> Way<F> {
+    /// Writes the first bytes of a piece, at least one, and answers how many.
+    pub(crate) fn write<R: Print>(&mut self, rt: &R, piece: &[u8]) -> io::Result<usize>
+        requires { 0 < length piece.now }
+        ensures { IfOk result (λ n. (0 < n) × (n ≤ length piece.now)) }
+    {
+        let taken = match self {
+            Way::Printed => io::writer(rt).write(piece)?,
+            Way::Straight(file) => file.write(piece)?,
+            Way::Beside { file, .. } => file.write(piece)?,
+        };
+        if taken == 0 {
+            return Err(io::Error::from(ErrorKind::WriteZero));
+        }
+        Ok(taken)
+    }
+
+    /// Puts what was written in the place of the file, once the disk has it.
+    pub(crate) fn keep<R: Files>(&self, rt: &R) -> io::Result<()> {
+        match self {
+            Way::Printed | Way::Straight(_) => Ok(()),
+            Way::Beside { file, beside, path } => {
+                file.sync_all()?;
+                fs::rename(rt, beside, path)
+            }
+        }
+    }
+
+    /// Removes what was written beside the file. That it can't be removed changes nothing.
+    pub(crate) fn give_up<R: Files>(&self, rt: &R) {
+        if let Way::Beside { beside, .. } = self {
+            let _ = fs::remove_file(rt, beside);
+        }
+    }
+}
+
+/// Opens what a draft of this file is written to. The file itself stays as it is, unless it is no
+/// regular file.
+pub(crate) fn begin<R: Files>(rt: &R, alloc: Global, name: &str) -> io::Result<Way<R::File>> {
+    if is_standard_output(name) {
+        return Ok(Way::Printed);
+    }
+    match find(rt, name)? {
+        Found::Other(file) => Ok(Way::Straight(file)),
+        Found::Nothing => begin_beside(rt, alloc, path_of(rt, alloc, name)?, None),
+        Found::Regular(mode) => begin_beside(rt, alloc, rt.canonicalize(alloc, name)?, Some(mode)),
+    }
+}
+
+// The standard output is written as it stands, so that lines that are printed later follow.
+fn is_standard_output(name: &str) -> bool {
+    name == "/dev/stdout" || name == "/dev/fd/1" || name == "/proc/self/fd/1"
+}
+
+// What has this name, or the file that it links to. A file that may not be written is refused.
+fn find<R: Files>(rt: &R, name: &str) -> io::Result<Found<R::File>> {
+    match OpenOptions::new().write(true).open(rt, name) {
+        Ok(file) => {
+            let metadata = OpenFile::metadata(&file)?;
+            if metadata.is_file() {
+                Ok(Found::Regular(metadata.permissions()))
+            } else {
+                Ok(Found::Other(file))
+            }
+        }
+        Err(error) if error.kind() == ErrorKind::NotFound => Ok(Found::Nothing),
+        Err(error) => Err(error),
+    }
+}
+
+// The path of a file that isn't there: the name, or what a link of this name leads to.
+fn path_of<R: Files>(rt: &R, alloc: Global, name: &str) -> io::Result<PathBuf> {
+    let path = Path::new(name);
+    match (rt.read_link(alloc, name), path.parent()) {
+        (Ok(link), Some(folder)) => Ok(folder.join(alloc, &link)?),
+        _ => Ok(path.to_path_buf(alloc)?),
+    }
+}
+
+fn begin_beside<R: Files>(
+    rt: &R,
+    alloc: Global,
+    path: PathBuf,
+    mode: Option<Permissions>,
+) -> io::Result<Way<R::File>> {
+    let beside = beside_of(alloc, path.as_path())?;
+    let file = make_beside(rt, &beside, mode)?;
+    Ok(Way::Beside { file, beside, path })
+}
+
+// The path of a draft: the name of the file, hidden, with an ending of its own.
+fn beside_of(alloc: Global, path: Path<'_>) -> io::Result<PathBuf> {
+    match path.file_name() {
+        Some(name) => {
+            let hidden = format!(in alloc; ".{name}.fries-draft")?;
+            Ok(path.with_file_name(alloc, hidden.as_str())?)
+        }
+        None => Err(io::Error::from(ErrorKind::IsADirectory)),
+    }
+}
+
+// Makes a draft with this mode, in the place of one that a call left which was killed.
+fn make_beside<R: Files>(
+    rt: &R,
+    beside: &PathBuf,
+    mode: Option<Permissions>,
+) -> io::Result<R::File> {
+    let _ = fs::remove_file(rt, beside);
+    let mut how = OpenOptions::new();
+    how.write(true).create_new(true);
+    let Some(mode) = mode else {
+        return how.open(rt, beside);
+    };
+    how.mode(PRIVATE);
+    let file = how.open(rt, beside)?;
+    match file.set_permissions(mode) {
+        Ok(()) => Ok(file),
+        Err(error) => {
+            let _ = fs::remove_file(rt, beside);
+            Err(error)
+        }
+    }
+}
