@@ -1,6 +1,7 @@
-// The column of a node or a change that isn't there, or doesn't fit.
+// The column of a node or a change that isn't there, or a value that doesn't fit its column.
 use crate::forms::{is_text_test, kind_of};
-use crate::members::{items_of, tables_at, text_at};
+use crate::lines::entry_line;
+use crate::members::{TomlFile, items_of, job_tables, tables_at, text_at};
 use crate::owners::Owner;
 use crate::shapes::push_found;
 use jobs::Kind;
@@ -14,7 +15,7 @@ use word_faults::push_shown;
 struct Misfit<'a> {
     /// The key at which it stands.
     key: &'static str,
-    /// The name of a column, or a test.
+    /// The name of a column, a test, or the key of an entry of the table at `table`.
     word: &'a str,
     /// What is said of it.
     is: &'static str,
@@ -29,19 +30,42 @@ enum Held {
 }
 
 /// Appends what doesn't fit in a node or a change, and the columns of the job.
-pub(crate) fn push_misfit(
-    job: &Table,
-    owner: Owner<'_>,
+pub(crate) fn push_misfit<'a>(
+    job: TomlFile<'a>,
+    owner: Owner<'a>,
     out: &mut String,
 ) -> Result<(), AllocError> {
-    if let Some(misfit) = misfit_of(tables_at(job, "columns"), owner.members) {
+    if let Some(misfit) = misfit_of(job.table, owner.members) {
         let is = misfit.is;
         push_found(owner, misfit.key, out)?;
         out.push_str(", and ")?;
         push_shown(misfit.word, out)?;
         write!(out, " {is}. ")?;
+        push_entry_line(job, owner, misfit, out)?;
     }
-    push_columns(job, out)
+    push_columns(job.table, out)
+}
+
+// Appends the line at which an entry of a table doesn't fit, if it is one and its line is known.
+fn push_entry_line(
+    job: TomlFile<'_>,
+    owner: Owner<'_>,
+    misfit: Misfit<'_>,
+    out: &mut String,
+) -> Result<(), AllocError> {
+    let table = match text_at(owner.members, "table") {
+        Some(table) if misfit.key == "table" => table,
+        Some(_) | None => return Ok(()),
+    };
+    match entry_line(job.bytes, table, misfit.word) {
+        Some(line) => {
+            let number = line.number;
+            write!(out, "Line {number} of the job file has ")?;
+            push_shown(line.text, out)?;
+            out.push_str(". ")
+        }
+        None => Ok(()),
+    }
 }
 
 fn push_columns(job: &Table, out: &mut String) -> Result<(), AllocError> {
@@ -60,14 +84,15 @@ fn push_columns(job: &Table, out: &mut String) -> Result<(), AllocError> {
     out.push('.')
 }
 
-fn misfit_of<'a>(columns: &[Toml], members: &'a Table) -> Option<Misfit<'a>> {
+fn misfit_of<'a>(job: &'a Table, members: &'a Table) -> Option<Misfit<'a>> {
+    let columns = tables_at(job, "columns");
     match kind_of(members)? {
         Kind::Filter => conds_misfit(columns, tables_at(members, "when")),
         Kind::Map => steps_misfit(columns, tables_at(members, "steps")),
         Kind::Enrich => {
             let key = key_misfit(columns, members, "key", Held::Texts);
             let into = key_misfit(columns, members, "into", Held::Anything);
-            first_of(key, into)
+            first_of(first_of(key, into), value_misfit(job, members))
         }
         Kind::Count => {
             let key = key_misfit(columns, members, "key", Held::Texts);
@@ -123,6 +148,53 @@ fn held_by<'a>(columns: &'a [Toml], name: &str) -> Option<&'a str> {
                     None => ending,
                 });
             }
+        }
+    }
+    None
+}
+
+// What is wrong with the values of an enrich, if its column is there: `other`, or an entry of its
+// table.
+fn value_misfit<'a>(job: &'a Table, members: &'a Table) -> Option<Misfit<'a>> {
+    let into = text_at(members, "into")?;
+    let has_texts = held_by(tables_at(job, "columns"), into)? == "text";
+    if !may_hold(has_texts, members.get("other")?) {
+        return Some(Misfit {
+            key: "other",
+            word: into,
+            is: if has_texts {
+                "holds texts, so a string is wanted"
+            } else {
+                "holds numbers or cents, so a whole number is wanted"
+            },
+        });
+    }
+    let entries = job_tables(job)?.get(text_at(members, "table")?)?.as_table()?;
+    Some(Misfit {
+        key: "table",
+        word: unheld_entry(entries, has_texts)?,
+        is: if has_texts {
+            "is a number there, but `into` is a column of texts"
+        } else {
+            "is a string there, but `into` is a column of numbers or cents"
+        },
+    })
+}
+
+// Whether a column of texts, or one of numbers or cents, may hold a value.
+fn may_hold(has_texts: bool, value: &Toml) -> bool {
+    if has_texts {
+        value.as_str().is_some()
+    } else {
+        value.as_integer().is_some()
+    }
+}
+
+// The first entry of a table whose value such a column can't hold.
+fn unheld_entry(entries: &Table, has_texts: bool) -> Option<&str> {
+    for (key, value) in entries.iter() {
+        if !may_hold(has_texts, value) {
+            return Some(key.as_str());
         }
     }
     None

@@ -121,7 +121,7 @@ fn push_column(file: TomlFile<'_>, number: u32, out: &mut String) -> Result<(), 
 
 fn push_columns(file: TomlFile<'_>, number: u32, out: &mut String) -> Result<(), AllocError> {
     match node_of(file, number as usize) {
-        Some(node) => push_misfit(file.table, node, out),
+        Some(node) => push_misfit(file, node, out),
         None => Ok(()),
     }
 }

@@ -75,6 +75,44 @@ fn is_of_key(line: &str, key: &str) -> bool {
     }
 }
 
+/// The line of an entry of a table of a job file whose head is `[tables.NAME]`.
+pub(crate) fn entry_line<'a>(bytes: &'a [u8], table: &str, entry: &str) -> Option<Line<'a>> {
+    let text = std::str::from_utf8(bytes).ok()?;
+    let mut number = 0u64;
+    let mut is_inside = false;
+    for line in text.lines() {
+        number = number.saturating_add(1);
+        let text = line.trim();
+        if is_head(text) {
+            is_inside = is_head_of_table(text, table);
+        } else if is_inside && is_of_entry(text, entry) {
+            return Some(Line { number, text });
+        }
+    }
+    None
+}
+
+fn is_head_of_table(line: &str, table: &str) -> bool {
+    match line.strip_prefix("[tables.") {
+        Some(rest) => match rest.strip_prefix(table) {
+            Some(rest) => rest.starts_with(']'),
+            None => false,
+        },
+        None => false,
+    }
+}
+
+// Whether a line has a key, perhaps in quotes.
+fn is_of_entry(line: &str, key: &str) -> bool {
+    match line.strip_prefix('"') {
+        Some(rest) => match rest.strip_prefix(key) {
+            Some(rest) => rest.starts_with('"'),
+            None => false,
+        },
+        None => is_of_key(line, key),
+    }
+}
+
 /// The line of a key of the whole file, or of the first table that has this name.
 pub(crate) fn document_line<'a>(bytes: &'a [u8], key: &str) -> Option<Line<'a>> {
     let text = std::str::from_utf8(bytes).ok()?;

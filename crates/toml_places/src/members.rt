@@ -33,3 +33,8 @@ pub(crate) fn items_of(value: &Toml) -> &[Toml] {
 pub(crate) fn text_at<'a>(table: &'a Table, key: &str) -> Option<&'a str> {
     table.get(key)?.as_str()
 }
+
+/// The tables of values of a job file, if it has some.
+pub(crate) fn job_tables(job: &Table) -> Option<&Table> {
+    job.get("tables")?.as_table()
+}

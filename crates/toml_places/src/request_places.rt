@@ -1,7 +1,7 @@
 // What a request file tells of the place of a fault in it, and of a refused request.
 use crate::columns::push_misfit;
 use crate::job_places::push_toml_error;
-use crate::members::{TomlFile, text_at};
+use crate::members::{TomlFile, job_tables, text_at};
 use crate::owners::{Owner, change_of as change_at, push_changed_node, request_of};
 use crate::place::Place;
 use crate::shapes::push_request_shape;
@@ -96,9 +96,9 @@ pub fn push_refused(
 /// # Errors
 ///
 /// Out of memory.
-pub fn push_reason(
-    job: Option<&Table>,
-    file: Option<TomlFile<'_>>,
+pub fn push_reason<'a>(
+    job: Option<TomlFile<'a>>,
+    file: Option<TomlFile<'a>>,
     refused: Refused,
     out: &mut String,
 ) -> Result<(), AllocError> {
@@ -142,12 +142,16 @@ fn change_of(fault: QFault) -> Option<u32> {
 }
 
 // The table that the job hasn't, or the column that doesn't fit.
-fn push_ill_typed(job: &Table, change: Owner<'_>, out: &mut String) -> Result<(), AllocError> {
-    match lost_table(job, change.members) {
+fn push_ill_typed<'a>(
+    job: TomlFile<'a>,
+    change: Owner<'a>,
+    out: &mut String,
+) -> Result<(), AllocError> {
+    match lost_table(job.table, change.members) {
         Some(name) => {
             out.push_str("It names the table ")?;
             push_shown(name, out)?;
-            push_tables(job, out)
+            push_tables(job.table, out)
         }
         None => push_misfit(job, change, out),
     }
@@ -156,19 +160,15 @@ fn push_ill_typed(job: &Table, change: Owner<'_>, out: &mut String) -> Result<()
 // The table that a change names, if the job doesn't have it.
 fn lost_table<'a>(job: &Table, change: &'a Table) -> Option<&'a str> {
     let name = text_at(change, "table")?;
-    match tables_of(job) {
+    match job_tables(job) {
         Some(tables) if tables.get(name).is_some() => None,
         Some(_) | None => Some(name),
     }
 }
 
-fn tables_of(job: &Table) -> Option<&Table> {
-    job.get("tables")?.as_table()
-}
-
 fn push_tables(job: &Table, out: &mut String) -> Result<(), AllocError> {
     let mut has_some = false;
-    if let Some(tables) = tables_of(job) {
+    if let Some(tables) = job_tables(job) {
         for (name, _) in tables.iter() {
             out.push_str(if has_some { ", " } else { ", and the job has " })?;
             push_shown(name.as_str(), out)?;
