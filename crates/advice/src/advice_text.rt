@@ -11,7 +11,9 @@ use crate::look::Look;
 use crate::row_places::{row_place, save_place};
 use crate::table::{Help, REFUSED};
 use audit_laws::AuditFault;
+use call_steps::first_job;
 use job_file::read_job;
+use jobs::Job;
 use payments::PFault;
 use report::{Fault, FileIs};
 use std::alloc::{AllocError, Global};
@@ -42,6 +44,17 @@ pub fn advice<L: Look>(alloc: Global, call: Call<'_>, look: &mut L) -> Result<St
         None if call.refused.is_empty() => Ok(String::new(alloc)),
         None => Ok(refusals_text(alloc, call, look)?),
     }
+}
+
+/// What is told of the later part of a run that was saved after a row: how many rows it skipped.
+///
+/// # Errors
+///
+/// [`NoMemory`] if the text has no room.
+pub fn skipped_rows(alloc: Global, row: u64) -> Result<String, NoMemory> {
+    Ok(format!(in alloc;
+        "fries: rows skipped, since the savepoint stands after them: {row}\n"
+    )?)
 }
 
 // ---- a message
@@ -108,9 +121,10 @@ fn head_of(alloc: Global, call: Call<'_>, fault: Fault, note: &str) -> Result<St
 
 // The first line of a fault of the words, after the help of the program if there are none.
 fn push_usage(call: Call<'_>, out: &mut String) -> Result<(), AllocError> {
-    let help = opening(call.words);
-    out.push_str(help)?;
-    out.push_str(if help.is_empty() {
+    if call.not_utf8.is_none() {
+        out.push_str(opening(call.words))?;
+    }
+    out.push_str(if out.is_empty() {
         "fries: usage"
     } else {
         "\nfries: usage"
@@ -165,9 +179,19 @@ fn place_of<L: Look>(
         Fault::Long(file) => limit_place(alloc, file),
         Fault::Usage => Ok(Place {
             note: String::new(alloc),
-            detail: word_fault(alloc, call.words)?,
+            detail: usage_detail(alloc, call)?,
         }),
         Fault::Read(_) | Fault::Write(_) | Fault::NoMemory => Ok(Place::new(alloc)),
+    }
+}
+
+// What is wrong with the words: one of them is no text, or else they have no form.
+fn usage_detail(alloc: Global, call: Call<'_>) -> Result<String, AllocError> {
+    match call.not_utf8 {
+        Some(place) => format!(in alloc;
+            "Word {place} isn't UTF-8; the name of the program is word 0."
+        ),
+        None => word_fault(alloc, call.words),
     }
 }
 
@@ -209,43 +233,21 @@ fn payments_place<L: Look>(
     fault: PFault,
     look: &mut L,
 ) -> Result<Place, AllocError> {
-    let job = file_of(alloc, call, FileIs::Job, look);
     let rows = file_of(alloc, call, FileIs::Payments, look);
-    row_place_by(alloc, job_text(call, &job), slice_of(&rows), fault)
-}
-
-// The text of the job file, or that of the job of `first`.
-fn job_text<'a>(call: Call<'_>, job: &'a Option<Bytes>) -> &'a [u8] {
-    match job {
-        Some(job) => job.as_slice(),
-        None if call.is_first() => FIRST_JOB.as_bytes(),
-        None => &[],
+    match job_of(alloc, call, look) {
+        Some(job) => row_place(alloc, Some(&job), slice_of(&rows), fault),
+        None => row_place(alloc, None, slice_of(&rows), fault),
     }
 }
 
-// What the job of the command `first` has in common with a job file: its columns, its source, and
-// its weight.
-const FIRST_JOB: &str = r#"
-columns = ["account:text", "merchant:text", "amount:cents", "tags:text"]
-node = [
-    {name = "card", kind = "source"},
-    {name = "big", kind = "filter", when = []},
-    {name = "alerts", kind = "sink", columns = []},
-]
-edge = [{from = "card", to = "big"}, {from = "big", to = "alerts"}]
-"#;
-
-// What the bytes of a payments file and of a job file tell of the place of a fault.
-fn row_place_by(
-    alloc: Global,
-    job: &[u8],
-    rows: &[u8],
-    fault: PFault,
-) -> Result<Place, AllocError> {
-    match read_job(alloc, job) {
-        Ok(job) => row_place(alloc, Some(&job), rows, fault),
-        Err(_) => row_place(alloc, None, rows, fault),
+// The job of a call: that of its job file, or that of `first`. The least amount of the latter
+// changes none of its columns and sources, nor its weight.
+fn job_of<L: Look>(alloc: Global, call: Call<'_>, look: &mut L) -> Option<Job> {
+    if call.is_first() {
+        return first_job(alloc, 0).ok();
     }
+    let job = file_of(alloc, call, FileIs::Job, look)?;
+    read_job(alloc, job.as_slice()).ok()
 }
 
 fn limit_place(alloc: Global, file: FileIs) -> Result<Place, AllocError> {
@@ -265,7 +267,7 @@ fn file_of<L: Look>(alloc: Global, call: Call<'_>, file: FileIs, look: &mut L) -
 // The documents of a call with refused requests, as far as they can be looked at again.
 #[derive(Clone, Copy)]
 struct Documents<'a> {
-    job: Option<&'a Table>,
+    job: Option<TomlFile<'a>>,
     requests: Option<TomlFile<'a>>,
 }
 
@@ -276,8 +278,9 @@ fn refusals_text<L: Look>(
 ) -> Result<String, AllocError> {
     let job = file_of(alloc, call, FileIs::Job, look);
     let requests = file_of(alloc, call, FileIs::Requests, look);
-    let job = table_of(alloc, slice_of(&job));
-    refusals_text_by(alloc, call, job.as_ref(), slice_of(&requests))
+    let bytes = slice_of(&job);
+    let table = table_of(alloc, bytes);
+    refusals_text_by(alloc, call, toml_file(&table, bytes), slice_of(&requests))
 }
 
 fn slice_of(bytes: &Option<Bytes>) -> &[u8] {
@@ -301,7 +304,7 @@ fn toml_file<'a>(table: &'a Option<Table>, bytes: &'a [u8]) -> Option<TomlFile<'
 fn refusals_text_by<'a>(
     alloc: Global,
     call: Call<'_>,
-    job: Option<&'a Table>,
+    job: Option<TomlFile<'a>>,
     bytes: &'a [u8],
 ) -> Result<String, AllocError> {
     let table = table_of(alloc, bytes);

@@ -8,6 +8,9 @@ use word_faults::name_at;
 #[derive(Clone, Copy)]
 pub struct Call<'a> {
     pub words: &'a [Word],
+    /// The place of the first word that isn't UTF-8, from 1; 0 is the program's own name. If there
+    /// is one, no words could be read.
+    pub not_utf8: Option<usize>,
     /// What ended the call early, if anything did.
     pub fault: Option<Fault>,
     /// The requests that were refused, in the order of their file.

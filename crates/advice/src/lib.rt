@@ -1,7 +1,8 @@
 //! What the program tells people on standard error, beside the fixed lines on standard output.
 //!
 //! ```text
-//! let call = Call { words: &words, fault: outcome.fault, refused: outcome.refused.as_slice() };
+//! let refused = outcome.refused.as_slice();
+//! let call = Call { words: &words, not_utf8: None, fault: outcome.fault, refused };
 //! let told = advice(alloc, call, &mut HostLook::new(rt))?;
 //! ```
 #![tactic(auto)]
@@ -15,7 +16,7 @@ mod row_places;
 mod shown;
 mod table;
 
-pub use advice_text::advice;
+pub use advice_text::{advice, skipped_rows};
 pub use call::Call;
 pub use codes::{help_of, help_of_refusal};
 pub use look::{HostLook, Look, ShelfLook};
