@@ -4,13 +4,16 @@
 #![tactic(auto)]
 
 mod streams;
+mod wrong_word;
 
 use crate::streams::{Lines, name_standard_output};
-use advice::{Call, HostLook, advice};
+use crate::wrong_word::place_of_wrong_word;
+use advice::{Call, HostLook, advice, skipped_rows};
 use live_control::StdIn;
 use payments::{HostFault, HostShelf, StdOut};
 use report::{Fault, FileIs};
 use std::alloc::{AllocError, Global};
+use std::env::Args;
 use std::fs::File;
 use std::io::{ErrorKind, Input, IsTerminal};
 use std::mem::ManuallyDrop;
@@ -26,17 +29,20 @@ fn main(rt: HostRuntime) -> ExitCode {
         return ExitCode::from(Fault::Write(FileIs::Out).status());
     };
     let alloc = rt.alloc();
-    let Ok((words, to_errors)) = words_of(&rt, alloc) else {
+    let Ok(words) = words_of(&rt, alloc) else {
         return ExitCode::from(Fault::NoMemory.status());
     };
     let mut shelf = HostShelf::new(rt, alloc);
-    let mut out = StdOut::new(Lines { rt, to_errors });
+    let mut out = StdOut::new(Lines {
+        rt,
+        to_errors: words.to_errors,
+    });
     let mut asks = StdIn::new(rt.reader());
     let gate = Telling {
         rt,
-        tells: is_live(&words) && rt.stderr().is_terminal(),
+        tells: is_live(&words.list) && rt.stderr().is_terminal(),
     };
-    let outcome = fries(&rt, alloc, &words, &mut shelf, &mut out, &mut asks, &gate);
+    let outcome = fries(&rt, alloc, &words.list, &mut shelf, &mut out, &mut asks, &gate);
     tell(&rt, alloc, &words, &outcome);
     tell_why(&rt, outcome.fault, shelf.why());
     let status = outcome.status;
@@ -72,13 +78,15 @@ fn is_live(words: &[Word]) -> bool {
 
 // Tells on the standard error how many payments a later part left out, and then what ended the call
 // or why requests were refused. What comes of that changes nothing.
-fn tell(rt: &HostRuntime, alloc: Global, words: &[Word], outcome: &Outcome) {
+fn tell(rt: &HostRuntime, alloc: Global, words: &Words, outcome: &Outcome) {
     if let Some(start) = &outcome.start {
-        let row = start.row;
-        let _ = eprint!(rt; "fries: rows skipped, since the savepoint stands after them: {row}\n");
+        if let Ok(text) = skipped_rows(alloc, start.row) {
+            let _ = eprint!(rt; "{text}");
+        }
     }
     let call = Call {
-        words,
+        words: &words.list,
+        not_utf8: words.not_utf8,
         fault: outcome.fault,
         refused: outcome.refused.as_slice(),
     };
@@ -113,19 +121,38 @@ fn take_standard_descriptors<R: Files>(rt: &R) -> io::Result<[R::File; 3]> {
     ])
 }
 
-// The words after the program's name, and whether one of them is the standard output. Words that
-// aren't UTF-8 are read as none. The one error is out of memory.
-fn words_of(rt: &HostRuntime, alloc: Global) -> Result<(Vec<Word>, bool), AllocError> {
-    let mut words = Vec::new(alloc);
+// The words after the program's name.
+#[derive(Drop)]
+struct Words {
+    list: Vec<Word>,
+    // Whether one of them is the standard output.
+    to_errors: bool,
+    // The place of the first that isn't UTF-8; the list is empty then.
+    not_utf8: Option<usize>,
+}
+
+// The words of the call. The one error is out of memory.
+fn words_of(rt: &HostRuntime, alloc: Global) -> Result<Words, AllocError> {
     match env::args(rt) {
-        Ok(args) => {
-            for text in args.skip(1) {
-                words.push(Word::from_string(text))?;
-            }
-        }
-        Err(error) if error.kind() == ErrorKind::OutOfMemory => return Err(AllocError),
-        Err(_) => {}
+        Ok(args) => words_after_name(alloc, args),
+        Err(error) if error.kind() == ErrorKind::OutOfMemory => Err(AllocError),
+        Err(_) => Ok(Words {
+            list: Vec::new(alloc),
+            to_errors: false,
+            not_utf8: Some(place_of_wrong_word(rt, alloc)?),
+        }),
     }
-    let to_errors = name_standard_output(alloc, &mut words)?;
-    Ok((words, to_errors))
+}
+
+fn words_after_name(alloc: Global, args: Args) -> Result<Words, AllocError> {
+    let mut list = Vec::new(alloc);
+    for text in args.skip(1) {
+        list.push(Word::from_string(text))?;
+    }
+    let to_errors = name_standard_output(alloc, &mut list)?;
+    Ok(Words {
+        list,
+        to_errors,
+        not_utf8: None,
+    })
 }
