@@ -5,6 +5,7 @@ mod file_faults;
 mod job_faults;
 mod request_faults;
 mod row_faults;
+mod save_faults;
 mod wrong_words;
 
 use advice::{Call, ShelfLook, advice};
@@ -82,6 +83,7 @@ pub fn is_told(
     let words = words_of(alloc, words)?;
     let call = Call {
         words: words.as_slice(),
+        not_utf8: None,
         fault,
         refused,
     };
@@ -89,7 +91,8 @@ pub fn is_told(
     Ok(text.as_str() == told)
 }
 
-fn shelf_of(alloc: Global, files: &[(&str, &str)]) -> Result<MemoryShelf, NoMemory> {
+/// A shelf with these files.
+pub fn shelf_of(alloc: Global, files: &[(&str, &str)]) -> Result<MemoryShelf, NoMemory> {
     let mut shelf = MemoryShelf::new(alloc, 16, Calls::new(alloc));
     for (name, text) in files {
         let bytes = Bytes::from_slice(alloc, text.as_bytes())?;

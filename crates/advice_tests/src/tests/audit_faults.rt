@@ -34,6 +34,20 @@ const CASES: &[(AuditFault, &str)] = &[
 ",
     ),
     (
+        AuditFault::Shape(0),
+        "V1 record 0 (line 1)
+  This record of the audit isn't of the form that `run` writes, or stands out of order.
+  Give the audit as `fries run` wrote it, with the job that was run.
+",
+    ),
+    (
+        AuditFault::Refused(2),
+        "V2 record 2
+  The audit has other refused requests than the request file. This record differs first.
+  Give the requests that were run, and `--ordered` if the run had it.
+",
+    ),
+    (
         AuditFault::Feed(1),
         "V3 record 1 (line 2)
   The audit has other rows or requests than the files. This record differs first.

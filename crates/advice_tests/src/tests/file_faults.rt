@@ -108,6 +108,23 @@ ALERTS, AUDIT are missing. Type `fries run --help`.
   Cut it into several files, for several runs: docs/SAVEPOINTS.md, Long files.
 ",
     ),
+    (
+        &["verify", "job.toml", "requests.toml", "pay.csv", "audit.csv"],
+        Some(Fault::Long(FileIs::Audit)),
+        "fries: audit file `audit.csv`
+  The audit is longer than any that `run` writes.
+  At most 536870912 bytes are read of it.
+  Give the file that `fries run` wrote.
+",
+    ),
+    (
+        &["live", "job.toml", "requests.toml", "pay.csv", "alerts.csv", "audit.csv"],
+        Some(Fault::Read(FileIs::Asks)),
+        "fries: standard input
+  The input of releases couldn't be read on; later requests came after the last row.
+  Keep the input open, or redirect a file or `/dev/null` to it.
+",
+    ),
     // A file that can't be looked at again, and a name that would disturb a terminal.
     (
         &["check", "a\u{1b}b"],

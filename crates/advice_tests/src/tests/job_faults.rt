@@ -166,6 +166,43 @@ when = [["amount", ">=", 100]]"#,
 key = "account"
 into = "seen"
 table = "risks"
+other = "none""#,
+        told: "fries: job file `job.toml`: J8 node 1 (`big`, kind `enrich`, line 7)
+  A column, test or literal of this node doesn't fit, or an entry of its table doesn't.
+  Line 13 has `other = \"none\"`, and `seen` holds numbers or cents, so a whole number is wanted. \
+The job's columns are `account:text`, `amount:cents`, `seen:number:own`.
+  Check each column's name and kind; a text takes only the tests `=` and `!=`.
+",
+    },
+    Case {
+        old: r#"kind = "filter"
+when = [["amount", ">=", 100]]
+"#,
+        new: r#"kind = "enrich"
+key = "account"
+into = "seen"
+table = "risks"
+other = 1
+
+[tables.risks]
+ann = 3
+"b c" = "high"
+"#,
+        told: "fries: job file `job.toml`: J8 node 1 (`big`, kind `enrich`, line 7)
+  A column, test or literal of this node doesn't fit, or an entry of its table doesn't.
+  Line 12 has `table = \"risks\"`, and `b c` is a string there, but `into` is a column of numbers \
+or cents. Line 17 of the job file has `\"b c\" = \"high\"`. \
+The job's columns are `account:text`, `amount:cents`, `seen:number:own`.
+  Check each column's name and kind; a text takes only the tests `=` and `!=`.
+",
+    },
+    Case {
+        old: r#"kind = "filter"
+when = [["amount", ">=", 100]]"#,
+        new: r#"kind = "enrich"
+key = "account"
+into = "seen"
+table = "risks"
 other = 1"#,
         told: "fries: job file `job.toml`: J9 node 1 (`big`, kind `enrich`, line 7)
   The table that this node names isn't there.

@@ -168,10 +168,92 @@ fn is_fault(alloc: Global, case: Case) -> Result<bool, NoMemory> {
     )
 }
 
+/// What stands after the job in a job file that has a table.
+const TABLE: &str = r#"
+[tables.risks]
+ann = 3
+"b c" = "high"
+"#;
+
+/// The function of the change, in the request file.
+const FILTER: &str = r#"kind = "filter"
+when = [["amount", ">=", 200]]"#;
+
+const REFUSALS_WITH_TABLE: &[Case] = &[
+    Case {
+        old: FILTER,
+        new: r#"kind = "enrich"
+key = "account"
+into = "seen"
+table = "risks"
+other = "x""#,
+        told: "Q5 at request 1, line 1, change 1 of `big`
+  The new function doesn't fit the job: a column, a table, a test or a literal.
+  Line 11 has `other = \"x\"`, and `seen` holds numbers or cents, so a whole number is wanted. \
+The job's columns are `account:text`, `amount:cents`, `seen:number:own`.
+  Check each name against the job, and each literal against its column's kind.
+",
+    },
+    Case {
+        old: FILTER,
+        new: r#"kind = "enrich"
+key = "account"
+into = "seen"
+table = "risks"
+other = 1"#,
+        told: "Q5 at request 1, line 1, change 1 of `big`
+  The new function doesn't fit the job: a column, a table, a test or a literal.
+  Line 10 has `table = \"risks\"`, and `b c` is a string there, but `into` is a column of numbers \
+or cents. Line 27 of the job file has `\"b c\" = \"high\"`. \
+The job's columns are `account:text`, `amount:cents`, `seen:number:own`.
+  Check each name against the job, and each literal against its column's kind.
+",
+    },
+    Case {
+        old: FILTER,
+        new: r#"kind = "enrich"
+key = "account"
+into = "account"
+table = "risks"
+other = 1"#,
+        told: "Q5 at request 1, line 1, change 1 of `big`
+  The new function doesn't fit the job: a column, a table, a test or a literal.
+  Line 11 has `other = 1`, and `account` holds texts, so a string is wanted. \
+The job's columns are `account:text`, `amount:cents`, `seen:number:own`.
+  Check each name against the job, and each literal against its column's kind.
+",
+    },
+    Case {
+        old: FILTER,
+        new: r#"kind = "enrich"
+key = "account"
+into = "account"
+table = "risks"
+other = """#,
+        told: "Q5 at request 1, line 1, change 1 of `big`
+  The new function doesn't fit the job: a column, a table, a test or a literal.
+  Line 10 has `table = \"risks\"`, and `ann` is a number there, but `into` is a column of texts. \
+Line 26 of the job file has `ann = 3`. \
+The job's columns are `account:text`, `amount:cents`, `seen:number:own`.
+  Check each name against the job, and each literal against its column's kind.
+",
+    },
+];
+
 // Whether what is refused of this request file has its sentences.
 fn is_refusal(alloc: Global, case: Case) -> Result<bool, NoMemory> {
+    is_refusal_of(alloc, JOB, case)
+}
+
+// The same over a job file that has a table.
+fn is_refusal_with_table(alloc: Global, case: Case) -> Result<bool, NoMemory> {
+    let job = format!(in alloc; "{JOB}{TABLE}")?;
+    is_refusal_of(alloc, job.as_str(), case)
+}
+
+fn is_refusal_of(alloc: Global, job_text: &str, case: Case) -> Result<bool, NoMemory> {
     let text = with(alloc, REQUESTS, case)?;
-    let Ok(job) = read_job(alloc, JOB.as_bytes()) else {
+    let Ok(job) = read_job(alloc, job_text.as_bytes()) else {
         return Err(NoMemory);
     };
     let Ok(requests) = read_requests(alloc, &job, text.as_bytes()) else {
@@ -181,7 +263,7 @@ fn is_refusal(alloc: Global, case: Case) -> Result<bool, NoMemory> {
     let refused = judged.refused.as_slice();
     let told = case.told;
     let told = format!(in alloc; "{HEAD}{told}")?;
-    let files = [("requests.toml", text.as_str()), ("job.toml", JOB)];
+    let files = [("requests.toml", text.as_str()), ("job.toml", job_text)];
     is_told(alloc, &files, RUN, None, refused, told.as_str())
 }
 
@@ -196,5 +278,12 @@ fn each_fault_of_a_request_file_is_told(rt: HostRuntime) {
 fn each_refused_request_is_told(rt: HostRuntime) {
     for case in REFUSALS {
         assert!(rt; matches!(is_refusal(rt.alloc(), *case), Ok(true)));
+    }
+}
+
+#[test]
+fn values_that_do_not_fit_a_column_are_told(rt: HostRuntime) {
+    for case in REFUSALS_WITH_TABLE {
+        assert!(rt; matches!(is_refusal_with_table(rt.alloc(), *case), Ok(true)));
     }
 }

@@ -100,6 +100,61 @@ fn each_fault_of_a_payments_file_is_told(rt: HostRuntime) {
     }
 }
 
+const ROWS_OF_FIRST: &str = "source,account,merchant,amount,tags
+crad,ann,grocer,1.234,
+";
+
+// What is told of payments of `first`, which has no job file.
+const CASES_OF_FIRST: &[(PFault, &str)] = &[
+    (
+        PFault::NoHeader,
+        "P1
+  The payments file has no record, not even a header.
+  The header of this job is `source,account,merchant,amount,tags`.
+  Write the header as its first line.
+",
+    ),
+    (
+        PFault::Source(1),
+        "P4 row 1 (line 2)
+  The first field of this row names no source of the job.
+  It is `crad`. The sources are `card`.
+  Write the name of a source node there.
+",
+    ),
+    (
+        PFault::Value(1, 2),
+        "P5 row 1 column 2 (line 2, `amount`, an amount)
+  This field isn't spelled as its column asks, or its value is out of range.
+  It is `1.234`.
+  A number is digits after an optional `-`; an amount may add `.` and 1 or 2 digits.
+",
+    ),
+    (
+        PFault::TooMuch(524_289),
+        "P7 row 524289
+  There are more rows than the weight of the job allows.
+  The weight is 2, so 524288 rows are the most.
+  Run fewer rows at a time (docs/SAVEPOINTS.md, Long files), or make the job lighter.
+",
+    ),
+];
+
+fn is_case_of_first(alloc: Global, fault: PFault, told: &str) -> Result<bool, NoMemory> {
+    let told = format!(in alloc; "fries: payments file `p`: {told}")?;
+    let words = ["first", "p", "a", "1", "2", "3"];
+    let files = [("p", ROWS_OF_FIRST)];
+    let fault = Some(Fault::Payments(fault));
+    is_told(alloc, &files, &words, fault, &[], told.as_str())
+}
+
+#[test]
+fn faults_of_the_payments_of_first_are_told(rt: HostRuntime) {
+    for (fault, told) in CASES_OF_FIRST {
+        assert!(rt; matches!(is_case_of_first(rt.alloc(), *fault, told), Ok(true)));
+    }
+}
+
 #[test]
 fn too_many_rows_are_told(rt: HostRuntime) {
     let told = "fries: payments file `pay.csv`: P7 row 524289

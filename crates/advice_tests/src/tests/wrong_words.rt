@@ -1,4 +1,5 @@
-use crate::tests::{is_told, words_of};
+use crate::tests::{is_told, shelf_of, words_of};
+use advice::{Call, ShelfLook, advice};
 use report::Fault;
 use std::alloc::Global;
 use tuple_trace::NoMemory;
@@ -119,4 +120,30 @@ fries: usage
 #[test]
 fn no_words_are_told_with_the_help(rt: HostRuntime) {
     assert!(rt; matches!(is_opened_by_help(rt.alloc()), Ok(true)));
+}
+
+// Whether it is told that this word of a call isn't UTF-8.
+fn is_told_of_word(alloc: Global, place: usize) -> Result<bool, NoMemory> {
+    let told = format!(in alloc;
+        "fries: usage
+  These words have no form that the program knows.
+  Word {place} isn't UTF-8; the name of the program is word 0.
+  Type `fries --help` for the forms of all commands.
+"
+    )?;
+    let mut shelf = shelf_of(alloc, &[])?;
+    let call = Call {
+        words: &[],
+        not_utf8: Some(place),
+        fault: Some(Fault::Usage),
+        refused: &[],
+    };
+    let text = advice(alloc, call, &mut ShelfLook { shelf: &mut shelf })?;
+    Ok(text.as_str() == told.as_str())
+}
+
+#[test]
+fn a_word_that_is_not_utf_8_is_told_by_its_place(rt: HostRuntime) {
+    assert!(rt; matches!(is_told_of_word(rt.alloc(), 0), Ok(true)));
+    assert!(rt; matches!(is_told_of_word(rt.alloc(), 2), Ok(true)));
 }
