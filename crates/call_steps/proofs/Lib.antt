@@ -1,4 +1,5 @@
 pub mod PrintLemmas
+pub mod WholeLemmas
 pub mod ReadLemmas
 pub mod RunLemmas
 pub mod FileLemmas

@@ -1,6 +1,7 @@
 -- How a call ends, before the line of its fault is printed.
-use Rattle.std.specs.Prelude.{◌≡◌, ◌⊎◌, ◌∷◌, ℕ, List, [], Option, None, Some}
+use Rattle.std.specs.Prelude.{◌≡◌, ◌⊎◌, ◌∷◌, ℕ, List, [], Option, None, Some, Contains, IfSome}
 use Rattle.payments.specs.Causes.{Faults}
+use Rattle.payments.specs.Files.{Files, told_bytes}
 use Rattle.payments.specs.World.{World}
 use Rattle.call_steps.specs.Effects.{FileText, Prints, StoresNot, StoresWhole}
 use Rattle.call_steps.specs.declared.answer.Answer.{Answer}
@@ -55,3 +56,19 @@ pub record StopsUnstored (old new : World) (answer : Option Fault) : Type 0 wher
 abbrev pub EndsAfterRun : List FileText → List ℕ → World → World → Option Fault → Type 0
 EndsAfterRun texts lines old new answer = StopsUnstored old new answer
     ⊎ EndsStoring texts lines old new answer
+
+-- ---- what that leaves
+
+-- the file of this name is as before, or it holds the whole of a text that is stored under its name
+abbrev pub IsAsBeforeOrWhole : List FileText → Option Files → Option Files → List ℕ → Type 0
+IsAsBeforeOrWhole texts old new name =
+    (told_bytes new name ≡ told_bytes old name)
+    ⊎ ((text : FileText) × Contains texts text × (text.name ≡ name)
+    × IfSome (told_bytes new name) (λ bytes. bytes ≡ text.text))
+
+-- however a run ends that leaves texts, each file is so
+abbrev pub FilesEndWhole : Type 0
+FilesEndWhole =
+    (texts : List FileText) (lines : List ℕ) (old new : World) (answer : Option Fault)
+    → EndsAfterRun texts lines old new answer → (name : List ℕ)
+    → IsAsBeforeOrWhole texts old.shelf.files new.shelf.files name

@@ -1,4 +1,5 @@
-// A law of two calls. The function proves its clauses, and does nothing but look at the rows.
+// A law of two calls, and one of each. The functions prove their clauses, and do nothing but look at
+// the rows.
 ghost use Rattle.std.specs.Prelude.{◌≡◌, ℕ, List, Ok, length};
 ghost use Rattle.jobs.specs.JobView.{JobView};
 ghost use Rattle.jobs.specs.Nodes.{AreFromSources};
@@ -9,6 +10,7 @@ ghost use Rattle.flow_model.specs.Setup.{setup_view};
 ghost use Rattle.savepoint.specs.Parts.{start_of};
 ghost use Rattle.savepoint.specs.SaveReading.{save_of};
 ghost use Rattle.call_steps.specs.OneRun.{AreOneRun, GoesOn};
+ghost use Rattle.call_steps.specs.Outcomes.{FilesEndWhole};
 ghost use Rattle.call_steps.specs.Parts.{IsFirstPart};
 ghost use Rattle.call_steps.specs.Running.{saved_of};
 ghost use Rattle.call_steps.specs.declared.running.Done.{Done};
@@ -36,3 +38,8 @@ pub fn saved_runs_go_on(setup: &Setup, rows: &Rows)
     let _numbered = rows.as_slice();
     runs_are_consistent(setup, rows);
 }
+
+/// However a call ends whose run was completed, each file is as before or whole.
+pub fn files_end_whole()
+    ensures { FilesEndWhole }
+{}

@@ -117,6 +117,7 @@ fn path_of<R: Files>(rt: &R, alloc: Global, name: &str) -> io::Result<PathBuf> {
     let path = Path::new(name);
     match (rt.read_link(alloc, name), path.parent()) {
         (Ok(link), Some(folder)) => Ok(folder.join(alloc, &link)?),
+        (Err(error), _) if error.kind() == ErrorKind::OutOfMemory => Err(error),
         _ => Ok(path.to_path_buf(alloc)?),
     }
 }
