@@ -43,11 +43,11 @@ before text later old stored new name stores (inl same) =
     elim (told_with old.shelf.files text.name text.text name) [
       | inl kept ↦ inl (since ∙ kept)
       | inr (is, whole) ↦ inr (
-          text,
-          Contains-append_left (text ∷ []) later text (Contains-push [] text),
-          is,
-          subst (λ (told : Option (List ℕ)). IfSome told (λ bytes. bytes ≡ text.text)) (sym since) whole,
-        )
+        text,
+        Contains-append_left (text ∷ []) later text (Contains-push [] text),
+        is,
+        subst (λ (told : Option (List ℕ)). IfSome told (λ bytes. bytes ≡ text.text)) (sym since) whole,
+      )
     ]
 
 storing_whole : (texts : List FileText) (lines : List ℕ) (old new : World) (answer : Option Fault) → EndsStoring texts lines old new answer

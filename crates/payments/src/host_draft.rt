@@ -48,15 +48,21 @@ impl<F: Write + OpenFile + Drop> Way<F> {
         requires { 0 < length piece.now }
         ensures { IfOk result (λ n. (0 < n) × (n ≤ length piece.now)) }
     {
-        let taken = match self {
-            Way::Printed => io::writer(rt).write(piece)?,
-            Way::Straight(file) => file.write(piece)?,
-            Way::Beside { file, .. } => file.write(piece)?,
-        };
+        let taken = self.write_some(rt, piece)?;
         if taken == 0 {
             return Err(io::Error::from(ErrorKind::WriteZero));
         }
         Ok(taken)
+    }
+
+    fn write_some<R: Print>(&mut self, rt: &R, piece: &[u8]) -> io::Result<usize>
+        ensures { IfOk result (λ n. n ≤ length piece.now) }
+    {
+        match self {
+            Way::Printed => io::writer(rt).write(piece),
+            Way::Straight(file) => file.write(piece),
+            Way::Beside { file, .. } => file.write(piece),
+        }
     }
 
     /// Puts what was written in the place of the file, once the disk has it.

@@ -312,7 +312,14 @@ const FAILING: [(u64, u64, u8, &str, bool, bool); 6] = [
     (2, 2, 5, "fault 5 payments\n", false, false),
     (3, 7, 6, "fault 6 alerts\n", false, false),
     (8, 15, 6, "fault 6 audit\n", true, false),
-    (16, 16, 0, "rows 0 alerts 0 requests 0 refused 0\n", true, true),
+    (
+        16,
+        16,
+        0,
+        "rows 0 alerts 0 requests 0 refused 0\n",
+        true,
+        true,
+    ),
 ];
 
 fn whole_or_none(text: &str, is_whole: bool) -> Wanted<'_> {

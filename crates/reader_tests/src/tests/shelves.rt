@@ -1,7 +1,7 @@
 // Shelves and sinks in memory and of the system.
 use payments::{
-    Calls, HostFault, HostShelf, MemoryShelf, MemorySink, Shelf, ShelfFault, Sink, SinkFault, StdOut,
-    store, write_all,
+    Calls, HostFault, HostShelf, MemoryShelf, MemorySink, Shelf, ShelfFault, Sink, SinkFault,
+    StdOut, store, write_all,
 };
 use std::alloc::Global;
 use std::fs;
@@ -108,7 +108,11 @@ fn is_as_before_or_whole(alloc: Global, call: u64) -> Option<bool> {
 #[test]
 fn a_file_is_as_before_or_whole(rt: HostRuntime) {
     for call in 0..6 {
-        assert_eq!(rt; is_as_before_or_whole(rt.alloc(), call), Some(true), "call {call}");
+        assert_eq!(rt;
+            is_as_before_or_whole(rt.alloc(), call),
+            Some(true),
+            "call {call}"
+        );
     }
 }
 
