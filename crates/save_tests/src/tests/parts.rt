@@ -1,7 +1,11 @@
 //! The ten payments in two parts, cut after row 8.
 
 use crate::tests::texts::TEN;
-use crate::tests::{Around, Input, Left, leaves};
+use crate::tests::{Around, Input, Left, is_done, leaves, shelf_of};
+use std::alloc::Global;
+use std::str;
+use std::sync::Wait;
+use std::thread::Threads;
 
 /// What stands in files that a call doesn't change.
 const OLD: &str = "old\n";
@@ -119,6 +123,35 @@ fn refused_savepoints(rt: HostRuntime) {
                 "{line} {save}"
             );
         }
+    }
+}
+
+/// The lengths of the cuts of `SAVED` that are read: after the first record, and after each count,
+/// with its line feed or without.
+const READ: [usize; 7] = [14, 15, 28, 29, 42, 43, 56];
+
+fn is_read<R>(rt: &R, alloc: Global, length: usize) -> bool
+where
+    R: Threads + Wait + Copy + Send + Sync + 'static,
+{
+    let Some(Ok(save)) = SAVED.as_bytes().get(..length).map(str::from_utf8) else {
+        return false;
+    };
+    match shelf_of(alloc, before(save)) {
+        Ok(mut shelf) => is_done(rt, alloc, RESUME[0], &mut shelf),
+        Err(_) => false,
+    }
+}
+
+/// A savepoint that was cut is told unless the rest has the form of one.
+#[test]
+fn cut_savepoints(rt: HostRuntime) {
+    for length in 0..SAVED.len() {
+        assert_eq!(rt;
+            is_read(&rt, rt.alloc(), length),
+            READ.contains(&length),
+            "{length} bytes"
+        );
     }
 }
 
