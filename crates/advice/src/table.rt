@@ -269,7 +269,7 @@ pub const READ_ASKS: Help = Help {
 
 pub const WRITE: Help = Help {
     code: "6",
-    cause: "The file couldn't be made or written; it may hold a beginning of its text.",
+    cause: "The file couldn't be made or written; it is as before.",
     cure: "Check its folder, that you may write there, and that the disk has room.",
 };
 
