@@ -52,9 +52,7 @@ pub fn advice<L: Look>(alloc: Global, call: Call<'_>, look: &mut L) -> Result<St
 ///
 /// [`NoMemory`] if the text has no room.
 pub fn skipped_rows(alloc: Global, row: u64) -> Result<String, NoMemory> {
-    Ok(format!(in alloc;
-        "fries: rows skipped, since the savepoint stands after them: {row}\n"
-    )?)
+    Ok(format!(in alloc; "fries: rows skipped, since the savepoint stands after them: {row}\n")?)
 }
 
 // ---- a message

@@ -42,7 +42,15 @@ fn main(rt: HostRuntime) -> ExitCode {
         rt,
         tells: is_live(&words.list) && rt.stderr().is_terminal(),
     };
-    let outcome = fries(&rt, alloc, &words.list, &mut shelf, &mut out, &mut asks, &gate);
+    let outcome = fries(
+        &rt,
+        alloc,
+        &words.list,
+        &mut shelf,
+        &mut out,
+        &mut asks,
+        &gate,
+    );
     tell(&rt, alloc, &words, &outcome);
     tell_why(&rt, outcome.fault, shelf.why());
     let status = outcome.status;

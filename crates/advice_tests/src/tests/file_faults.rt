@@ -109,7 +109,13 @@ ALERTS, AUDIT are missing. Type `fries run --help`.
 ",
     ),
     (
-        &["verify", "job.toml", "requests.toml", "pay.csv", "audit.csv"],
+        &[
+            "verify",
+            "job.toml",
+            "requests.toml",
+            "pay.csv",
+            "audit.csv",
+        ],
         Some(Fault::Long(FileIs::Audit)),
         "fries: audit file `audit.csv`
   The audit is longer than any that `run` writes.
@@ -118,7 +124,14 @@ ALERTS, AUDIT are missing. Type `fries run --help`.
 ",
     ),
     (
-        &["live", "job.toml", "requests.toml", "pay.csv", "alerts.csv", "audit.csv"],
+        &[
+            "live",
+            "job.toml",
+            "requests.toml",
+            "pay.csv",
+            "alerts.csv",
+            "audit.csv",
+        ],
         Some(Fault::Read(FileIs::Asks)),
         "fries: standard input
   The input of releases couldn't be read on; later requests came after the last row.

@@ -84,8 +84,14 @@ fn is_told_of_rows(alloc: Global, row: u64, told: &str) -> Result<bool, NoMemory
 #[test]
 fn the_skipped_rows_of_resume_are_told(rt: HostRuntime) {
     let cases = [
-        (0, "fries: rows skipped, since the savepoint stands after them: 0\n"),
-        (8, "fries: rows skipped, since the savepoint stands after them: 8\n"),
+        (
+            0,
+            "fries: rows skipped, since the savepoint stands after them: 0\n",
+        ),
+        (
+            8,
+            "fries: rows skipped, since the savepoint stands after them: 8\n",
+        ),
         (
             1_048_576,
             "fries: rows skipped, since the savepoint stands after them: 1048576\n",
