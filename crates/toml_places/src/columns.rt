@@ -87,8 +87,8 @@ fn push_columns(job: &Table, out: &mut String) -> Result<(), AllocError> {
 fn misfit_of<'a>(job: &'a Table, members: &'a Table) -> Option<Misfit<'a>> {
     let columns = tables_at(job, "columns");
     match kind_of(members)? {
-        Kind::Filter => conds_misfit(columns, tables_at(members, "when")),
-        Kind::Map => steps_misfit(columns, tables_at(members, "steps")),
+        Kind::Filter => listed_misfit(columns, members, "when"),
+        Kind::Map => listed_misfit(columns, members, "steps"),
         Kind::Enrich => {
             let key = key_misfit(columns, members, "key", Held::Texts);
             let into = key_misfit(columns, members, "into", Held::Anything);
@@ -101,7 +101,7 @@ fn misfit_of<'a>(job: &'a Table, members: &'a Table) -> Option<Misfit<'a>> {
             first_of(first_of(key, add), into)
         }
         Kind::Split => key_misfit(columns, members, "on", Held::Texts),
-        Kind::Sink => listed_misfit(columns, tables_at(members, "columns")),
+        Kind::Sink => listed_misfit(columns, members, "columns"),
         Kind::Source | Kind::Replicate => None,
     }
 }
@@ -169,7 +169,9 @@ fn value_misfit<'a>(job: &'a Table, members: &'a Table) -> Option<Misfit<'a>> {
             },
         });
     }
-    let entries = job_tables(job)?.get(text_at(members, "table")?)?.as_table()?;
+    let entries = job_tables(job)?
+        .get(text_at(members, "table")?)?
+        .as_table()?;
     Some(Misfit {
         key: "table",
         word: unheld_entry(entries, has_texts)?,
@@ -200,19 +202,18 @@ fn unheld_entry(entries: &Table, has_texts: bool) -> Option<&str> {
     None
 }
 
-fn listed_misfit<'a>(columns: &[Toml], items: &'a [Toml]) -> Option<Misfit<'a>> {
-    for item in items {
-        let misfit = use_misfit(columns, "columns", item.as_str(), Held::Anything);
-        if misfit.is_some() {
-            return misfit;
-        }
-    }
-    None
-}
-
-fn conds_misfit<'a>(columns: &[Toml], items: &'a [Toml]) -> Option<Misfit<'a>> {
-    for item in items {
-        let misfit = cond_misfit(columns, items_of(item));
+// What is wrong with the first item that doesn't fit: a condition, a step, or a column's name.
+fn listed_misfit<'a>(
+    columns: &[Toml],
+    members: &'a Table,
+    key: &'static str,
+) -> Option<Misfit<'a>> {
+    for item in tables_at(members, key) {
+        let misfit = match key {
+            "when" => cond_misfit(columns, items_of(item)),
+            "steps" => step_misfit(columns, items_of(item)),
+            _ => use_misfit(columns, key, item.as_str(), Held::Anything),
+        };
         if misfit.is_some() {
             return misfit;
         }
@@ -245,16 +246,6 @@ fn test_misfit(word: &str) -> Option<Misfit<'_>> {
             is: "is no test of texts",
         })
     }
-}
-
-fn steps_misfit<'a>(columns: &[Toml], items: &'a [Toml]) -> Option<Misfit<'a>> {
-    for item in items {
-        let misfit = step_misfit(columns, items_of(item));
-        if misfit.is_some() {
-            return misfit;
-        }
-    }
-    None
 }
 
 fn step_misfit<'a>(columns: &[Toml], parts: &'a [Toml]) -> Option<Misfit<'a>> {

@@ -19,10 +19,10 @@ pub(crate) fn has_form(part: Part, is_change: bool, value: &Toml) -> bool {
         Part::From | Part::To | Part::Node => value.as_str().is_some(),
         Part::Key | Part::Into | Part::On | Part::Table => value.as_str().is_some(),
         Part::Other | Part::Add => is_literal(value),
-        Part::When => are_conds(value),
-        Part::Steps => are_steps(value),
+        Part::When => are_all(Item::Cond, value),
+        Part::Steps => are_all(Item::Step, value),
         Part::By => is_byte(value),
-        Part::Columns => are_texts(value),
+        Part::Columns => are_all(Item::Text, value),
         Part::Carry => is_carry(value),
         Part::Change | Part::Request | Part::Edge | Part::Tables => value.as_array().is_some(),
         Part::Unknown => true,
@@ -202,18 +202,22 @@ fn is_byte(value: &Toml) -> bool {
     }
 }
 
-fn are_texts(value: &Toml) -> bool {
-    for item in items_of(value) {
-        if item.as_str().is_none() {
-            return false;
-        }
-    }
-    value.as_array().is_some()
+// What the items of an array are.
+#[derive(Clone, Copy)]
+enum Item {
+    Text,
+    Cond,
+    Step,
 }
 
-fn are_conds(value: &Toml) -> bool {
-    for item in items_of(value) {
-        if !is_cond(item) {
+fn are_all(item: Item, value: &Toml) -> bool {
+    for one in items_of(value) {
+        let is_one = match item {
+            Item::Text => one.as_str().is_some(),
+            Item::Cond => is_cond(one),
+            Item::Step => is_step(one),
+        };
+        if !is_one {
             return false;
         }
     }
@@ -234,15 +238,6 @@ fn is_test(value: &Toml) -> bool {
         Some(word) => Test::named(word).is_some(),
         None => false,
     }
-}
-
-fn are_steps(value: &Toml) -> bool {
-    for item in items_of(value) {
-        if !is_step(item) {
-            return false;
-        }
-    }
-    value.as_array().is_some()
 }
 
 fn is_step(item: &Toml) -> bool {

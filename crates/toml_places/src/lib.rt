@@ -15,6 +15,7 @@ mod members;
 mod owners;
 mod place;
 mod request_places;
+mod search;
 mod shapes;
 mod sizes;
 mod unknown_keys;

@@ -1,14 +1,16 @@
-// The first place of a fault of form: a key that is missing, unknown or of another form.
-use crate::forms::{has_form, is_column, is_literal, is_name_text, is_needed, wanted};
+// What is told of the first place of a fault of form: a key that is missing, unknown or of another
+// form.
+use crate::forms::{is_column, is_literal, is_name_text, wanted};
 use crate::lines::{Line, document_line};
-use crate::members::{TomlFile, items_of, tables_at};
-use crate::owners::{Owner, OwnerIs, change_of, edge_of, node_of, request_of};
+use crate::members::{TomlFile, items_of};
+use crate::owners::{Owner, OwnerIs};
 use crate::place::Place;
+use crate::search::{Found, Sought, first_in_job, first_in_requests};
 use crate::unknown_keys::{push_unknown_in_job, push_unknown_in_requests};
 use job_file::Part;
 use std::alloc::{AllocError, Global};
 use std::fmt::Write;
-use toml::{Table, Value as Toml};
+use toml::Value as Toml;
 use word_faults::push_shown;
 
 /// Tells where a job file has its first fault of form at a part.
@@ -33,10 +35,10 @@ pub(crate) fn push_request_shape(
     push_shape_in_requests(file, part, key.as_str(), place)
 }
 
-fn push_shape_in_job(
-    file: TomlFile<'_>,
+fn push_shape_in_job<'a>(
+    file: TomlFile<'a>,
     part: Part,
-    key: &str,
+    key: &'a str,
     place: &mut Place,
 ) -> Result<(), AllocError> {
     match part {
@@ -44,167 +46,48 @@ fn push_shape_in_job(
         Part::Node | Part::Edge => push_document_key(file, part, key, place),
         Part::Tables => push_tables(file, place),
         Part::Columns => push_columns(file, key, place),
-        Part::From | Part::To | Part::Port => push_in_edges(file, part, key, place),
-        Part::Name
-        | Part::Kind
-        | Part::Workers
-        | Part::Roof
-        | Part::When
-        | Part::Steps
-        | Part::Key
-        | Part::Into
-        | Part::Table
-        | Part::Other
-        | Part::Add
-        | Part::On
-        | Part::By
-        | Part::Most => push_in_nodes(file, part, key, place),
-        Part::Request | Part::Change | Part::After | Part::Carry => Ok(()),
+        _ => push_key_fault(first_in_job(file, Sought::Fault(part, key)), part, place),
     }
 }
 
-fn push_shape_in_requests(
-    file: TomlFile<'_>,
+fn push_shape_in_requests<'a>(
+    file: TomlFile<'a>,
     part: Part,
-    key: &str,
+    key: &'a str,
     place: &mut Place,
 ) -> Result<(), AllocError> {
     match part {
-        Part::Request => push_document_key(file, part, key, place),
         Part::Unknown => push_unknown_in_requests(file, place),
-        Part::After | Part::Change => push_in_requests(file, part, key, place),
-        Part::Node
-        | Part::From
-        | Part::Kind
-        | Part::Carry
-        | Part::Columns
-        | Part::When
-        | Part::Steps
-        | Part::Key
-        | Part::Into
-        | Part::Table
-        | Part::Other
-        | Part::Add
-        | Part::On
-        | Part::By
-        | Part::Most => push_in_all_changes(file, part, key, place),
-        Part::Tables
-        | Part::Edge
-        | Part::Name
-        | Part::Workers
-        | Part::Roof
-        | Part::To
-        | Part::Port => Ok(()),
+        Part::Request => push_document_key(file, part, key, place),
+        _ => push_key_fault(
+            first_in_requests(file, Sought::Fault(part, key)),
+            part,
+            place,
+        ),
     }
 }
 
-// ---- keys of another form
-
-fn push_in_nodes(
-    file: TomlFile<'_>,
-    part: Part,
-    key: &str,
-    place: &mut Place,
-) -> Result<(), AllocError> {
-    for number in 0..tables_at(file.table, "node").len() {
-        if let Some(node) = node_of(file, number) {
-            if is_faulty(node.members, part, key, false) {
-                return push_key_fault(node, part, key, place);
-            }
-        }
-    }
-    Ok(())
-}
-
-fn push_in_edges(
-    file: TomlFile<'_>,
-    part: Part,
-    key: &str,
-    place: &mut Place,
-) -> Result<(), AllocError> {
-    for number in 0..tables_at(file.table, "edge").len() {
-        if let Some(edge) = edge_of(file, number) {
-            if is_faulty(edge.members, part, key, false) {
-                return push_key_fault(edge, part, key, place);
-            }
-        }
-    }
-    Ok(())
-}
-
-fn push_in_requests(
-    file: TomlFile<'_>,
-    part: Part,
-    key: &str,
-    place: &mut Place,
-) -> Result<(), AllocError> {
-    for number in 0..tables_at(file.table, "request").len() {
-        if let Some(request) = request_of(file, number.saturating_add(1)) {
-            if is_faulty(request.members, part, key, false) {
-                return push_key_fault(request, part, key, place);
-            }
-        }
-    }
-    Ok(())
-}
-
-fn push_in_all_changes(
-    file: TomlFile<'_>,
-    part: Part,
-    key: &str,
-    place: &mut Place,
-) -> Result<(), AllocError> {
-    for number in 0..tables_at(file.table, "request").len() {
-        if place.detail.is_empty() {
-            push_in_changes(file, number.saturating_add(1), part, key, place)?;
-        }
-    }
-    Ok(())
-}
-
-fn push_in_changes(
-    file: TomlFile<'_>,
-    request: usize,
-    part: Part,
-    key: &str,
-    place: &mut Place,
-) -> Result<(), AllocError> {
-    for number in 0..change_count(file, request) {
-        if let Some(change) = change_of(file, request, number.saturating_add(1)) {
-            if is_faulty(change.members, part, key, true) {
-                return push_key_fault(change, part, key, place);
-            }
-        }
-    }
-    Ok(())
-}
-
-/// How many changes a request has, by its place from 1.
-pub(crate) fn change_count(file: TomlFile<'_>, request: usize) -> usize {
-    match request_of(file, request) {
-        Some(request) => tables_at(request.members, "change").len(),
-        None => 0,
-    }
-}
-
-fn is_faulty(members: &Table, part: Part, key: &str, is_change: bool) -> bool {
-    match members.get(key) {
-        Some(value) => !has_form(part, is_change, value),
-        None => is_needed(part, members),
-    }
-}
+// ---- keys
 
 // What stands at a key, and what is to stand there.
 fn push_key_fault(
-    owner: Owner<'_>,
+    found: Option<Found<'_>>,
     part: Part,
-    key: &str,
     place: &mut Place,
 ) -> Result<(), AllocError> {
-    owner.push(&mut place.note)?;
-    push_found(owner, key, &mut place.detail)?;
-    let wanted = wanted(part, matches!(owner.is, OwnerIs::Change(..)));
+    let Some(found) = found else {
+        return Ok(());
+    };
+    push_place(found, place)?;
+    let key = found.key;
+    let wanted = wanted(part, matches!(found.owner.is, OwnerIs::Change(..)));
     write!(place.detail, "; `{key}` is to be {wanted}.")
+}
+
+/// Tells of a key: its table beside the code, and what stands there.
+pub(crate) fn push_place(found: Found<'_>, place: &mut Place) -> Result<(), AllocError> {
+    found.owner.push(&mut place.note)?;
+    push_found(found.owner, found.key, &mut place.detail)
 }
 
 /// Appends what stands at a key: its line if that is known.
@@ -246,14 +129,17 @@ fn push_document_key(
 }
 
 // Columns of the file, or those of a sink.
-fn push_columns(file: TomlFile<'_>, key: &str, place: &mut Place) -> Result<(), AllocError> {
+fn push_columns<'a>(file: TomlFile<'a>, key: &'a str, place: &mut Place) -> Result<(), AllocError> {
     let wrong = match file.table.get(key) {
         Some(value) if value.as_array().is_some() => wrong_column(items_of(value)),
         Some(_) | None => Some(""),
     };
     match wrong {
         Some(wrong) => push_document_columns(file, key, wrong, &mut place.detail),
-        None => push_in_nodes(file, Part::Columns, key, place),
+        None => {
+            let sought = Sought::Fault(Part::Columns, key);
+            push_key_fault(first_in_job(file, sought), Part::Columns, place)
+        }
     }
 }
 

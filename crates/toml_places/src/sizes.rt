@@ -1,8 +1,8 @@
 // The table in which a size is outside its limit, and the limits in sentences.
-use crate::members::{TomlFile, items_of, tables_at};
-use crate::owners::{Owner, change_of, node_of, request_of};
+use crate::members::{TomlFile, items_of};
 use crate::place::Place;
-use crate::shapes::{change_count, push_found};
+use crate::search::{Found, Sought, first_in_job, first_in_requests};
+use crate::shapes::push_place;
 use jobs::Which;
 use std::alloc::AllocError;
 use toml::{Table, Value as Toml};
@@ -34,14 +34,7 @@ pub(crate) fn push_job_size(
     size: i64,
     place: &mut Place,
 ) -> Result<(), AllocError> {
-    for number in 0..tables_at(file.table, "node").len() {
-        if let Some(node) = node_of(file, number) {
-            if let Some(key) = size_key(node.members, which, size) {
-                return push_size(node, key, place);
-            }
-        }
-    }
-    Ok(())
+    push_size(first_in_job(file, Sought::Size(which, size)), place)
 }
 
 /// Tells which request or change of a request file has this size, if it is one of theirs.
@@ -51,44 +44,21 @@ pub(crate) fn push_request_size(
     size: i64,
     place: &mut Place,
 ) -> Result<(), AllocError> {
-    for number in 0..tables_at(file.table, "request").len() {
-        if let Some(request) = request_of(file, number.saturating_add(1)) {
-            if let Some(key) = size_key(request.members, which, size) {
-                return push_size(request, key, place);
-            }
+    push_size(first_in_requests(file, Sought::Size(which, size)), place)
+}
+
+fn push_size(found: Option<Found<'_>>, place: &mut Place) -> Result<(), AllocError> {
+    match found {
+        Some(found) => {
+            push_place(found, place)?;
+            place.detail.push_str(". ")
         }
-        if place.note.is_empty() {
-            push_change_size(file, number.saturating_add(1), which, size, place)?;
-        }
+        None => Ok(()),
     }
-    Ok(())
 }
 
-fn push_change_size(
-    file: TomlFile<'_>,
-    request: usize,
-    which: Which,
-    size: i64,
-    place: &mut Place,
-) -> Result<(), AllocError> {
-    for number in 0..change_count(file, request) {
-        if let Some(change) = change_of(file, request, number.saturating_add(1)) {
-            if let Some(key) = size_key(change.members, which, size) {
-                return push_size(change, key, place);
-            }
-        }
-    }
-    Ok(())
-}
-
-fn push_size(owner: Owner<'_>, key: &str, place: &mut Place) -> Result<(), AllocError> {
-    owner.push(&mut place.note)?;
-    push_found(owner, key, &mut place.detail)?;
-    place.detail.push_str(". ")
-}
-
-// The key of a table at which this size stands. A table of the whole file has none.
-fn size_key(members: &Table, which: Which, size: i64) -> Option<&'static str> {
+/// The key of a table at which this size stands, if it is one of such a table.
+pub(crate) fn size_key(members: &Table, which: Which, size: i64) -> Option<&'static str> {
     for key in keys_of(which) {
         if let Some(value) = members.get(*key) {
             if has_size(which, value, size) {

@@ -1,31 +1,21 @@
 // The first key that isn't in the layout.
 use crate::forms::{is_among, is_change_key, is_node_key};
 use crate::lines::document_line;
-use crate::members::{TomlFile, tables_at};
-use crate::owners::{Owner, OwnerIs, change_of, edge_of, node_of, request_of};
+use crate::members::TomlFile;
+use crate::owners::{Owner, OwnerIs};
 use crate::place::Place;
-use crate::shapes::{change_count, push_found, push_line};
+use crate::search::{Found, Sought, first_in_job, first_in_requests};
+use crate::shapes::{push_line, push_place};
 use std::alloc::AllocError;
 use word_faults::push_shown;
 
 /// Tells of the first key of a job file that isn't in the layout.
 pub(crate) fn push_unknown_in_job(file: TomlFile<'_>, place: &mut Place) -> Result<(), AllocError> {
-    push_unknown_of_file(file, &["columns", "tables", "node", "edge"], place)?;
-    for number in 0..tables_at(file.table, "node").len() {
-        if let Some(node) = node_of(file, number) {
-            push_unknown(node, place)?;
-        }
+    let keys = ["columns", "tables", "node", "edge"];
+    match unknown_of_file(file, &keys) {
+        Some(key) => push_unknown_of_file(file, key, &keys, &mut place.detail),
+        None => push_unknown(first_in_job(file, Sought::Unknown), place),
     }
-    push_unknown_in_edges(file, place)
-}
-
-fn push_unknown_in_edges(file: TomlFile<'_>, place: &mut Place) -> Result<(), AllocError> {
-    for number in 0..tables_at(file.table, "edge").len() {
-        if let Some(edge) = edge_of(file, number) {
-            push_unknown(edge, place)?;
-        }
-    }
-    Ok(())
 }
 
 /// Tells of the first key of a request file that isn't in the layout.
@@ -33,43 +23,25 @@ pub(crate) fn push_unknown_in_requests(
     file: TomlFile<'_>,
     place: &mut Place,
 ) -> Result<(), AllocError> {
-    push_unknown_of_file(file, &["request"], place)?;
-    for number in 0..tables_at(file.table, "request").len() {
-        if let Some(request) = request_of(file, number.saturating_add(1)) {
-            push_unknown(request, place)?;
-            push_unknown_in_changes(file, number.saturating_add(1), place)?;
+    let keys = ["request"];
+    match unknown_of_file(file, &keys) {
+        Some(key) => push_unknown_of_file(file, key, &keys, &mut place.detail),
+        None => push_unknown(first_in_requests(file, Sought::Unknown), place),
+    }
+}
+
+fn push_unknown(found: Option<Found<'_>>, place: &mut Place) -> Result<(), AllocError> {
+    match found {
+        Some(found) => {
+            push_place(found, place)?;
+            push_keys(found.owner, &mut place.detail)
         }
+        None => Ok(()),
     }
-    Ok(())
 }
 
-fn push_unknown_in_changes(
-    file: TomlFile<'_>,
-    request: usize,
-    place: &mut Place,
-) -> Result<(), AllocError> {
-    for number in 0..change_count(file, request) {
-        if let Some(change) = change_of(file, request, number.saturating_add(1)) {
-            push_unknown(change, place)?;
-        }
-    }
-    Ok(())
-}
-
-// Tells of the first unknown key of a table, if nothing is told yet.
-fn push_unknown(owner: Owner<'_>, place: &mut Place) -> Result<(), AllocError> {
-    if !place.detail.is_empty() {
-        return Ok(());
-    }
-    let Some(key) = unknown_key(owner) else {
-        return Ok(());
-    };
-    owner.push(&mut place.note)?;
-    push_found(owner, key, &mut place.detail)?;
-    push_keys(owner, &mut place.detail)
-}
-
-fn unknown_key(owner: Owner<'_>) -> Option<&str> {
+/// The first key of a table of a file that such a table doesn't have.
+pub(crate) fn unknown_key(owner: Owner<'_>) -> Option<&str> {
     for (key, _) in owner.members.iter() {
         if !is_key(owner, key.as_str()) {
             return Some(key.as_str());
@@ -105,20 +77,17 @@ fn push_keys(owner: Owner<'_>, out: &mut String) -> Result<(), AllocError> {
     out.push('.')
 }
 
-fn push_unknown_of_file(
-    file: TomlFile<'_>,
-    keys: &[&str],
-    place: &mut Place,
-) -> Result<(), AllocError> {
+// The first key of the whole file that isn't one of these.
+fn unknown_of_file<'a>(file: TomlFile<'a>, keys: &[&str]) -> Option<&'a str> {
     for (key, _) in file.table.iter() {
         if !is_among(key.as_str(), keys) {
-            return push_unknown_part(file, key.as_str(), keys, &mut place.detail);
+            return Some(key.as_str());
         }
     }
-    Ok(())
+    None
 }
 
-fn push_unknown_part(
+fn push_unknown_of_file(
     file: TomlFile<'_>,
     key: &str,
     keys: &[&str],
