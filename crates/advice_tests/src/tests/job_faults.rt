@@ -93,6 +93,43 @@ NAME of a-z, 0-9 and _, and text, number or cents as KIND.
 ",
     },
     Case {
+        old: "[[node]]",
+        new: "more = 1\n[[node]]",
+        told: "fries: job file `job.toml`: J2 unknown
+  This key is missing, isn't in the layout, or its value isn't of the form it asks for.
+  Line 3 has `more = 1`; the keys of the file are `columns`, `tables`, `node`, `edge`.
+  Compare the keys of the file with the layout in docs/JOBS.md.
+",
+    },
+    Case {
+        old: "name = \"big\"",
+        new: "name = \"Big\"",
+        told: "fries: job file `job.toml`: J2 name (node 1, `Big`, kind `filter`, line 7)
+  This key is missing, isn't in the layout, or its value isn't of the form it asks for.
+  Line 8 has `name = \"Big\"`; `name` is to be a string of 1 to 32 characters of a-z, 0-9 and _.
+  Compare the keys of the file with the layout in docs/JOBS.md.
+",
+    },
+    Case {
+        old: "to = \"out\"\n",
+        new: "",
+        told: "fries: job file `job.toml`: J2 to (edge 1, line 21)
+  This key is missing, isn't in the layout, or its value isn't of the form it asks for.
+  It has no `to`; `to` is to be the name of a node, as a string.
+  Compare the keys of the file with the layout in docs/JOBS.md.
+",
+    },
+    Case {
+        old: "[\"amount\", \">=\", 100]",
+        new: "[\"account\", \"=\", \"xxxxxxxxxxxxxxxxxxxxxxxxxxxxxxxxxxxxxxxxxxxxxxxxx\"]",
+        told: "fries: job file `job.toml`: J3 text 49 (node 1, `big`, kind `filter`, line 7)
+  A count or a size in the job file is outside its limit.
+  Line 10 has `when = [[\"account\", \"=\", \"xxxxxxxxxxxxxxxxxxxxxxxxxxxxxxxxxx..`. \
+A text, and the key of a table's entry, has at most 48 bytes.
+  Bring the count or the size within its limit.
+",
+    },
+    Case {
         old: "name = \"out\"",
         new: "name = \"big\"",
         told: "fries: job file `job.toml`: J4 node 2 (`big`, kind `sink`, line 12)

@@ -44,6 +44,55 @@ const FAULTS: &[Case] = &[
   Bring the count or the size within its limit.
 ",
     },
+    Case {
+        old: "from = 0",
+        new: "from = 0\nform = 1",
+        told: "fries: request file `requests.toml`: F2 unknown \
+(request 1, change 1 of `big`, line 4)
+  This key is missing, isn't in the layout, or its value isn't of the form it asks for.
+  Line 7 has `form = 1`; its keys are `node`, `from`, `kind`, `carry`, `when`.
+  Compare the keys of the file with the layout in docs/REQUESTS.md.
+",
+    },
+    Case {
+        old: "from = 0",
+        new: "from = 0\ncarry = \"drop\"",
+        told: "fries: request file `requests.toml`: F2 carry \
+(request 1, change 1 of `big`, line 4)
+  This key is missing, isn't in the layout, or its value isn't of the form it asks for.
+  Line 7 has `carry = \"drop\"`; `carry` is to be \"keep\", \"reset\", [\"scale\", p, q] or \
+[\"below\", n]; p, q, n whole numbers.
+  Compare the keys of the file with the layout in docs/REQUESTS.md.
+",
+    },
+    Case {
+        old: "200]]\n",
+        new: "200]]\n[[request]]\nafter = \"1\"\n",
+        told: "fries: request file `requests.toml`: F2 after (request 2, line 9)
+  This key is missing, isn't in the layout, or its value isn't of the form it asks for.
+  Line 10 has `after = \"1\"`; `after` is to be a whole number.
+  Compare the keys of the file with the layout in docs/REQUESTS.md.
+",
+    },
+    Case {
+        old: "200]]\n",
+        new: r#"200]]
+[[request]]
+after = 2
+[[request.change]]
+node = "big"
+from = 1
+kind = "filter"
+when = [["account", "=", "xxxxxxxxxxxxxxxxxxxxxxxxxxxxxxxxxxxxxxxxxxxxxxxxx"]]
+"#,
+        told: "fries: request file `requests.toml`: F3 text 49 \
+(request 2, change 1 of `big`, line 11)
+  A count or a size in the request file is outside its limit.
+  Line 15 has `when = [[\"account\", \"=\", \"xxxxxxxxxxxxxxxxxxxxxxxxxxxxxxxxxx..`. \
+A text, and the key of a table's entry, has at most 48 bytes.
+  Bring the count or the size within its limit.
+",
+    },
 ];
 
 /// What is told first of all refusals.
