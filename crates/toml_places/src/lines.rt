@@ -39,24 +39,55 @@ pub(crate) struct Line<'a> {
     pub(crate) text: &'a str,
 }
 
+// Which line is looked for.
+#[derive(Clone, Copy)]
+enum Sought<'a> {
+    // That of this key, or else that of the next head of a table.
+    KeyOrHead(&'a str),
+    // That of this key, or of a head of a table with this name, or of one in it.
+    KeyOrTable(&'a str),
+    // That of the head `[tables.NAME]`.
+    Values(&'a str),
+}
+
 /// The line of a key of the table whose head stands in line `head`. The head of the whole file is
 /// line 0.
 pub(crate) fn key_line<'a>(bytes: &'a [u8], head: u64, key: &str) -> Option<Line<'a>> {
+    let line = first_line(bytes, head, Sought::KeyOrHead(key))?;
+    if is_head(line.text) { None } else { Some(line) }
+}
+
+/// The line of a key of the whole file, or of the first table that has this name.
+pub(crate) fn document_line<'a>(bytes: &'a [u8], key: &str) -> Option<Line<'a>> {
+    first_line(bytes, 0, Sought::KeyOrTable(key))
+}
+
+/// The line of an entry of a table of values whose head is `[tables.NAME]`.
+pub(crate) fn entry_line<'a>(bytes: &'a [u8], table: &str, entry: &str) -> Option<Line<'a>> {
+    let head = first_line(bytes, 0, Sought::Values(table))?;
+    key_line(bytes, head.number, entry)
+}
+
+// The first such line after line `after`.
+fn first_line<'a>(bytes: &'a [u8], after: u64, sought: Sought<'_>) -> Option<Line<'a>> {
     let text = std::str::from_utf8(bytes).ok()?;
     let mut number = 0u64;
     for line in text.lines() {
         number = number.saturating_add(1);
         let text = line.trim();
-        if number > head {
-            if is_head(text) {
-                return None;
-            }
-            if is_of_key(text, key) {
-                return Some(Line { number, text });
-            }
+        if number > after && is_sought(text, sought) {
+            return Some(Line { number, text });
         }
     }
     None
+}
+
+fn is_sought(line: &str, sought: Sought<'_>) -> bool {
+    match sought {
+        Sought::KeyOrHead(key) => is_of_key(line, key) || is_head(line),
+        Sought::KeyOrTable(key) => is_of_key(line, key) || is_head_of(line, key),
+        Sought::Values(table) => is_head_of_values(line, table),
+    }
 }
 
 // Whether a line begins a table.
@@ -69,62 +100,18 @@ fn is_head(line: &str) -> bool {
 }
 
 fn is_of_key(line: &str, key: &str) -> bool {
-    match line.strip_prefix(key) {
+    match after_key(line, key) {
         Some(rest) => rest.trim_start().starts_with('='),
         None => false,
     }
 }
 
-/// The line of an entry of a table of a job file whose head is `[tables.NAME]`.
-pub(crate) fn entry_line<'a>(bytes: &'a [u8], table: &str, entry: &str) -> Option<Line<'a>> {
-    let text = std::str::from_utf8(bytes).ok()?;
-    let mut number = 0u64;
-    let mut is_inside = false;
-    for line in text.lines() {
-        number = number.saturating_add(1);
-        let text = line.trim();
-        if is_head(text) {
-            is_inside = is_head_of_table(text, table);
-        } else if is_inside && is_of_entry(text, entry) {
-            return Some(Line { number, text });
-        }
-    }
-    None
-}
-
-fn is_head_of_table(line: &str, table: &str) -> bool {
-    match line.strip_prefix("[tables.") {
-        Some(rest) => match rest.strip_prefix(table) {
-            Some(rest) => rest.starts_with(']'),
-            None => false,
-        },
-        None => false,
-    }
-}
-
-// Whether a line has a key, perhaps in quotes.
-fn is_of_entry(line: &str, key: &str) -> bool {
+// What stands after a key, perhaps in quotes, at which a line begins.
+fn after_key<'a>(line: &'a str, key: &str) -> Option<&'a str> {
     match line.strip_prefix('"') {
-        Some(rest) => match rest.strip_prefix(key) {
-            Some(rest) => rest.starts_with('"'),
-            None => false,
-        },
-        None => is_of_key(line, key),
+        Some(rest) => rest.strip_prefix(key)?.strip_prefix('"'),
+        None => line.strip_prefix(key),
     }
-}
-
-/// The line of a key of the whole file, or of the first table that has this name.
-pub(crate) fn document_line<'a>(bytes: &'a [u8], key: &str) -> Option<Line<'a>> {
-    let text = std::str::from_utf8(bytes).ok()?;
-    let mut number = 0u64;
-    for line in text.lines() {
-        number = number.saturating_add(1);
-        let text = line.trim();
-        if is_of_key(text, key) || is_head_of(text, key) {
-            return Some(Line { number, text });
-        }
-    }
-    None
 }
 
 // Whether a line begins a table with this name, or one in it.
@@ -140,4 +127,15 @@ fn is_head_of(line: &str, name: &str) -> bool {
         Some(rest) => rest.starts_with(']') || rest.starts_with('.'),
         None => false,
     }
+}
+
+fn is_head_of_values(line: &str, table: &str) -> bool {
+    match after_values(line, table) {
+        Some(rest) => rest.starts_with(']'),
+        None => false,
+    }
+}
+
+fn after_values<'a>(line: &'a str, table: &str) -> Option<&'a str> {
+    line.strip_prefix("[tables.")?.strip_prefix(table)
 }
