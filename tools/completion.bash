@@ -19,7 +19,7 @@ _fries_options() {
 _fries_ending() {
   case $1-$2 in
     check-1 | plan-[12] | run-[12] | live-[12] | save-[12] | resume-[12] | verify-[12] | make-1) echo "toml" ;;
-    first-[12] | run-[345] | live-[345] | save-[3456] | resume-[3456] | verify-[34]) echo "csv" ;;
+    first-[12] | run-[345] | live-[345] | save-[3456] | resume-[3456] | verify-[345]) echo "csv" ;;
   esac
 }
 

@@ -63,11 +63,12 @@ audit_code (audit.Lane lane) = codes "V5"
 audit_code (audit.State worker) = codes "V6"
 audit_code audit.NoMemory = codes "7"
 
--- a file that is too long: payments, the savepoint and the audit have rows of their own
+-- a file that is too long: payments, the savepoint, the audit and the alerts have rows of their own
 abbrev pub long_code : FileIs → List ℕ
 long_code file.Payments = codes "9 payments"
 long_code file.Save = codes "9 save"
 long_code file.Audit = codes "9 audit"
+long_code file.Alerts = codes "9 alerts"
 long_code _ = codes "9"
 
 -- a read fault: the input of releases has a row of its own
@@ -87,6 +88,7 @@ code_of (fault.Requests code) = requests_code code
 code_of (fault.Payments code) = payments_code code
 code_of (fault.Save code) = save_code code
 code_of (fault.Audit code) = audit_code code
+code_of (fault.Alerts line) = codes "V7"
 code_of (fault.Read file) = read_code file
 code_of (fault.Write file) = write_code file
 code_of fault.NoMemory = codes "7"

@@ -66,6 +66,7 @@ fn files_of(command: &Word) -> &'static [FileIs] {
             FileIs::Requests,
             FileIs::Payments,
             FileIs::Audit,
+            FileIs::Alerts,
         ],
         "save" => &[
             FileIs::Job,

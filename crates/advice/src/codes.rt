@@ -24,6 +24,7 @@ pub fn help_of(fault: Fault) -> Help
         Fault::Payments(fault) => help_of_payments(fault),
         Fault::Save(fault) => help_of_save(fault),
         Fault::Audit(fault) => help_of_audit(fault),
+        Fault::Alerts(_) => V7,
         Fault::Read(FileIs::Asks) => READ_ASKS,
         Fault::Read(_) => READ,
         Fault::Write(FileIs::Out) => OUT,
@@ -32,6 +33,7 @@ pub fn help_of(fault: Fault) -> Help
         Fault::Long(FileIs::Payments) => LONG_PAYMENTS,
         Fault::Long(FileIs::Save) => LONG_SAVE,
         Fault::Long(FileIs::Audit) => LONG_AUDIT,
+        Fault::Long(FileIs::Alerts) => LONG_ALERTS,
         Fault::Long(_) => LONG,
     }
 }

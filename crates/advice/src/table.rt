@@ -201,6 +201,12 @@ pub const V6: Help = Help {
     cure: "Don't trust it: records are missing or changed. One of `live` or `resume` isn't judged.",
 };
 
+pub const V7: Help = Help {
+    code: "V7",
+    cause: "The alerts aren't those of the run that the audit tells. This line differs first.",
+    cure: "Don't trust the alerts file: it is of another run, was cut, or was changed.",
+};
+
 pub const Q1: Help = Help {
     code: "Q1",
     cause: "The change names no node of the job.",
@@ -312,5 +318,11 @@ pub const LONG_SAVE: Help = Help {
 pub const LONG_AUDIT: Help = Help {
     code: "9 audit",
     cause: "The audit is longer than any that `run` writes.",
+    cure: "Give the file that `fries run` wrote.",
+};
+
+pub const LONG_ALERTS: Help = Help {
+    code: "9 alerts",
+    cause: "The alerts file is longer than any that `run` writes.",
     cure: "Give the file that `fries run` wrote.",
 };

@@ -9,3 +9,4 @@ pub mod PartLemmas
 pub mod OneRunLemmas
 pub mod LiveLemmas
 pub mod AuditLemmas
+pub mod AlertLemmas

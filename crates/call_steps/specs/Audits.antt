@@ -1,7 +1,8 @@
--- What is read of an audit, and why it isn't.
-use Rattle.std.specs.Prelude.{◌≡◌, ◌≢◌, ◌++◌, ℕ, Bool, List, Option, codes, map}
+-- What is read of an audit and of alerts beside it, and why it isn't.
+use Rattle.std.specs.Prelude.{◌≡◌, ◌≢◌, ◌+◌, ◌++◌, ◌==◌, ⊤, ℕ, Bool, List, Option, None, Some}
+use Rattle.std.specs.Prelude.{codes, count_by, map, take}
 use Rattle.audit_laws.specs.Fits.{Fits, records_of}
-use Rattle.audit_laws.specs.Verdict.{IsFaultOf}
+use Rattle.audit_laws.specs.Verdict.{DifferFirst, IsFaultOf}
 use Rattle.audit_laws.specs.declared.fault.AuditFault.TheVariants as audit
 use Rattle.jobs.specs.JobView.{JobView}
 use Rattle.flow_model.specs.Record.{record_view}
@@ -39,6 +40,10 @@ RefusesAudit setup rows _ bytes = ⊥
 abbrev pub IsAuditOf : Option Files → List ℕ → Setup → List Row → Ran → Type 0
 IsAuditOf files name setup rows ran = HasRead file.Audit (IsAudited setup rows ran) files name
 
+-- the file is told, and holds the audit of this run
+abbrev pub TellsAudit : Option Files → List ℕ → Setup → List Row → Ran → Type 0
+TellsAudit files name setup rows ran = Tells file.Audit (IsAudited setup rows ran) files name
+
 -- why the file gives no audit of a run of the setup and these rows
 abbrev pub IsNoAudit : Option Files → List ℕ → Setup → List Row → Faults → Faults → Fault → Type 0
 IsNoAudit files name setup rows old new why =
@@ -53,8 +58,8 @@ pub record HaveOneVerdict (setup : Setup) (rows : List Row) : Type 0 where
       (f g : Fault) (bytes : List ℕ) → RefusesAudit setup rows f bytes →
       RefusesAudit setup rows g bytes → f ≡ g
 
--- The file holds the audit of this run of the setup and these rows. What judging the requests of a
--- job makes the setup of, it is the run of.
+-- The file holds the audit of this run of the setup and these rows, and of no other. What judging
+-- the requests of a job makes the setup of, it is the run of.
 pub record IsAuditedRun (files : Option Files) (name : List ℕ) (setup : Setup)
     (requests : List Request) (rows : List Row) (done : Done) : Type 0 where
   pub setup_is : done.ran.setup ≡ setup
@@ -62,17 +67,49 @@ pub record IsAuditedRun (files : Option Files) (name : List ℕ) (setup : Setup)
   pub run :
       (ordered : Bool) (job : JobView) → IsSetupFor AreSame ordered job requests setup →
       IsRunOf AreSame ordered job requests rows done
+  pub only : (ran : Ran) → TellsAudit files name setup rows ran → record_view done.ran ≡ ran
+
+-- ---- the alerts beside it
+
+-- the line, counted from 1, in which a place of a text stands
+abbrev pub line_at : List ℕ → ℕ → ℕ
+line_at text place = 1 + count_by (λ byte. byte == 10) (take place text)
+
+-- the bytes aren't this text, for this fault: it names the line of the first byte that differs
+abbrev pub RefusesAlerts : List ℕ → Fault → List ℕ → Type 0
+RefusesAlerts text (fault.Alerts line) bytes =
+    (place : ℕ) × DifferFirst text bytes place × (line ≡ line_at bytes place)
+RefusesAlerts text _ bytes = ⊥
+
+-- the file, if one is named, holds just this text
+abbrev pub HoldsAlerts : Option Files → Option (List ℕ) → List ℕ → Type 0
+HoldsAlerts files None text = ⊤
+HoldsAlerts files (Some name) text = HasRead file.Alerts (λ bytes. bytes ≡ text) files name
+
+-- why the file that is named doesn't hold this text, or wasn't read
+abbrev pub HoldsNoAlerts :
+    Option Files → Option (List ℕ) → List ℕ → Faults → Faults → Fault → Type 0
+HoldsNoAlerts files None text old new why = ⊥
+HoldsNoAlerts files (Some name) text old new why =
+    IsUnread file.Alerts (RefusesAlerts text) files name old new why
 
 -- ---- seen from a file that is told
-
--- the file is told, and holds the audit of this run
-abbrev pub TellsAudit : Option Files → List ℕ → Setup → List Row → Ran → Type 0
-TellsAudit files name setup rows ran = Tells file.Audit (IsAudited setup rows ran) files name
 
 -- the answer, seen from the audit's file of the setup and these rows
 abbrev pub FollowsAudit : Setup → List Row → List ℕ → World → World → Option Fault → Type 0
 FollowsAudit setup rows name old new answer =
     FollowsFile file.Audit (RefusesAudit setup rows) name old new answer
+
+-- the file, if one is named, is told, and holds just this text
+abbrev pub TellsAlerts : Option Files → Option (List ℕ) → List ℕ → Type 0
+TellsAlerts files None text = ⊤
+TellsAlerts files (Some name) text = Tells file.Alerts (λ bytes. bytes ≡ text) files name
+
+-- the answer, seen from the file, if one is named, that is to hold this text
+abbrev pub FollowsAlerts : Option (List ℕ) → List ℕ → World → World → Option Fault → Type 0
+FollowsAlerts None text old new answer = ⊤
+FollowsAlerts (Some name) text old new answer =
+    FollowsFile file.Alerts (RefusesAlerts text) name old new answer
 
 -- ---- what is printed of it
 

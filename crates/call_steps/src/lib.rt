@@ -25,7 +25,7 @@ mod setup;
 mod writing;
 
 pub use answer::Answer;
-pub use audits::{audited_run, verified_lines};
+pub use audits::{audited_run, check_alerts, verified_lines};
 pub use job::{first_job, first_requests};
 pub use laws::{files_end_whole, saved_runs_go_on};
 pub use live::{LiveDone, leave_live, run_live};

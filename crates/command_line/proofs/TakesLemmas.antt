@@ -8,9 +8,9 @@ use Rattle.std.specs.Str.{bytes_eq}
 use Rattle.clap.specs.Simple.{Shape}
 use Rattle.clap.specs.Takes.{default_passes, is_given, is_valid, level_passes, positional_passes, settle_passes, turn_passes, use_passes, walk_passes}
 use Rattle.clap.specs.Walk.{Held, Row, Rule, Text, Walk, arg_by_id, finished, has_row, is_pending, nothing_held, settled, takes_several, walk_from, walked, with_default}
-use Rattle.command_line.specs.Form.{Flag, Form, Parts, ValueOption, at_end, found_after, has_start, is_flag, is_found, is_name, is_option, no_parts, with_flag, with_name, with_option, with_start, with_value, with_word}
+use Rattle.command_line.specs.Form.{Flag, Form, Parts, ValueOption, at_end, found_after, has_start, is_flag, is_found, is_name, is_option, no_parts, with_extra, with_flag, with_name, with_option, with_start, with_value, with_word}
 use Rattle.command_line.proofs.RowLemmas.{found_end, found_more, given_defaults, given_rows, has_row-rows, rows, same_bytes}
-use Rattle.command_line.proofs.WalkLemmas.{AreNames, At, Follows, IsFlag, IsName, IsOption, IsPlainWord, Reads, Stands, Waits, WaitsAt, chosen, flag_found, option_found, plain_name, start_at, step, walked_flag, walked_joined, walked_name, walked_value, walks}
+use Rattle.command_line.proofs.WalkLemmas.{AreNames, At, Follows, IsFlag, IsName, IsOption, IsPlainWord, Reads, Stands, Waits, WaitsAt, after_name, chosen, flag_found, option_found, plain_name, start_at, step, walked_flag, walked_joined, walked_name, walked_value, walks}
 
 -- ---- one word
 
@@ -60,17 +60,25 @@ turn_value s w word id waits p = rw (waits.stopped, waits.trailing, waits.waitin
 
 -- ---- any word
 
-passes_name : (s : Shape) (w : Walk) (parts : Parts) (names : List Text) (word : Text) (next : Parts) → s.args_override_self ≡ false → At s.rules w parts → AreNames s.rules w.position names
-    → Settles s.rules w None → with_name parts names word ≡ Some next → Passes s w word next.waiting
-passes_name s w parts [] word next again at are settles made = absurd (cc made)
-passes_name s w parts (id ∷ names) word next again at are settles made =
+passes_named : (s : Shape) (w : Walk) (parts : Parts) (names extra : List Text) (id word : Text) (next : Parts) → s.args_override_self ≡ false → At s.rules w parts → IsName s.rules w.position id
+    → Settles s.rules w None → (if not (is_found id parts.found) && is_name word then Some (after_name parts names extra id word) else None) ≡ Some next → Passes s w word next.waiting
+passes_named s w parts names extra id word next again at is settles made =
     let (none, name, same) = chosen (is_found id parts.found) (is_name word) _ next made in
-    let is = are.0 in
     let plain = plain_name word name in
     let rs = (settled s.rules w.held).rows in
     let passes : use_passes false is.rule (word ∷ []) rs ≡ true = is.passes word rs ∙ unused (has_row id rs) (lacks id rs parts.found at.held none) in
     let after : settle_passes s.rules false (walked s.rules [] w word).held ≡ true = rw (walked_name s.rules w word id is at.stands plain) (pending_passes s.rules is.rule word (record (settled s.rules w.held) { pending = Some (is.rule.id, word ∷ []) }) refl passes is.by_id) in
     (turn_name s w word id is again at.stands plain settles, subst (λ (p : Parts). Settles s.rules (walked s.rules [] w word) p.waiting) same after)
+
+passes_extra : (s : Shape) (w : Walk) (parts : Parts) (extra : List Text) (word : Text) (next : Parts) → s.args_override_self ≡ false → At s.rules w parts → AreNames s.rules w.position extra
+    → Settles s.rules w None → with_extra parts extra word ≡ Some next → Passes s w word next.waiting
+passes_extra s w parts [] word next again at are settles made = absurd (cc made)
+passes_extra s w parts (id ∷ extra) word next again at are settles made = passes_named s w parts [] extra id word next again at are.0 settles made
+
+passes_name : (s : Shape) (w : Walk) (parts : Parts) (names : List Text) (word : Text) (next : Parts) → s.args_override_self ≡ false → At s.rules w parts → AreNames s.rules w.position (names ++ parts.extra)
+    → Settles s.rules w None → with_name parts names word ≡ Some next → Passes s w word next.waiting
+passes_name s w parts [] word next again at are settles made = passes_extra s w parts parts.extra word next again at are settles made
+passes_name s w parts (id ∷ names) word next again at are settles made = passes_named s w parts names parts.extra id word next again at are.0 settles made
 
 passes_value : (s : Shape) (w : Walk) (parts : Parts) (id word : Text) (next : Parts) → WaitsAt s.rules w parts id → with_value parts id word ≡ Some next → Passes s w word next.waiting
 passes_value s w parts id word next at made =
@@ -175,8 +183,18 @@ due_value id parts key value next due made =
       | inr found ↦ inr (found_more id parts.found (key, value) found)
     ])
 
+due_extra : (id : Text) (parts : Parts) (extra : List Text) (word : Text) (next : Parts) → is_found id parts.found ≡ true → with_extra parts extra word ≡ Some next → IsDue id next
+due_extra id parts [] word next found made = absurd (cc made)
+due_extra id parts (key ∷ extra) word next found made =
+    let (none, name, same) = chosen (is_found key parts.found) (is_name word) _ next made in
+    subst (IsDue id) same (inr (found_more id parts.found (key, word) found))
+
 due_name : (id : Text) (parts : Parts) (names : List Text) (word : Text) (next : Parts) → (has_name names id ≡ true) ⊎ (is_found id parts.found ≡ true) → with_name parts names word ≡ Some next → IsDue id next
-due_name id parts [] word next due made = absurd (cc made)
+due_name id parts [] word next due made =
+    elim due [
+      | inl none ↦ absurd (cc none)
+      | inr found ↦ due_extra id parts parts.extra word next found made
+    ]
 due_name id parts (key ∷ names) word next due made =
     let (none, name, same) = chosen (is_found key parts.found) (is_name word) _ next made in
     subst (IsDue id) same (elim due [

@@ -82,7 +82,7 @@ asked_same topic.Make v w same flag = rw (same (codes "job") refl, same (codes "
 asked_same topic.Save v w same flag = rw (same (codes "job") refl, same (codes "requests") refl, same (codes "payments") refl, same (codes "alerts") refl, same (codes "audit") refl, same (codes "save") refl, same (codes "rows") refl, same (codes "threads") refl, same (codes "capacity") refl) refl
 asked_same topic.Resume v w same flag = rw (same (codes "job") refl, same (codes "requests") refl, same (codes "payments") refl, same (codes "save") refl, same (codes "alerts") refl, same (codes "audit") refl, same (codes "threads") refl, same (codes "capacity") refl) refl
 asked_same topic.Live v w same flag = rw (same (codes "job") refl, same (codes "requests") refl, same (codes "payments") refl, same (codes "alerts") refl, same (codes "audit") refl, same (codes "threads") refl, same (codes "capacity") refl) refl
-asked_same topic.Verify v w same flag = rw (same (codes "job") refl, same (codes "requests") refl, flag, same (codes "payments") refl, same (codes "audit") refl) refl
+asked_same topic.Verify v w same flag = rw (same (codes "job") refl, same (codes "requests") refl, flag, same (codes "payments") refl, same (codes "audit") refl, same (codes "alerts") refl) refl
 
 no_flag_is_on : (about : Topic) → list_all (λ (a : Rule). is_off a.defaults) (rules_of about) ≡ true
 no_flag_is_on topic.Program = refl

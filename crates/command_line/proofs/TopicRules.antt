@@ -361,6 +361,10 @@ verify_audit : IsName (rules_of topic.Verify) 4 (codes "audit")
 unfolding clap_on_literals
 verify_audit = record { rule = rule_at (rules_of topic.Verify) 4; at = refl; one = refl; single = refl; last = refl; next = refl; by_id = refl; use_of = λ value rs. refl; passes = λ value rs. refl }
 
+verify_alerts : IsName (rules_of topic.Verify) 5 (codes "alerts")
+unfolding clap_on_literals
+verify_alerts = record { rule = rule_at (rules_of topic.Verify) 5; at = refl; one = refl; single = refl; last = refl; next = refl; by_id = refl; use_of = λ value rs. refl; passes = λ value rs. refl }
+
 verify_ordered : IsFlag (rules_of topic.Verify) ordered_flag
 unfolding clap_on_literals
 verify_ordered = record { rule = rule_called (rules_of topic.Verify) (codes "ordered"); dashes = refl; long = refl; by_long = refl; takes = refl; use_of = λ rs. refl; passes = λ rs. refl }
@@ -376,4 +380,4 @@ reads topic.Make other = record { names = (make_job, (make_seed, (make_rows, tt)
 reads topic.Save other = record { names = (save_job, (save_requests, (save_payments, (save_alerts, (save_audit, (save_save, (save_rows, tt))))))); options = (save_threads, (save_capacity, tt)); flags = tt }
 reads topic.Resume other = record { names = (resume_job, (resume_requests, (resume_payments, (resume_save, (resume_alerts, (resume_audit, tt)))))); options = (resume_threads, (resume_capacity, tt)); flags = tt }
 reads topic.Live other = record { names = (live_job, (live_requests, (live_payments, (live_alerts, (live_audit, tt))))); options = (live_threads, (live_capacity, tt)); flags = tt }
-reads topic.Verify other = record { names = (verify_job, (verify_requests, (verify_payments, (verify_audit, tt)))); options = tt; flags = (verify_ordered, tt) }
+reads topic.Verify other = record { names = (verify_job, (verify_requests, (verify_payments, (verify_audit, (verify_alerts, tt))))); options = tt; flags = (verify_ordered, tt) }

@@ -10,7 +10,7 @@ use Rattle.clap.specs.Takes.{use_passes}
 use Rattle.clap.specs.Walk.{Held, Row, Rule, Text, Walk, arg_by_id, arg_by_index, arg_by_long, has_row, idle, is_multiple, is_pending, most_values, next_position, nothing_held, option, positional_held, rows_after, settled, takes_several, takes_values, used, walk_from, walked, with_default, with_values, without}
 use Rattle.clap.specs.declared.builder.value_parser.Reading.TheVariants.{AsWritten}
 use Rattle.clap.specs.declared.parser.matches.ValueSource.TheVariants.{CommandLine}
-use Rattle.command_line.specs.Form.{Flag, Form, Parts, ValueOption, at_end, found_after, has_start, is_flag, is_found, is_name, is_option, no_parts, with_flag, with_name, with_option, with_start, with_value, with_word}
+use Rattle.command_line.specs.Form.{Flag, Form, Parts, ValueOption, at_end, found_after, has_start, is_flag, is_found, is_name, is_option, no_parts, with_extra, with_flag, with_name, with_option, with_start, with_value, with_word}
 use Rattle.command_line.proofs.RowLemmas.{rows, rows-more, same_bytes}
 
 -- ---- words that are no flags
@@ -89,7 +89,7 @@ AreFlags rules (f ∷ fs) = IsFlag rules f × AreFlags rules fs
 
 -- the rules read the form
 pub record Reads (rules : List Rule) (form : Form) : Type 0 where
-  pub names : AreNames rules 1 form.names
+  pub names : AreNames rules 1 (form.names ++ form.extra)
   pub options : AreOptions rules form.options
   pub flags : AreFlags rules form.flags
 
@@ -160,7 +160,7 @@ walked_value rules w o word is s p = rw (s.stopped, s.trailing, s.waiting, p.das
 -- the walk stands where these parts were found, and no value is waited for
 pub record At (rules : List Rule) (w : Walk) (parts : Parts) : Type 0 where
   pub stands : Stands w
-  pub names : AreNames rules w.position parts.names
+  pub names : AreNames rules w.position (parts.names ++ parts.extra)
   pub held : (settled rules w.held).rows ≡ rows parts.found
 
 -- the walk waits for the value of an option, where these parts were found
@@ -169,7 +169,7 @@ pub record WaitsAt (rules : List Rule) (w : Walk) (parts : Parts) (id : Text) : 
   pub called : o.id ≡ id
   pub is : IsOption rules o
   pub waits : Waits w is.rule.id
-  pub names : AreNames rules w.position parts.names
+  pub names : AreNames rules w.position (parts.names ++ parts.extra)
   pub held : w.held.rows ≡ rows parts.found
 
 abbrev pub Follows : List Rule → Walk → Parts → Option Text → Type 0
@@ -185,20 +185,35 @@ settled_use : (rules : List Rule) (rule : Rule) (value : Text) (rs : List Row) (
     → (settled rules (record { rows = rs; pending = Some (rule.id, value ∷ []); skip = skip })).rows ≡ used rule (value ∷ []) rs
 settled_use rules rule value rs skip by_id = rw by_id refl
 
--- a name
-step_name : (rules : List Rule) (w : Walk) (parts : Parts) (names : List Text) (word : Text) (next : Parts) → Stands w → AreNames rules w.position names → (settled rules w.held).rows ≡ rows parts.found
-    → with_name parts names word ≡ Some next → Follows rules (walked rules [] w word) next next.waiting
-step_name rules w parts [] word next stands are held made = absurd (cc made)
-step_name rules w parts (id ∷ names) word next stands are held made =
+-- the parts after a name, where these names are left
+abbrev pub after_name : Parts → List Text → List Text → Text → Text → Parts
+after_name parts names extra id word = record { names = names; extra = extra; waiting = None; found = parts.found ++ (id, word) ∷ [] }
+
+-- a name, where these are left
+step_named : (rules : List Rule) (w : Walk) (parts : Parts) (names extra : List Text) (id word : Text) (next : Parts) → Stands w → IsName rules w.position id → AreNames rules (w.position + 1) (names ++ extra)
+    → (settled rules w.held).rows ≡ rows parts.found → (if not (is_found id parts.found) && is_name word then Some (after_name parts names extra id word) else None) ≡ Some next
+    → Follows rules (walked rules [] w word) next next.waiting
+step_named rules w parts names extra id word next stands is are held made =
     let (none, name, same) = chosen (is_found id parts.found) (is_name word) _ next made in
-    let is = are.0 in
-    let after : Parts = record { names = names; waiting = None; found = parts.found ++ (id, word) ∷ [] } in
+    let after : Parts = after_name parts names extra id word in
     let now : At rules (between (next_position is.rule w.position) (record (settled rules w.held) { pending = Some (is.rule.id, word ∷ []) })) after = record {
       stands = record { waiting = refl; trailing = refl; stopped = refl };
-      names = rw is.next are.1;
+      names = rw is.next are;
       held = settled_use rules is.rule word (settled rules w.held).rows w.held.skip is.by_id ∙ (is.use_of word (settled rules w.held).rows ∙ rows-more id word parts.found (settled rules w.held).rows held none);
     } in
     subst (λ (p : Parts). Follows rules (walked rules [] w word) p p.waiting) same (rw (walked_name rules w word id is stands (plain_name word name)) now)
+
+-- a name that may be left out
+step_extra : (rules : List Rule) (w : Walk) (parts : Parts) (extra : List Text) (word : Text) (next : Parts) → Stands w → AreNames rules w.position extra → (settled rules w.held).rows ≡ rows parts.found
+    → with_extra parts extra word ≡ Some next → Follows rules (walked rules [] w word) next next.waiting
+step_extra rules w parts [] word next stands are held made = absurd (cc made)
+step_extra rules w parts (id ∷ extra) word next stands are held made = step_named rules w parts [] extra id word next stands are.0 are.1 held made
+
+-- any name
+step_name : (rules : List Rule) (w : Walk) (parts : Parts) (names : List Text) (word : Text) (next : Parts) → Stands w → AreNames rules w.position (names ++ parts.extra)
+    → (settled rules w.held).rows ≡ rows parts.found → with_name parts names word ≡ Some next → Follows rules (walked rules [] w word) next next.waiting
+step_name rules w parts [] word next stands are held made = step_extra rules w parts parts.extra word next stands are held made
+step_name rules w parts (id ∷ names) word next stands are held made = step_named rules w parts names parts.extra id word next stands are.0 are.1 held made
 
 -- the value of an option, as a word of its own
 step_value : (rules : List Rule) (w : Walk) (parts : Parts) (id word : Text) (next : Parts) → WaitsAt rules w parts id → with_value parts id word ≡ Some next
@@ -206,7 +221,7 @@ step_value : (rules : List Rule) (w : Walk) (parts : Parts) (id word : Text) (ne
 step_value rules w parts id word next at made =
     let (none, name, same) = chosen (is_found id parts.found) (is_name word) _ next made in
     let is = at.is in
-    let after : Parts = record { names = parts.names; waiting = None; found = parts.found ++ (id, word) ∷ [] } in
+    let after : Parts = after_name parts parts.names parts.extra id word in
     let now : At rules (between w.position (record w.held { pending = Some (is.rule.id, word ∷ []) })) after = record {
       stands = record { waiting = refl; trailing = refl; stopped = refl };
       names = at.names;
@@ -233,7 +248,7 @@ step_used : (rules : List Rule) (w : Walk) (parts : Parts) (id value word : Text
     → with_value parts id value ≡ Some next → Follows rules (walked rules [] w word) next next.waiting
 step_used rules w parts id value word next rule given at use_of is_walked made =
     let (none, name, same) = chosen (is_found id parts.found) (is_name value) _ next made in
-    let after : Parts = record { names = parts.names; waiting = None; found = parts.found ++ (id, value) ∷ [] } in
+    let after : Parts = after_name parts parts.names parts.extra id value in
     let now : At rules (between w.position (record { rows = used rule given (settled rules w.held).rows; pending = None; skip = w.held.skip })) after = record {
       stands = record { waiting = refl; trailing = refl; stopped = refl };
       names = at.names;

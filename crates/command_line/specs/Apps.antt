@@ -1,5 +1,5 @@
 -- The commands that `clap` reads the words by.
-use Rattle.std.specs.Prelude.{◌≡◌, ◌++◌, ◌∷◌, [], List, map, true, false, Some, codes}
+use Rattle.std.specs.Prelude.{◌≡◌, ◌++◌, ◌∷◌, [], Bool, List, map, true, false, Some, codes}
 use Rattle.std.specs.Borrow.{Bor}
 use Rattle.clap.specs.Simple.{on_top}
 use Rattle.clap.specs.Words.{App, app_of, Rule, Shape, Text, new_app, new_rule}
@@ -15,9 +15,9 @@ use Rattle.command_line.specs.declared.topic.Topic.TheVariants as topic
 abbrev pub IsApp : Command → App → Type 0
 IsApp command app = (app_of command ≡ app) × ((out-Command command).has_globals ≡ false)
 
--- a name
-abbrev pub name_rule : Text → Rule
-name_rule id = record (new_rule id) { required = true }
+-- a name, which is needed or may be left out
+abbrev pub name_rule : Bool → Text → Rule
+name_rule needed id = record (new_rule id) { required = needed }
 
 -- an option with a value
 abbrev pub option_rule : Text → Rule
@@ -37,11 +37,14 @@ flag_rule_of flag = switch_rule flag.id
 abbrev pub with_rules : App → List Rule → App
 with_rules app rules = on_top (λ top. record top { rules = top.rules ++ rules }) app
 
--- the command with the arguments of a form: its names, its options and its flags
+-- the command with the arguments of a form: its names, those that may be left out, its options and
+-- its flags
 abbrev pub command_app : Text → Form → App
 command_app word form =
     with_rules
-    (with_rules (with_rules (new_app word) (map name_rule form.names))
+    (with_rules
+    (with_rules (with_rules (new_app word) (map (name_rule true) form.names))
+    (map (name_rule false) form.extra))
     (map option_rule_of form.options))
     (map flag_rule_of form.flags)
 

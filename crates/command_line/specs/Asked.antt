@@ -1,5 +1,5 @@
 -- What a command line may ask for, and what a command asks for.
-use Rattle.std.specs.Prelude.{◌≤◌, ⊤, ℕ, ℤ, Bool}
+use Rattle.std.specs.Prelude.{◌≤◌, ⊤, ℕ, ℤ, Bool, Option}
 use Rattle.command_line.specs.Form.{Text}
 use Rattle.command_line.specs.declared.command.EngineSize.{EngineSize}
 use Rattle.command_line.specs.declared.command.Command.{Command}
@@ -67,11 +67,13 @@ pub record ResumeAsked : Type 0 where
   pub run : RunAsked
   pub save : Text
 
--- what `verify` is asked to do: the files of a run, and the audit that it is to look at
+-- what `verify` is asked to do: the files of a run, the audit that it is to look at, and the alerts
+-- that are to be those of the run, if they are named
 pub record VerifyAsked : Type 0 where
   pub plan : PlanAsked
   pub payments : Text
   pub audit : Text
+  pub alerts : Option Text
 
 -- an engine has 1 to 16 threads
 abbrev pub IsThreads : ℕ → Type 0
@@ -145,6 +147,7 @@ verify_asked files = record {
   plan = plan_asked files.plan;
   payments = files.payments;
   audit = files.audit;
+  alerts = files.alerts;
 }
 
 -- what a `Command` asks for

@@ -18,9 +18,11 @@ pub record Flag : Type 0 where
   pub id : Text
   pub word : Text
 
--- what may follow a command: its names in order, its options with a value, and its flags
+-- what may follow a command: its names in order, names after them that may be left out, its options
+-- with a value, and its flags
 pub record Form : Type 0 where
   pub names : List Text
+  pub extra : List Text
   pub options : List ValueOption
   pub flags : List Flag
 
@@ -28,6 +30,8 @@ pub record Form : Type 0 where
 pub record Parts : Type 0 where
   -- the names that are still to come
   pub names : List Text
+  -- those that may still come after them
+  pub extra : List Text
   -- the option whose value the next word is
   pub waiting : Option Text
   -- what was found: a value for a name or an option
@@ -35,7 +39,8 @@ pub record Parts : Type 0 where
 
 -- nothing was found yet
 abbrev pub no_parts : Form → Parts
-no_parts form = record { names = form.names; waiting = None; found = [] }
+no_parts form =
+    record { names = form.names; extra = form.extra; waiting = None; found = [] }
 
 -- a name or a value isn't empty and doesn't begin with a dash
 abbrev pub is_name : Text → Bool
@@ -66,15 +71,38 @@ is_flag word flag = bytes_eq word flag.word
 abbrev pub with_value : Parts → Text → Text → Option Parts
 with_value parts id value =
     if not (is_found id parts.found) && is_name value then
-    Some (record { names = parts.names; waiting = None; found = parts.found ++ (id, value) ∷ [] })
+    Some (record {
+      names = parts.names;
+      extra = parts.extra;
+      waiting = None;
+      found = parts.found ++ (id, value) ∷ [];
+    })
+    else None
+
+-- the parts with the next of the names that may be left out
+abbrev pub with_extra : Parts → List Text → Text → Option Parts
+with_extra parts [] word = None
+with_extra parts (id ∷ extra) word =
+    if not (is_found id parts.found) && is_name word then
+    Some (record {
+      names = [];
+      extra = extra;
+      waiting = None;
+      found = parts.found ++ (id, word) ∷ [];
+    })
     else None
 
 -- the parts with the next name
 abbrev pub with_name : Parts → List Text → Text → Option Parts
-with_name parts [] word = None
+with_name parts [] word = with_extra parts parts.extra word
 with_name parts (id ∷ names) word =
     if not (is_found id parts.found) && is_name word then
-    Some (record { names = names; waiting = None; found = parts.found ++ (id, word) ∷ [] })
+    Some (record {
+      names = names;
+      extra = parts.extra;
+      waiting = None;
+      found = parts.found ++ (id, word) ∷ [];
+    })
     else None
 
 -- a word that is no option by itself: an option with its value, or the next name

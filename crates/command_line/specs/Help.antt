@@ -25,7 +25,7 @@ help_of topic.Program =
     ++ codes
     "  resume JOB REQUESTS PAYMENTS SAVE ALERTS AUDIT  runs the later payments from there\n"
     ++ codes
-    "  verify JOB REQUESTS PAYMENTS AUDIT              looks whether an audit is that of a run\n"
+    "  verify JOB REQUESTS PAYMENTS AUDIT [ALERTS]     looks whether an audit is that of a run\n"
     ++ codes "  make JOB SEED ROWS                              runs rows that are made up\n"
     ++ codes "  first PAYMENTS ALERTS MIN AFTER MIN2            runs the smallest job\n"
     ++ codes "\n"
@@ -152,15 +152,17 @@ help_of topic.Live =
     ++ codes "\n"
     ++ codes "example: fries live job.toml requests.toml pay.csv alerts.csv audit.csv\n"
 help_of topic.Verify =
-    codes "usage: fries verify JOB REQUESTS PAYMENTS AUDIT [--ordered]\n"
+    codes "usage: fries verify JOB REQUESTS PAYMENTS AUDIT [ALERTS] [--ordered]\n"
     ++ codes "\n"
     ++ codes "Looks whether an audit is that of a run, "
     ++ codes "and rebuilds the run: then no row met half of a change.\n"
+    ++ codes "With ALERTS it looks too whether these are just the alerts of that run.\n"
     ++ codes "\n"
     ++ codes "  JOB        file to read: a job as TOML\n"
     ++ codes "  REQUESTS   file to read: requests as TOML\n"
     ++ codes "  PAYMENTS   file to read: payments as CSV\n"
     ++ codes "  AUDIT      file to read: the audit that `run` wrote, as CSV\n"
+    ++ codes "  ALERTS     file to read: the alerts that `run` wrote, as CSV; without it, none\n"
     ++ codes "  --ordered  the run gave rows and requests one order\n"
     ++ codes "\n"
-    ++ codes "example: fries verify job.toml requests.toml pay.csv audit.csv\n"
+    ++ codes "example: fries verify job.toml requests.toml pay.csv audit.csv alerts.csv\n"

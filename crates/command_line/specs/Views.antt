@@ -19,6 +19,7 @@ flag_view flag = record { id = flag.id.now; word = flag.word.now }
 abbrev pub form_view : FormIs → Form
 form_view form = record {
   names = texts form.names.now;
+  extra = texts form.extra.now;
   options = map option_view form.options.now;
   flags = map flag_view form.flags.now;
 }
@@ -29,6 +30,7 @@ pair_view pair = (pair.0.now, pair.1.now)
 abbrev pub parts_view : PartsAre → Parts
 parts_view parts = record {
   names = texts (drop parts.next parts.names.now);
+  extra = texts (drop parts.next_extra parts.extra.now);
   waiting = option_map (λ id. id.now) parts.waiting;
   found = map pair_view parts.found.items;
 }

@@ -34,18 +34,20 @@ ordered_flag = record { id = codes "ordered"; word = codes "--ordered" }
 abbrev pub first_form : Form
 first_form = record {
   names = codes "payments" ∷ codes "alerts" ∷ codes "min" ∷ codes "after" ∷ codes "min2" ∷ [];
+  extra = [];
   options = [];
   flags = [];
 }
 
 -- what may follow the word `check`
 abbrev pub check_form : Form
-check_form = record { names = codes "job" ∷ []; options = []; flags = [] }
+check_form = record { names = codes "job" ∷ []; extra = []; options = []; flags = [] }
 
 -- what may follow the word `plan`
 abbrev pub plan_form : Form
 plan_form = record {
   names = codes "job" ∷ codes "requests" ∷ [];
+  extra = [];
   options = [];
   flags = ordered_flag ∷ [];
 }
@@ -54,6 +56,7 @@ plan_form = record {
 abbrev pub run_form : Form
 run_form = record {
   names = codes "job" ∷ codes "requests" ∷ codes "payments" ∷ codes "alerts" ∷ codes "audit" ∷ [];
+  extra = [];
   options = threads_option ∷ capacity_option ∷ [];
   flags = ordered_flag ∷ [];
 }
@@ -62,6 +65,7 @@ run_form = record {
 abbrev pub make_form : Form
 make_form = record {
   names = codes "job" ∷ codes "seed" ∷ codes "rows" ∷ [];
+  extra = [];
   options = threads_option ∷ [];
   flags = ordered_flag ∷ [];
 }
@@ -72,6 +76,7 @@ save_form = record {
   names =
       codes "job" ∷ codes "requests" ∷ codes "payments" ∷ codes "alerts" ∷ codes "audit"
       ∷ codes "save" ∷ codes "rows" ∷ [];
+  extra = [];
   options = threads_option ∷ capacity_option ∷ [];
   flags = [];
 }
@@ -82,6 +87,7 @@ resume_form = record {
   names =
       codes "job" ∷ codes "requests" ∷ codes "payments" ∷ codes "save" ∷ codes "alerts"
       ∷ codes "audit" ∷ [];
+  extra = [];
   options = threads_option ∷ capacity_option ∷ [];
   flags = [];
 }
@@ -90,6 +96,7 @@ resume_form = record {
 abbrev pub live_form : Form
 live_form = record {
   names = codes "job" ∷ codes "requests" ∷ codes "payments" ∷ codes "alerts" ∷ codes "audit" ∷ [];
+  extra = [];
   options = threads_option ∷ capacity_option ∷ [];
   flags = [];
 }
@@ -98,13 +105,14 @@ live_form = record {
 abbrev pub verify_form : Form
 verify_form = record {
   names = codes "job" ∷ codes "requests" ∷ codes "payments" ∷ codes "audit" ∷ [];
+  extra = codes "alerts" ∷ [];
   options = [];
   flags = ordered_flag ∷ [];
 }
 
 -- the full form of the words after a command
 abbrev pub form_of : Topic → Form
-form_of topic.Program = record { names = []; options = []; flags = [] }
+form_of topic.Program = record { names = []; extra = []; options = []; flags = [] }
 form_of topic.First = first_form
 form_of topic.Check = check_form
 form_of topic.Plan = plan_form
@@ -223,12 +231,13 @@ run_with plan values =
 abbrev pub run_of : Values → Option RunAsked
 run_of values = run_with (plan_of values) values
 
--- the files of a run, and its audit
+-- the files of a run, its audit, and the file of its alerts if that is named
 abbrev pub verify_of : Values → VerifyAsked
 verify_of values = record {
   plan = plan_of values;
   payments = name_in values (codes "payments");
   audit = name_in values (codes "audit");
+  alerts = values (codes "alerts");
 }
 
 -- a run that isn't in ordered mode

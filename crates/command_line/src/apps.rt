@@ -72,7 +72,8 @@ fn with_command<'w>(
 fn command<'w>(alloc: Global, word: &'w str, form: &Form) -> Result<Command<'w>, AllocError>
     ensures { IfOk result (λ made. IsApp made (command_app word.entry.now (form_view form.now))) }
 {
-    let command = with_names(alloc, Command::new(alloc, word), form.names)?;
+    let command = with_names(alloc, Command::new(alloc, word), form.names, true)?;
+    let command = with_names(alloc, command, form.extra, false)?;
     let command = with_options(alloc, command, form.options)?;
     with_flags(alloc, command, form.flags)
 }
@@ -81,14 +82,15 @@ fn with_names<'w>(
     alloc: Global,
     command: Command<'w>,
     names: &'static [&'static str],
+    needed: bool,
 ) -> Result<Command<'w>, AllocError>
     requires { (out-Command command).has_globals ≡ false }
     ensures { IfOk result (λ made. IsApp made
-        (with_rules (app_of command.entry) (map name_rule (texts names.entry.now)))) }
+        (with_rules (app_of command.entry) (map (name_rule needed) (texts names.entry.now)))) }
 {
     let mut command = command;
     for id in names {
-        command = command.arg(name(alloc, id))?;
+        command = command.arg(name(alloc, id, needed))?;
     }
     Ok(command)
 }
@@ -126,11 +128,11 @@ fn with_flags<'w>(
     Ok(command)
 }
 
-fn name<'w>(alloc: Global, id: &'w str) -> Arg<'w>
-    ensures rule { rule_of result ≡ name_rule id.entry.now }
+fn name<'w>(alloc: Global, id: &'w str, needed: bool) -> Arg<'w>
+    ensures rule { rule_of result ≡ name_rule needed id.entry.now }
     ensures local { result.global ≡ false }
 {
-    Arg::new(alloc, id).required(true)
+    Arg::new(alloc, id).required(needed)
 }
 
 fn option<'w>(alloc: Global, id: &'w str) -> Arg<'w>

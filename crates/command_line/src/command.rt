@@ -130,6 +130,8 @@ pub struct VerifyFiles {
     pub payments: Word,
     /// The file that the audit is read from.
     pub audit: Word,
+    /// The file whose text is to be that of the run's alerts, if one is named.
+    pub alerts: Option<Word>,
 }
 
 /// Why words are no command.
@@ -150,10 +152,11 @@ impl From<NoMemory> for WordsFault {
 
 /// What the words after the program's name ask for.
 ///
-/// A command is followed by its names in their order. Its options stand at any place among them,
-/// each once at most: `--threads N` or `--threads=N`. The program tests this by itself, and `clap`
-/// then reads the values. `--help` or `-h` alone, or directly after a command and last, asks for
-/// help; `--version` or `-V` alone asks for the version.
+/// A command is followed by its names in their order; one that may be left out is the last. Its
+/// options stand at any place among them, each once at most: `--threads N` or `--threads=N`. The
+/// program tests this by itself, and `clap` then reads the values. `--help` or `-h` alone, or
+/// directly after a command and last, asks for help; `--version` or `-V` alone asks for the
+/// version.
 ///
 /// # Errors
 ///

@@ -25,6 +25,8 @@ pub(crate) struct Flag {
 #[derive(Clone, Copy)]
 pub(crate) struct Form {
     pub(crate) names: &'static [&'static str],
+    /// Names after them that may be left out.
+    pub(crate) extra: &'static [&'static str],
     pub(crate) options: &'static [ValueOption],
     pub(crate) flags: &'static [Flag],
 }
@@ -53,31 +55,37 @@ pub(crate) fn form_of(topic: Topic) -> Form
     match topic {
         Topic::Program => Form {
             names: &[],
+            extra: &[],
             options: &[],
             flags: &[],
         },
         Topic::First => Form {
             names: &["payments", "alerts", "min", "after", "min2"],
+            extra: &[],
             options: &[],
             flags: &[],
         },
         Topic::Check => Form {
             names: &["job"],
+            extra: &[],
             options: &[],
             flags: &[],
         },
         Topic::Plan => Form {
             names: &["job", "requests"],
+            extra: &[],
             options: &[],
             flags: &[ORDERED],
         },
         Topic::Run => Form {
             names: &["job", "requests", "payments", "alerts", "audit"],
+            extra: &[],
             options: &[THREADS, CAPACITY],
             flags: &[ORDERED],
         },
         Topic::Make => Form {
             names: &["job", "seed", "rows"],
+            extra: &[],
             options: &[THREADS],
             flags: &[ORDERED],
         },
@@ -85,21 +93,25 @@ pub(crate) fn form_of(topic: Topic) -> Form
             names: &[
                 "job", "requests", "payments", "alerts", "audit", "save", "rows",
             ],
+            extra: &[],
             options: &[THREADS, CAPACITY],
             flags: &[],
         },
         Topic::Resume => Form {
             names: &["job", "requests", "payments", "save", "alerts", "audit"],
+            extra: &[],
             options: &[THREADS, CAPACITY],
             flags: &[],
         },
         Topic::Live => Form {
             names: &["job", "requests", "payments", "alerts", "audit"],
+            extra: &[],
             options: &[THREADS, CAPACITY],
             flags: &[],
         },
         Topic::Verify => Form {
             names: &["job", "requests", "payments", "audit"],
+            extra: &["alerts"],
             options: &[],
             flags: &[ORDERED],
         },

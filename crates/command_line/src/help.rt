@@ -41,7 +41,7 @@ usage: fries COMMAND NAMES [OPTIONS]
   live JOB REQUESTS PAYMENTS ALERTS AUDIT         the same, with requests released by lines
   save JOB REQUESTS PAYMENTS ALERTS AUDIT SAVE N  runs the first payments, saves the counts
   resume JOB REQUESTS PAYMENTS SAVE ALERTS AUDIT  runs the later payments from there
-  verify JOB REQUESTS PAYMENTS AUDIT              looks whether an audit is that of a run
+  verify JOB REQUESTS PAYMENTS AUDIT [ALERTS]     looks whether an audit is that of a run
   make JOB SEED ROWS                              runs rows that are made up
   first PAYMENTS ALERTS MIN AFTER MIN2            runs the smallest job
 
@@ -174,15 +174,17 @@ example: fries live job.toml requests.toml pay.csv alerts.csv audit.csv
 ";
 
 const VERIFY: &str = "\
-usage: fries verify JOB REQUESTS PAYMENTS AUDIT [--ordered]
+usage: fries verify JOB REQUESTS PAYMENTS AUDIT [ALERTS] [--ordered]
 
 Looks whether an audit is that of a run, and rebuilds the run: then no row met half of a change.
+With ALERTS it looks too whether these are just the alerts of that run.
 
   JOB        file to read: a job as TOML
   REQUESTS   file to read: requests as TOML
   PAYMENTS   file to read: payments as CSV
   AUDIT      file to read: the audit that `run` wrote, as CSV
+  ALERTS     file to read: the alerts that `run` wrote, as CSV; without it, none
   --ordered  the run gave rows and requests one order
 
-example: fries verify job.toml requests.toml pay.csv audit.csv
+example: fries verify job.toml requests.toml pay.csv audit.csv alerts.csv
 ";

@@ -21,6 +21,8 @@ pub(crate) fn has_form(alloc: Global, form: &Form, words: &[&str]) -> Result<boo
     let mut parts = Parts {
         names: form.names,
         next: 0,
+        extra: form.extra,
+        next_extra: 0,
         waiting: None,
         found: Vec::new(alloc),
     };
@@ -38,6 +40,9 @@ struct Parts<'w> {
     names: &'static [&'static str],
     /// The place of the first name that is still to come.
     next: usize,
+    extra: &'static [&'static str],
+    /// The place of the first of the names that may be left out that hasn't come.
+    next_extra: usize,
     /// The option whose value the next word is.
     waiting: Option<&'static str>,
     /// A value for each name and option that was found.
@@ -83,10 +88,14 @@ impl<'w> Parts<'w> {
         ensures { IfOk result (λ taken. if_taken taken (parts_view self.new)
             (with_name_of (parts_view self.old) (parts_view self.old).names word.entry.now)) }
     {
-        let Some(id) = self.names.get(self.next) else {
+        if let Some(id) = self.names.get(self.next) {
+            self.next += 1;
+            return self.give(id, word);
+        }
+        let Some(id) = self.extra.get(self.next_extra) else {
             return Ok(false);
         };
-        self.next += 1;
+        self.next_extra += 1;
         self.give(id, word)
     }
 

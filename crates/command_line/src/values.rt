@@ -192,6 +192,7 @@ fn verify_of(alloc: Global, values: &ArgMatches<'_>) -> Result<VerifyFiles, NoMe
     Ok(VerifyFiles {
         payments: name_in(alloc, values, "payments")?,
         audit: name_in(alloc, values, "audit")?,
+        alerts: extra_in(alloc, values, "alerts")?,
         plan: plan_of(alloc, values)?,
     })
 }
@@ -292,6 +293,16 @@ fn name_in(alloc: Global, values: &ArgMatches<'_>, id: &str) -> Result<Word, NoM
     ensures { IfOk result (λ name. name ≡ name_of (first_value (found_of values.now)) id.now) }
 {
     Ok(Word::from_string(text_in(values, id).to_string(alloc)?))
+}
+
+// The name that may be left out, if it is there.
+fn extra_in(alloc: Global, values: &ArgMatches<'_>, id: &str) -> Result<Option<Word>, NoMemory>
+    ensures { IfOk result (λ name. name ≡ first_value (found_of values.now) id.now) }
+{
+    match values.get_str(id) {
+        Some(text) => Ok(Some(Word::from_string(text.to_string(alloc)?))),
+        None => Ok(None),
+    }
 }
 
 // The text of a name, which every full form has.

@@ -53,6 +53,7 @@ status_of fault.NoMemory = 7
 status_of (fault.Long file) = 9
 status_of (fault.Save code) = 10
 status_of (fault.Audit code) = 11
+status_of (fault.Alerts line) = 11
 
 -- the status of a call that was done: 8 where a request was refused
 abbrev pub status_of_done : List Refused → ℕ
@@ -69,7 +70,7 @@ abbrev pub limit_of : FileIs → ℕ
 limit_of file.Job = 1048576
 limit_of file.Requests = 1048576
 limit_of file.Payments = 67108864
-limit_of file.Alerts = 0
+limit_of file.Alerts = 2147483648
 limit_of file.Audit = 536870912
 limit_of file.Save = 536870912
 limit_of file.Asks = 1048576

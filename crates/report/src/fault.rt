@@ -18,6 +18,7 @@ pub enum FileIs {
     Job,
     Requests,
     Payments,
+    /// The alerts, which commands that run rows write and `verify` reads.
     Alerts,
     /// The audit, which `run` writes and `verify` reads.
     Audit,
@@ -38,7 +39,8 @@ impl FileIs {
             FileIs::Job | FileIs::Requests | FileIs::Asks => 1_048_576,
             FileIs::Payments => 67_108_864,
             FileIs::Save | FileIs::Audit => 536_870_912,
-            FileIs::Alerts | FileIs::Out => 0,
+            FileIs::Alerts => 2_147_483_648,
+            FileIs::Out => 0,
         }
     }
 }
@@ -58,6 +60,9 @@ pub enum Fault {
     Save(SaveFault),
     /// The audit was read and is that of no run.
     Audit(AuditFault),
+    /// The alerts were read and aren't those of the run whose audit was read. They differ first in
+    /// this line, counted from 1.
+    Alerts(u64),
     /// A file or the input couldn't be read.
     Read(FileIs),
     /// A file couldn't be made or written, or the standard output refused.
@@ -82,7 +87,7 @@ impl Fault {
             Fault::NoMemory => 7,
             Fault::Long(_) => 9,
             Fault::Save(_) => 10,
-            Fault::Audit(_) => 11,
+            Fault::Audit(_) | Fault::Alerts(_) => 11,
         }
     }
 }

@@ -17,6 +17,7 @@ impl fmt::Display for Fault {
             Fault::Payments(fault) => fault.fmt(f),
             Fault::Save(fault) => fault.fmt(f),
             Fault::Audit(fault) => fault.fmt(f),
+            Fault::Alerts(line) => write!(f, "V7 line {line}"),
             Fault::Read(file) | Fault::Write(file) | Fault::Long(file) => file.fmt(f),
             Fault::NoMemory => write!(f, "memory"),
         }

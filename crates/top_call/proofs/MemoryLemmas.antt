@@ -45,7 +45,7 @@ answers_memory (Make asked) asks old new answer is prints = record { between = o
 answers_memory (Save asked) asks old new answer is prints = record { between = old; outcome = inl (stops_for_memory _ old answer is (inl (inl refl))); prints = prints }
 answers_memory (Resume asked) asks old new answer is prints = record { between = old; outcome = inl (stops_for_memory _ old answer is (inl (inl (inl refl)))); prints = prints }
 answers_memory (Live asked) asks old new answer is prints = record { between = old; outcome = inl (record { stops = stops_for_memory _ old answer is (inl (inl refl)); asks = inl refl }); prints = prints }
-answers_memory (Verify asked) asks old new answer is prints = record { between = old; outcome = inl (stops_for_memory _ old answer is (inl (inl (inl refl)))); prints = prints }
+answers_memory (Verify asked) asks old new answer is prints = record { between = old; outcome = inl (stops_for_memory _ old answer is (inl (inl (inl (inl refl))))); prints = prints }
 answers_memory (Help about) asks old new answer is prints = text_for_memory (help_of about) old new answer is prints
 answers_memory Version asks old new answer is prints = text_for_memory version_line old new answer is prints
 

@@ -24,15 +24,15 @@ use Rattle.call_steps.specs.Effects.{FileText, Prints, PrintsFault, PrintsReport
 use Rattle.top_call.specs.Plan.{IsNoSetup, setup_lines}
 use Rattle.call_steps.specs.Reading.{IsUnread, RefusesJob, RefusesRequests, RefusesRows, RefusesSave}
 use Rattle.top_call.specs.Run.{HasNoRows, IsNoRun}
-use Rattle.top_call.specs.Verify.{IsNotVerified}
-use Rattle.call_steps.specs.Audits.{RefusesAudit, verified_lines}
+use Rattle.top_call.specs.Verify.{IsNotRestored, IsNotVerified}
+use Rattle.call_steps.specs.Audits.{HoldsNoAlerts, RefusesAlerts, RefusesAudit, verified_lines}
 use Rattle.flow_model.specs.declared.setup.Setup.{Setup}
 use Rattle.tuple_trace.specs.declared.row.Row.{Row}
 use Rattle.top_call.specs.Resume.{IsNoResume}
 use Rattle.flow_model.specs.SetupView.{SetupView}
 use Rattle.flow_model.specs.Setup.{setup_view}
 use Rattle.call_steps.specs.Live.{live_fault, live_lines}
-use Rattle.call_steps.specs.Running.{files_of, made_lines, run_lines}
+use Rattle.call_steps.specs.Running.{alerts_of, files_of, made_lines, run_lines}
 use Rattle.live_control.specs.Asking.{AsksIs}
 use Rattle.top_call.specs.Sure.{IsSure, IsSureStatus, SureCallsEndWell}
 use Rattle.call_steps.specs.declared.answer.Answer.{Answer}
@@ -57,6 +57,7 @@ own_status (Some fault.NoMemory) refused own = (5, omega arith, refl)
 own_status (Some (fault.Long which)) refused own = (7, omega arith, refl)
 own_status (Some (fault.Save code)) refused own = (8, omega arith, refl)
 own_status (Some (fault.Audit code)) refused own = (9, omega arith, refl)
+own_status (Some (fault.Alerts line)) refused own = (9, omega arith, refl)
 
 -- ---- counts that stay
 
@@ -113,6 +114,10 @@ of_audit : (setup : Setup) (rows : List Row) → IsOfBytes (RefusesAudit setup r
 of_audit setup rows (fault.Audit code) bytes refused = tt
 of_audit setup rows _ bytes refused = absurd refused
 
+of_alerts : (text : List ℕ) → IsOfBytes (RefusesAlerts text)
+of_alerts text (fault.Alerts line) bytes refused = tt
+of_alerts text _ bytes refused = absurd refused
+
 unread_own : (is : FileIs) (Refuses : Fault → List ℕ → Type 0) (files : Option Files) (name : List ℕ) (old new : World) (why : Fault) → IsOfBytes Refuses →
     IsSure old → IsSure new → IsUnread is Refuses files name old.shelf.faults new.shelf.faults why → IsOwn (Some why)
 unread_own is Refuses files name old new (fault.Read which) of sure later unread =
@@ -141,12 +146,25 @@ no_run_own : (asked : RunAsked) (files : Option Files) (old new : World) (why : 
     IsNoRun asked files old.shelf.faults new.shelf.faults why → IsOwn (Some why)
 no_run_own asked files old new why sure later none = no_rows_read_own asked.plan asked.payments files old new why sure later none
 
+not_restored_own : (asked : VerifyAsked) (files : Option Files) (old new : World) (why : Fault) → IsSure old → IsSure new →
+    IsNotRestored asked files old.shelf.faults new.shelf.faults why → IsOwn (Some why)
+not_restored_own asked files old new why sure later none =
+    elim none [
+      | inl none ↦ no_rows_read_own asked.plan asked.payments files old new why sure later none
+      | inr none ↦ unread_own file.Audit (RefusesAudit none.setup none.rows) files asked.audit old new why (of_audit none.setup none.rows) sure later none.unread
+    ]
+
+no_alerts_own : (name : Option (List ℕ)) (text : List ℕ) (files : Option Files) (old new : World) (why : Fault) → IsSure old → IsSure new →
+    HoldsNoAlerts files name text old.shelf.faults new.shelf.faults why → IsOwn (Some why)
+no_alerts_own None text files old new why sure later unread = absurd unread
+no_alerts_own (Some name) text files old new why sure later unread = unread_own file.Alerts (RefusesAlerts text) files name old new why (of_alerts text) sure later unread
+
 not_verified_own : (asked : VerifyAsked) (files : Option Files) (old new : World) (why : Fault) → IsSure old → IsSure new →
     IsNotVerified asked files old.shelf.faults new.shelf.faults why → IsOwn (Some why)
 not_verified_own asked files old new why sure later none =
     elim none [
-      | inl none ↦ no_rows_read_own asked.plan asked.payments files old new why sure later none
-      | inr none ↦ unread_own file.Audit (RefusesAudit none.setup none.rows) files asked.audit old new why (of_audit none.setup none.rows) sure later none.unread
+      | inl none ↦ not_restored_own asked files old new why sure later none
+      | inr other ↦ no_alerts_own asked.alerts (alerts_of other.done) files old new why sure later other.unread
     ]
 
 no_resume_own : (asked : ResumeAsked) (files : Option Files) (old new : World) (why : Fault) → IsSure old → IsSure new →

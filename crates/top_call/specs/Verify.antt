@@ -11,20 +11,23 @@ use Rattle.flow_model.specs.Run.{Ran}
 use Rattle.flow_model.specs.declared.setup.Setup.{Setup}
 use Rattle.command_line.specs.Asked.{VerifyAsked}
 use Rattle.report.specs.declared.fault.Fault.{Fault}
-use Rattle.call_steps.specs.Audits.{FollowsAudit, HaveOneVerdict, IsAuditOf, IsNoAudit, TellsAudit}
+use Rattle.sink_journal.specs.Alerts.{alerts}
+use Rattle.call_steps.specs.Audits.{FollowsAlerts, FollowsAudit, HaveOneVerdict, HoldsAlerts}
+use Rattle.call_steps.specs.Audits.{HoldsNoAlerts, IsAuditOf, IsNoAudit, TellsAlerts, TellsAudit}
 use Rattle.call_steps.specs.Audits.{verified_lines}
 use Rattle.call_steps.specs.Outcomes.{PrintsLines, Stops}
 use Rattle.call_steps.specs.Effects.{IsExcused, PrintsFault}
 use Rattle.call_steps.specs.Reading.{AreRequestsOf, AreRowsOf, FollowsJob, FollowsRequests}
 use Rattle.call_steps.specs.Reading.{FollowsRows, IsJobOf, TellsJob, TellsRequests, TellsRows}
-use Rattle.call_steps.specs.Running.{IsRunOf}
+use Rattle.call_steps.specs.Running.{IsRunOf, alerts_of}
 use Rattle.call_steps.specs.SetupFor.{AreSame, IsSetupFor}
 use Rattle.call_steps.specs.declared.answer.Answer.{Answer}
 use Rattle.call_steps.specs.declared.running.Done.{Done}
 use Rattle.top_call.specs.Run.{HasNoRows}
 
--- the record is the run of what the files hold whose audit the audit's file holds
-pub record IsVerifiedRun (asked : VerifyAsked) (files : Option Files) (done : Done) : Type 0 where
+-- The record is the run of what the files hold whose audit the audit's file holds. That file holds
+-- the audit of no other run of the same setup and rows.
+pub record IsRestoredRun (asked : VerifyAsked) (files : Option Files) (done : Done) : Type 0 where
   pub job : JobView
   pub requests : List Request
   pub rows : List Row
@@ -34,6 +37,15 @@ pub record IsVerifiedRun (asked : VerifyAsked) (files : Option Files) (done : Do
   pub run : IsRunOf AreSame asked.plan.ordered job requests rows done
   pub of_audit : IsAuditOf files asked.audit done.ran.setup rows (record_view done.ran)
   pub verdict : HaveOneVerdict done.ran.setup rows
+  pub only :
+      (ran : Ran) → TellsAudit files asked.audit done.ran.setup rows ran →
+      record_view done.ran ≡ ran
+
+-- the record is the run that the audit tells, and the alerts' file, if one is named, holds just the
+-- text of its alerts
+pub record IsVerifiedRun (asked : VerifyAsked) (files : Option Files) (done : Done) : Type 0 where
+  pub restored : IsRestoredRun asked files done
+  pub of_alerts : HoldsAlerts files asked.alerts (alerts_of done)
 
 -- the files hold a job, requests and rows, and the audit's file holds no audit of a run of them,
 -- for this fault
@@ -50,10 +62,23 @@ pub record HasNoAudit (asked : VerifyAsked) (files : Option Files) (old new : Fa
   pub unread : IsNoAudit files asked.audit setup rows old new why
   pub verdict : HaveOneVerdict setup rows
 
--- why no run is verified: no job, no requests or no rows were read, or else no audit
+-- the run was restored, and the alerts' file holds another text than that of its alerts, or wasn't
+-- read, for this fault
+pub record HasOtherAlerts (asked : VerifyAsked) (files : Option Files) (old new : Faults)
+    (why : Fault) : Type 0 where
+  pub done : Done
+  pub restored : IsRestoredRun asked files done
+  pub unread : HoldsNoAlerts files asked.alerts (alerts_of done) old new why
+
+-- why no run is restored: no job, no requests or no rows were read, or else no audit
+abbrev pub IsNotRestored : VerifyAsked → Option Files → Faults → Faults → Fault → Type 0
+IsNotRestored asked files old new why =
+    HasNoRows asked.plan asked.payments files old new why ⊎ HasNoAudit asked files old new why
+
+-- why no run is verified: none is restored, or else the alerts aren't its
 abbrev pub IsNotVerified : VerifyAsked → Option Files → Faults → Faults → Fault → Type 0
 IsNotVerified asked files old new why =
-    HasNoRows asked.plan asked.payments files old new why ⊎ HasNoAudit asked files old new why
+    IsNotRestored asked files old new why ⊎ HasOtherAlerts asked files old new why
 
 -- ---- the answer
 
@@ -77,14 +102,20 @@ pub record AnswersVerify (asked : VerifyAsked) (old new : World) (answer : Answe
   pub outcome : EndsVerify asked old between answer
   pub prints : PrintsFault answer.fault between new
 
--- the audit's file is answered by what it holds, seen by the setup of the job and its requests
+-- The audit's file is answered by what it holds, seen by the setup of the job and its requests. If
+-- it tells a run, the alerts' file is answered by what it holds. If that is the text of the run's
+-- alerts, or no alerts are named, the call is done or excused.
 pub record FollowsVerdict (asked : VerifyAsked) (job : JobView) (requests : List Request)
     (rows : List Row) (old new : World) (answer : Option Fault) : Type 0 where
   pub setup : Setup
   pub setup_is : IsSetupFor AreSame asked.plan.ordered job requests setup
   pub audit : FollowsAudit setup rows asked.audit old new answer
+  pub of_alerts :
+      (ran : Ran) → TellsAudit old.shelf.files asked.audit setup rows ran →
+      FollowsAlerts asked.alerts (alerts ran.setup.job ran.journals) old new answer
   pub done :
       (ran : Ran) → TellsAudit old.shelf.files asked.audit setup rows ran →
+      TellsAlerts old.shelf.files asked.alerts (alerts ran.setup.job ran.journals) →
       (answer ≡ None) ⊎ IsExcused old new answer
 
 -- the answer, seen from the files: each is looked at if those before it hold what they should

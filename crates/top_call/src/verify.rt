@@ -5,12 +5,13 @@ ghost use Rattle.command_line.specs.Asked.{verify_asked};
 ghost use Rattle.payments.specs.World.{world};
 ghost use Rattle.call_steps.specs.Audits.{verified_lines as verified_lines_of};
 ghost use Rattle.call_steps.specs.Effects.{Prints};
-ghost use Rattle.top_call.specs.Verify.{AnswersVerify, EndsVerify, FollowsVerify, IsNotVerified};
-ghost use Rattle.top_call.specs.Verify.{IsVerifiedRun};
+ghost use Rattle.top_call.specs.Verify.{AnswersVerify, EndsVerify, FollowsVerify, IsNotRestored};
+ghost use Rattle.top_call.specs.Verify.{IsNotVerified, IsRestoredRun, IsVerifiedRun};
 
 use crate::top::report;
 use call_steps::{
-    Answer, Done, audited_run, job_in, print, requests_in, rows_in, setup_of, verified_lines,
+    Answer, Done, audited_run, check_alerts, job_in, print, requests_in, rows_in, setup_of,
+    verified_lines,
 };
 use command_line::VerifyFiles;
 use job_file::{faulty_is_no_job, files_have_one_fault};
@@ -42,8 +43,9 @@ pub(crate) fn answer_verify<S: Shelf, O: Sink>(
 }
 
 /// Reads a job, its requests and its payments, judges the requests, and then reads an audit.
-/// Rebuilds the run whose audit it is, and prints that it is verified and the summary. The first
-/// fault ends it. No file is changed.
+/// Rebuilds the run whose audit it is. If alerts are named it reads them, and they have to be just
+/// those of this run. Prints that it is verified and the summary. The first fault ends it. No file
+/// is changed.
 pub fn verify_command<S: Shelf, O: Sink>(
     alloc: Global,
     files: &VerifyFiles,
@@ -55,7 +57,7 @@ pub fn verify_command<S: Shelf, O: Sink>(
         (world (S.state shelf.new) (O.state out.new))
         result }
 {
-    match rebuild(alloc, files, shelf) {
+    match verified_run(alloc, files, shelf) {
         Ok(done) => {
             let fault = print_verified(alloc, &done, out).err();
             let Done { ran, refused, .. } = done;
@@ -70,8 +72,8 @@ pub fn verify_command<S: Shelf, O: Sink>(
     }
 }
 
-// Reads the files, and rebuilds the run whose audit they hold.
-fn rebuild<S: Shelf>(alloc: Global, files: &VerifyFiles, shelf: &mut S) -> Result<Done, Fault>
+// Reads the files, and rebuilds the run whose audit and alerts they hold.
+fn verified_run<S: Shelf>(alloc: Global, files: &VerifyFiles, shelf: &mut S) -> Result<Done, Fault>
     ensures run { IfOk result (IsVerifiedRun (verify_asked files.now) (S.state shelf.old).files) }
     ensures journals { IfOk result (λ done. length done.ran.journals
         ≡ worker_count done.ran.setup.job.nodes) }
@@ -79,6 +81,22 @@ fn rebuild<S: Shelf>(alloc: Global, files: &VerifyFiles, shelf: &mut S) -> Resul
     ensures files { (S.state shelf.new).files ≡ (S.state shelf.old).files }
     ensures draft { (S.state shelf.new).draft ≡ (S.state shelf.old).draft }
     ensures cause { IfErr result (IsNotVerified (verify_asked files.now) (S.state shelf.old).files
+        (S.state shelf.old).faults (S.state shelf.new).faults) }
+{
+    let done = rebuild(alloc, files, shelf)?;
+    check_alerts(alloc, &done, &files.alerts, shelf)?;
+    Ok(done)
+}
+
+// Reads the files, and rebuilds the run whose audit they hold.
+fn rebuild<S: Shelf>(alloc: Global, files: &VerifyFiles, shelf: &mut S) -> Result<Done, Fault>
+    ensures run { IfOk result (IsRestoredRun (verify_asked files.now) (S.state shelf.old).files) }
+    ensures journals { IfOk result (λ done. length done.ran.journals
+        ≡ worker_count done.ran.setup.job.nodes) }
+    ensures kept { OnOk result (S.state shelf.new ≡ S.state shelf.old) }
+    ensures files { (S.state shelf.new).files ≡ (S.state shelf.old).files }
+    ensures draft { (S.state shelf.new).draft ≡ (S.state shelf.old).draft }
+    ensures cause { IfErr result (IsNotRestored (verify_asked files.now) (S.state shelf.old).files
         (S.state shelf.old).faults (S.state shelf.new).faults) }
 {
     let plan = &files.plan;

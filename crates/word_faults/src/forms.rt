@@ -50,19 +50,42 @@ pub(crate) fn form_of(word: &str) -> Option<Form> {
 }
 
 impl Form {
-    /// The names of the command with a space between each two, as its usage has them.
-    pub(crate) fn names(self) -> &'static str {
+    // What follows the command in its usage.
+    fn usage(self) -> &'static str {
         let usage = match self.help.split_once('\n') {
             Some((usage, _)) => usage,
             None => self.help,
         };
-        let names = match usage.split_once(self.command) {
+        match usage.split_once(self.command) {
             Some((_, names)) => names,
             None => "",
-        };
-        match names.split_once(" [") {
+        }
+    }
+
+    /// The names that the command needs with a space between each two, as its usage has them.
+    pub(crate) fn names(self) -> &'static str {
+        match self.usage().split_once(" [") {
             Some((names, _)) => names.trim(),
-            None => names.trim(),
+            None => self.usage().trim(),
+        }
+    }
+
+    /// How many names the command needs.
+    pub(crate) fn name_count(self) -> usize {
+        self.names().split(' ').count()
+    }
+
+    /// The name after them that may be left out, if there is one: the usage has it in brackets, and
+    /// the help has a line for it.
+    pub(crate) fn extra(self) -> Option<&'static str> {
+        let (_, rest) = self.usage().split_once(" [")?;
+        let (name, _) = rest.split_once(']')?;
+        if name.starts_with('-') {
+            return None;
+        }
+        match self.line(name) {
+            Some(_) => Some(name),
+            None => None,
         }
     }
 

@@ -97,24 +97,42 @@ fn push_fault_after(
 }
 
 fn push_count_fault(form: Form, words: &[Word], out: &mut String) -> Result<(), AllocError> {
-    let (command, names) = (form.command, form.names());
-    let wanted = names.split(' ').count();
+    let needed = form.name_count();
+    let most = match form.extra() {
+        Some(_) => needed.saturating_add(1),
+        None => needed,
+    };
     let here = name_count(words);
-    if here == wanted {
+    if here >= needed && here <= most {
         return Ok(());
     }
-    let s = if wanted == 1 { "" } else { "s" };
+    push_wanted(form, out)?;
     let are = if here == 1 { "is" } else { "are" };
-    write!(
-        out,
-        "`{command}` takes {wanted} name{s} ({names}), and here {are} {here}: "
-    )?;
-    match name_at(words, wanted) {
+    write!(out, ", and here {are} {here}: ")?;
+    match name_at(words, most) {
         Some(more) => {
             push_shown(more.as_str(), out)?;
             out.push_str(" is too many.")
         }
-        None => push_missing(names, here, out),
+        None => push_missing(form.names(), here, out),
+    }
+}
+
+// Appends how many names the command takes, and which.
+fn push_wanted(form: Form, out: &mut String) -> Result<(), AllocError> {
+    let (command, names, needed) = (form.command, form.names(), form.name_count());
+    match form.extra() {
+        Some(extra) => {
+            let most = needed.saturating_add(1);
+            write!(
+                out,
+                "`{command}` takes {needed} or {most} names ({names} [{extra}])"
+            )
+        }
+        None => {
+            let s = if needed == 1 { "" } else { "s" };
+            write!(out, "`{command}` takes {needed} name{s} ({names})")
+        }
     }
 }
 
@@ -145,7 +163,10 @@ fn push_name_fault(form: Form, words: &[Word], out: &mut String) -> Result<(), A
             return Ok(());
         }
     }
-    Ok(())
+    match (form.extra(), name_at(words, form.name_count())) {
+        (Some(extra), Some(word)) => push_one_fault(form, extra, word.as_str(), out),
+        _ => Ok(()),
+    }
 }
 
 fn push_one_fault(form: Form, name: &str, word: &str, out: &mut String) -> Result<(), AllocError> {

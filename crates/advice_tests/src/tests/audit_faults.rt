@@ -85,3 +85,24 @@ fn workers_and_lanes_are_told_by_their_nodes(rt: HostRuntime) {
         assert!(rt; matches!(is_case(rt.alloc(), *fault, told), Ok(true)));
     }
 }
+
+const VERIFY_ALERTS: &[&str] = &[
+    "verify",
+    "job.toml",
+    "requests.toml",
+    "pay.csv",
+    "audit.csv",
+    "alerts.csv",
+];
+
+const OTHER_ALERTS: &str = "fries: alerts file `alerts.csv`: V7 line 3
+  The alerts aren't those of the run that the audit tells. This line differs first.
+  Don't trust the alerts file: it is of another run, was cut, or was changed.
+";
+
+#[test]
+fn alerts_of_another_run_are_told(rt: HostRuntime) {
+    let fault = Some(Fault::Alerts(3));
+    let told = is_told(rt.alloc(), FILES, VERIFY_ALERTS, fault, &[], OTHER_ALERTS);
+    assert!(rt; matches!(told, Ok(true)));
+}

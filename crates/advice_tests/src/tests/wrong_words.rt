@@ -31,6 +31,20 @@ resume, verify, make, first.",
 missing. Type `fries run --help`.",
     ),
     (
+        &["verify", "j", "r", "p", "--ordered"],
+        "`verify` takes 4 or 5 names (JOB REQUESTS PAYMENTS AUDIT [ALERTS]), and here are 3: AUDIT \
+is missing. Type `fries verify --help`.",
+    ),
+    (
+        &["verify", "j", "r", "p", "u", "a", "x"],
+        "`verify` takes 4 or 5 names (JOB REQUESTS PAYMENTS AUDIT [ALERTS]), and here are 6: `x` \
+is too many. Type `fries verify --help`.",
+    ),
+    (
+        &["verify", "j", "r", "p", "u", ""],
+        "ALERTS is an empty word. Type `fries verify --help`.",
+    ),
+    (
         &["check"],
         "`check` takes 1 name (JOB), and here are 0: JOB is missing. Type `fries check --help`.",
     ),

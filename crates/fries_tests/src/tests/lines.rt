@@ -5,7 +5,7 @@ use payments::PFault;
 use report::{Fault, FileIs, fault_line};
 use std::alloc::Global;
 
-const LINES: [(Fault, &str); 20] = [
+const LINES: [(Fault, &str); 22] = [
     (Fault::Job(JobFault::NotToml), "fault 2 J1\n"),
     (
         Fault::Job(JobFault::Shape(Part::Unknown)),
@@ -47,6 +47,8 @@ const LINES: [(Fault, &str); 20] = [
     ),
     (Fault::Read(FileIs::Requests), "fault 5 requests\n"),
     (Fault::Long(FileIs::Payments), "fault 9 payments\n"),
+    (Fault::Long(FileIs::Alerts), "fault 9 alerts\n"),
+    (Fault::Alerts(3), "fault 11 V7 line 3\n"),
     (Fault::NoMemory, "fault 7 memory\n"),
     (Fault::Write(FileIs::Out), "fault 6 out\n"),
     (

@@ -9,7 +9,7 @@ const FILES: [(&str, &str); 3] = [("j", CHAIN), ("r", ""), ("p", FOUR_PAYMENTS)]
 const USAGE: &str = "fault 1 usage\n";
 
 /// Words that are no full form. The first line has none.
-const FAULTY_WORDS: [&str; 47] = [
+const FAULTY_WORDS: [&str; 49] = [
     "",
     "help",
     "help run",
@@ -40,6 +40,8 @@ const FAULTY_WORDS: [&str; 47] = [
     "run j r p alerts.csv alerts.csv",
     "run j r p alerts.csv audit.csv more",
     "run j r p alerts.csv -- audit.csv",
+    "verify j r p",
+    "verify j r p audit.csv alerts.csv more",
     "make j 7",
     "make j 7 1 1",
     "make j 7 4294967296",

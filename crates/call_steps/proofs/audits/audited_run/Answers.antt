@@ -7,10 +7,12 @@ use Rattle.flow_model.specs.declared.record.RunRecord.{RunRecord}
 use Rattle.jobs.specs.JobView.{JobView}
 use Rattle.jobs.specs.Nodes.{AreFromSources}
 use Rattle.report.specs.Lines.{noted}
+use Rattle.report.specs.declared.fault.FileIs.TheVariants as file
 use Rattle.versions.specs.declared.in_order.Refused.{Refused}
 use Rattle.call_steps.specs.Audits.{IsAudited}
 use Rattle.call_steps.specs.SetupFor.{AreSame}
 use Rattle.call_steps.proofs.AuditLemmas.{one_verdict}
+use Rattle.call_steps.proofs.FileLemmas.{same_bytes}
 use Rattle.call_steps.proofs.RunLemmas.{is_run_of, journals_of}
 use Rattle.call_steps.proofs.audits.audited_run.Goals as goal
 
@@ -72,6 +74,14 @@ returns-clause-run g c =
           })
           (subst (λ (j : JobView). AreFromSources j rows) is.job_is c.requires.sources)
           c.in_ok-ran.ensures.same c.in_ok-ran.ensures.run of;
+      only = λ other tells.
+          let same =
+          same_bytes file.Audit (g.S.Shelf.state c.args.shelf.now).files c.args.name.now
+          c.in_ok-bytes.bytes tells.bytes c.in_ok-bytes.ensures.bytes tells.told in
+          let fits =
+          subst (λ (bytes : List ℕ). Fits (map noted setup.judged.refused) bytes other)
+          (sym same ∙ sym c.as_slice-2.ensures) tells.are_so.fits in
+          ap record_view of.ran_is ∙ c.in_ok-ran.ensures.only other tells.are_so.run fits;
     }
 
 pub returns-clause-journals : goal.returns-clause-journals

@@ -7,5 +7,5 @@ use Rattle.command_line.proofs.apps.with_names.Given as goal
 
 abbrev pub invariant-loop-id : goal.invariant-loop-id
 invariant-loop-id l =
-    Becomes l.command (map name_rule (texts (drop l.id-index l.names)))
-    (with_rules (app_of l.fn.command) (map name_rule (texts l.names)))
+    Becomes l.command (map (name_rule l.needed) (texts (drop l.id-index l.names)))
+    (with_rules (app_of l.fn.command) (map (name_rule l.needed) (texts l.names)))

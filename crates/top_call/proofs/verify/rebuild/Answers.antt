@@ -1,11 +1,12 @@
-use Rattle.std.proofs.Common.{inl, inr, refl, subst, sym}
+use Rattle.std.proofs.Common.{◌≡◌, inl, inr, refl, subst, sym}
 use Rattle.std.proofs.lemmas.Result.{IfErr-weaker, IfOk-weaker, err_from_is_err_and}
 use Rattle.jobs.specs.Job.{job_view}
 use Rattle.jobs.specs.JobView.{JobView}
 use Rattle.jobs.specs.Nodes.{AreFromSources}
 use Rattle.flow_model.specs.Record.{record_view}
+use Rattle.flow_model.specs.Run.{Ran}
 use Rattle.flow_model.specs.declared.setup.Setup.{Setup}
-use Rattle.call_steps.specs.Audits.{HaveOneVerdict, IsAuditOf}
+use Rattle.call_steps.specs.Audits.{HaveOneVerdict, IsAuditOf, TellsAudit}
 use Rattle.top_call.proofs.verify.rebuild.Goals as goal
 
 pub returns-in_err-requests-clause-cause : goal.returns-in_err-requests-clause-cause
@@ -39,6 +40,8 @@ returns-clause-run g c =
       of_audit = subst (λ (s : Setup). IsAuditOf (g.S.Shelf.state c.args.shelf.now).files c.args.files.now.audit s c.in_ok-rows.rows (record_view done.ran)) (sym so.setup_is)
           (rw (c.in_ok-rows.ensures.kept, c.in_ok-requests.ensures.kept, c.in_ok-job.ensures.kept) at so.of_audit);
       verdict = subst (λ (s : Setup). HaveOneVerdict s c.in_ok-rows.rows) (sym so.setup_is) c.audited_run.ensures.verdict;
+      only = subst (λ (s : Setup). (ran : Ran) → TellsAudit (g.S.Shelf.state c.args.shelf.now).files c.args.files.now.audit s c.in_ok-rows.rows ran → record_view done.ran ≡ ran) (sym so.setup_is)
+          (rw (c.in_ok-rows.ensures.kept, c.in_ok-requests.ensures.kept, c.in_ok-job.ensures.kept) at so.only);
     }) c.audited_run.ensures.run
 
 pub returns-clause-cause : goal.returns-clause-cause

@@ -6,8 +6,8 @@ returns-in-Err g c = inl (record {
   why = c.in-Err.fault;
   answer_is = c.stopped.ensures;
   cause = c.in-Err.ensures.cause;
-  files = c.rebuild.ensures.files;
-  draft = c.rebuild.ensures.draft;
+  files = c.verified_run.ensures.files;
+  draft = c.verified_run.ensures.draft;
   out = refl;
 })
 
