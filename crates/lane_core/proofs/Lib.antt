@@ -1,2 +1,3 @@
+pub mod TwoSeats
 pub mod SteadyLemmas
 pub mod Steps

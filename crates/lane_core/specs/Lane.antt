@@ -3,10 +3,11 @@ use Rattle.std.specs.Prelude.{◌≡◌, ℕ, List, ◌++◌, length}
 use Rattle.atomic_table.specs.Seated.{TableId}
 use Rattle.tuple_trace.specs.declared.tuple.Item.{Item}
 
--- Which lane it is: the table on which both its endpoints step. No clause says that two lanes have
--- different ones, since the kit's calls that make a table say nothing of other tables.
-abbrev pub LaneId : Type 0
-LaneId = TableId
+-- Which lane it is: the table on which both its endpoints step, which no other lane has, and how
+-- many items it holds at most.
+pub record LaneId : Type 0 where
+  pub table : TableId
+  pub capacity : ℕ
 
 -- what was sent ends in these items
 abbrev pub LayLast : List Item → List Item → Type 0

@@ -18,14 +18,10 @@ pub trait Tx<N> {
     ghost number: { Self → ℕ };
     // Where the lane begins.
     ghost origin: { Self → Origin };
-    // Which lane it is.
+    // Which lane it is, and how many items it holds at most.
     ghost lane: { Self → LaneId };
     // How many puts found the lane full; at 2^64 - 1 the number stays.
     ghost full: { Self → ℕ };
-
-    /// Returns the number of the lane.
-    fn number(&self) -> u32
-        ensures { result ≡ number self.now };
 
     /// Puts an item behind those that were sent. A full lane hands it back; the contract says that
     /// as many were sent as it holds.
@@ -48,14 +44,10 @@ pub trait Rx<N> {
     ghost number: { Self → ℕ };
     // Where the lane begins.
     ghost origin: { Self → Origin };
-    // Which lane it is.
+    // Which lane it is, and how many items it holds at most.
     ghost lane: { Self → LaneId };
     // How many takes found the lane empty; at 2^64 - 1 the number stays.
     ghost dry: { Self → ℕ };
-
-    /// Returns the number of the lane.
-    fn number(&self) -> u32
-        ensures { result ≡ number self.now };
 
     /// Takes the next item. An empty lane gives none, which `dry` counts.
     fn take(&mut self, need: &mut N) -> Option<Item>

@@ -41,7 +41,8 @@ pub trait Lanes: Send {
             × (Self.Tx.number tx ≡ number) × (Self.Tx.origin tx ≡ origin)) }
         ensures rx { IfOk result (λ (tx, rx). (Self.Rx.taken rx ≡ [])
             × (Self.Rx.number rx ≡ number) × (Self.Rx.origin rx ≡ origin)) }
-        ensures lane { IfOk result (λ (tx, rx). Self.Tx.lane tx ≡ Self.Rx.lane rx) };
+        ensures lane { IfOk result (λ (tx, rx). Self.Tx.lane tx ≡ Self.Rx.lane rx) }
+        ensures holds { IfOk result (λ (tx, rx). (Self.Tx.lane tx).capacity ≡ cap) };
 
     /// Ends a lane, and answers what was put on it and not taken. A refusal gives both ends up.
     fn settle(

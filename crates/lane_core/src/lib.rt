@@ -16,10 +16,12 @@
 //! ```
 #![tactic(auto)]
 
+mod apart;
 mod endpoints;
 mod form;
 mod queue;
 
+pub use apart::are_apart;
 pub use endpoints::{Rx, Tx};
 pub use form::{Lanes, Left, Origin};
 pub use queue::{QueueLanes, QueueRx, QueueTx};

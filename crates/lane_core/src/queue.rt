@@ -5,7 +5,7 @@ ghost use Rattle.crossbeam_queue.specs.Passes.{view, IsPassOf, ruled_capacity};
 ghost use Rattle.std.specs.Prelude.{◌≡◌, true};
 ghost use Rattle.std.specs.Arc.{arc_value};
 
-use crate::{Lanes, Left, Origin, Rx, Tx};
+use crate::{Lanes, Left, Origin, Rx, Tx, are_apart};
 use crossbeam_queue::Pass;
 use drain::drain;
 use rule::{Line, Puts, Takes, View, Whole, part};
@@ -22,8 +22,27 @@ pub struct QueueTx {
     number: u32,
     full: u64,
     ghost of_line: { IsPassOf (arc_value line) pass },
+    ghost first: { pass.id ≡ 0 },
     ghost role: { (view pass).puts ≡ true },
     ghost room: { ruled_capacity (arc_value line) ≡ (view pass).capacity },
+}
+
+impl QueueTx {
+    /// Returns the number of the lane.
+    pub fn number(&self) -> u32
+        ensures { result ≡ self.now.number }
+    {
+        self.number
+    }
+
+    /// A law: no two lanes have one table, since no two sending ends have. Both ends stay on their
+    /// lanes.
+    pub fn apart(&mut self, other: &mut QueueTx)
+        ensures same { (self.new.pass ≡ self.old.pass) × (other.new.pass ≡ other.old.pass) }
+        ensures apart { ¬ (self.old.pass.table_id ≡ other.old.pass.table_id) }
+    {
+        are_apart(&mut self.pass, &mut other.pass);
+    }
 }
 
 impl<R: Wait> Tx<R> for QueueTx {
@@ -35,13 +54,12 @@ impl<R: Wait> Tx<R> for QueueTx {
 
     ghost origin = { λ s. (view s.pass).origin };
 
-    ghost lane = { λ s. s.pass.table_id };
+    ghost lane = { λ s. record {
+      table = s.pass.table_id;
+      capacity = (view s.pass).capacity;
+    } };
 
     ghost full = { λ s. s.full };
-
-    fn number(&self) -> u32 {
-        self.number
-    }
 
     fn put(&mut self, need: &mut R, item: Item) -> Result<(), Item> {
         match self.line.push_as::<Puts, R>(need, &mut self.pass, item) {
@@ -65,6 +83,15 @@ pub struct QueueRx {
     ghost role: { (view pass).takes ≡ true },
 }
 
+impl QueueRx {
+    /// Returns the number of the lane.
+    pub fn number(&self) -> u32
+        ensures { result ≡ self.now.number }
+    {
+        self.number
+    }
+}
+
 impl<R: Wait> Rx<R> for QueueRx {
     ghost taken = { λ s. (view s.pass).taken };
 
@@ -72,13 +99,12 @@ impl<R: Wait> Rx<R> for QueueRx {
 
     ghost origin = { λ s. (view s.pass).origin };
 
-    ghost lane = { λ s. s.pass.table_id };
+    ghost lane = { λ s. record {
+      table = s.pass.table_id;
+      capacity = (view s.pass).capacity;
+    } };
 
     ghost dry = { λ s. s.dry };
-
-    fn number(&self) -> u32 {
-        self.number
-    }
 
     fn take(&mut self, need: &mut R) -> Option<Item> {
         match self.line.pop_as::<Takes, R>(need, &mut self.pass) {

@@ -5,9 +5,10 @@ use Rattle.std.specs.Prelude.{◌≡◌, ◌≢◌, ℕ, zero, suc, ◌+◌, ◌
 use Rattle.std.specs.Prelude.{true, false, List, [], ◌∷◌, ◌++◌, length, Option, Some, None}
 use mathlib.Core.Option.{some}
 use lib.ListN.{get_elem?}
+use Rattle.atomic_table.specs.Seated.{TableId}
 use Rattle.atomic_table.specs.Table.{State, Me}
 use Rattle.tuple_trace.specs.declared.tuple.Item.{Item}
-use Rattle.lane_core.specs.Lane.{WasFull}
+use Rattle.lane_core.specs.Lane.{LaneId, WasFull}
 use Rattle.lane_core.specs.Steady.{IsSteady}
 use Rattle.lane_ring.specs.declared.rule.Charter.{Charter}
 use Rattle.lane_ring.specs.declared.rule.View.{View}
@@ -55,6 +56,10 @@ spent = record {
   spare = 0;
   ahead = [];
 }
+
+-- the lane of a seat of this table
+abbrev pub lane_of : TableId → View → LaneId
+lane_of table v = record { table = table; capacity = v.capacity }
 
 -- the word at n items
 abbrev pub word_at : ℕ → ℕ → ℕ

@@ -4,7 +4,7 @@ ghost use Rattle.std.specs.Arc.{arc_value};
 ghost use Rattle.std.specs.Bool.{OnTrue, OnFalse};
 ghost use Rattle.lane_core.specs.Lane.{WasFull};
 ghost use Rattle.lane_core.specs.Steady.{IsSteady, MayFollow};
-ghost use Rattle.lane_ring.specs.Rule.{receiver_slots, sender_slots, word_at};
+ghost use Rattle.lane_ring.specs.Rule.{lane_of, receiver_slots, sender_slots, word_at};
 
 use crate::places::{next_word, opposite, slot_at};
 use crate::rule::{
@@ -12,7 +12,7 @@ use crate::rule::{
     StoresTaken, TAKEN, View,
 };
 use atomic_table::Seat;
-use lane_core::{Lanes, Left, Origin, Rx, Tx};
+use lane_core::{Lanes, Left, Origin, Rx, Tx, are_apart};
 use std::alloc::Global;
 use std::sync::Arc;
 use tuple_trace::{Item, NoMemory};
@@ -29,6 +29,7 @@ pub struct RingTx {
     limit: u64,
     ghost of_ring: { ((arc_value ring).shared.table_id ≡ seat.table_id)
         × (seat.table_id.words ≡ 2) },
+    ghost first: { seat.id ≡ 0 },
     ghost role: { (seat.me.0.puts ≡ true) × (seat.me.1 ≡ sender_slots seat.me.0) },
     ghost sized: { (capacity ≡ seat.me.0.capacity) × (0 < capacity) × (capacity ≤ 64) },
     ghost tail_is: { tail ≡ word_at capacity (length seat.me.0.sent) },
@@ -37,6 +38,22 @@ pub struct RingTx {
 }
 
 impl RingTx {
+    /// Returns the number of the lane.
+    pub fn number(&self) -> u32
+        ensures { result ≡ self.now.number }
+    {
+        self.number
+    }
+
+    /// A law: no two lanes have one table, since no two sending ends have. Both ends stay on their
+    /// lanes.
+    pub fn apart(&mut self, other: &mut RingTx)
+        ensures same { (self.new.seat ≡ self.old.seat) × (other.new.seat ≡ other.old.seat) }
+        ensures apart { ¬ (self.old.seat.table_id ≡ other.old.seat.table_id) }
+    {
+        are_apart(&mut self.seat, &mut other.seat);
+    }
+
     // Loads how many items were taken. Returns whether a slot is free now.
     fn look(&mut self) -> bool
         requires { self.old.seat.me.0.spare ≡ 0 }
@@ -104,13 +121,9 @@ impl Tx<()> for RingTx {
 
     ghost origin = { λ s. s.seat.me.0.origin };
 
-    ghost lane = { λ s. s.seat.table_id };
+    ghost lane = { λ s. lane_of s.seat.table_id s.seat.me.0 };
 
     ghost full = { λ s. s.seat.me.0.full };
-
-    fn number(&self) -> u32 {
-        self.number
-    }
 
     /// Puts an item behind those that were sent. With a refusal `full` rises by one, which is the
     /// ring's own: only a step that found the lane full raises the seat's `full`.
@@ -119,7 +132,8 @@ impl Tx<()> for RingTx {
         ensures end { (self.new.seat.me.0.capacity ≡ self.old.seat.me.0.capacity)
             × (self.new.number ≡ self.old.number)
             × (self.new.seat.me.0.origin ≡ self.old.seat.me.0.origin)
-            × (self.new.seat.table_id ≡ self.old.seat.table_id) }
+            × (lane_of self.new.seat.table_id self.new.seat.me.0
+            ≡ lane_of self.old.seat.table_id self.old.seat.me.0) }
         ensures put { OnOk result (
             (self.new.seat.me.0.sent ≡ self.old.seat.me.0.sent ++ item ∷ [])
             × (self.new.seat.me.0.full ≡ self.old.seat.me.0.full)) }
@@ -157,11 +171,19 @@ pub struct RingRx {
 }
 
 impl RingRx {
+    /// Returns the number of the lane.
+    pub fn number(&self) -> u32
+        ensures { result ≡ self.now.number }
+    {
+        self.number
+    }
+
     // Loads how many items were sent. Returns whether one lies on the lane now.
     fn look(&mut self) -> bool
         requires { length self.old.seat.me.0.ahead ≡ 0 }
         ensures end { (self.new.number ≡ self.old.number)
             × (self.new.seat.table_id ≡ self.old.seat.table_id)
+            × (self.new.seat.me.0.capacity ≡ self.old.seat.me.0.capacity)
             × (self.new.seat.me.0.origin ≡ self.old.seat.me.0.origin)
             × (self.new.seat.me.0.taken ≡ self.old.seat.me.0.taken) }
         ensures sender { (self.new.seat.me.0.puts ≡ self.old.seat.me.0.puts)
@@ -185,6 +207,7 @@ impl RingRx {
         requires { 0 < length self.old.seat.me.0.ahead }
         ensures end { (self.new.number ≡ self.old.number)
             × (self.new.seat.table_id ≡ self.old.seat.table_id)
+            × (self.new.seat.me.0.capacity ≡ self.old.seat.me.0.capacity)
             × (self.new.seat.me.0.origin ≡ self.old.seat.me.0.origin)
             × (self.new.seat.me.0.dry ≡ self.old.seat.me.0.dry) }
         ensures sender { (self.new.seat.me.0.puts ≡ self.old.seat.me.0.puts)
@@ -210,6 +233,7 @@ impl RingRx {
     fn next(&mut self) -> Option<Item>
         ensures end { (self.new.number ≡ self.old.number)
             × (self.new.seat.table_id ≡ self.old.seat.table_id)
+            × (self.new.seat.me.0.capacity ≡ self.old.seat.me.0.capacity)
             × (self.new.seat.me.0.origin ≡ self.old.seat.me.0.origin) }
         ensures sender { (self.new.seat.me.0.puts ≡ self.old.seat.me.0.puts)
             × (self.new.seat.me.0.sent ≡ self.old.seat.me.0.sent) }
@@ -252,20 +276,17 @@ impl Rx<()> for RingRx {
 
     ghost origin = { λ s. s.seat.me.0.origin };
 
-    ghost lane = { λ s. s.seat.table_id };
+    ghost lane = { λ s. lane_of s.seat.table_id s.seat.me.0 };
 
     ghost dry = { λ s. s.seat.me.0.dry };
-
-    fn number(&self) -> u32 {
-        self.number
-    }
 
     /// Takes the next item. With None `dry` rises by one, which is the ring's own: only a step that
     /// found the lane empty raises the seat's `dry`.
     fn take(&mut self, _need: &mut ()) -> Option<Item>
         ensures end { (self.new.number ≡ self.old.number)
             × (self.new.seat.me.0.origin ≡ self.old.seat.me.0.origin)
-            × (self.new.seat.table_id ≡ self.old.seat.table_id) }
+            × (lane_of self.new.seat.table_id self.new.seat.me.0
+            ≡ lane_of self.old.seat.table_id self.old.seat.me.0) }
         ensures taken { IfSome result (λ item.
             (self.new.seat.me.0.taken ≡ self.old.seat.me.0.taken ++ item ∷ [])
             × (self.new.seat.me.0.dry ≡ self.old.seat.me.0.dry)) }
