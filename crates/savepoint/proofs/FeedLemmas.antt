@@ -39,6 +39,14 @@ issued_same test rows n r (x ∷ xs) h =
     ap (λ k. cond (test k) (feed.Issued r ∷ issued_where test rows (r + 1) xs) (issued_where test rows (r + 1) xs)) (h x (inl refl))
     ∙ ap (λ (l : List Feed). cond (test (min x n)) (feed.Issued r ∷ l) l) later
 
+-- two tests that agree on each row that is waited for
+issued_alike : (p q : ℕ → Bool) (rows r : ℕ) (xs : List ℕ) → ((x : ℕ) → IsIn x xs → p (min x rows) ≡ q (min x rows)) → issued_where p rows r xs ≡ issued_where q rows r xs
+issued_alike p q rows r [] h = refl
+issued_alike p q rows r (x ∷ xs) h =
+    let later : issued_where p rows (r + 1) xs ≡ issued_where q rows (r + 1) xs = issued_alike p q rows (r + 1) xs (λ y i. h y (inr i)) in
+    ap (λ b. cond b (feed.Issued r ∷ issued_where p rows (r + 1) xs) (issued_where p rows (r + 1) xs)) (h x (inl refl))
+    ∙ ap (λ (l : List Feed). cond (q (min x rows)) (feed.Issued r ∷ l) l) later
+
 issued_unstopped : (test : ℕ → Bool) (rows r : ℕ) (xs : List ℕ) (more : List Feed) → unstopped (issued_where test rows r xs ++ more) ≡ issued_where test rows r xs ++ unstopped more
 issued_unstopped test rows r [] more = refl
 issued_unstopped test rows r (x ∷ xs) more = go (test (min x rows)) (issued_unstopped test rows (r + 1) xs more)
@@ -52,48 +60,76 @@ issued_unstopped test rows r (x ∷ xs) more = go (test (min x rows)) (issued_un
 not_le : (m k n : ℕ) → n < m → k ≤ n → nat_le m k ≡ false
 not_le m k n lt le = grind (arith, nat_tests)
 
-not_eq_above : (m k n : ℕ) → n < m → k ≤ n → (m == k) ≡ false
-not_eq_above m k n lt le = grind (arith, nat_tests)
+not_eq_at : (m k n : ℕ) → n ≤ m → k < n → (m == k) ≡ false
+not_eq_at m k n le lt = grind (arith, nat_tests)
+
+eq_le : (m k n : ℕ) → k ≡ n → n ≤ m → (m == k) ≡ nat_le m n
+eq_le m k n e le = grind (arith, nat_tests)
+
+le_zero : (m n : ℕ) → n ≡ 0 → nat_le m 0 ≡ nat_le m n
+le_zero m n e = grind (arith, nat_tests)
 
 not_eq_below : (m k n : ℕ) → m ≤ n → n < k → (m == k) ≡ false
 not_eq_below m k n le lt = grind (arith, nat_tests)
 
--- so many rows in all, of which the first part has n; xs is what the first requests wait for, and ys what the later ones do
-module _ (rows n : ℕ) (xs ys : List ℕ) (within : n ≤ rows) (early : (x : ℕ) → IsIn x xs → min x rows ≤ n) (late : (y : ℕ) → IsIn y ys → n < min y rows) where
+-- There are `rows` rows, of which the first part has n. The first requests wait for xs, which are due by row n; the later ones wait
+-- for ys, which aren't due before it. A later request that is due at row n itself is issued by the second part, before its first row.
+module _ (rows n : ℕ) (xs ys : List ℕ) (within : n ≤ rows) (early : (x : ℕ) → IsIn x xs → min x rows ≤ n) (late : (y : ℕ) → IsIn y ys → n ≤ min y rows) where
   same_min : (x : ℕ) → IsIn x xs → min x rows ≡ min x n
   same_min x i = let le : min x rows ≤ n = early x i in omega arith
 
-  -- up to its last row, the first part issues what the whole does
-  first_issued : (test : ℕ → Bool) → ((y : ℕ) → n < y → test y ≡ false) → issued_where test rows 1 (xs ++ ys) ≡ issued_where test n 1 xs
+  -- what the second part issues before its first row: the later requests that are due at row n
+  abbrev middle : List Feed
+  middle = issued_at_first n rows (1 + length xs) ys
+
+  -- before row n, the whole issues what the first part does
+  first_issued : (test : ℕ → Bool) → ((y : ℕ) → n ≤ y → test y ≡ false) → issued_where test rows 1 (xs ++ ys) ≡ issued_where test n 1 xs
   first_issued test none =
       issued_append test rows 1 (1 + length xs) xs ys refl
       ∙ (ap (λ (l : List Feed). issued_where test rows 1 xs ++ l) (issued_none test rows (1 + length xs) ys (λ y i. none (min y rows) (late y i)))
       ∙ (append-nil (issued_where test rows 1 xs) ∙ issued_same test rows n 1 xs same_min))
 
-  -- and behind it the second part does
+  -- at row n, the whole issues what the first part does, and then what the second part does before its first row
+  both_issued : (test : ℕ → Bool) → ((y : ℕ) → n ≤ y → test y ≡ nat_le y n) → issued_where test rows 1 (xs ++ ys) ≡ issued_where test n 1 xs ++ middle
+  both_issued test same =
+      issued_append test rows 1 (1 + length xs) xs ys refl
+      ∙ (ap (λ (l : List Feed). l ++ issued_where test rows (1 + length xs) ys) (issued_same test rows n 1 xs same_min)
+      ∙ ap (λ (l : List Feed). issued_where test n 1 xs ++ l) (issued_alike test (λ after. nat_le after n) rows (1 + length xs) ys (λ y i. same (min y rows) (late y i))))
+
+  -- after row n, the whole issues what the second part does
   second_issued : (test : ℕ → Bool) → ((x : ℕ) → x ≤ n → test x ≡ false) → issued_where test rows 1 (xs ++ ys) ≡ issued_where test rows (1 + length xs) ys
   second_issued test none =
       issued_append test rows 1 (1 + length xs) xs ys refl
       ∙ ap (λ (l : List Feed). l ++ issued_where test rows (1 + length xs) ys) (issued_none test rows 1 xs (λ x i. none (min x rows) (early x i)))
 
-  first_after : (row left more all : ℕ) → row + left ≡ n → all ≡ left + more
-      → feed_after (xs ++ ys) 1 row rows all ≡ unstopped (feed_after xs 1 row n left) ++ feed_after (xs ++ ys) 1 n rows more
+  first_after : (row left more all : ℕ) → row + suc left ≡ n → all ≡ suc (left + more)
+      → feed_after (xs ++ ys) 1 row rows all ≡ unstopped (feed_after xs 1 row n (suc left)) ++ (middle ++ feed_after (xs ++ ys) 1 n rows more)
   first_after row zero more all e f =
-      let g : row ≡ n = omega arith in
-      let h : all ≡ more = omega arith in
-      cc
-  first_after row (suc left) more all e f =
-      let g : all ≡ suc (left + more) = omega arith in
+      let g : all ≡ suc more = omega arith in
+      let h : row + 1 ≡ n = omega arith in
       let issued : List Feed = issued_after (row + 1) n 1 xs in
-      let same : issued_after (row + 1) rows 1 (xs ++ ys) ≡ issued = first_issued (λ after. after == row + 1) (λ y lt. not_eq_above y (row + 1) n lt (omega arith)) in
-      let later : feed_after (xs ++ ys) 1 (row + 1) rows (left + more) ≡ unstopped (feed_after xs 1 (row + 1) n left) ++ feed_after (xs ++ ys) 1 n rows more =
-      first_after (row + 1) left more (left + more) (omega arith) refl in
+      let rest : List Feed = feed_after (xs ++ ys) 1 n rows more in
+      let same : issued_after (row + 1) rows 1 (xs ++ ys) ≡ issued ++ middle = both_issued (λ after. after == row + 1) (λ y le. eq_le y (row + 1) n h le) in
+      let front : unstopped (issued ++ feed.Stopped ∷ []) ≡ issued = issued_unstopped (λ after. after == row + 1) n 1 xs (feed.Stopped ∷ []) ∙ append-nil issued in
       ap (feed_after (xs ++ ys) 1 row rows) g
       ∙ ap (λ (l : List Feed). feed.Fed (row + 1) ∷ l)
-      (ap (λ (l : List Feed). l ++ feed_after (xs ++ ys) 1 (row + 1) rows (left + more)) same
+      (ap (λ (l : List Feed). l ++ feed_after (xs ++ ys) 1 (row + 1) rows more) same
+      ∙ (ap (λ k. (issued ++ middle) ++ feed_after (xs ++ ys) 1 k rows more) h
+      ∙ (append_assoc issued middle rest
+      ∙ ap (λ (l : List Feed). l ++ (middle ++ rest)) (sym front))))
+  first_after row (suc left) more all e f =
+      let g : all ≡ suc (suc (left + more)) = omega arith in
+      let issued : List Feed = issued_after (row + 1) n 1 xs in
+      let rest : List Feed = middle ++ feed_after (xs ++ ys) 1 n rows more in
+      let same : issued_after (row + 1) rows 1 (xs ++ ys) ≡ issued = first_issued (λ after. after == row + 1) (λ y le. not_eq_at y (row + 1) n le (omega arith)) in
+      let later : feed_after (xs ++ ys) 1 (row + 1) rows (suc (left + more)) ≡ unstopped (feed_after xs 1 (row + 1) n (suc left)) ++ rest =
+      first_after (row + 1) left more (suc (left + more)) (omega arith) refl in
+      ap (feed_after (xs ++ ys) 1 row rows) g
+      ∙ ap (λ (l : List Feed). feed.Fed (row + 1) ∷ l)
+      (ap (λ (l : List Feed). l ++ feed_after (xs ++ ys) 1 (row + 1) rows (suc (left + more))) same
       ∙ (ap (λ (l : List Feed). issued ++ l) later
-      ∙ (sym (append_assoc issued (unstopped (feed_after xs 1 (row + 1) n left)) (feed_after (xs ++ ys) 1 n rows more))
-      ∙ ap (λ (l : List Feed). l ++ feed_after (xs ++ ys) 1 n rows more) (sym (issued_unstopped (λ after. after == row + 1) n 1 xs (feed_after xs 1 (row + 1) n left))))))
+      ∙ (sym (append_assoc issued (unstopped (feed_after xs 1 (row + 1) n (suc left))) rest)
+      ∙ ap (λ (l : List Feed). l ++ rest) (sym (issued_unstopped (λ after. after == row + 1) n 1 xs (feed_after xs 1 (row + 1) n (suc left)))))))
 
   second_after : (row left : ℕ) → n ≤ row → feed_after (xs ++ ys) 1 row rows left ≡ feed_after ys (1 + length xs) row rows left
   second_after row zero le = refl
@@ -103,23 +139,39 @@ module _ (rows n : ℕ) (xs ys : List ℕ) (within : n ≤ rows) (early : (x : �
       (ap (λ (l : List Feed). l ++ feed_after (xs ++ ys) 1 (row + 1) rows left) same
       ∙ ap (λ (l : List Feed). issued_after (row + 1) rows (1 + length xs) ys ++ l) (second_after (row + 1) left (omega arith)))
 
-  -- what the second part puts in front is nothing
-  none_at_first : (r : ℕ) → issued_at_first n rows r ys ≡ []
-  none_at_first r = issued_none (λ after. nat_le after n) rows r ys (λ y i. not_le (min y rows) n n (late y i) (omega arith))
-
   pub feeds_both : feed_from 0 0 (xs ++ ys) rows ≡ unstopped (feed_from 0 0 xs n) ++ (issued_at_first n rows (1 + length xs) ys ++ feed_after ys (1 + length xs) n rows (rows - n))
-  feeds_both =
-      let front : List Feed = issued_at_first 0 n 1 xs in
-      let same : issued_at_first 0 rows 1 (xs ++ ys) ≡ front = first_issued (λ after. nat_le after 0) (λ y lt. not_le y 0 n lt (omega arith)) in
-      let whole : feed_after (xs ++ ys) 1 0 rows (rows - 0) ≡ unstopped (feed_after xs 1 0 n (n - 0)) ++ feed_after (xs ++ ys) 1 n rows (rows - n) =
-      first_after 0 (n - 0) (rows - n) (rows - 0) (omega arith) (omega arith) in
-      let second : feed_after (xs ++ ys) 1 n rows (rows - n) ≡ issued_at_first n rows (1 + length xs) ys ++ feed_after ys (1 + length xs) n rows (rows - n) =
-      second_after n (rows - n) (omega arith) ∙ ap (λ (l : List Feed). l ++ feed_after ys (1 + length xs) n rows (rows - n)) (sym (none_at_first (1 + length xs))) in
-      ap (λ (l : List Feed). l ++ feed_after (xs ++ ys) 1 0 rows (rows - 0)) same
-      ∙ (ap (λ (l : List Feed). front ++ l) (whole ∙ ap (λ (l : List Feed). unstopped (feed_after xs 1 0 n (n - 0)) ++ l) second)
-      ∙ (sym (append_assoc front (unstopped (feed_after xs 1 0 n (n - 0))) (issued_at_first n rows (1 + length xs) ys ++ feed_after ys (1 + length xs) n rows (rows - n)))
-      ∙ ap (λ (l : List Feed). l ++ (issued_at_first n rows (1 + length xs) ys ++ feed_after ys (1 + length xs) n rows (rows - n)))
-      (sym (issued_unstopped (λ after. nat_le after 0) n 1 xs (feed_after xs 1 0 n (n - 0))))))
+  feeds_both = go n refl
+    where
+      front : List Feed
+      front = issued_at_first 0 n 1 xs
+
+      last : List Feed
+      last = feed_after ys (1 + length xs) n rows (rows - n)
+
+      go : (k : ℕ) → n ≡ k → feed_from 0 0 (xs ++ ys) rows ≡ unstopped (feed_from 0 0 xs n) ++ (middle ++ last)
+      go zero e =
+          let same : issued_at_first 0 rows 1 (xs ++ ys) ≡ front ++ middle = both_issued (λ after. nat_le after 0) (λ y le. le_zero y n e) in
+          let none : n - 0 ≡ 0 = omega arith in
+          let first : unstopped (feed_from 0 0 xs n) ≡ front =
+          ap (λ k. unstopped (front ++ feed_after xs 1 0 n k)) none ∙ (issued_unstopped (λ after. nat_le after 0) n 1 xs (feed.Stopped ∷ []) ∙ append-nil front) in
+          let second : feed_after (xs ++ ys) 1 0 rows (rows - 0) ≡ last =
+          ap (λ k. feed_after (xs ++ ys) 1 k rows (rows - k)) (sym e) ∙ second_after n (rows - n) (omega arith) in
+          ap (λ (l : List Feed). l ++ feed_after (xs ++ ys) 1 0 rows (rows - 0)) same
+          ∙ (ap (λ (l : List Feed). (front ++ middle) ++ l) second
+          ∙ (append_assoc front middle last
+          ∙ ap (λ (l : List Feed). l ++ (middle ++ last)) (sym first)))
+      go (suc k) e =
+          let same : issued_at_first 0 rows 1 (xs ++ ys) ≡ front = first_issued (λ after. nat_le after 0) (λ y le. not_le y 0 0 (omega arith) (omega arith)) in
+          let some : n - 0 ≡ suc k = omega arith in
+          let whole : feed_after (xs ++ ys) 1 0 rows (rows - 0) ≡ unstopped (feed_after xs 1 0 n (suc k)) ++ (middle ++ feed_after (xs ++ ys) 1 n rows (rows - n)) =
+          first_after 0 k (rows - n) (rows - 0) (omega arith) (omega arith) in
+          let second : feed_after (xs ++ ys) 1 n rows (rows - n) ≡ last = second_after n (rows - n) (omega arith) in
+          let first : unstopped (feed_from 0 0 xs n) ≡ front ++ unstopped (feed_after xs 1 0 n (suc k)) =
+          ap (λ k. unstopped (front ++ feed_after xs 1 0 n k)) some ∙ issued_unstopped (λ after. nat_le after 0) n 1 xs (feed_after xs 1 0 n (suc k)) in
+          ap (λ (l : List Feed). l ++ feed_after (xs ++ ys) 1 0 rows (rows - 0)) same
+          ∙ (ap (λ (l : List Feed). front ++ l) (whole ∙ ap (λ (l : List Feed). unstopped (feed_after xs 1 0 n (suc k)) ++ (middle ++ l)) second)
+          ∙ (sym (append_assoc front (unstopped (feed_after xs 1 0 n (suc k))) (middle ++ last))
+          ∙ ap (λ (l : List Feed). l ++ (middle ++ last)) (sym first)))
 
 -- ---- what is fed
 
