@@ -1,0 +1,9 @@
+pub mod AlertsLemmas
+pub mod BeforeLemmas
+pub mod ExtendedLemmas
+pub mod JudgedLemmas
+pub mod NextLemmas
+pub mod PartRunLemmas
+pub mod ShownLemmas
+pub mod WholeLemmas
+pub mod LateLemmas

@@ -1,0 +1,4 @@
+pub mod Stream
+pub mod Later
+pub mod PartRun
+pub mod LateRequest
