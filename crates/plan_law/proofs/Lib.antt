@@ -1,0 +1,4 @@
+pub mod MaskLemmas
+pub mod NumberLemmas
+pub mod PlanLemmas
+pub mod SetupLemmas
