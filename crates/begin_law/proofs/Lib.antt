@@ -1,0 +1,5 @@
+pub mod RunLemmas
+pub mod LineageLemmas
+pub mod RootLemmas
+pub mod WholeLemmas
+pub mod OnceLemmas
