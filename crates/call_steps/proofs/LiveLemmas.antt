@@ -1,5 +1,5 @@
 -- What a live run of the judged requests is.
-use Rattle.std.proofs.Common.{◌≡◌, ◌∙◌, ◌+◌, ◌≤◌, ◌||◌, ◌++◌, ℕ, zero, suc, Bool, true, false, List, [], ◌∷◌, Option, Some, None, length, ap, arith, refl, subst, sym, take, slice_get}
+use Rattle.std.proofs.Common.{◌≡◌, ◌∙◌, ◌+◌, ◌≤◌, ◌||◌, ◌++◌, ℕ, zero, suc, Bool, true, false, List, [], ◌∷◌, Option, Some, None, All, length, ap, arith, refl, subst, sym, take, slice_get}
 use Rattle.std.specs.Prelude.{◌↔◌, IsTrue}
 use Rattle.std.specs.List.{list_any}
 use Rattle.jobs.specs.Nodes.{AreFromSources}
@@ -26,6 +26,7 @@ use Rattle.flow_worker.specs.Parts.{WorkedIs}
 use Rattle.coordinator.specs.Boxes.{LastAtLeast}
 use Rattle.coordinator.specs.Feeding.{issue_rows}
 use Rattle.flow_engine.specs.Flown.{record_of}
+use Rattle.plan_law.specs.Determined.{NumbersAllNodes}
 use Rattle.flow_engine.specs.Recorded.{NoneIsEarly}
 use Rattle.live_control.specs.Asking.{AsksIs}
 use Rattle.live_control.specs.Hearing.{IsHeard}
@@ -109,6 +110,7 @@ setup_released job requests rows setup left inbox rest feeds crew is flown =
       refused = flown.recorded.1 ∙ is.refused;
       exact = subst IsExact (sym same) (exact_waiting (setup_view setup) (issue_rows 0 feeds) is.exact);
       least = subst ArePlansLeast (sym same) (least_waiting (setup_view setup) (issue_rows 0 feeds) is.least);
+      numbers = subst (All NumbersAllNodes) (sym (ap (λ (v : SetupView). v.plans) same)) is.numbers;
       mode = ap (λ (v : SetupView). v.ordered) same ∙ is.mode;
     }
 

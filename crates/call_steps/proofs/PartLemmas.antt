@@ -2,6 +2,7 @@
 use Rattle.std.proofs.Common.{◌≡◌, ◌∙◌, ◌<◌, ◌≤◌, ◌^◌, ℕ, List, All, length, min, take, ap, false, subst, sym, arith}
 use Rattle.std.proofs.lemmas.List.{length-take-le}
 use Rattle.std.proofs.lemmas.List.Elements.{All-take}
+use Rattle.begin_law.specs.Later.{HasWholeRows}
 use Rattle.jobs.specs.Job.{job_view}
 use Rattle.jobs.specs.Limits.{HasShortTexts}
 use Rattle.jobs.specs.Nodes.{AreFromSources, IsSourceOf, worker_count}
@@ -29,7 +30,7 @@ use Rattle.flow_engine.specs.Flown.{record_of}
 use Rattle.savepoint.specs.Parts.{first_of, issued_up_to, start_of}
 use Rattle.savepoint.specs.SaveReading.{CanSave}
 use Rattle.call_steps.proofs.AcceptedLemmas.{accepted_few, accepted_limits}
-use Rattle.call_steps.specs.Parts.{HasWorkers, IsFirstPart}
+use Rattle.call_steps.specs.Parts.{HasWorkers, IsFirstPart, IsRunFromStart}
 use Rattle.call_steps.specs.Running.{IsDoneOf}
 use Rattle.call_steps.specs.SetupFor.{AreSame, IsSetupFor}
 use Rattle.call_steps.specs.declared.running.Done.{Done}
@@ -105,3 +106,18 @@ pub since_so : (start : Begin) (setup left : Setup) (rows : List Row) (feeds : L
 since_so start setup left rows feeds crew ran same run is =
     subst (λ (r : RunRecord). IsRunSince start (setup_view setup) rows (record_view r)) (sym is)
     (subst (λ (s : Setup). IsRunSince start (setup_view setup) rows (ended (setup_view s) feeds crew)) (sym same) run)
+
+-- a run of this setup from a beginning on is a later part
+pub later_part_of : (start : Begin) (setup left : Setup) (requests : List Request) (rows : List Row) (ran : RunRecord) (done : Done) → ran.setup ≡ left → left ≡ setup
+    → IsRunSince start (setup_view setup) rows (record_view ran) → ((begin : Begin) (other : Ran) → IsRunSince begin (setup_view setup) rows other → HasWholeRows other)
+    → IsDoneOf ran requests rows done → IsRunFromStart start setup requests rows done
+later_part_of start setup left requests rows ran done left_is is run law of =
+    let kept : ran.setup ≡ setup = left_is ∙ is in
+    let so : IsRunSince start (setup_view setup) rows (record_view done.ran) = subst (λ (r : RunRecord). IsRunSince start (setup_view setup) rows (record_view r)) (sym of.ran_is) run in
+    record {
+      setup_is = ap (λ (r : RunRecord). r.setup) of.ran_is ∙ kept;
+      run = so;
+      rows_are = law start (record_view done.ran) so;
+      refused = of.refused ∙ ap (λ (s : Setup). s.judged.refused) kept;
+      count = of.count;
+    }

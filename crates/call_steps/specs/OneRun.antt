@@ -1,5 +1,6 @@
 -- The calls of `save` and `resume` over the same files.
-use Rattle.std.specs.Prelude.{◌≡◌, ℕ, List, Ok, length}
+use Rattle.std.specs.Prelude.{◌≡◌, ℕ, List, Ok, false, length}
+use Rattle.jobs.specs.JobView.{JobView}
 use Rattle.tuple_trace.specs.declared.row.Row.{Row}
 use Rattle.versions.specs.declared.request.Request.{Request}
 use Rattle.flow_model.specs.Begin.{Begin}
@@ -12,14 +13,15 @@ use Rattle.savepoint.specs.Parts.{AreParts, joined}
 use Rattle.savepoint.specs.SaveReading.{save_of}
 use Rattle.call_steps.specs.Parts.{IsRunFromStart}
 use Rattle.call_steps.specs.Running.{saved_of}
+use Rattle.call_steps.specs.SetupFor.{AreSame, IsSetupFor}
 use Rattle.call_steps.specs.declared.running.Done.{Done}
 
--- the second call had the setup that the first was cut from, read the text that is written of the
+-- a later call had this job and these requests and rows, read the text that is written of the
 -- first, and ran the rows from there on
-pub record GoesOn (whole : SetupView) (requests : List Request) (rows : List Row) (setup : Setup)
+pub record GoesOn (job : JobView) (requests : List Request) (rows : List Row) (setup : Setup)
     (start : Begin) (first second : Done) : Type 0 where
-  pub same : setup_view setup ≡ whole
-  pub reads : save_of whole (length rows) (saved_of first) ≡ Ok start
+  pub setup_is : IsSetupFor AreSame false job requests setup
+  pub reads : save_of (setup_view setup) (length rows) (saved_of first) ≡ Ok start
   pub run : IsRunFromStart start setup requests rows second
 
 -- both records are parts of a run, and joined they are a run of all rows, which is consistent

@@ -1,5 +1,6 @@
 -- The two parts of a run with a savepoint between them.
 use Rattle.std.specs.Prelude.{◌≡◌, ℕ, List, length, take, false}
+use Rattle.begin_law.specs.Later.{HasWholeRows}
 use Rattle.jobs.specs.Nodes.{worker_count}
 use Rattle.jobs.specs.JobView.{JobView}
 use Rattle.tuple_trace.specs.declared.row.Row.{Row}
@@ -39,10 +40,12 @@ pub record IsFirstPart (row : ℕ) (job : JobView) (requests : List Request) (ro
   pub refused : done.refused ≡ whole.judged.refused
   pub count : done.requests ≡ length requests
 
--- The rows were run by this setup from this beginning on.
+-- The rows were run by this setup from this beginning on. Each row that was fed is whole at each
+-- request, whatever the beginning is.
 pub record IsRunFromStart (start : Begin) (setup : Setup) (requests : List Request)
     (rows : List Row) (done : Done) : Type 0 where
   pub setup_is : done.ran.setup ≡ setup
   pub run : IsRunSince start (setup_view setup) rows (record_view done.ran)
+  pub rows_are : HasWholeRows (record_view done.ran)
   pub refused : done.refused ≡ setup.judged.refused
   pub count : done.requests ≡ length requests

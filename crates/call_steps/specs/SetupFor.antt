@@ -1,5 +1,5 @@
 -- The setup of a job and the requests that are made of it.
-use Rattle.std.specs.Prelude.{◌≡◌, Bool, List}
+use Rattle.std.specs.Prelude.{◌≡◌, All, Bool, List}
 use Rattle.jobs.specs.Job.{job_view}
 use Rattle.jobs.specs.JobView.{JobView}
 use Rattle.versions.specs.Judged.{judged}
@@ -8,13 +8,15 @@ use Rattle.flow_model.specs.Least.{ArePlansLeast}
 use Rattle.flow_model.specs.Planned.{IsExact}
 use Rattle.flow_model.specs.Setup.{setup_view}
 use Rattle.flow_model.specs.declared.setup.Setup.{Setup}
+use Rattle.plan_law.specs.Determined.{NumbersAllNodes}
 
 -- the requests that are kept are those that were accepted
 abbrev pub AreSame : List Request → List Request → Type 0
 AreSame accepted kept = kept ≡ accepted
 
 -- the setup is that of a job and these requests: it keeps what judging accepts and has what it
--- refuses, and exactly the planner's plans for this mode, each of which is the least cover
+-- refuses, and exactly the planner's plans for this mode, each of which is the least cover and
+-- numbers all nodes
 pub record IsSetupFor (Keeps : List Request → List Request → Type 0) (ordered : Bool)
     (job : JobView) (requests : List Request) (setup : Setup) : Type 0 where
   pub job_is : job_view setup.job ≡ job
@@ -22,4 +24,5 @@ pub record IsSetupFor (Keeps : List Request → List Request → Type 0) (ordere
   pub refused : setup.judged.refused ≡ (judged job requests).refused
   pub exact : IsExact (setup_view setup)
   pub least : ArePlansLeast (setup_view setup)
+  pub numbers : All NumbersAllNodes setup.plans
   pub mode : setup.ordered ≡ ordered

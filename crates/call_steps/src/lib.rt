@@ -27,7 +27,7 @@ mod writing;
 pub use answer::Answer;
 pub use audits::{audited_run, check_alerts, verified_lines};
 pub use job::{first_job, first_requests};
-pub use laws::{files_end_whole, saved_runs_go_on};
+pub use laws::{files_end_whole, same_requests_have_one_setup, saved_runs_go_on};
 pub use live::{LiveDone, leave_live, run_live};
 pub use parts::{run_first_part, run_later_part};
 pub use printing::{print, print_made};

@@ -14,6 +14,7 @@ ghost use Rattle.call_steps.specs.Parts.{HasWorkers, IsFirstPart, IsRunFromStart
 
 use crate::running::{Done, done_of};
 use crate::setup::setup_of;
+use begin_law::later_rows_are_whole;
 use command_line::EngineSize;
 use flow_engine::{run_flow, run_from};
 use flow_model::{Setup, Start, runs_are_consistent};
@@ -133,6 +134,7 @@ where
     ensures run { IfOk result (IsRunFromStart start.now setup requests.now rows.now) }
     ensures workers { IfOk result HasWorkers }
 {
+    later_rows_are_whole(&setup, rows);
     let EngineSize { threads, capacity } = size;
     let flown = run_from(
         rt, alloc, &RingLanes, setup, rows, threads, capacity, gate, start,

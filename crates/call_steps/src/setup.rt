@@ -9,6 +9,7 @@ ghost use Rattle.call_steps.specs.SetupFor.{AreSame, IsSetupFor};
 
 use flow_model::{Setup, plans_are_least};
 use jobs::Job;
+use plan_law::plans_number_all_nodes;
 use std::alloc::Global;
 use tuple_trace::NoMemory;
 use versions::{Judged, Requests, accepted_requests_stay_accepted, judge_all};
@@ -28,6 +29,7 @@ pub fn setup_of(
     let judged = judge_all(alloc, &job, requests)?;
     let setup = setup_in_mode(alloc, job, judged, ordered)?;
     plans_are_least(&setup);
+    plans_number_all_nodes(&setup);
     Ok(setup)
 }
 
