@@ -121,10 +121,13 @@ fn find<R: Files>(rt: &R, name: &str) -> io::Result<Found<R::File>> {
 // The path of a file that isn't there: the name, or what a link of this name leads to.
 fn path_of<R: Files>(rt: &R, alloc: Global, name: &str) -> io::Result<PathBuf> {
     let path = Path::new(name);
-    match (rt.read_link(alloc, name), path.parent()) {
-        (Ok(link), Some(folder)) => Ok(folder.join(alloc, &link)?),
-        (Err(error), _) if error.kind() == ErrorKind::OutOfMemory => Err(error),
-        _ => Ok(path.to_path_buf(alloc)?),
+    match rt.read_link(alloc, name) {
+        Ok(link) => match path.parent() {
+            Some(folder) => Ok(folder.join(alloc, &link)?),
+            None => Ok(link),
+        },
+        Err(error) if error.kind() == ErrorKind::OutOfMemory => Err(error),
+        Err(_) => Ok(path.to_path_buf(alloc)?),
     }
 }
 
