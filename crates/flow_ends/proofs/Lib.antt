@@ -1,6 +1,7 @@
 pub mod Numbers
 pub mod Sorting
 pub mod Making
+pub mod Holding
 pub mod Crewing
 pub mod Settling
 pub mod Ending

@@ -47,7 +47,7 @@ module _ (job : JobView) (P : Option ℕ → EndpointIs → Type 0) (Q : ℕ →
 
 -- ---- the beginning
 
-get-replicate : {A : Type 0} (n i : ℕ) (x y : A) → slice_get (replicate n x) i ≡ Some y → y ≡ x
+pub get-replicate : {A : Type 0} (n i : ℕ) (x y : A) → slice_get (replicate n x) i ≡ Some y → y ≡ x
 get-replicate zero i x y g = absurd (cc)
 get-replicate (suc n) zero x y g = let e : x ≡ y = cc in sym e
 get-replicate (suc n) (suc i) x y g = get-replicate n i x y g

@@ -39,7 +39,7 @@ length-changed f (x ∷ xs) zero = refl
 length-changed f (x ∷ xs) (suc k) = ap suc (length-changed f xs k)
 
 -- an item of a changed list: it was there, and it was changed exactly at the place
-get-changed : {A : Type 0} (f : A → A) (xs : List A) (k i : ℕ) (y : A) → slice_get (changed f k xs) i ≡ Some y →
+pub get-changed : {A : Type 0} (f : A → A) (xs : List A) (k i : ℕ) (y : A) → slice_get (changed f k xs) i ≡ Some y →
     (x : A) × (slice_get xs i ≡ Some x) × (((k ≡ i) × (y ≡ f x)) ⊎ ((k ≢ i) × (y ≡ x)))
 get-changed f [] zero i y g = absurd (cc)
 get-changed f [] (suc k) i y g = absurd (cc)

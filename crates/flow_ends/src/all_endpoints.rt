@@ -7,7 +7,7 @@ ghost use Rattle.flow_model.specs.Workers.{workers_in};
 ghost use Rattle.flow_worker.specs.Parts.{AreNewEndpoints, endpoints};
 ghost use Rattle.coordinator.specs.Starts.{AreNewOuts};
 ghost use Rattle.coordinator.specs.Views.{outs_of};
-ghost use Rattle.flow_ends.specs.Sides.{AreMatched, SideIs, empty_side};
+ghost use Rattle.flow_ends.specs.Sides.{AreMatched, HoldAtMost, SideIs, empty_side};
 ghost use Rattle.flow_ends.specs.Sorted.{AreNewAt, changed, more_in, more_out, with_fed, with_out};
 
 use crate::Side;
@@ -47,6 +47,7 @@ impl<L: Lanes> AllEndpoints<L> {
             made.feeder.items)) }
         ensures capacity { IfOk result (λ made. All (λ end. L.Tx.capacity end ≡ cap)
             made.feeder.items) }
+        ensures hold { IfOk result (λ made. HoldAtMost cap made.workers.items) }
         ensures matched { IfOk result (λ made. AreMatched made.workers.items
             (endpoints L.Tx.lane L.Tx.number L.Tx.origin L.Tx.sent made.feeder.items)) }
     {
@@ -82,6 +83,7 @@ fn make_lane<L: Lanes>(
     ensures rx { IfOk result (λ (tx, rx). AreNewAt (setup_view setup.now).job graph number
         (endpoints L.Rx.lane L.Rx.number L.Rx.origin L.Rx.taken (rx ∷ []))) }
     ensures capacity { IfOk result (λ (tx, rx). L.Tx.capacity tx ≡ cap) }
+    ensures holds { IfOk result (λ (tx, rx). (L.Tx.lane tx).capacity ≡ cap) }
     ensures lane { IfOk result (λ (tx, rx). L.Tx.lane tx ≡ L.Rx.lane rx) }
 {
     let from = setup.job.dag.edge(lane.edge).from;

@@ -10,7 +10,7 @@ ghost use Rattle.coordinator.specs.Starts.{AreNewOuts, AreUnused};
 ghost use Rattle.coordinator.specs.Views.{outs_of};
 ghost use Rattle.flow_ends.specs.Crews.{IsCrew};
 ghost use Rattle.flow_ends.specs.Ended.{fed_end};
-ghost use Rattle.flow_ends.specs.Sides.{AreMatched, SideIs, worker_side};
+ghost use Rattle.flow_ends.specs.Sides.{AreMatched, HoldAtMost, SideIs, worker_side};
 
 use crate::{AllEndpoints, Side};
 use control_box::{Poster, make_box};
@@ -48,6 +48,8 @@ impl<L: Lanes> Crew<L> {
             crew.outs.items)) }
         ensures capacity { IfOk result (λ crew. All (λ end. L.Tx.capacity end ≡ cap)
             crew.outs.items) }
+        ensures hold { IfOk result (λ crew. HoldAtMost cap
+            (map worker_side crew.workers.items)) }
         ensures matched { IfOk result (λ crew. AreMatched (map worker_side crew.workers.items)
             (map fed_end (outs_of L.Tx.lane L.Tx.number L.Tx.origin L.Tx.capacity L.Tx.sent
             L.Tx.full crew.outs.items))) }
@@ -81,6 +83,8 @@ impl<L: Lanes> Crew<L> {
             crew.outs.items)) }
         ensures capacity { IfOk result (λ crew. All (λ end. L.Tx.capacity end ≡ cap)
             crew.outs.items) }
+        ensures hold { IfOk result (λ crew. HoldAtMost cap
+            (map worker_side crew.workers.items)) }
         ensures matched { IfOk result (λ crew. AreMatched (map worker_side crew.workers.items)
             (map fed_end (outs_of L.Tx.lane L.Tx.number L.Tx.origin L.Tx.capacity L.Tx.sent
             L.Tx.full crew.outs.items))) }

@@ -9,8 +9,9 @@ use Rattle.flow_model.specs.Workers.{workers_in}
 use Rattle.flow_model.specs.declared.topology.Topology.{Topology}
 use Rattle.flow_model.proofs.SizeLemmas.{lanes-few}
 use Rattle.flow_worker.specs.Parts.{EndpointIs, endpoints}
-use Rattle.flow_ends.specs.Sides.{SideIs}
+use Rattle.flow_ends.specs.Sides.{HoldAtMost, SideIs}
 use Rattle.flow_ends.specs.Sorted.{AreMarked, changed, more_in, with_out}
+use Rattle.flow_ends.proofs.Holding.{hold_in, hold_none, hold_sent}
 use Rattle.flow_ends.proofs.Sorting.{lane_sender}
 use Rattle.flow_ends.proofs.Making.{mark_lane, marked_feeder, marked_first, marked_match, marked_worker}
 use Rattle.flow_ends.proofs.all_endpoints.AllEndpoints.make.Goals as goal
@@ -34,6 +35,7 @@ loop-number-init g c =
           marked_first (setup_view c.args.setup.now).job c.graph-graph.result c.workers.result c.in_ok-workers.workers.items _ c.workers.ensures.value c.in_ok-workers.ensures
           (ap (λ ts. endpoints g.L.Tx.Tx.lane g.L.Tx.Tx.number g.L.Tx.Tx.origin g.L.Tx.Tx.sent ts) c.new-feeder.ensures.items);
       capacity = subst (All P) (sym c.new-feeder.ensures.items) (All-nil P);
+      hold = hold_none c.args.cap c.workers.result c.in_ok-workers.workers.items c.in_ok-workers.ensures;
     }
 
 pub add_out-requires-after_bounds : goal.add_out-requires-after_bounds
@@ -71,6 +73,9 @@ loop-number-preserved g c =
             (subst (AreMarked job graph (i + 1) marked.0 (changed (more_in (R ∷ [])) lane.receiver (with_out lane.sender (T ∷ []) was.items))) (sym c.in_ok-add_out.ensures.feeder) marked.1),
       );
       capacity = c.in_ok-add_out.ensures.capacity c.args.cap c.in_ok-tx.ensures.capacity c.loop-number.invariant.capacity;
+      hold =
+          subst (HoldAtMost c.args.cap) (sym all)
+          (hold_in c.args.cap R lane.receiver (with_out lane.sender (T ∷ []) was.items) (hold_sent c.args.cap T lane.sender was.items c.in_ok-tx.ensures.holds c.loop-number.invariant.hold));
     }
 
 pub returns-clause-workers : goal.returns-clause-workers
@@ -91,6 +96,9 @@ returns-clause-feeder g c =
 
 pub returns-clause-capacity : goal.returns-clause-capacity
 returns-clause-capacity g c = c.loop-number.invariant.capacity
+
+pub returns-clause-hold : goal.returns-clause-hold
+returns-clause-hold g c = c.loop-number.invariant.hold
 
 pub returns-clause-matched : goal.returns-clause-matched
 returns-clause-matched g c =

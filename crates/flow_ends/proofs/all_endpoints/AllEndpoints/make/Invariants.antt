@@ -3,15 +3,17 @@ use Rattle.std.specs.Prelude.{All}
 use Rattle.flow_model.specs.Setup.{setup_view}
 use Rattle.lane_core.specs.Lane.{LaneId}
 use Rattle.flow_worker.specs.Parts.{endpoints}
+use Rattle.flow_ends.specs.Sides.{HoldAtMost}
 use Rattle.flow_ends.specs.Sorted.{AreMarked}
 use Rattle.flow_ends.proofs.all_endpoints.AllEndpoints.make.Given as goal
 
--- the endpoints of the lanes so far are sorted, and their lanes are those of a list; those of the
--- feeder hold as many items as was asked
+-- the endpoints of the lanes so far are sorted, and their lanes are those of a list; they hold as
+-- many items as was asked
 abbrev pub invariant-loop-number : goal.invariant-loop-number
 invariant-loop-number g l = record {
   sorted :
       (marks : List LaneId) × AreMarked (setup_view l.setup).job l.graph l.number marks l.workers.items
       (endpoints g.L.Tx.Tx.lane g.L.Tx.Tx.number g.L.Tx.Tx.origin g.L.Tx.Tx.sent l.feeder.items);
   capacity : All (λ (end : g.row.L-Tx.Denot). g.L.Tx.Tx.capacity end ≡ l.cap) l.feeder.items;
+  hold : HoldAtMost l.cap l.workers.items;
 }
