@@ -1,2 +1,3 @@
 pub mod Runner
 pub mod Rule
+pub mod Size

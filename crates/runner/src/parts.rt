@@ -3,6 +3,7 @@ ghost use Rattle.crossbeam_queue.specs.SegTies.{IsSegPassOf};
 ghost use Rattle.runner.specs.Rule.{AreListed, tally};
 
 use crate::charter::Charter;
+use crate::engine::Engine;
 use crate::idle::pause;
 use crate::rule::{Queue, Tally};
 use crate::runner::Runner;
@@ -25,65 +26,43 @@ pub struct Held<'s, L: Lanes, C: Charter> {
     pub pass: SegPass<Runner<'s, L, C>, Tally>,
 }
 
-/// What a thread does: it steps until the queue is empty and its kept runners are done, or the stop
-/// word is set. It pauses after a step that moved nothing, and sets the stop word if memory runs
+/// What a thread does: it steps until the queue is empty and its kept runners are done, or the
+/// engine is stopped. It pauses after a step that moved nothing, and stops the engine if memory runs
 /// out.
 pub fn part<'s, R: Wait, L: Lanes, G: Gate, C: Charter>(
-    rt: &R,
-    alloc: Global,
-    mut need: L::Need,
-    gate: &G,
-    stop: &AtomicBool,
+    engine: &Engine<'_, R, L, G>,
     queue: &Queue<'s, L, C>,
-    mut pass: SegPass<Runner<'s, L, C>, Tally>,
-) -> Held<'s, L, C>
-    requires queue { IsSegPassOf queue.now pass }
-    requires fresh { pass.me.view.client ≡ tally 1 [] }
-    ensures queue { IsSegPassOf queue.now result.pass }
-    ensures part { result.pass.me.view.client.parts ≡ 1 }
-    ensures listed { AreListed C.endpoints result.runners.items result.pass.me.view.client.list }
+    own: &mut Held<'s, L, C>,
+)
+    requires queue { IsSegPassOf queue.now own.old.pass }
+    requires part { own.old.pass.me.view.client.parts ≡ 1 }
+    requires listed { AreListed C.endpoints own.old.runners.items
+        own.old.pass.me.view.client.list }
+    ensures queue { IsSegPassOf queue.now own.new.pass }
+    ensures part { own.new.pass.me.view.client.parts ≡ 1 }
+    ensures listed { AreListed C.endpoints own.new.runners.items own.new.pass.me.view.client.list }
 {
-    let mut kept = Vec::new(alloc);
+    let mut need = engine.form.need();
     let mut held = false;
     let mut idle = 0;
-    for _ in rt.forever() {
-        if stop.load(Ordering::SeqCst) {
+    for _ in engine.rt.forever() {
+        if engine.is_stopped() {
             break;
         }
-        match step(rt, &mut need, gate, queue, &mut pass, &mut kept, &mut held) {
+        match step(
+            engine,
+            &mut need,
+            queue,
+            &mut own.pass,
+            &mut own.runners,
+            &mut held,
+        ) {
             Stepped::End => break,
             Stepped::Moved => idle = 0,
             Stepped::Idle => idle = pause(idle),
-            Stepped::NoMemory => stop.store(true, Ordering::SeqCst),
+            Stepped::NoMemory => engine.stop(),
         }
     }
-    Held {
-        runners: kept,
-        pass,
-    }
-}
-
-/// As [`part`], but the thread does nothing if its own word is set.
-pub fn part_unless<'s, R: Wait, L: Lanes, G: Gate, C: Charter>(
-    rt: &R,
-    alloc: Global,
-    need: L::Need,
-    gate: &G,
-    stop: &AtomicBool,
-    refused: &AtomicBool,
-    queue: &Queue<'s, L, C>,
-    pass: SegPass<Runner<'s, L, C>, Tally>,
-) -> Held<'s, L, C>
-    requires queue { IsSegPassOf queue.now pass }
-    requires fresh { pass.me.view.client ≡ tally 1 [] }
-    ensures queue { IsSegPassOf queue.now result.pass }
-    ensures part { result.pass.me.view.client.parts ≡ 1 }
-    ensures listed { AreListed C.endpoints result.runners.items result.pass.me.view.client.list }
-{
-    if refused.load(Ordering::SeqCst) {
-        return untouched(alloc, queue, pass);
-    }
-    part(rt, alloc, need, gate, stop, queue, pass)
 }
 
 fn untouched<'s, L: Lanes, C: Charter>(
@@ -132,13 +111,9 @@ pub struct Ticket<'q, 's: 'q, L: Lanes + 'q, C: Charter + 'q> {
     pub pass: SegPass<Runner<'s, L, C>, Tally>,
 }
 
-/// As [`part_unless`].
+/// As [`part`], but the thread does nothing if its own word is set.
 pub fn part_of<'q, 's: 'q, R: Wait, L: Lanes + 'q, G: Gate, C: Charter + 'q>(
-    rt: &R,
-    alloc: Global,
-    need: L::Need,
-    gate: &G,
-    stop: &AtomicBool,
+    engine: &Engine<'_, R, L, G>,
     refused: &AtomicBool,
     ticket: Ticket<'q, 's, L, C>,
 ) -> Held<'s, L, C>
@@ -149,29 +124,31 @@ pub fn part_of<'q, 's: 'q, R: Wait, L: Lanes + 'q, G: Gate, C: Charter + 'q>(
     ensures listed { AreListed C.endpoints result.runners.items result.pass.me.view.client.list }
 {
     let Ticket { queue, pass } = ticket;
-    part_unless(rt, alloc, need, gate, stop, refused, queue, pass)
+    let mut own = untouched(engine.alloc, queue, pass);
+    if refused.load(Ordering::SeqCst) {
+        return own;
+    }
+    part(engine, queue, &mut own);
+    own
 }
 
 /// Starts a thread of the scope. It steps until the queue is empty and its kept runners are done,
-/// or `stop` is set. It sets `stop` if memory runs out.
+/// or the engine is stopped. It stops the engine if memory runs out.
 ///
 /// If no thread can be made, `refused` is set, and what the thread would bring back comes here: its
 /// pass, and no runners.
 pub fn start_part<
     'q,
+    'a: 'q,
     's: 'q,
     E,
     R,
-    L: Lanes + 'q,
+    L: Lanes + Sync + 'q,
     G: Gate + Sync + 'q,
     C: Charter + Send + Sync + 'q,
 >(
     scope: &'q Scope<'q, E>,
-    rt: &'q R,
-    alloc: Global,
-    need: L::Need,
-    gate: &'q G,
-    stop: &'q AtomicBool,
+    engine: &'q Engine<'a, R, L, G>,
     refused: &'q AtomicBool,
     ticket: Ticket<'q, 's, L, C>,
 ) -> Result<PromisedHandle<Held<'s, L, C>, PartPromise<'s, L, C>>, Held<'s, L, C>>
@@ -195,7 +172,7 @@ where
         ensures part { result.pass.me.view.client.parts ≡ 1 }
         ensures listed { AreListed C.endpoints result.runners.items
             result.pass.me.view.client.list }
-    { part_of(rt, alloc, need, gate, stop, refused, ticket) };
+    { part_of(engine, refused, ticket) };
     match scope.spawn_with(promise, run) {
         Ok(handle) => Ok(handle),
         Err(error) => {

@@ -5,6 +5,7 @@ ghost use Rattle.flow_worker.specs.declared.worker.Turn.TheVariants.{Done};
 ghost use Rattle.runner.specs.Rule.{AreListed, HasEnded, fixed_of};
 
 use crate::charter::Charter;
+use crate::engine::Engine;
 use crate::moves::{give, take};
 use crate::rule::{Queue, Tally};
 use crate::runner::Runner;
@@ -32,9 +33,8 @@ pub enum Looked {
 /// Pops a runner, visits it, and pushes it back. `kept` keeps it if it is done, is out of memory,
 /// or the queue refuses it.
 pub fn look<'s, R: Wait, L: Lanes, G: Gate, C: Charter>(
-    rt: &R,
+    engine: &Engine<'_, R, L, G>,
     need: &mut L::Need,
-    gate: &G,
     queue: &Queue<'s, L, C>,
     pass: &mut SegPass<Runner<'s, L, C>, Tally>,
     kept: &mut Vec<Runner<'s, L, C>>,
@@ -47,10 +47,10 @@ pub fn look<'s, R: Wait, L: Lanes, G: Gate, C: Charter>(
     ensures part { pass.new.me.view.client.parts ≡ pass.old.me.view.client.parts }
     ensures listed { AreListed C.endpoints kept.new.items pass.new.me.view.client.list }
 {
-    let Some(mut runner) = take(rt, queue, pass) else {
+    let Some(mut runner) = take(engine.rt, queue, pass) else {
         return Looked::Empty;
     };
-    match runner.visit(need, gate) {
+    match runner.visit(need, engine.gate) {
         Turn::Done => {
             kept.push_reserved(runner);
             Looked::Moved
@@ -59,8 +59,8 @@ pub fn look<'s, R: Wait, L: Lanes, G: Gate, C: Charter>(
             kept.push_reserved(runner);
             Looked::NoMemory
         }
-        Turn::Moved => put_back(rt, queue, pass, kept, runner, Looked::Moved),
-        Turn::Idle => put_back(rt, queue, pass, kept, runner, Looked::Idle),
+        Turn::Moved => put_back(engine.rt, queue, pass, kept, runner, Looked::Moved),
+        Turn::Idle => put_back(engine.rt, queue, pass, kept, runner, Looked::Idle),
     }
 }
 
@@ -156,9 +156,8 @@ pub enum Stepped {
 ///
 /// `kept` and the list of the pass stay the same runners. The pass keeps its parts.
 pub fn step<'s, R: Wait, L: Lanes, G: Gate, C: Charter>(
-    rt: &R,
+    engine: &Engine<'_, R, L, G>,
     need: &mut L::Need,
-    gate: &G,
     queue: &Queue<'s, L, C>,
     pass: &mut SegPass<Runner<'s, L, C>, Tally>,
     kept: &mut Vec<Runner<'s, L, C>>,
@@ -174,8 +173,8 @@ pub fn step<'s, R: Wait, L: Lanes, G: Gate, C: Charter>(
     if kept.reserve(1).is_err() {
         return Stepped::NoMemory;
     }
-    let looked = look(rt, need, gate, queue, pass, kept);
-    let rest = turn_held(need, gate, kept, *held || looked == Looked::Kept);
+    let looked = look(engine, need, queue, pass, kept);
+    let rest = turn_held(need, engine.gate, kept, *held || looked == Looked::Kept);
     *held = rest != Turn::Done;
     both_went(looked, rest)
 }

@@ -5,7 +5,7 @@ use Rattle.runner.proofs.parts.part.Given as goal
 
 abbrev pub invariant-loop : goal.invariant-loop
 invariant-loop g l = record {
-  queue : IsSegPassOf l.queue l.pass;
-  part : l.pass.me.view.client.parts ≡ 1;
-  listed : AreListed g.C.Charter.endpoints l.kept.items l.pass.me.view.client.list;
+  queue : IsSegPassOf l.queue l.own.pass;
+  part : l.own.pass.me.view.client.parts ≡ 1;
+  listed : AreListed g.C.Charter.endpoints l.own.runners.items l.own.pass.me.view.client.list;
 }
