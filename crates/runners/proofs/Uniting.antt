@@ -1,12 +1,14 @@
 -- What a pass's list names, when two passes unite, and when runners come and go.
-use Rattle.std.proofs.Common.{◌≡◌, ℕ, ◌<◌, ◌++◌, ◌∷◌, [], List, refl, sym, ap, ◌∙◌, subst, arith}
+use Rattle.std.proofs.Common.{◌≡◌, ℕ, ◌<◌, ◌++◌, ◌∷◌, [], List, length, map, refl, sym, ap, ◌∙◌, subst, arith}
 use Rattle.std.specs.List.{All}
 use Rattle.std.proofs.lemmas.List.{map-append}
 use Rattle.std.proofs.lemmas.List.Elements.{All-append}
 use Rattle.runner.specs.Runner.{RunnerIs, EndpointsIs}
-use Rattle.runner.specs.Rule.{times, without, numbers, Agrees, AreListed}
+use Rattle.runner.specs.Rule.{times, without, numbers, fixed_of, Agrees, AreListed, HasEachOf, HasEnded}
 use Rattle.runner.proofs.Keeps.{times-append}
 use Rattle.runner.proofs.Bringing.{has, agreed, given, in_hand}
+use Rattle.runner.proofs.Fixed.{same_agree, same_numbers}
+use Rattle.runners.specs.Crew.{AreBack}
 
 module _ (charter : List EndpointsIs) where
   pub united : (rs bs cs : List RunnerIs) (list more all : List ℕ) → cs ≡ rs ++ bs → all ≡ list ++ more → AreListed charter rs list → AreListed charter bs more → AreListed charter cs all
@@ -39,3 +41,11 @@ module _ (charter : List EndpointsIs) where
   -- r was taken out of the queue
   pub taken : (rs room bs : List RunnerIs) (list more : List ℕ) (r : RunnerIs) → room ≡ rs → bs ≡ room ++ r ∷ [] → more ≡ list ++ r.number ∷ [] → Agrees charter r → AreListed charter rs list → AreListed charter bs more
   taken rs room bs list more r h e f a b = in_hand charter rs bs list more r r (e ∙ ap (λ w. w ++ r ∷ []) h) f refl refl a b
+
+  -- turns after the queue is drained keep each runner
+  pub back : (rs bs : List RunnerIs) → map fixed_of bs ≡ map fixed_of rs → HasEachOf (length charter) (numbers rs) → All (Agrees charter) rs → All HasEnded bs → AreBack charter bs
+  back rs bs same once agree done = record {
+    once = λ x. ap (times x) (same_numbers rs bs same) ∙ once x;
+    agree = same_agree charter rs bs same agree;
+    done = done;
+  }

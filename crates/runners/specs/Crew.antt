@@ -1,13 +1,16 @@
 -- The workers of a run, and its feeder, before and after.
-use Rattle.std.specs.Prelude.{◌≡◌, ℕ, List, Bool, false, map, Some, slice_get}
+use Rattle.std.specs.Prelude.{◌≡◌, ℕ, List, Bool, false, length, map, Some, slice_get}
+use Rattle.std.specs.List.{All}
 use Rattle.sink_journal.specs.declared.journal.Feed.{Feed}
-use Rattle.tuple_trace.specs.declared.row.Row.{Row}
 use Rattle.flow_model.specs.Begin.{Begin}
+use Rattle.flow_model.specs.Setup.{setup_view}
 use Rattle.flow_model.specs.SetupView.{SetupView}
 use Rattle.flow_worker.specs.Worker.{IsWorker, WorkerIs}
 use Rattle.coordinator.specs.Feeding.{IsFeeder}
 use Rattle.coordinator.specs.Views.{FeederIs, end_of}
+use Rattle.runner.specs.Rule.{Agrees, HasEachOf, HasEnded, numbers}
 use Rattle.runner.specs.Runner.{EndpointsIs, RunnerIs, endpoints_of}
+use Rattle.runners.specs.declared.flow.Flow.{Flow}
 
 abbrev pub number_in : WorkerIs → ℕ
 number_in w = w.number
@@ -28,11 +31,25 @@ pub record AreWorkers (setup : SetupView) (begin : Begin) (workers : List Worker
       (w : ℕ) (worker : WorkerIs) → slice_get workers w ≡ Some worker →
       IsWorker setup begin worker
 
+-- Runners that come back: each that the charter names, once, and done.
+pub record AreBack (charter : List EndpointsIs) (rs : List RunnerIs) : Type 0 where
+  pub once : HasEachOf (length charter) (numbers rs)
+  pub agree : All (Agrees charter) rs
+  pub done : All HasEnded rs
+
+-- the setup of what is run
+abbrev pub setup_in : Flow → SetupView
+setup_in flow = setup_view flow.setup.now
+
+-- a feeder of what is run, from the beginning on
+abbrev pub IsFeederOf : Bool → Flow → Begin → FeederIs → Type 0
+IsFeederOf live flow begin f = IsFeeder live (setup_in flow) begin flow.rows.now f
+
 -- What a feeder, which would leave `rest`, is after some turns: it has the law of a feeder from the
 -- beginning on; its endpoints are the same; and what goes with a seed still does.
-pub record HasFed {Seed Rest : Type 0} (live : Bool) (setup : SetupView) (begin : Begin)
-    (rows : List Row) (kept : Seed → List Feed → Rest → Type 0) (f : FeederIs) (rest : Rest)
+pub record HasFed {Seed Rest : Type 0} (live : Bool) (flow : Flow) (begin : Begin)
+    (kept : Seed → List Feed → Rest → Type 0) (f : FeederIs) (rest : Rest)
     (g : FeederIs) (rest' : Rest) : Type 0 where
-  pub law : IsFeeder live setup begin rows g
+  pub law : IsFeederOf live flow begin g
   pub endpoints : map end_of g.outs ≡ map end_of f.outs
   pub kept_is : (seed : Seed) → kept seed f.feeds rest → kept seed g.feeds rest'

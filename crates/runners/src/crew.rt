@@ -12,10 +12,9 @@ use crossbeam_queue::SegPass;
 use flow_model::Setup;
 use flow_worker::{Turn, Worker};
 use lane_core::Lanes;
-use runner::{Charter, Held, Queue, Runner, Tally, give, round, take};
+use runner::{Charter, Engine, Held, Queue, Runner, Tally, give, round, take};
 use std::alloc::Global;
 use std::sync::Wait;
-use std::sync::atomic::{AtomicBool, Ordering};
 use tuple_trace::{Gate, NoMemory};
 
 /// Pushes the runner of each worker, from the last to the first. A refused push ends the run. The
@@ -77,21 +76,19 @@ pub fn drain<'s, R: Wait, L: Lanes, C: Charter>(
 /// Visits all runners until each is done. No other thread has any, so it yields to none. The one
 /// error is out of memory.
 pub fn rounds<'s, R: Wait, L: Lanes, G: Gate, C: Charter>(
-    rt: &R,
+    engine: &Engine<'_, R, L, G>,
     need: &mut L::Need,
-    gate: &G,
-    stop: &AtomicBool,
     runners: &mut Vec<Runner<'s, L, C>>,
 ) -> Result<(), NoMemory>
     ensures fixed { OnOk result (map fixed_of runners.new.items
         ≡ map fixed_of runners.old.items) }
     ensures done { OnOk result (All HasEnded runners.new.items) }
 {
-    for _ in rt.forever() {
-        if stop.load(Ordering::SeqCst) {
+    for _ in engine.rt.forever() {
+        if engine.is_stopped() {
             break;
         }
-        match round(need, gate, runners) {
+        match round(need, engine.gate, runners) {
             Turn::Done => return Ok(()),
             Turn::Moved | Turn::Idle => {}
             Turn::NoMemory => break,

@@ -2,33 +2,31 @@ ghost use Rattle.std.specs.Prelude.{◌≡◌, ◌<◌, ◌+◌, ◌≤◌, IfOk
 ghost use Rattle.std.specs.List.{All, range_with_len};
 ghost use Rattle.control_box.specs.Endpoints.{ShareBoxes};
 ghost use Rattle.crossbeam_queue.specs.SegTies.{IsSegPassOf};
-ghost use Rattle.jobs.specs.Nodes.{AreFromSources};
-ghost use Rattle.flow_model.specs.Setup.{setup_view};
 ghost use Rattle.flow_worker.specs.Pairs.{Each};
 ghost use Rattle.flow_worker.specs.Turning.{IsDone};
 ghost use Rattle.flow_worker.specs.Worker.{IsWorker, WorkerIs};
-ghost use Rattle.coordinator.specs.Feeding.{IsFeeder};
-ghost use Rattle.runners.specs.Crew.{AreWorkers, HasFed, fixed_in, number_in, runner_of};
-ghost use Rattle.runner.specs.Rule.{Agrees, AreListed, HasEachOf, HasEnded, numbers};
+ghost use Rattle.runners.specs.Crew.{AreBack, AreWorkers, HasFed, IsFeederOf, fixed_in};
+ghost use Rattle.runners.specs.Crew.{number_in, runner_of, setup_in};
+ghost use Rattle.runner.specs.Rule.{AreListed};
 ghost use Rattle.runner.specs.Runner.{endpoints_of};
 
 use crate::alone::run_alone;
 use crate::crew::{drain, push_all, rounds, sort_by_number, to_workers};
-use crate::lead::{Led, lead};
+use crate::flow::Flow;
+use crate::lead::lead;
 use crate::threads::{Handle, join_all, start_all};
 use coordinator::Feeding;
 use crossbeam_queue::SegPass;
-use flow_model::Setup;
 use flow_worker::Worker;
 use lane_core::Lanes;
-use runner::{Beginning, Charter, Held, Queue, Runner, Tally, open};
+use runner::{Beginning, Charter, Engine, Held, Queue, Runner, Tally, open};
 use std::alloc::Global;
 use std::marker::Brand;
 use std::sync::Wait;
-use std::sync::atomic::{AtomicBool, Ordering};
+use std::sync::atomic::AtomicBool;
 use std::thread;
 use std::thread::{Scope, Threads};
-use tuple_trace::{Gate, NoMemory, Rows};
+use tuple_trace::{Gate, NoMemory};
 
 /// What a run leaves: its workers in the order of their numbers, and its feeder.
 #[derive(Drop)]
@@ -52,7 +50,7 @@ pub struct Load<'q, 's: 'q, L: Lanes + 'q, F: Drop, C: Charter + 'q> {
     pub feeder: F,
 }
 
-/// Runs workers and a feeder on at most `threads` threads, 1 to 16, until all are done.
+/// Runs workers and a feeder on the threads of an engine, until all are done.
 ///
 /// A worker is a runner, which moves between threads by a queue. A thread pops a runner, gives it
 /// up to 64 turns while they move something, and pushes it back unless it is done. The caller does
@@ -62,89 +60,66 @@ pub struct Load<'q, 's: 'q, L: Lanes + 'q, F: Drop, C: Charter + 'q> {
 /// `workers` stand in the order of their numbers, and come back so. The feeder's boxes are theirs.
 /// The one error is out of memory; it gives up the workers and the feeder.
 pub fn run_all<R, L: Lanes + Sync, G: Gate + Sync, F: Feeding<L> + Drop, B: Beginning>(
-    rt: &R,
-    alloc: Global,
-    form: &L,
-    gate: &G,
-    threads: u32,
-    setup: &Setup,
-    rows: &Rows,
+    engine: &Engine<'_, R, L, G>,
+    flow: &Flow<'_>,
     workers: Vec<Worker<L>>,
     feeder: F,
 ) -> Result<Ran<L, F>, NoMemory>
 where
     R: Threads + Wait + Sync,
-    requires some { 1 ≤ threads }
-    requires few { threads ≤ 16 }
-    requires workers { AreWorkers (setup_view setup.now) B.begin workers.items }
-    requires feeder { IsFeeder F.LIVE (setup_view setup.now) B.begin rows.now (F.feeder feeder) }
+    requires workers { AreWorkers (setup_in flow.now) B.begin workers.items }
+    requires feeder { IsFeederOf F.LIVE flow.now B.begin (F.feeder feeder) }
     requires boxes { ShareBoxes (F.feeder feeder).boxes.posters
         (map (λ (w : WorkerIs). w.owner) workers.items) }
-    requires rows { AreFromSources (setup_view setup.now).job rows.now }
-    ensures workers { IfOk result (λ r. AreWorkers (setup_view setup.now) B.begin r.workers.items) }
+    ensures workers { IfOk result (λ r. AreWorkers (setup_in flow.now) B.begin r.workers.items) }
     ensures done { IfOk result (λ r. Each IsDone r.workers.items) }
     ensures fixed { IfOk result (λ r. map fixed_in r.workers.items ≡ map fixed_in workers.items) }
-    ensures feeder { IfOk result (λ r. HasFed F.LIVE (setup_view setup.now) B.begin rows.now F.kept
-        (F.feeder feeder) (F.rest feeder) (F.feeder r.feeder) (F.rest r.feeder)) }
+    ensures feeder { IfOk result (λ r. HasFed F.LIVE flow.now B.begin F.kept (F.feeder feeder)
+        (F.rest feeder) (F.feeder r.feeder) (F.rest r.feeder)) }
     ensures stopped { IfOk result (λ r. IsTrue (F.feeder r.feeder).stopped) }
 {
-    under::<R, L, G, F, Brand>(rt, alloc, form, gate, threads, setup, rows, workers, feeder)
+    under::<R, L, G, F, Brand>(engine, flow, workers, feeder)
 }
 
 // Runs them under a charter: opens a queue, runs, ends the queue, and sorts the workers.
 fn under<R, L: Lanes + Sync, G: Gate + Sync, F: Feeding<L> + Drop, C: Charter + Send + Sync>(
-    rt: &R,
-    alloc: Global,
-    form: &L,
-    gate: &G,
-    threads: u32,
-    setup: &Setup,
-    rows: &Rows,
+    engine: &Engine<'_, R, L, G>,
+    flow: &Flow<'_>,
     workers: Vec<Worker<L>>,
     feeder: F,
 ) -> Result<Ran<L, F>, NoMemory>
 where
     R: Threads + Wait + Sync,
-    requires some { 1 ≤ threads }
-    requires few { threads ≤ 16 }
-    requires setup { setup_view setup.now ≡ C.setup }
+    requires setup { setup_in flow.now ≡ C.setup }
     requires endpoints { C.endpoints ≡ map endpoints_of workers.items }
     requires numbers { map number_in workers.items ≡ range_with_len 0 (length workers.items) }
-    requires law { All (IsWorker (setup_view setup.now) C.begin) workers.items }
-    requires feeder { IsFeeder F.LIVE (setup_view setup.now) C.begin rows.now (F.feeder feeder) }
-    requires rows { AreFromSources (setup_view setup.now).job rows.now }
-    ensures law { IfOk result (λ r. All (IsWorker (setup_view setup.now) C.begin) r.workers.items) }
+    requires law { All (IsWorker (setup_in flow.now) C.begin) workers.items }
+    requires feeder { IsFeederOf F.LIVE flow.now C.begin (F.feeder feeder) }
+    ensures law { IfOk result (λ r. All (IsWorker (setup_in flow.now) C.begin) r.workers.items) }
     ensures done { IfOk result (λ r. All IsDone r.workers.items) }
     ensures fixed { IfOk result (λ r. map fixed_in r.workers.items ≡ map fixed_in workers.items) }
-    ensures feeder { IfOk result (λ r. HasFed F.LIVE (setup_view setup.now) C.begin rows.now F.kept
-        (F.feeder feeder) (F.rest feeder) (F.feeder r.feeder) (F.rest r.feeder)) }
+    ensures feeder { IfOk result (λ r. HasFed F.LIVE flow.now C.begin F.kept (F.feeder feeder)
+        (F.rest feeder) (F.feeder r.feeder) (F.rest r.feeder)) }
     ensures stopped { IfOk result (λ r. IsTrue (F.feeder r.feeder).stopped) }
 {
-    let Ok((queue, pass)) = open::<L, C>(alloc) else {
+    let Ok((queue, pass)) = open::<L, C>(engine.alloc) else {
         return Err(NoMemory);
     };
-    let ran = filled(
-        rt, alloc, form, gate, threads, setup, rows, &queue, pass, workers, feeder,
-    );
+    let ran = filled(engine, flow, &queue, pass, workers, feeder);
     queue.destroy();
     let Finished {
         mut runners,
         feeder,
     } = ran?;
     sort_by_number(&mut runners);
-    let workers = to_workers(alloc, runners)?;
+    let workers = to_workers(engine.alloc, runners)?;
     Ok(Ran { workers, feeder })
 }
 
 // Pushes all runners into the queue, and runs them.
 fn filled<'s, R, L: Lanes + Sync, G: Gate + Sync, F: Feeding<L> + Drop, C>(
-    rt: &R,
-    alloc: Global,
-    form: &L,
-    gate: &G,
-    threads: u32,
-    setup: &'s Setup,
-    rows: &Rows,
+    engine: &Engine<'_, R, L, G>,
+    flow: &Flow<'s>,
     queue: &Queue<'s, L, C>,
     mut pass: SegPass<Runner<'s, L, C>, Tally>,
     workers: Vec<Worker<L>>,
@@ -153,42 +128,37 @@ fn filled<'s, R, L: Lanes + Sync, G: Gate + Sync, F: Feeding<L> + Drop, C>(
 where
     R: Threads + Wait + Sync,
     C: Charter + Send + Sync,
-    requires some { 1 ≤ threads }
-    requires few { threads ≤ 16 }
     requires queue { IsSegPassOf queue.now pass }
     requires parts { pass.me.view.client.parts ≡ 16 }
     requires listed { AreListed C.endpoints (map runner_of workers.items) pass.me.view.client.list }
-    requires setup { setup_view setup.now ≡ C.setup }
+    requires setup { setup_in flow.now ≡ C.setup }
     requires numbers { map number_in workers.items ≡ range_with_len 0 (length workers.items) }
-    requires law { All (IsWorker (setup_view setup.now) C.begin) workers.items }
-    requires feeder { IsFeeder F.LIVE (setup_view setup.now) C.begin rows.now (F.feeder feeder) }
-    requires rows { AreFromSources (setup_view setup.now).job rows.now }
-    ensures once { IfOk result (λ r. HasEachOf (length C.endpoints) (numbers r.runners.items)) }
-    ensures agree { IfOk result (λ r. All (Agrees C.endpoints) r.runners.items) }
-    ensures done { IfOk result (λ r. All HasEnded r.runners.items) }
-    ensures feeder { IfOk result (λ r. HasFed F.LIVE (setup_view setup.now) C.begin rows.now F.kept
-        (F.feeder feeder) (F.rest feeder) (F.feeder r.feeder) (F.rest r.feeder)) }
+    requires law { All (IsWorker (setup_in flow.now) C.begin) workers.items }
+    requires feeder { IsFeederOf F.LIVE flow.now C.begin (F.feeder feeder) }
+    ensures back { IfOk result (λ r. AreBack C.endpoints r.runners.items) }
+    ensures feeder { IfOk result (λ r. HasFed F.LIVE flow.now C.begin F.kept (F.feeder feeder)
+        (F.rest feeder) (F.feeder r.feeder) (F.rest r.feeder)) }
     ensures stopped { IfOk result (λ r. IsTrue (F.feeder r.feeder).stopped) }
 {
-    push_all(rt, alloc, setup, queue, &mut pass, workers)?;
+    push_all(
+        engine.rt,
+        engine.alloc,
+        flow.setup,
+        queue,
+        &mut pass,
+        workers,
+    )?;
     let own = Held {
-        runners: Vec::new(alloc),
+        runners: Vec::new(engine.alloc),
         pass,
     };
-    scoped(
-        rt, alloc, form, gate, threads, setup, rows, queue, own, feeder,
-    )
+    scoped(engine, flow, queue, own, feeder)
 }
 
 // Runs the queue on this thread and those that can be started.
 fn scoped<'s, R, L: Lanes + Sync, G: Gate + Sync, F: Feeding<L> + Drop, C>(
-    rt: &R,
-    alloc: Global,
-    form: &L,
-    gate: &G,
-    threads: u32,
-    setup: &Setup,
-    rows: &Rows,
+    engine: &Engine<'_, R, L, G>,
+    flow: &Flow<'_>,
     queue: &Queue<'s, L, C>,
     own: Held<'s, L, C>,
     feeder: F,
@@ -196,45 +166,34 @@ fn scoped<'s, R, L: Lanes + Sync, G: Gate + Sync, F: Feeding<L> + Drop, C>(
 where
     R: Threads + Wait + Sync,
     C: Charter + Send + Sync,
-    requires some { 1 ≤ threads }
-    requires few { threads ≤ 16 }
     requires queue { IsSegPassOf queue.now own.pass }
     requires parts { own.pass.me.view.client.parts ≡ 16 }
     requires listed { AreListed C.endpoints own.runners.items own.pass.me.view.client.list }
-    requires feeder { IsFeeder F.LIVE (setup_view setup.now) C.begin rows.now (F.feeder feeder) }
-    requires rows { AreFromSources (setup_view setup.now).job rows.now }
-    ensures once { IfOk result (λ r. HasEachOf (length C.endpoints) (numbers r.runners.items)) }
-    ensures agree { IfOk result (λ r. All (Agrees C.endpoints) r.runners.items) }
-    ensures done { IfOk result (λ r. All HasEnded r.runners.items) }
-    ensures feeder { IfOk result (λ r. HasFed F.LIVE (setup_view setup.now) C.begin rows.now F.kept
-        (F.feeder feeder) (F.rest feeder) (F.feeder r.feeder) (F.rest r.feeder)) }
+    requires feeder { IsFeederOf F.LIVE flow.now C.begin (F.feeder feeder) }
+    ensures back { IfOk result (λ r. AreBack C.endpoints r.runners.items) }
+    ensures feeder { IfOk result (λ r. HasFed F.LIVE flow.now C.begin F.kept (F.feeder feeder)
+        (F.rest feeder) (F.feeder r.feeder) (F.rest r.feeder)) }
     ensures stopped { IfOk result (λ r. IsTrue (F.feeder r.feeder).stopped) }
 {
-    let stop = AtomicBool::new(false);
-    let words = cleared(alloc, threads)?;
-    let (stop, words) = (&stop, words.as_slice());
+    let words = cleared(engine.alloc, engine.threads)?;
+    let words = words.as_slice();
     let load = Load { queue, own, feeder };
     thread::scope(
         thread::scope_env(),
-        rt,
+        engine.rt,
         move |scope|
             requires queue { IsSegPassOf load.queue.now load.own.pass }
             requires words { length words.now ≤ 15 }
             requires parts { load.own.pass.me.view.client.parts ≡ 16 }
             requires listed { AreListed C.endpoints load.own.runners.items
                 load.own.pass.me.view.client.list }
-            requires feeder { IsFeeder F.LIVE (setup_view setup.now) C.begin rows.now
-                (F.feeder load.feeder) }
-            requires rows { AreFromSources (setup_view setup.now).job rows.now }
-            ensures once { IfOk result (λ r. HasEachOf (length C.endpoints)
-                (numbers r.runners.items)) }
-            ensures agree { IfOk result (λ r. All (Agrees C.endpoints) r.runners.items) }
-            ensures done { IfOk result (λ r. All HasEnded r.runners.items) }
-            ensures feeder { IfOk result (λ r. HasFed F.LIVE (setup_view setup.entry.now) C.begin
-                rows.entry.now F.kept (F.feeder load.entry.feeder) (F.rest load.entry.feeder)
-                (F.feeder r.feeder) (F.rest r.feeder)) }
+            requires feeder { IsFeederOf F.LIVE flow.now C.begin (F.feeder load.feeder) }
+            ensures back { IfOk result (λ r. AreBack C.endpoints r.runners.items) }
+            ensures feeder { IfOk result (λ r. HasFed F.LIVE flow.entry.now C.begin F.kept
+                (F.feeder load.entry.feeder) (F.rest load.entry.feeder) (F.feeder r.feeder)
+                (F.rest r.feeder)) }
             ensures stopped { IfOk result (λ r. IsTrue (F.feeder r.feeder).stopped) }
-        { inside(scope, rt, alloc, form, gate, stop, words, setup, rows, load) },
+        { inside(scope, engine, words, flow, load) },
     )
 }
 
@@ -254,33 +213,25 @@ fn cleared(alloc: Global, threads: u32) -> Result<Vec<AtomicBool>, NoMemory>
 }
 
 // Starts the threads, does the caller's part, joins them, and does what is left.
-fn inside<'q, 's: 'q, E, R, L: Lanes + 'q, G: Gate + Sync + 'q, F: Feeding<L> + Drop, C>(
+fn inside<'q, 'a: 'q, 's: 'q, E, R, L: Lanes + Sync + 'q, G: Gate + Sync + 'q, F, C>(
     scope: &'q Scope<'q, E>,
-    rt: &'q R,
-    alloc: Global,
-    form: &L,
-    gate: &'q G,
-    stop: &'q AtomicBool,
+    engine: &'q Engine<'a, R, L, G>,
     words: &'q [AtomicBool],
-    setup: &Setup,
-    rows: &Rows,
+    flow: &Flow<'_>,
     load: Load<'q, 's, L, F, C>,
 ) -> Result<Finished<'s, L, F, C>, NoMemory>
 where
     R: Threads + Wait + Sync + 'q,
+    F: Feeding<L> + Drop,
     C: Charter + Send + Sync + 'q,
     requires queue { IsSegPassOf load.queue.now load.own.pass }
     requires words { length words.now ≤ 15 }
     requires parts { load.own.pass.me.view.client.parts ≡ 16 }
     requires listed { AreListed C.endpoints load.own.runners.items
         load.own.pass.me.view.client.list }
-    requires feeder { IsFeeder F.LIVE (setup_view setup.now) C.begin rows.now
-        (F.feeder load.feeder) }
-    requires rows { AreFromSources (setup_view setup.now).job rows.now }
-    ensures once { IfOk result (λ r. HasEachOf (length C.endpoints) (numbers r.runners.items)) }
-    ensures agree { IfOk result (λ r. All (Agrees C.endpoints) r.runners.items) }
-    ensures done { IfOk result (λ r. All HasEnded r.runners.items) }
-    ensures feeder { IfOk result (λ r. HasFed F.LIVE (setup_view setup.now) C.begin rows.now F.kept
+    requires feeder { IsFeederOf F.LIVE flow.now C.begin (F.feeder load.feeder) }
+    ensures back { IfOk result (λ r. AreBack C.endpoints r.runners.items) }
+    ensures feeder { IfOk result (λ r. HasFed F.LIVE flow.now C.begin F.kept
         (F.feeder load.entry.feeder) (F.rest load.entry.feeder) (F.feeder r.feeder)
         (F.rest r.feeder)) }
     ensures stopped { IfOk result (λ r. IsTrue (F.feeder r.feeder).stopped) }
@@ -288,47 +239,57 @@ where
     let Load {
         queue,
         mut own,
-        feeder,
+        mut feeder,
     } = load;
-    let mut handles = Vec::new(alloc);
-    let started = start_all(
-        scope,
-        rt,
-        alloc,
-        form,
-        gate,
-        stop,
-        words,
-        queue,
-        &mut own,
-        &mut handles,
-    );
-    if started.is_err() {
-        stop.store(true, Ordering::SeqCst);
+    let mut handles = Vec::new(engine.alloc);
+    if start_all(scope, engine, words, queue, &mut own, &mut handles).is_err() {
+        engine.stop();
         return Err(NoMemory);
     }
-    let mut need = form.need();
-    if handles.is_empty() {
-        return run_alone(rt, &mut need, gate, stop, setup, rows, queue, own, feeder);
-    }
-    let Led {
-        mut own,
-        feeder,
-        fed,
-    } = lead(rt, &mut need, gate, stop, setup, rows, queue, own, feeder);
-    end_all(rt, &mut need, gate, stop, queue, &mut own, handles, fed)?;
+    callers_part(engine, flow, queue, &mut own, &mut feeder, handles)?;
     Ok(Finished {
         runners: own.runners,
         feeder,
     })
 }
 
+// What the caller does once the threads are started: its part of the run, and all that is left of it
+// after the threads.
+fn callers_part<'s, R, L: Lanes, G: Gate, F: Feeding<L>, C: Charter>(
+    engine: &Engine<'_, R, L, G>,
+    flow: &Flow<'_>,
+    queue: &Queue<'s, L, C>,
+    own: &mut Held<'s, L, C>,
+    feeder: &mut F,
+    handles: Vec<Handle<'s, L, C>>,
+) -> Result<(), NoMemory>
+where
+    R: Threads + Wait,
+    requires queue { IsSegPassOf queue.now own.old.pass }
+    requires some { 0 < own.old.pass.me.view.client.parts }
+    requires parts { own.old.pass.me.view.client.parts + vec_len handles ≡ 16 }
+    requires listed { AreListed C.endpoints own.old.runners.items
+        own.old.pass.me.view.client.list }
+    requires handles { All (λ h. h.promise.queue.value ≡ queue.now) handles.items }
+    requires feeder { IsFeederOf F.LIVE flow.now C.begin (F.feeder feeder.old) }
+    ensures back { OnOk result (AreBack C.endpoints own.new.runners.items) }
+    ensures feeder { OnOk result (HasFed F.LIVE flow.now C.begin F.kept (F.feeder feeder.old)
+        (F.rest feeder.old) (F.feeder feeder.new) (F.rest feeder.new)) }
+    ensures stopped { OnOk result (IsTrue (F.feeder feeder.new).stopped) }
+{
+    let mut need = engine.form.need();
+    if handles.is_empty() {
+        return run_alone(engine, &mut need, flow, queue, own, feeder);
+    }
+    let fed = lead(engine, &mut need, flow, queue, own, feeder);
+    end_all(engine, &mut need, queue, own, handles, fed)?;
+    Ok(())
+}
+
 // Joins the threads, and does what is left, if the feeder has stopped.
 fn end_all<'s, R, L: Lanes, G: Gate, C: Charter>(
-    rt: &R,
+    engine: &Engine<'_, R, L, G>,
     need: &mut L::Need,
-    gate: &G,
-    stop: &AtomicBool,
     queue: &Queue<'s, L, C>,
     own: &mut Held<'s, L, C>,
     handles: Vec<Handle<'s, L, C>>,
@@ -343,18 +304,16 @@ where
         own.old.pass.me.view.client.list }
     requires handles { All (λ h. h.promise.queue.value ≡ queue.now) handles.items }
     ensures fed { OnOk result (IsTrue fed) }
-    ensures once { OnOk result (HasEachOf (length C.endpoints) (numbers own.new.runners.items)) }
-    ensures agree { OnOk result (All (Agrees C.endpoints) own.new.runners.items) }
-    ensures done { OnOk result (All HasEnded own.new.runners.items) }
+    ensures back { OnOk result (AreBack C.endpoints own.new.runners.items) }
 {
-    if join_all(rt, queue, own, handles).is_err() {
-        stop.store(true, Ordering::SeqCst);
+    if join_all(engine.rt, queue, own, handles).is_err() {
+        engine.stop();
         return Err(NoMemory);
     }
     if !fed {
         return Err(NoMemory);
     }
-    drain(rt, queue, own)?;
-    rounds(rt, need, gate, stop, &mut own.runners)?;
+    drain(engine.rt, queue, own)?;
+    rounds(engine, need, &mut own.runners)?;
     Ok(())
 }

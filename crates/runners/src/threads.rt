@@ -5,8 +5,7 @@ ghost use Rattle.crossbeam_queue.specs.SegTies.{IsSegPassOf};
 ghost use Rattle.runner.specs.Rule.{AreListed};
 
 use lane_core::Lanes;
-use runner::{Charter, Held, PartPromise, Queue, Ticket, share, start_part, unite};
-use std::alloc::Global;
+use runner::{Charter, Engine, Held, PartPromise, Queue, Ticket, share, start_part, unite};
 use std::sync::Wait;
 use std::sync::atomic::AtomicBool;
 use std::thread::{PromisedHandle, Scope, Threads};
@@ -48,19 +47,16 @@ pub fn take_in<'s, L: Lanes, C: Charter>(
 /// of memory.
 pub fn start_all<
     'q,
+    'a: 'q,
     's: 'q,
     E,
     R,
-    L: Lanes + 'q,
+    L: Lanes + Sync + 'q,
     G: Gate + Sync + 'q,
     C: Charter + Send + Sync + 'q,
 >(
     scope: &'q Scope<'q, E>,
-    rt: &'q R,
-    alloc: Global,
-    form: &L,
-    gate: &'q G,
-    stop: &'q AtomicBool,
+    engine: &'q Engine<'a, R, L, G>,
     words: &'q [AtomicBool],
     queue: &'q Queue<'s, L, C>,
     own: &mut Held<'s, L, C>,
@@ -91,7 +87,7 @@ where
             queue,
             pass: theirs,
         };
-        let started = start_part(scope, rt, alloc, form.need(), gate, stop, word, ticket);
+        let started = start_part(scope, engine, word, ticket);
         placed(queue, own, handles, started)?;
     }
     Ok(())

@@ -8,7 +8,7 @@ pub loop-i-preserved : goal.loop-i-preserved
 loop-i-preserved g c =
     let was = c.loop-i.invariant in let step = c.visit-turn.ensures in record {
       fixed = same_marks fixed_of _ _ _ _ c.index_mut.ensures.value (ap₂ (λ a b. (a, b)) step.number step.endpoints) ∙ was.fixed;
-      fed = fed_more _ _ _ _ g.F.Feeding.kept _ _ _ _ _ _ was.fed c.feed_if-last.ensures.feeder;
+      fed = fed_more _ _ _ g.F.Feeding.kept _ _ _ _ _ _ was.fed c.feed_if-last.ensures.feeder;
       stopped = c.feed_if-last.ensures.done;
     }
 

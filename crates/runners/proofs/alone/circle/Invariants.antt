@@ -1,5 +1,4 @@
 use Rattle.std.proofs.Common.{◌≡◌, IsTrue, map}
-use Rattle.flow_model.specs.Setup.{setup_view}
 use Rattle.coordinator.specs.declared.feeding.FeedTurn.TheVariants.{Done}
 use Rattle.runner.specs.Rule.{fixed_of}
 use Rattle.runners.specs.Crew.{HasFed}
@@ -8,6 +7,6 @@ use Rattle.runners.proofs.alone.circle.Given as goal
 abbrev pub invariant-loop-i : goal.invariant-loop-i
 invariant-loop-i g l = record {
   fixed : map fixed_of l.runners.items ≡ map fixed_of l.fn.runners.items;
-  fed : HasFed g.F.Feeding.LIVE (setup_view l.setup) g.C.Charter.begin l.rows g.F.Feeding.kept (g.F.Feeding.feeder l.fn.feeder) (g.F.Feeding.rest l.fn.feeder) (g.F.Feeding.feeder l.feeder) (g.F.Feeding.rest l.feeder);
+  fed : HasFed g.F.Feeding.LIVE l.flow g.C.Charter.begin g.F.Feeding.kept (g.F.Feeding.feeder l.fn.feeder) (g.F.Feeding.rest l.fn.feeder) (g.F.Feeding.feeder l.feeder) (g.F.Feeding.rest l.feeder);
   stopped : l.last ≡ Done → IsTrue (g.F.Feeding.feeder l.feeder).stopped;
 }

@@ -1,11 +1,10 @@
 use Rattle.std.proofs.Common.{◌≢◌}
-use Rattle.flow_model.specs.Setup.{setup_view}
 use Rattle.coordinator.specs.declared.feeding.FeedTurn.TheVariants.{Done}
 use Rattle.runners.specs.Crew.{HasFed}
 use Rattle.runners.proofs.lead.feed.Given as goal
 
 abbrev pub invariant-loop : goal.invariant-loop
 invariant-loop g l = record {
-  fed : HasFed g.F.Feeding.LIVE (setup_view l.setup) g.C.Charter.begin l.rows g.F.Feeding.kept (g.F.Feeding.feeder l.fn.feeder) (g.F.Feeding.rest l.fn.feeder) (g.F.Feeding.feeder l.feeder) (g.F.Feeding.rest l.feeder);
+  fed : HasFed g.F.Feeding.LIVE l.flow g.C.Charter.begin g.F.Feeding.kept (g.F.Feeding.feeder l.fn.feeder) (g.F.Feeding.rest l.fn.feeder) (g.F.Feeding.feeder l.feeder) (g.F.Feeding.rest l.feeder);
   going : l.fed ≢ Done;
 }

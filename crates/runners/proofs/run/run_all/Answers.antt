@@ -1,7 +1,7 @@
 use Rattle.std.proofs.lemmas.Result.{IfOk-weaker}
-use Rattle.flow_model.specs.Setup.{setup_view}
 use Rattle.flow_worker.specs.Turning.{IsDone}
 use Rattle.flow_worker.specs.Worker.{IsWorker}
+use Rattle.runners.specs.Crew.{setup_in}
 use Rattle.runners.proofs.Crewing.{all_at, both_ok, each_all, in_order, workers_again}
 use Rattle.runners.proofs.run.run_all.Goals as goal
 
@@ -9,11 +9,11 @@ pub under-requires-clause-numbers : goal.under-requires-clause-numbers
 under-requires-clause-numbers g c κs within = in_order _ c.requires.workers.number
 
 pub under-requires-clause-law : goal.under-requires-clause-law
-under-requires-clause-law g c κs within = all_at (IsWorker (setup_view c.args.setup.now) g.B.Beginning.begin) _ c.requires.workers.law
+under-requires-clause-law g c κs within = all_at (IsWorker (setup_in c.args.flow.now) g.B.Beginning.begin) _ c.requires.workers.law
 
 pub returns-clause-workers : goal.returns-clause-workers
 returns-clause-workers g c =
-    let setup = setup_view c.args.setup.now in
+    let setup = setup_in c.args.flow.now in
     let begin = g.B.Beginning.begin in
     both_ok c.under.result _ _ _ (λ r law fixed. workers_again setup begin c.args.workers.items r.workers.items c.requires.workers fixed law) c.under.ensures.law c.under.ensures.fixed
 
