@@ -9,10 +9,10 @@ ghost use Rattle.flow_model.specs.Run.{IsRun, IsRunSince};
 ghost use Rattle.flow_model.specs.Setup.{setup_view};
 ghost use Rattle.flow_model.specs.Workers.{workers_in};
 ghost use Rattle.flow_worker.specs.Worker.{WorkerIs};
-ghost use Rattle.coordinator.specs.Feeding.{IsFeeder};
 ghost use Rattle.flow_ends.specs.Crews.{IsCrew};
 ghost use Rattle.flow_ends.specs.Ended.{fed_end, record_of};
 ghost use Rattle.flow_ends.specs.Sides.{AreMatched, worker_side};
+ghost use Rattle.runners.specs.Crew.{IsFeederOf, setup_in};
 ghost use Rattle.flow_engine.specs.Flown.{number_of};
 ghost use Rattle.flow_engine.specs.Recorded.{IsRecorded, NoneIsEarly};
 ghost use Rattle.flow_engine.specs.inner.Turns.{HasRun, IsFirst};
@@ -24,39 +24,28 @@ use flow_ends::{Crew, Ended, end_run, endpoints_stay_matched, workers_read_no_ro
 use flow_model::{Setup, Start, runs_are_consistent};
 use flow_worker::Worker;
 use lane_core::Lanes;
-use runners::{Beginning, Ran, run_all};
-use std::alloc::Global;
+use runners::{Beginning, Engine, Flow, Ran, run_all};
 use std::marker::Brand;
 use std::sync::Wait;
 use std::thread::Threads;
 use tuple_trace::{Gate, NoMemory, Rows};
 
-/// Runs rows by a setup on at most `threads` threads, 1 to 16, over lanes of this form, each of
-/// which holds at most `cap` items, 1 to 64.
+/// Runs rows by a setup on an engine, which says on how many threads, and over which lanes.
 ///
 /// Requests overtake the tuples that wait on lanes: the feeder posts each to the workers of its
-/// heads directly after its row, as in the Fries paper (Wang and others, VLDB 2022). `gate` is
-/// called before each tuple that a worker processes, and after each request that is issued.
+/// heads directly after its row, as in the Fries paper (Wang and others, VLDB 2022). The engine's
+/// gate is called before each tuple that a worker processes, and after each request that is issued.
 ///
 /// The record of what it returns is a run of the setup and the rows, however many threads there are
 /// and however they are scheduled. Every row is consistent in it. The one error is out of memory. A
 /// thread that can't be started is no error: the others do its work.
 pub fn run_flow<R, L: Lanes + Sync, G: Gate + Sync>(
-    rt: &R,
-    alloc: Global,
-    form: &L,
+    engine: &Engine<'_, R, L, G>,
     setup: Setup,
     rows: &Rows,
-    threads: u32,
-    cap: u32,
-    gate: &G,
 ) -> Result<Flown<L>, NoMemory>
 where
     R: Threads + Wait + Sync,
-    requires some_threads { 1 ≤ threads }
-    requires few_threads { threads ≤ 16 }
-    requires some_items { 1 ≤ cap }
-    requires few_items { cap ≤ 64 }
     requires rows { AreFromSources (setup_view setup).job rows.now }
     ensures setup { IfOk result (λ flown. flown.setup ≡ setup) }
     ensures crew { IfOk result (λ flown. map number_of flown.crew.items
@@ -66,17 +55,7 @@ where
     ensures consistent { IfOk result (λ flown. IsConsistent rows.now
         (record_of (setup_view setup) flown.feeds flown.crew.items)) }
 {
-    let (flown, ()) = run_with::<R, L, G, Feeder<L>>(
-        rt,
-        alloc,
-        form,
-        setup,
-        (),
-        rows,
-        threads,
-        cap,
-        gate,
-    )?;
+    let (flown, ()) = run_with::<R, L, G, Feeder<L>>(engine, setup, (), rows)?;
     Ok(flown)
 }
 
@@ -88,24 +67,15 @@ where
 /// those that there are. The record is a run of this setup and the rows. The one error is out of
 /// memory.
 pub fn run_with<R, L: Lanes + Sync, G: Gate + Sync, F: Feeding<L> + Drop>(
-    rt: &R,
-    alloc: Global,
-    form: &L,
+    engine: &Engine<'_, R, L, G>,
     setup: Setup,
     seed: F::Seed,
     rows: &Rows,
-    threads: u32,
-    cap: u32,
-    gate: &G,
 ) -> Result<(Flown<L>, F::Rest), NoMemory>
 where
     R: Threads + Wait + Sync,
     F::Seed: Drop,
     F::Rest: Drop,
-    requires some_threads { 1 ≤ threads }
-    requires few_threads { threads ≤ 16 }
-    requires some_items { 1 ≤ cap }
-    requires few_items { cap ≤ 64 }
     requires rows { AreFromSources (setup_view setup).job rows.now }
     ensures setup { IfOk result (λ (flown, rest). IsRecorded F.LIVE flown.feeds setup
         flown.setup) }
@@ -119,11 +89,13 @@ where
     ensures consistent { IfOk result (λ (flown, rest). IsConsistent rows.now
         (record_of (setup_view flown.setup) flown.feeds flown.crew.items)) }
 {
-    let (ended, rest) = run_seeded::<R, L, G, F, Brand>(
-        rt, alloc, form, &setup, seed, rows, threads, cap, gate,
-    )?;
+    let flow = Flow {
+        setup: &setup,
+        rows,
+    };
+    let (ended, rest) = run_seeded::<R, L, G, F, Brand>(engine, &flow, seed)?;
     let (feeds, crew) = (ended.feeds, ended.workers);
-    let setup = recorded_by::<L, F>(alloc, setup, &feeds)?;
+    let setup = recorded_by::<L, F>(engine.alloc, setup, &feeds)?;
     runs_are_consistent(&setup, rows);
     Ok((Flown { setup, feeds, crew }, rest))
 }
@@ -135,22 +107,13 @@ where
 /// The record of what it returns is a run of the setup and the rows from this beginning on. The one
 /// error is out of memory.
 pub fn run_from<R, L: Lanes + Sync, G: Gate + Sync>(
-    rt: &R,
-    alloc: Global,
-    form: &L,
+    engine: &Engine<'_, R, L, G>,
     setup: Setup,
     rows: &Rows,
-    threads: u32,
-    cap: u32,
-    gate: &G,
     start: &Start,
 ) -> Result<Flown<L>, NoMemory>
 where
     R: Threads + Wait + Sync,
-    requires some_threads { 1 ≤ threads }
-    requires few_threads { threads ≤ 16 }
-    requires some_items { 1 ≤ cap }
-    requires few_items { cap ≤ 64 }
     requires rows { AreFromSources (setup_view setup).job rows.now }
     requires turned { start.now.turned ≤ length (setup_view setup).requests }
     requires states { length start.now.states ≡ length (workers_in (setup_view setup).job) }
@@ -160,9 +123,11 @@ where
     ensures run { IfOk result (λ flown. IsRunSince start.now (setup_view setup) rows.now
         (record_of (setup_view setup) flown.feeds flown.crew.items)) }
 {
-    let ended = run_begun::<R, L, G, Brand>(
-        rt, alloc, form, &setup, rows, threads, cap, gate, start,
-    )?;
+    let flow = Flow {
+        setup: &setup,
+        rows,
+    };
+    let ended = run_begun::<R, L, G, Brand>(engine, &flow, start)?;
     let Ended { feeds, workers } = ended;
     Ok(Flown {
         setup,
@@ -173,114 +138,94 @@ where
 
 // Runs rows from the beginning of all, which `B` names, with a feeder of this seed.
 fn run_seeded<R, L: Lanes + Sync, G: Gate + Sync, F: Feeding<L> + Drop, B: Beginning>(
-    rt: &R,
-    alloc: Global,
-    form: &L,
-    setup: &Setup,
+    engine: &Engine<'_, R, L, G>,
+    flow: &Flow<'_>,
     seed: F::Seed,
-    rows: &Rows,
-    threads: u32,
-    cap: u32,
-    gate: &G,
 ) -> Result<(Ended<L>, F::Rest), NoMemory>
 where
     R: Threads + Wait + Sync,
     F::Seed: Drop,
     F::Rest: Drop,
-    requires begin { B.begin ≡ at_first (setup_view setup.now) }
-    requires some_threads { 1 ≤ threads }
-    requires few_threads { threads ≤ 16 }
-    requires some_items { 1 ≤ cap }
-    requires few_items { cap ≤ 64 }
-    requires rows { AreFromSources (setup_view setup.now).job rows.now }
+    requires begin { B.begin ≡ at_first (setup_in flow.now) }
     ensures kept { IfOk result (λ (ended, rest). F.kept seed ended.feeds rest) }
-    ensures run { IfOk result (λ (ended, rest). HasRun F.LIVE B.begin (setup_view setup.now)
-        rows.now ended.feeds ended.workers.items) }
+    ensures run { IfOk result (λ (ended, rest). HasRun F.LIVE B.begin (setup_in flow.now)
+        flow.now.rows.now ended.feeds ended.workers.items) }
 {
     let Crew {
         workers,
         posters,
         outs,
-    } = Crew::make(alloc, form, setup, cap)?;
-    let feeder = F::make(alloc, setup, outs, posters, seed)?;
-    run_over::<R, L, G, F, B>(rt, alloc, form, setup, rows, threads, gate, workers, feeder)
+    } = Crew::make(engine.alloc, engine.form, flow.setup, engine.capacity)?;
+    let feeder = F::make(engine.alloc, flow.setup, outs, posters, seed)?;
+    run_over::<R, L, G, F, B>(engine, flow, workers, feeder)
 }
 
 // Runs rows from a beginning on, which `B` names, with a feeder that waits for no releases.
 fn run_begun<R, L: Lanes + Sync, G: Gate + Sync, B: Beginning>(
-    rt: &R,
-    alloc: Global,
-    form: &L,
-    setup: &Setup,
-    rows: &Rows,
-    threads: u32,
-    cap: u32,
-    gate: &G,
+    engine: &Engine<'_, R, L, G>,
+    flow: &Flow<'_>,
     start: &Start,
 ) -> Result<Ended<L>, NoMemory>
 where
     R: Threads + Wait + Sync,
     requires begin { B.begin ≡ start.now }
-    requires some_threads { 1 ≤ threads }
-    requires few_threads { threads ≤ 16 }
-    requires some_items { 1 ≤ cap }
-    requires few_items { cap ≤ 64 }
-    requires rows { AreFromSources (setup_view setup.now).job rows.now }
-    requires turned { start.now.turned ≤ length (setup_view setup.now).requests }
-    requires states { length start.now.states ≡ length (workers_in (setup_view setup.now).job) }
-    ensures { IfOk result (λ ended. HasRun false start.now (setup_view setup.now) rows.now
-        ended.feeds ended.workers.items) }
+    requires turned { start.now.turned ≤ length (setup_in flow.now).requests }
+    requires states { length start.now.states ≡ length (workers_in (setup_in flow.now).job) }
+    ensures { IfOk result (λ ended. HasRun false start.now (setup_in flow.now)
+        flow.now.rows.now ended.feeds ended.workers.items) }
 {
     let Crew {
         workers,
         posters,
         outs,
-    } = Crew::make_from(alloc, form, setup, cap, start)?;
-    let feeder = Feeder::make_from(alloc, setup, outs, posters, start)?;
-    let (ended, ()) = run_over::<R, L, G, Feeder<L>, B>(
-        rt, alloc, form, setup, rows, threads, gate, workers, feeder,
+    } = Crew::make_from(
+        engine.alloc,
+        engine.form,
+        flow.setup,
+        engine.capacity,
+        start,
     )?;
+    let feeder = Feeder::make_from(engine.alloc, flow.setup, outs, posters, start)?;
+    let (ended, ()) = run_over::<R, L, G, Feeder<L>, B>(engine, flow, workers, feeder)?;
     Ok(ended)
 }
 
 // Lets workers and a feeder take their turns, from the beginning on that `B` names, and takes apart
 // what they leave.
 fn run_over<R, L: Lanes + Sync, G: Gate + Sync, F: Feeding<L> + Drop, B: Beginning>(
-    rt: &R,
-    alloc: Global,
-    form: &L,
-    setup: &Setup,
-    rows: &Rows,
-    threads: u32,
-    gate: &G,
+    engine: &Engine<'_, R, L, G>,
+    flow: &Flow<'_>,
     workers: Vec<Worker<L>>,
     feeder: F,
 ) -> Result<(Ended<L>, F::Rest), NoMemory>
 where
     R: Threads + Wait + Sync,
     F::Rest: Drop,
-    requires some_threads { 1 ≤ threads }
-    requires few_threads { threads ≤ 16 }
-    requires rows { AreFromSources (setup_view setup.now).job rows.now }
-    requires states { length B.begin.states ≡ length (workers_in (setup_view setup.now).job) }
+    requires states { length B.begin.states ≡ length (workers_in (setup_in flow.now).job) }
     requires first { F.LIVE ≡ true → IsFirst B.begin }
-    requires crew { IsCrew (setup_view setup.now) B.begin workers.items }
+    requires crew { IsCrew (setup_in flow.now) B.begin workers.items }
     requires matched { AreMatched (map worker_side workers.items)
         (map fed_end (F.feeder feeder).outs) }
-    requires feeder { IsFeeder F.LIVE (setup_view setup.now) B.begin rows.now (F.feeder feeder) }
+    requires feeder { IsFeederOf F.LIVE flow.now B.begin (F.feeder feeder) }
     requires boxes { ShareBoxes (F.feeder feeder).boxes.posters
         (map (λ (w : WorkerIs). w.owner) workers.items) }
     ensures kept { (seed : F.Seed) → F.kept seed (F.feeder feeder).feeds (F.rest feeder)
         → IfOk result (λ (ended, rest). F.kept seed ended.feeds rest) }
-    ensures run { IfOk result (λ (ended, rest). HasRun F.LIVE B.begin (setup_view setup.now)
-        rows.now ended.feeds ended.workers.items) }
+    ensures run { IfOk result (λ (ended, rest). HasRun F.LIVE B.begin (setup_in flow.now)
+        flow.now.rows.now ended.feeds ended.workers.items) }
 {
     endpoints_stay_matched();
     workers_read_no_rows();
-    let Ran { workers, feeder } = run_all::<R, L, G, F, B>(
-        rt, alloc, form, gate, threads, setup, rows, workers, feeder,
-    )?;
+    let Ran { workers, feeder } = run_all::<R, L, G, F, B>(engine, flow, workers, feeder)?;
     let (parts, rest) = feeder.finish();
-    let ended = end_run(alloc, form, &mut form.need(), setup, workers, parts)?;
+    let mut need = engine.form.need();
+    let ended = end_run(
+        engine.alloc,
+        engine.form,
+        &mut need,
+        flow.setup,
+        workers,
+        parts,
+    )?;
     Ok((ended, rest))
 }

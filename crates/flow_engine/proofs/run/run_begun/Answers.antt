@@ -1,12 +1,11 @@
 use Rattle.std.proofs.Common.{List, false, map, subst, sym}
 use Rattle.control_box.specs.Endpoints.{PosterIs, ShareBoxes}
 use Rattle.flow_model.specs.Begin.{Begin}
-use Rattle.flow_model.specs.Setup.{setup_view}
 use Rattle.flow_worker.specs.Worker.{WorkerIs}
-use Rattle.coordinator.specs.Feeding.{IsFeeder}
 use Rattle.coordinator.specs.Views.{OutIs}
 use Rattle.flow_ends.specs.Ended.{fed_end}
 use Rattle.flow_ends.specs.Sides.{AreMatched, worker_side}
+use Rattle.runners.specs.Crew.{IsFeederOf}
 use Rattle.flow_engine.proofs.run.run_begun.Goals as goal
 
 pub run_over-requires-clause-matched : goal.run_over-requires-clause-matched
@@ -15,7 +14,7 @@ run_over-requires-clause-matched g c κs within =
 
 pub run_over-requires-clause-feeder : goal.run_over-requires-clause-feeder
 run_over-requires-clause-feeder g c κs within =
-    subst (λ (b : Begin). IsFeeder false (setup_view c.args.setup.now) b c.args.rows.now c.in_ok-feeder.feeder) (sym c.requires.begin) (c.in_ok-feeder.ensures.law c.args.rows.now)
+    subst (λ (b : Begin). IsFeederOf false c.args.flow.now b c.in_ok-feeder.feeder) (sym c.requires.begin) (c.in_ok-feeder.ensures.law c.args.flow.now.rows.now)
 
 pub run_over-requires-clause-boxes : goal.run_over-requires-clause-boxes
 run_over-requires-clause-boxes g c κs within =
