@@ -22,7 +22,7 @@ use crate::running::{Done, Outputs, done_of, files_in, run_lines};
 use crate::setup::setup_of;
 use crate::writing::{Texts, write_texts};
 use command_line::EngineSize;
-use flow_engine::{Flown, run_with};
+use flow_engine::{Engine, Flown, run_with};
 use flow_model::{Setup, ordered_runs_are_serial, runs_are_consistent};
 use jobs::Job;
 use lane_ring::RingLanes;
@@ -74,17 +74,9 @@ where
     let most = setup.request_count() as u32;
     let work = Box::new(alloc, Work { setup, inbox })?;
     let mut work = Some(work);
-    let (flown, heard) = run_beside(
-        rt,
-        alloc,
-        gate,
-        size,
-        &mut work,
-        rows,
-        asks,
-        &mut teller,
-        most,
-    );
+    let lanes = RingLanes;
+    let engine = Engine::new(rt, alloc, &lanes, gate, size.threads, size.capacity);
+    let (flown, heard) = run_beside(&engine, &mut work, rows, asks, &mut teller, most);
     let (flown, inbox) = flown?;
     let _met = meet(teller, inbox);
     let ran = flown.record(alloc)?;
@@ -106,10 +98,7 @@ type Run = Result<(Flown<RingLanes>, Inbox), NoMemory>;
 // The engine on another thread, and the reader on this one. If no thread can be made, the reader
 // comes first. The engine takes its work.
 fn run_beside<R, G: Gate + Sync, Q: Asks>(
-    rt: &R,
-    alloc: Global,
-    gate: &G,
-    size: EngineSize,
+    engine: &Engine<'_, R, RingLanes, G>,
     work: &mut Option<Box<Work>>,
     rows: &Rows,
     asks: &mut Q,
@@ -118,7 +107,6 @@ fn run_beside<R, G: Gate + Sync, Q: Asks>(
 ) -> (Run, Heard)
 where
     R: Threads + Wait + Sync,
-    requires size { IsSize size }
     requires rows { IfSome work.old (λ w. AreFromSources (setup_view w.value.setup).job rows.now) }
     requires most { most ≤ 64 }
     requires untold { teller.old.told ≡ 0 }
@@ -127,14 +115,9 @@ where
     ensures heard { IsHeard most (Q.state asks.old) (Q.state asks.new) result.1 }
     ensures told { teller.new ≡ record teller.old { told = result.1.releases } }
 {
-    let EngineSize { threads, capacity } = size;
     join_mut(
-        rt,
+        engine.rt,
         &mut || -> Run
-            requires some_threads { 1 ≤ threads }
-            requires few_threads { threads ≤ 16 }
-            requires some_items { 1 ≤ capacity }
-            requires few_items { capacity ≤ 64 }
             requires rows { IfSome work.now (λ w. AreFromSources
                 (setup_view w.value.setup).job rows.now) }
             ensures { IfSome work.entry.now (λ w. IfOk result (λ (flown, rest). IsFlownLive
@@ -144,9 +127,7 @@ where
             match work.take() {
                 Some(work) => {
                     let Work { setup, inbox } = Box::into_inner(work);
-                    run_with::<R, RingLanes, G, LiveFeeder<RingLanes>>(
-                        rt, alloc, &RingLanes, setup, inbox, rows, threads, capacity, gate,
-                    )
+                    run_with::<R, RingLanes, G, LiveFeeder<RingLanes>>(engine, setup, inbox, rows)
                 }
                 None => Err(NoMemory),
             }

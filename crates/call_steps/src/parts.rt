@@ -16,7 +16,7 @@ use crate::running::{Done, done_of};
 use crate::setup::setup_of;
 use begin_law::later_rows_are_whole;
 use command_line::EngineSize;
-use flow_engine::{run_flow, run_from};
+use flow_engine::{Engine, run_flow, run_from};
 use flow_model::{Setup, Start, runs_are_consistent};
 use jobs::Job;
 use lane_ring::RingLanes;
@@ -64,8 +64,9 @@ where
     let turned = issued_up_to(&setup, row, count);
     let part = first_of(setup, turned);
     runs_are_consistent(&part, &first);
-    let EngineSize { threads, capacity } = size;
-    let flown = run_flow(rt, alloc, &RingLanes, part, &first, threads, capacity, gate)?;
+    let lanes = RingLanes;
+    let engine = Engine::new(rt, alloc, &lanes, gate, size.threads, size.capacity);
+    let flown = run_flow(&engine, part, &first)?;
     let ran = flown.record(alloc)?;
     done_of(alloc, ran, requests, &first)
 }
@@ -135,10 +136,9 @@ where
     ensures workers { IfOk result HasWorkers }
 {
     later_rows_are_whole(&setup, rows);
-    let EngineSize { threads, capacity } = size;
-    let flown = run_from(
-        rt, alloc, &RingLanes, setup, rows, threads, capacity, gate, start,
-    )?;
+    let lanes = RingLanes;
+    let engine = Engine::new(rt, alloc, &lanes, gate, size.threads, size.capacity);
+    let flown = run_from(&engine, setup, rows, start)?;
     let ran = flown.record(alloc)?;
     done_of(alloc, ran, requests, rows)
 }

@@ -20,7 +20,7 @@ use crate::answer::Answer;
 use crate::setup::setup_of;
 use crate::writing::{FileText, Texts, write_texts};
 use command_line::EngineSize;
-use flow_engine::run_flow;
+use flow_engine::{Engine, run_flow};
 use flow_model::{RunRecord, ordered_runs_are_serial, runs_are_consistent};
 use flow_replay::plain_run;
 use jobs::Job;
@@ -100,8 +100,9 @@ where
     let setup = setup_of(alloc, job, requests, ordered)?;
     runs_are_consistent(&setup, rows);
     ordered_runs_are_serial(&setup, rows);
-    let EngineSize { threads, capacity } = size;
-    let flown = run_flow(rt, alloc, &RingLanes, setup, rows, threads, capacity, gate)?;
+    let lanes = RingLanes;
+    let engine = Engine::new(rt, alloc, &lanes, gate, size.threads, size.capacity);
+    let flown = run_flow(&engine, setup, rows)?;
     let ran = flown.record(alloc)?;
     done_of(alloc, ran, requests, rows)
 }
