@@ -187,7 +187,10 @@ fn verify_alerts(rt: HostRuntime) {
     let lines = "verified\nrows 4 alerts 2 requests 0 refused 0\n";
     assert!(rt; compares(&rt, rt.alloc(), own, 0, lines));
     for (alerts, line) in OTHER_ALERTS {
-        assert!(rt; compares(&rt, rt.alloc(), Beside { alerts, ..own }, 11, line), "{line}");
+        assert!(rt;
+            compares(&rt, rt.alloc(), Beside { alerts, ..own }, 11, line),
+            "{line}"
+        );
     }
 }
 

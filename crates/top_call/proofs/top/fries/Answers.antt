@@ -3,7 +3,7 @@ use Rattle.command_line.specs.Words.{asked_of}
 use Rattle.top_call.proofs.MemoryLemmas.{answers_memory, whatever}
 use Rattle.call_steps.specs.declared.answer.Answer.{Answer}
 use Rattle.top_call.proofs.top.fries.Goals as goal
-use Rattle.top_call.proofs.top.fries.Goals.{in-Ok+in-First-1, in-Ok+in-Check-1, in-Ok+in-Plan-1, in-Ok+in-Run-1, in-Ok+in-Make-1, in-Ok+in-Save-1, in-Ok+in-Resume-1, in-Ok+in-Live-1, in-Ok+in-Verify-1, in-Ok+in-Help-1, in-Err-Usage, in-Err-NoMemory}
+use Rattle.top_call.proofs.top.fries.Goals.{in-Ok+in-First-1, in-Ok+in-Check-1, in-Ok+in-Plan-1, in-Ok+in-Run-1, in-Ok+in-Make-1, in-Ok+in-Save-1, in-Ok+in-Resume-1, in-Ok+in-Live-1, in-Ok+in-Verify+in-None-1, in-Ok+in-Verify+in-Some-1, in-Ok+in-Help-1, in-Err-Usage, in-Err-NoMemory}
 
 pub returns-clause-answers : goal.returns-clause-answers
 returns-clause-answers g c =
@@ -16,7 +16,8 @@ returns-clause-answers g c =
       | in-Ok+in-Save-1 w ↦ rw (w.in-Ok.ensures.asked, w.shelf-is, w.out-is, w.asks-is, w.answer-is) w.answer_command-answer.ensures.answers
       | in-Ok+in-Resume-1 w ↦ rw (w.in-Ok.ensures.asked, w.shelf-is, w.out-is, w.asks-is, w.answer-is) w.answer_command-answer.ensures.answers
       | in-Ok+in-Live-1 w ↦ rw (w.in-Ok.ensures.asked, w.shelf-is, w.out-is, w.asks-is, w.answer-is) w.answer_command-answer.ensures.answers
-      | in-Ok+in-Verify-1 w ↦ rw (w.in-Ok.ensures.asked, w.shelf-is, w.out-is, w.asks-is, w.answer-is) w.answer_command-answer.ensures.answers
+      | in-Ok+in-Verify+in-None-1 w ↦ rw (w.in-Ok.ensures.asked, w.shelf-is, w.out-is, w.asks-is, w.answer-is) w.answer_command-answer.ensures.answers
+      | in-Ok+in-Verify+in-Some-1 w ↦ rw (w.in-Ok.ensures.asked, w.shelf-is, w.out-is, w.asks-is, w.answer-is) w.answer_command-answer.ensures.answers
       | in-Ok+in-Help-1 w ↦ rw (w.in-Ok.ensures.asked, w.shelf-is, w.out-is, w.asks-is, w.answer-is) w.answer_command-answer.ensures.answers
       | in-Err-Usage w ↦ rw (w.in-Err-Usage.ensures.usage (λ e. absurd (cc e))) tt
       | in-Err-NoMemory w ↦
