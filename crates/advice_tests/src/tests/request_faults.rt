@@ -3,7 +3,7 @@ use job_file::{read_job, read_requests};
 use report::Fault;
 use std::alloc::Global;
 use tuple_trace::NoMemory;
-use versions::judge_all;
+use versions::{Refused, judge_all};
 
 const REQUESTS: &str = r#"[[request]]
 after = 1
@@ -310,9 +310,19 @@ fn is_refusal_of(alloc: Global, job_text: &str, case: Case) -> Result<bool, NoMe
     };
     let judged = judge_all(alloc, &job, &requests)?;
     let refused = judged.refused.as_slice();
-    let told = case.told;
+    is_told_of(alloc, job_text, text.as_str(), refused, case.told)
+}
+
+// Whether this is told of the refused requests of these files.
+fn is_told_of<'a>(
+    alloc: Global,
+    job: &'a str,
+    requests: &'a str,
+    refused: &[Refused],
+    told: &str,
+) -> Result<bool, NoMemory> {
     let told = format!(in alloc; "{HEAD}{told}")?;
-    let files = [("requests.toml", text.as_str()), ("job.toml", job_text)];
+    let files = [("requests.toml", requests), ("job.toml", job)];
     is_told(alloc, &files, RUN, None, refused, told.as_str())
 }
 
