@@ -6,8 +6,10 @@ use std::sync::Wait;
 use tuple_trace::NoMemory;
 
 // Whether the ends of two queue lanes tell the numbers of their lanes.
-fn tell_numbers<R: Wait + Copy + Send + Sync>(rt: R, alloc: Global) -> Result<bool, NoMemory> {
-    let lanes = QueueLanes::new(rt);
+fn tell_numbers<R: Wait + Copy + Send + Sync>(
+    alloc: Global,
+    lanes: &QueueLanes<R>,
+) -> Result<bool, NoMemory> {
     let (mut tx, rx) = lanes.make(alloc, 5, 1, origin())?;
     let (mut other, last) = lanes.make(alloc, 6, 1, origin())?;
     tx.apart(&mut other);
@@ -16,7 +18,7 @@ fn tell_numbers<R: Wait + Copy + Send + Sync>(rt: R, alloc: Global) -> Result<bo
 
 #[test]
 fn two_lanes_tell_two_numbers(rt: HostRuntime) {
-    assert!(rt; matches!(tell_numbers(rt, rt.alloc()), Ok(true)));
+    assert!(rt; matches!(tell_numbers(rt.alloc(), &QueueLanes::new(rt)), Ok(true)));
 }
 
 #[test]
