@@ -13,9 +13,9 @@ use tuple_trace::{Bytes, Word};
 /// The files of the system. It tells none of their bytes.
 ///
 /// The draft of a regular file, or of one that isn't there, is a file in its folder:
-/// `.NAME.fries-draft` beside `NAME`. [`Shelf::keep`] waits until the disk has it, and moves it over
-/// the file, whose mode it has. Links are followed. What is no regular file is written as it is
-/// appended, and so is the standard output under the name `/dev/stdout`.
+/// `.NAME.fries-draft` beside `NAME`. [`Shelf::keep`] waits until the disk has it, and moves it
+/// over the file, whose mode it has. Links are followed, up to 40. What is no regular file is
+/// written as it is appended, and so is the standard output under the name `/dev/stdout`.
 ///
 /// A write that takes nothing counts as a failure. So does a read of a name without a file.
 #[derive(Drop)]

@@ -12,6 +12,9 @@ use tuple_trace::Word;
 /// The mode of a draft until it gets that of the file: only its owner may read it.
 const PRIVATE: u32 = 0o600;
 
+/// How many links are followed, one after the other. The system follows as many.
+const LINKS_MAX: u32 = 40;
+
 /// The draft of a file of the host.
 #[derive(Drop)]
 pub(crate) struct HostDraft<F> {
@@ -92,8 +95,8 @@ pub(crate) fn begin<R: Files>(rt: &R, alloc: Global, name: &str) -> io::Result<W
     }
     match find(rt, name)? {
         Found::Other(file) => Ok(Way::Straight(file)),
-        Found::Nothing => begin_beside(rt, alloc, path_of(rt, alloc, name)?, None),
-        Found::Regular(mode) => begin_beside(rt, alloc, rt.canonicalize(alloc, name)?, Some(mode)),
+        Found::Nothing => begin_beside(rt, alloc, name, None),
+        Found::Regular(mode) => begin_beside(rt, alloc, name, Some(mode)),
     }
 }
 
@@ -118,28 +121,35 @@ fn find<R: Files>(rt: &R, name: &str) -> io::Result<Found<R::File>> {
     }
 }
 
-// The path of a file that isn't there: the name, or what a link of this name leads to.
-fn path_of<R: Files>(rt: &R, alloc: Global, name: &str) -> io::Result<PathBuf> {
-    let path = Path::new(name);
-    match rt.read_link(alloc, name) {
-        Ok(link) => match path.parent() {
-            Some(folder) => Ok(folder.join(alloc, &link)?),
-            None => Ok(link),
-        },
-        Err(error) if error.kind() == ErrorKind::OutOfMemory => Err(error),
-        Err(_) => Ok(path.to_path_buf(alloc)?),
-    }
-}
-
 fn begin_beside<R: Files>(
     rt: &R,
     alloc: Global,
-    path: PathBuf,
+    name: &str,
     mode: Option<Permissions>,
 ) -> io::Result<Way<R::File>> {
+    let path = path_of(rt, alloc, name, mode.is_none())?;
     let beside = beside_of(alloc, path.as_path())?;
     let file = make_beside(rt, &beside, mode)?;
     Ok(Way::Beside { file, beside, path })
+}
+
+// The path of a file: the name, or what its links lead to. A new file isn't there yet.
+fn path_of<R: Files>(rt: &R, alloc: Global, name: &str, is_new: bool) -> io::Result<PathBuf> {
+    let mut path = Path::new(name).to_path_buf(alloc)?;
+    for _ in 0..=LINKS_MAX {
+        match rt.read_link(alloc, path.as_str()) {
+            Ok(link) => {
+                path.pop();
+                path.push(&link)?;
+            }
+            // It is no link.
+            Err(error) if error.kind() == ErrorKind::InvalidInput => return Ok(path),
+            // Nothing has this name yet.
+            Err(error) if error.kind() == ErrorKind::NotFound && is_new => return Ok(path),
+            Err(error) => return Err(error),
+        }
+    }
+    Err(io::Error::from(ErrorKind::FilesystemLoop))
 }
 
 // The path of a draft: the name of the file, hidden, with an ending of its own.
