@@ -14,8 +14,9 @@ use tuple_trace::{Bytes, Word};
 ///
 /// The draft of a regular file, or of one that isn't there, is a file in its folder:
 /// `.NAME.fries-draft` beside `NAME`. [`Shelf::keep`] waits until the disk has it, and moves it
-/// over the file, whose mode it has. Links are followed, up to 40. What is no regular file is
-/// written as it is appended, and so is the standard output under the name `/dev/stdout`.
+/// over the file. It has the mode of the file, and its group if the user may give it that. Links
+/// are followed, up to 40. What is no regular file is written as it is appended, and so is the
+/// standard output under the name `/dev/stdout`.
 ///
 /// A write that takes nothing counts as a failure. So does a read of a name without a file.
 #[derive(Drop)]

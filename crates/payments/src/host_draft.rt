@@ -2,9 +2,9 @@
 ghost use Rattle.std.specs.Prelude.{◌<◌, ◌≤◌, length, IfOk};
 
 use std::alloc::Global;
-use std::fs::{self, OpenFile, OpenOptions, Permissions};
+use std::fs::{self, Metadata, OpenFile, OpenOptions, Permissions};
 use std::io::{self, ErrorKind, Write};
-use std::os::unix::fs::OpenOptionsExt;
+use std::os::unix::fs::{MetadataExt, OpenOptionsExt, PermissionsExt, lchown};
 use std::path::{Path, PathBuf};
 use std::rt::Files;
 use tuple_trace::Word;
@@ -41,7 +41,7 @@ pub(crate) enum Way<F> {
 #[derive(Drop)]
 enum Found<F> {
     Nothing,
-    Regular(Permissions),
+    Regular(Metadata),
     Other(F),
 }
 
@@ -96,7 +96,7 @@ pub(crate) fn begin<R: Files>(rt: &R, alloc: Global, name: &str) -> io::Result<W
     match find(rt, name)? {
         Found::Other(file) => Ok(Way::Straight(file)),
         Found::Nothing => begin_beside(rt, alloc, name, None),
-        Found::Regular(mode) => begin_beside(rt, alloc, name, Some(mode)),
+        Found::Regular(was) => begin_beside(rt, alloc, name, Some(was)),
     }
 }
 
@@ -111,7 +111,7 @@ fn find<R: Files>(rt: &R, name: &str) -> io::Result<Found<R::File>> {
         Ok(file) => {
             let metadata = OpenFile::metadata(&file)?;
             if metadata.is_file() {
-                Ok(Found::Regular(metadata.permissions()))
+                Ok(Found::Regular(metadata))
             } else {
                 Ok(Found::Other(file))
             }
@@ -125,11 +125,11 @@ fn begin_beside<R: Files>(
     rt: &R,
     alloc: Global,
     name: &str,
-    mode: Option<Permissions>,
+    was: Option<Metadata>,
 ) -> io::Result<Way<R::File>> {
-    let path = path_of(rt, alloc, name, mode.is_none())?;
+    let path = path_of(rt, alloc, name, was.is_none())?;
     let beside = beside_of(alloc, path.as_path())?;
-    let file = make_beside(rt, &beside, mode)?;
+    let file = make_beside(rt, &beside, was)?;
     Ok(Way::Beside { file, beside, path })
 }
 
@@ -163,25 +163,31 @@ fn beside_of(alloc: Global, path: Path<'_>) -> io::Result<PathBuf> {
     }
 }
 
-// Makes a draft with this mode, in the place of one that a call left which was killed.
-fn make_beside<R: Files>(
-    rt: &R,
-    beside: &PathBuf,
-    mode: Option<Permissions>,
-) -> io::Result<R::File> {
+// Makes a draft, in the place of one that a call left which was killed. It gets the group, if the
+// user may give it that, and the mode of the file that is there.
+fn make_beside<R: Files>(rt: &R, beside: &PathBuf, was: Option<Metadata>) -> io::Result<R::File> {
     let _ = fs::remove_file(rt, beside);
     let mut how = OpenOptions::new();
     how.write(true).create_new(true);
-    let Some(mode) = mode else {
+    let Some(was) = was else {
         return how.open(rt, beside);
     };
     how.mode(PRIVATE);
     let file = how.open(rt, beside)?;
-    match file.set_permissions(mode) {
+    let mode = match lchown(rt, beside, None, Some(was.gid())) {
+        Ok(()) => was.mode(),
+        Err(_) => for_another_group(was.mode()),
+    };
+    match file.set_permissions(Permissions::from_mode(mode)) {
         Ok(()) => Ok(file),
         Err(error) => {
             let _ = fs::remove_file(rt, beside);
             Err(error)
         }
     }
+}
+
+// This mode for a file of another group, which may do what all others may.
+fn for_another_group(mode: u32) -> u32 {
+    (mode & !0o070) | ((mode & 0o007) << 3)
 }
