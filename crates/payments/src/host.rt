@@ -91,7 +91,9 @@ impl<R: Files + Print + Drop> Shelf for HostShelf<R> {
     }
 
     fn create(&mut self, name: &Word) -> Result<(), ShelfFault> {
-        self.draft = None;
+        if let Some(draft) = self.draft.take() {
+            draft.way.give_up(&self.rt);
+        }
         let name = name.clone().map_err(|_| ShelfFault::NoMemory)?;
         match begin(&self.rt, self.alloc, name.as_str()) {
             Ok(way) => {

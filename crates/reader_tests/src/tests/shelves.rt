@@ -155,6 +155,20 @@ fn files_of_the_system<R: Files + Print + Drop>(alloc: Global, rt: R) -> Option<
     )
 }
 
+fn begins_two<R: Files + Print + Drop>(alloc: Global, rt: R) -> Option<bool> {
+    let first = word(alloc, "first.tmp")?;
+    let second = word(alloc, "second.tmp")?;
+    let mut shelf = HostShelf::new(rt, alloc);
+    Some(shelf.create(&first) == Ok(()) && shelf.create(&second) == Ok(()))
+}
+
+#[test]
+fn a_draft_is_given_up_for_the_next(rt: HostRuntime) {
+    assert_eq!(rt; begins_two(rt.alloc(), rt), Some(true));
+    assert!(rt; fs::remove_file(&rt, ".first.tmp.fries-draft").is_err());
+    assert!(rt; fs::remove_file(&rt, ".second.tmp.fries-draft").is_ok());
+}
+
 #[test]
 fn files_and_output_of_the_system(rt: HostRuntime) {
     assert_eq!(rt; files_of_the_system(rt.alloc(), rt), Some(true));
