@@ -1,5 +1,5 @@
 ghost use Rattle.std.specs.Prelude.{◌≡◌, ◌≢◌, ◌+◌, ◌-◌, ◌^◌, ◌<◌, ◌≤◌, ◌++◌, [], ℕ, List, Option};
-ghost use Rattle.std.specs.Prelude.{None, Some, Err, false, length, max, min, option_copied};
+ghost use Rattle.std.specs.Prelude.{None, Some, Err, length, max, min, option_copied};
 ghost use Rattle.std.specs.Prelude.{option_map, take, IfErr, IfOk, IfSome, IsSome, OnErr, OnOk};
 ghost use Rattle.std.specs.FinMap as map;
 ghost use Rattle.payments.specs.Memory.{Plan, after_call, is_due, stored_files};
