@@ -1,38 +1,38 @@
 -- Files are as before or whole, however a call ends.
-use Rattle.std.proofs.Common.{◌≡◌, ◌⊎◌, ◌∙◌, ◌∷◌, ◌++◌, [], inl, inr, ℕ, List, Option, None, Some, cond, refl, sym, ap, subst}
-use Rattle.std.specs.Prelude.{IfSome, unwrap_or}
+use Rattle.std.proofs.Common.{◌≡◌, ◌⊎◌, ◌∙◌, ◌∷◌, [], inl, inr, ℕ, List, Option, None, Some, cond, refl, sym, ap, subst}
+use Rattle.std.specs.Prelude.{IfSome}
 use Rattle.std.specs.Ordering.{is_eq, nat_cmp}
 use Rattle.std.specs.Cmp.Lexicographic.{slice_cmp, nat_list_cmp_total}
 use Rattle.std.specs.FinMap as map
 use Rattle.std.specs.declared.cmp.Ordering.{Ordering}
 use Rattle.std.specs.declared.cmp.Ordering.TheVariants.{Less, Equal, Greater}
 use Rattle.std.proofs.lemmas.List.Elements.{Contains-append_left, Contains-append_right, Contains-push}
-use Rattle.payments.specs.Files.{Files, told_bytes, with_bytes}
+use Rattle.payments.specs.Files.{Files, with_bytes}
 use Rattle.payments.specs.World.{ShelfState, World}
 use Rattle.call_steps.specs.Effects.{FileText, StoresWhole}
-use Rattle.call_steps.specs.Outcomes.{EndsAfterRun, EndsStoring, FilesEndWhole, IsAsBeforeOrWhole}
+use Rattle.call_steps.specs.Outcomes.{EndsStoring, FilesEndWhole, IsAsBeforeOrWhole, told_file}
 use Rattle.report.specs.declared.fault.Fault.{Fault}
 
--- a file that is stored: the bytes under another name stay
+-- a file that is stored: what stands under another name stays
 told_by : (m : Files) (k v q : List ℕ) (o : Ordering) → slice_cmp nat_cmp q k ≡ o
-    → (told_bytes (with_bytes (Some m) k v) q ≡ told_bytes (Some m) q) ⊎ ((k ≡ q) × IfSome (told_bytes (with_bytes (Some m) k v) q) (λ bytes. bytes ≡ v))
+    → (told_file (with_bytes (Some m) k v) q ≡ told_file (Some m) q) ⊎ ((k ≡ q) × IfSome (told_file (with_bytes (Some m) k v) q) (λ file. file ≡ Some v))
 told_by m k v q Equal is =
     let got = map.get-insert nat_list_cmp_total m k v q ∙ ap (λ (o : Ordering). cond (is_eq o) (Some v) (map.get m q)) is in
-    inr (sym (map.slice_cmp-IsAntisymmetric map.nat_cmp-IsAntisymmetric q k is), ap (λ (g : Option (List ℕ)). unwrap_or g []) got)
+    inr (sym (map.slice_cmp-IsAntisymmetric map.nat_cmp-IsAntisymmetric q k is), got)
 told_by m k v q Less is =
     let got = map.get-insert nat_list_cmp_total m k v q ∙ ap (λ (o : Ordering). cond (is_eq o) (Some v) (map.get m q)) is in
-    inl (ap (λ (g : Option (List ℕ)). Some (unwrap_or g [])) got)
+    inl (ap (λ (g : Option (List ℕ)). Some g) got)
 told_by m k v q Greater is =
     let got = map.get-insert nat_list_cmp_total m k v q ∙ ap (λ (o : Ordering). cond (is_eq o) (Some v) (map.get m q)) is in
-    inl (ap (λ (g : Option (List ℕ)). Some (unwrap_or g [])) got)
+    inl (ap (λ (g : Option (List ℕ)). Some g) got)
 
 told_with : (files : Option Files) (k v q : List ℕ)
-    → (told_bytes (with_bytes files k v) q ≡ told_bytes files q) ⊎ ((k ≡ q) × IfSome (told_bytes (with_bytes files k v) q) (λ bytes. bytes ≡ v))
+    → (told_file (with_bytes files k v) q ≡ told_file files q) ⊎ ((k ≡ q) × IfSome (told_file (with_bytes files k v) q) (λ file. file ≡ Some v))
 told_with None k v q = inl refl
 told_with (Some m) k v q = told_by m k v q (slice_cmp nat_cmp q k) refl
 
-told_same : (files other : Option Files) (q : List ℕ) → files ≡ other → told_bytes files q ≡ told_bytes other q
-told_same files other q same = ap (λ (f : Option Files). told_bytes f q) same
+told_same : (files other : Option Files) (q : List ℕ) → files ≡ other → told_file files q ≡ told_file other q
+told_same files other q same = ap (λ (f : Option Files). told_file f q) same
 
 -- one text more before the others
 before : (text : FileText) (later : List FileText) (old stored new : World) (name : List ℕ) → StoresWhole text old stored
@@ -46,13 +46,13 @@ before text later old stored new name stores (inl same) =
         text,
         Contains-append_left (text ∷ []) later text (Contains-push [] text),
         is,
-        subst (λ (told : Option (List ℕ)). IfSome told (λ bytes. bytes ≡ text.text)) (sym since) whole,
+        subst (λ (told : Option (Option (List ℕ))). IfSome told (λ file. file ≡ Some text.text)) (sym since) whole,
       )
     ]
 
 storing_whole : (texts : List FileText) (lines : List ℕ) (old new : World) (answer : Option Fault) → EndsStoring texts lines old new answer
     → (name : List ℕ) → IsAsBeforeOrWhole texts old.shelf.files new.shelf.files name
-storing_whole [] lines old new answer ends name = inl (ap (λ (s : ShelfState). told_bytes s.files name) ends.shelf)
+storing_whole [] lines old new answer ends name = inl (ap (λ (s : ShelfState). told_file s.files name) ends.shelf)
 storing_whole (text ∷ later) lines old new answer ends name =
     elim ends [
       | inl stops ↦ inl (told_same new.shelf.files old.shelf.files name stops.files)
@@ -62,6 +62,6 @@ storing_whole (text ∷ later) lines old new answer ends name =
 pub files_whole : FilesEndWhole
 files_whole texts lines old new answer ends name =
     elim ends [
-      | inl stops ↦ inl (ap (λ (w : World). told_bytes w.shelf.files name) stops.same)
+      | inl stops ↦ inl (ap (λ (w : World). told_file w.shelf.files name) stops.same)
       | inr stores ↦ storing_whole texts lines old new answer stores name
     ]

@@ -1,7 +1,9 @@
 -- How a call ends, before the line of its fault is printed.
 use Rattle.std.specs.Prelude.{◌≡◌, ◌⊎◌, ◌∷◌, ℕ, List, [], Option, None, Some, Contains, IfSome}
+use Rattle.std.specs.Prelude.{option_map}
+use Rattle.std.specs.FinMap as map
 use Rattle.payments.specs.Causes.{Faults}
-use Rattle.payments.specs.Files.{Files, told_bytes}
+use Rattle.payments.specs.Files.{Files}
 use Rattle.payments.specs.World.{World}
 use Rattle.call_steps.specs.Effects.{FileText, Prints, StoresNot, StoresWhole}
 use Rattle.call_steps.specs.declared.answer.Answer.{Answer}
@@ -59,12 +61,16 @@ EndsAfterRun texts lines old new answer = StopsUnstored old new answer
 
 -- ---- what that leaves
 
+-- what stands under a name, if the files are told: bytes, or no file
+abbrev pub told_file : Option Files → List ℕ → Option (Option (List ℕ))
+told_file files name = option_map (λ files. map.get files name) files
+
 -- the file of this name is as before, or it holds the whole of a text that is stored under its name
 abbrev pub IsAsBeforeOrWhole : List FileText → Option Files → Option Files → List ℕ → Type 0
 IsAsBeforeOrWhole texts old new name =
-    (told_bytes new name ≡ told_bytes old name)
+    (told_file new name ≡ told_file old name)
     ⊎ ((text : FileText) × Contains texts text × (text.name ≡ name)
-    × IfSome (told_bytes new name) (λ bytes. bytes ≡ text.text))
+    × IfSome (told_file new name) (λ file. file ≡ Some text.text))
 
 -- however a run ends that leaves texts, each file is so
 abbrev pub FilesEndWhole : Type 0
