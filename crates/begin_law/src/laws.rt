@@ -12,10 +12,10 @@ use flow_model::Setup;
 use tuple_trace::Rows;
 
 /// In a run from any beginning on each row that is fed is whole at each request, and each identity
-/// is met once at the workers of a node.
+/// is met at most once at the workers of a node.
 ///
-/// The workers of all nodes that a request's plan asks meet the row before their turns alone, or
-/// after them alone. Each worker's tuples agree with its turns. Nothing is asked of the beginning:
+/// The workers of all nodes that a request's plan asks meet the row only before their turns, or
+/// only after them. Each worker's tuples agree with its turns. Nothing is asked of the beginning:
 /// neither its counts nor its requests need to come from an earlier run.
 pub fn later_rows_are_whole(setup: &Setup, rows: &Rows)
     ensures rows { (begin : Begin) (ran : Ran) →

@@ -5,7 +5,7 @@
 //!
 //! ```
 //! later_rows_are_whole(&setup, &rows);
-//! let flown = run_from(rt, alloc, &RingLanes, setup, &rows, threads, capacity, gate, &start)?;
+//! let flown = run_from(&engine, setup, &rows, &start)?;
 //! ```
 #![tactic(auto)]
 

@@ -58,8 +58,8 @@ pub record HaveOneVerdict (setup : Setup) (rows : List Row) : Type 0 where
       (f g : Fault) (bytes : List ℕ) → RefusesAudit setup rows f bytes →
       RefusesAudit setup rows g bytes → f ≡ g
 
--- The file holds the audit of this run of the setup and these rows, and of no other. What judging
--- the requests of a job makes the setup of, it is the run of.
+-- The file holds the audit of this run of the setup and these rows, and of no other. If judging
+-- these requests of a job makes the setup, it is a run of this job, the requests and the rows.
 pub record IsAuditedRun (files : Option Files) (name : List ℕ) (setup : Setup)
     (requests : List Request) (rows : List Row) (done : Done) : Type 0 where
   pub setup_is : done.ran.setup ≡ setup

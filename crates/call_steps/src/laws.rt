@@ -1,5 +1,5 @@
-// Laws of two calls, and one of each. Each function proves its clauses, and does nothing but look at
-// the rows.
+// Laws of two calls, and one of each. Each function proves its clauses, and does nothing but look
+// at the rows.
 ghost use Rattle.std.specs.Prelude.{◌≡◌, ℕ, Bool, List, Ok, false, length};
 ghost use Rattle.jobs.specs.JobView.{JobView};
 ghost use Rattle.jobs.specs.Nodes.{AreFromSources};
