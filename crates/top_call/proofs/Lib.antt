@@ -1,8 +1,9 @@
 pub mod FollowLemmas
-pub mod PartLemmas
+pub mod CommandLemmas
+pub mod ResumeLemmas
+pub mod VerifyLemmas
+pub mod AnswerLemmas
 pub mod MemoryLemmas
 pub mod MakeLemmas
 pub mod FirstLemmas
 pub mod SureLemmas
-pub mod LiveLemmas
-pub mod VerifyLemmas

@@ -1,7 +1,7 @@
 -- What calls answer if the outside counts no fault.
 use Rattle.std.proofs.Common.{◌≡◌, ◌⊎◌, ◌≤◌, ◌∙◌, ◌∷◌, [], inl, inr, ℕ, Bool, true, false, List, Option, None, Some, length, refl, sym, ap, subst, arith}
 use Rattle.std.specs.Prelude.{⊤}
-use Rattle.command_line.specs.Asked.{Asked, Check, First, Help, Live, Make, MakeAsked, Plan, PlanAsked, Resume, ResumeAsked, Run, RunAsked, Save, Verify, VerifyAsked, Version}
+use Rattle.command_line.specs.Asked.{Asked, Check, First, Help, Live, Make, MakeAsked, Plan, PlanAsked, Resume, ResumeAsked, Run, Save, Verify, VerifyAsked, Version}
 use Rattle.command_line.specs.Help.{help_of, version_line}
 use Rattle.jobs.specs.JobView.{JobView}
 use Rattle.payments.specs.Causes.{Faults}
@@ -14,16 +14,16 @@ use Rattle.report.specs.declared.fault.FileIs.{FileIs}
 use Rattle.report.specs.declared.fault.FileIs.TheVariants as file
 use Rattle.tuple_trace.specs.Counts.{Rose}
 use Rattle.versions.specs.declared.in_order.Refused.{Refused}
-use Rattle.top_call.specs.Answers.{Answers}
-use Rattle.call_steps.specs.Outcomes.{EndsAfterRun, EndsStoring, Stops, StopsStoring, stopped}
-use Rattle.top_call.specs.Explain.{AnswersText}
+use Rattle.top_call.specs.Answers.{Ends, IsNothingAsked}
+use Rattle.call_steps.specs.Outcomes.{EndsAfterRun, EndsStoring, Stops, StopsStoring}
 use Rattle.top_call.specs.First.{asked_job}
 use Rattle.top_call.specs.Make.{IsNotMade, MakesNoRows}
 use Rattle.payments.specs.World.{ShelfState, SinkState, World}
 use Rattle.call_steps.specs.Effects.{FileText, Prints, PrintsFault, PrintsReport}
 use Rattle.top_call.specs.Plan.{IsNoSetup, setup_lines}
 use Rattle.call_steps.specs.Reading.{IsUnread, RefusesJob, RefusesRequests, RefusesRows, RefusesSave}
-use Rattle.top_call.specs.Run.{HasNoRows, IsNoRun}
+use Rattle.top_call.specs.Inputs.{AreNoInputs}
+use Rattle.top_call.specs.Prints.{PrintsText}
 use Rattle.top_call.specs.Verify.{IsNotRestored, IsNotVerified}
 use Rattle.call_steps.specs.Audits.{HoldsNoAlerts, RefusesAlerts, RefusesAudit, verified_lines}
 use Rattle.flow_model.specs.declared.setup.Setup.{Setup}
@@ -134,23 +134,19 @@ no_setup_own asked files old new why sure later none =
       | inr (job, of, unread) ↦ unread_own file.Requests (RefusesRequests job) files asked.requests old new why (of_requests job) sure later unread
     ]
 
-no_rows_read_own : (plan : PlanAsked) (payments : List ℕ) (files : Option Files) (old new : World) (why : Fault) → IsSure old → IsSure new →
-    HasNoRows plan payments files old.shelf.faults new.shelf.faults why → IsOwn (Some why)
-no_rows_read_own plan payments files old new why sure later none =
+no_inputs_own : (plan : PlanAsked) (payments : List ℕ) (files : Option Files) (old new : World) (why : Fault) → IsSure old → IsSure new →
+    AreNoInputs files plan payments old.shelf.faults new.shelf.faults why → IsOwn (Some why)
+no_inputs_own plan payments files old new why sure later none =
     elim none [
       | inl unread ↦ no_setup_own plan files old new why sure later unread
       | inr (job, requests, of, them, unread) ↦ unread_own file.Payments (RefusesRows job) files payments old new why (of_rows job) sure later unread
     ]
 
-no_run_own : (asked : RunAsked) (files : Option Files) (old new : World) (why : Fault) → IsSure old → IsSure new →
-    IsNoRun asked files old.shelf.faults new.shelf.faults why → IsOwn (Some why)
-no_run_own asked files old new why sure later none = no_rows_read_own asked.plan asked.payments files old new why sure later none
-
 not_restored_own : (asked : VerifyAsked) (files : Option Files) (old new : World) (why : Fault) → IsSure old → IsSure new →
     IsNotRestored asked files old.shelf.faults new.shelf.faults why → IsOwn (Some why)
 not_restored_own asked files old new why sure later none =
     elim none [
-      | inl none ↦ no_rows_read_own asked.plan asked.payments files old new why sure later none
+      | inl none ↦ no_inputs_own asked.plan asked.payments files old new why sure later none
       | inr none ↦ unread_own file.Audit (RefusesAudit none.setup none.rows) files asked.audit old new why (of_audit none.setup none.rows) sure later none.unread
     ]
 
@@ -171,7 +167,7 @@ no_resume_own : (asked : ResumeAsked) (files : Option Files) (old new : World) (
     IsNoResume asked files old.shelf.faults new.shelf.faults why → IsOwn (Some why)
 no_resume_own asked files old new why sure later none =
     elim none [
-      | inl none ↦ no_run_own asked.run files old new why sure later none
+      | inl none ↦ no_inputs_own asked.run.plan asked.run.payments files old new why sure later none
       | inr none ↦ unread_own file.Save (RefusesSave (setup_view none.setup) (length none.rows)) files asked.save old new why (of_save (setup_view none.setup) (length none.rows)) sure later none.unread
     ]
 
@@ -230,17 +226,15 @@ stopped_own : (Cause : Faults → Faults → Fault → Type 0) (old new : World)
     IsOwn (Some s.why) → IsOwn answer.fault
 stopped_own Cause old new answer s own = subst (λ (x : Answer). IsOwn x.fault) (sym s.answer_is) own
 
-text_own : (text : List ℕ) (old new : World) (answer : Answer) → AnswersText text old new answer → IsSure old → IsSure new → IsOwn answer.fault
-text_own text old new answer a sure later =
-    let before = sure_before answer.fault a.between new a.prints later in
-    prints_own text old.out a.between.out answer.fault sure.out before.out a.lines.prints
+text_own : (text : List ℕ) (old new : World) (answer : Answer) → PrintsText text old new answer → IsSure old → IsSure new → IsOwn answer.fault
+text_own text old new answer p sure later = prints_own text old.out new.out answer.fault sure.out later.out p.lines.prints
 
-usage_own : (answer : Answer) → (answer ≡ stopped fault.Usage) ⊎ (answer ≡ stopped fault.NoMemory) → IsOwn answer.fault
-usage_own answer usage =
-    elim usage [
-      | inl e ↦ subst (λ (x : Answer). IsOwn x.fault) (sym e) tt
-      | inr e ↦ subst (λ (x : Answer). IsOwn x.fault) (sym e) tt
-    ]
+nothing_own : (old new : World) (answer : Answer) → Stops IsNothingAsked old new answer → IsOwn answer.fault
+nothing_own old new answer s =
+    stopped_own IsNothingAsked old new answer s (elim s.cause.0 [
+      | inl e ↦ subst (λ (f : Fault). IsOwn (Some f)) (sym e) tt
+      | inr e ↦ subst (λ (f : Fault). IsOwn (Some f)) (sym e) tt
+    ])
 
 -- the fault of an input that failed is no own one
 live_own : (failed : Bool) (written answer : Option Fault) → answer ≡ live_fault failed written → IsOwn written → (failed ≡ true → ⊥) → IsOwn answer
@@ -249,69 +243,60 @@ live_own true None answer is own sure = absurd (sure refl)
 live_own false (Some why) answer is own sure = subst IsOwn (sym is) own
 live_own false None answer is own sure = subst IsOwn (sym is) tt
 
-answers_own : (asked : Asked) (was now : AsksIs) (old new : World) (answer : Answer) → Answers asked was now old new answer → IsSure old → IsSure new → was.faults ≡ 0 → now.faults ≡ 0 → IsOwn answer.fault
-answers_own (First asked) was now old new answer a sure later first last =
-    let before = sure_before answer.fault a.between new a.prints later in
-    elim a.outcome [
-      | inl s ↦ stopped_own _ old a.between answer s (unread_own file.Payments (RefusesRows (asked_job asked)) old.shelf.files asked.payments old a.between s.why (of_rows (asked_job asked)) sure before s.cause)
-      | inr r ↦ run_own (files_of asked.alerts None None r.done) (run_lines r.done) old a.between answer.fault sure before r.outcome
+ends_own : (asked : Asked) (was now : AsksIs) (old new : World) (answer : Answer) → Ends asked was now old new answer → IsSure old → IsSure new → was.faults ≡ 0 → now.faults ≡ 0 → IsOwn answer.fault
+ends_own (First asked) was now old new answer ends sure later first last =
+    elim ends [
+      | inl s ↦ stopped_own _ old new answer s (unread_own file.Payments (RefusesRows (asked_job asked)) old.shelf.files asked.payments old new s.why (of_rows (asked_job asked)) sure later s.cause)
+      | inr r ↦ run_own (files_of asked.alerts None None r.done) (run_lines r.done) old new answer.fault sure later r.outcome
     ]
-answers_own (Check name) was now old new answer a sure later first last =
-    let before = sure_before answer.fault a.between new a.prints later in
-    elim a.outcome [
-      | inl s ↦ stopped_own _ old a.between answer s (unread_own file.Job RefusesJob old.shelf.files name old a.between s.why of_job sure before s.cause)
-      | inr p ↦ prints_own (sizes_line p.job) old.out a.between.out answer.fault sure.out before.out p.lines.prints
+ends_own (Check name) was now old new answer ends sure later first last =
+    elim ends [
+      | inl s ↦ stopped_own _ old new answer s (unread_own file.Job RefusesJob old.shelf.files name old new s.why of_job sure later s.cause)
+      | inr (job, of, p) ↦ text_own (sizes_line job) old new answer p sure later
     ]
-answers_own (Plan asked) was now old new answer a sure later first last =
-    let before = sure_before answer.fault a.between new a.prints later in
-    elim a.outcome [
-      | inl s ↦ stopped_own _ old a.between answer s (no_setup_own asked old.shelf.files old a.between s.why sure before s.cause)
-      | inr p ↦ prints_own (setup_lines p.setup) old.out a.between.out answer.fault sure.out before.out p.lines.prints
+ends_own (Plan asked) was now old new answer ends sure later first last =
+    elim ends [
+      | inl s ↦ stopped_own _ old new answer s (no_setup_own asked old.shelf.files old new s.why sure later s.cause)
+      | inr p ↦ prints_own (setup_lines p.setup) old.out new.out answer.fault sure.out later.out p.lines.prints
     ]
-answers_own (Run asked) was now old new answer a sure later first last =
-    let before = sure_before answer.fault a.between new a.prints later in
-    elim a.outcome [
-      | inl s ↦ stopped_own _ old a.between answer s (no_run_own asked old.shelf.files old a.between s.why sure before s.cause)
-      | inr r ↦ run_own (files_of asked.alerts (Some asked.audit) None r.done) (run_lines r.done) old a.between answer.fault sure before r.outcome
+ends_own (Run asked) was now old new answer ends sure later first last =
+    elim ends [
+      | inl s ↦ stopped_own _ old new answer s (no_inputs_own asked.plan asked.payments old.shelf.files old new s.why sure later s.cause)
+      | inr r ↦ run_own (files_of asked.alerts (Some asked.audit) None r.done) (run_lines r.done) old new answer.fault sure later r.outcome
     ]
-answers_own (Make asked) was now old new answer a sure later first last =
-    let before = sure_before answer.fault a.between new a.prints later in
-    elim a.outcome [
-      | inl s ↦ stopped_own _ old a.between answer s (not_made_own asked old.shelf.files old a.between s.why sure before s.cause)
-      | inr r ↦ prints_own (made_lines r.done) old.out a.between.out answer.fault sure.out before.out r.lines.prints
+ends_own (Make asked) was now old new answer ends sure later first last =
+    elim ends [
+      | inl s ↦ stopped_own _ old new answer s (not_made_own asked old.shelf.files old new s.why sure later s.cause)
+      | inr r ↦ prints_own (made_lines r.done) old.out new.out answer.fault sure.out later.out r.lines.prints
     ]
-answers_own (Save asked) was now old new answer a sure later first last =
-    let before = sure_before answer.fault a.between new a.prints later in
-    elim a.outcome [
-      | inl s ↦ stopped_own _ old a.between answer s (no_run_own asked.run old.shelf.files old a.between s.why sure before s.cause)
-      | inr r ↦ run_own (files_of asked.run.alerts (Some asked.run.audit) (Some asked.save) r.done) (run_lines r.done) old a.between answer.fault sure before r.outcome
+ends_own (Save asked) was now old new answer ends sure later first last =
+    elim ends [
+      | inl s ↦ stopped_own _ old new answer s (no_inputs_own asked.run.plan asked.run.payments old.shelf.files old new s.why sure later s.cause)
+      | inr r ↦ run_own (files_of asked.run.alerts (Some asked.run.audit) (Some asked.save) r.done) (run_lines r.done) old new answer.fault sure later r.outcome
     ]
-answers_own (Resume asked) was now old new answer a sure later first last =
-    let before = sure_before answer.fault a.between new a.prints later in
-    elim a.outcome [
-      | inl s ↦ stopped_own _ old a.between answer s (no_resume_own asked old.shelf.files old a.between s.why sure before s.cause)
-      | inr (start, r) ↦ run_own (files_of asked.run.alerts (Some asked.run.audit) None r.done) (run_lines r.done) old a.between answer.fault sure before r.outcome
+ends_own (Resume asked) was now old new answer ends sure later first last =
+    elim ends [
+      | inl s ↦ stopped_own _ old new answer s (no_resume_own asked old.shelf.files old new s.why sure later s.cause)
+      | inr (start, r) ↦ run_own (files_of asked.run.alerts (Some asked.run.audit) None r.done) (run_lines r.done) old new answer.fault sure later r.outcome
     ]
-answers_own (Live asked) was now old new answer a sure later first last =
-    let before = sure_before answer.fault a.between new a.prints later in
-    elim a.outcome [
-      | inl s ↦ stopped_own _ old a.between answer s.stops (no_run_own asked old.shelf.files old a.between s.stops.why sure before s.stops.cause)
+ends_own (Live asked) was now old new answer ends sure later first last =
+    elim ends [
+      | inl s ↦ stopped_own _ old new answer s.stops (no_inputs_own asked.plan asked.payments old.shelf.files old new s.stops.why sure later s.stops.cause)
       | inr r ↦ live_own r.live.heard.failed r.written answer.fault r.fault_is
-          (run_own (files_of asked.alerts (Some asked.audit) None r.live.done) (live_lines r.live) old a.between r.written sure before r.outcome)
+          (run_own (files_of asked.alerts (Some asked.audit) None r.live.done) (live_lines r.live) old new r.written sure later r.outcome)
           (λ e. not_risen was.faults now.faults first last (r.is_so.run.heard.failed e))
     ]
-answers_own (Verify asked) was now old new answer a sure later first last =
-    let before = sure_before answer.fault a.between new a.prints later in
-    elim a.outcome [
-      | inl s ↦ stopped_own _ old a.between answer s (not_verified_own asked old.shelf.files old a.between s.why sure before s.cause)
-      | inr p ↦ prints_own (verified_lines p.done) old.out a.between.out answer.fault sure.out before.out p.lines.prints
+ends_own (Verify asked) was now old new answer ends sure later first last =
+    elim ends [
+      | inl s ↦ stopped_own _ old new answer s (not_verified_own asked old.shelf.files old new s.why sure later s.cause)
+      | inr p ↦ prints_own (verified_lines p.done) old.out new.out answer.fault sure.out later.out p.lines.prints
     ]
-answers_own (Help about) was now old new answer a sure later first last = text_own (help_of about) old new answer a sure later
-answers_own Version was now old new answer a sure later first last = text_own version_line old new answer a sure later
+ends_own (Help about) was now old new answer ends sure later first last = text_own (help_of about) old new answer ends sure later
+ends_own Version was now old new answer ends sure later first last = text_own version_line old new answer ends sure later
 
 pub sure_calls : SureCallsEndWell
 sure_calls was now old new answer answered sure later first last =
     own_status answer.fault answer.refused (elim answered [
-      | inl usage ↦ usage_own answer usage.usage
-      | inr (asked, answers) ↦ answers_own asked was now old new answer answers sure later first last
+      | inl a ↦ nothing_own old a.between answer a.ends
+      | inr (asked, a) ↦ ends_own asked was now old a.between answer a.ends sure (sure_before answer.fault a.between new a.prints later) first last
     ])

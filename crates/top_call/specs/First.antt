@@ -1,4 +1,4 @@
--- What a call of `first` answers, why, and what it leaves.
+-- What a call of `first` runs, and how it ends.
 use Rattle.std.specs.Prelude.{◌≡◌, ◌⊎◌, ◌<◌, ◌≤◌, ℕ, true, false, List, [], ◌∷◌, Option, None, Some}
 use Rattle.std.specs.Prelude.{length, slice_get}
 use Rattle.jobs.specs.JobView.{JobView}
@@ -13,11 +13,9 @@ use Rattle.call_steps.specs.Outcomes.{Stops}
 use Rattle.call_steps.specs.FirstJob.{first_job, first_request}
 use Rattle.call_steps.specs.SetupFor.{AreSame}
 use Rattle.payments.specs.World.{World}
-use Rattle.call_steps.specs.Effects.{IsExcused, PrintsFault}
-use Rattle.call_steps.specs.Reading.{AreNoRows, AreRowsOf, FollowsRows, TellsRows}
+use Rattle.call_steps.specs.Reading.{AreNoRows, AreRowsOf}
 use Rattle.call_steps.specs.Running.{IsRunOf, Runs}
 use Rattle.call_steps.specs.declared.answer.Answer.{Answer}
-use Rattle.report.specs.declared.fault.Fault.{Fault}
 use Rattle.call_steps.specs.declared.running.Done.{Done}
 
 -- ---- the run
@@ -55,23 +53,10 @@ pub record IsFirstRun (asked : FirstAsked) (files : Option Files) (done : Done) 
   pub turns : (journal : List Entry) → slice_get done.ran.journals 0 ≡ Some journal
       → TurnsAfterRow journal 1 asked.after (length rows)
 
--- ---- the answer
+-- ---- how it ends
 
 -- how a call of `first` ends, before the line of its fault is printed
 abbrev pub EndsFirst : FirstAsked → World → World → Answer → Type 0
 EndsFirst asked old new answer =
     Stops (AreNoRows old.shelf.files asked.payments (asked_job asked)) old new answer
     ⊎ Runs (IsFirstRun asked old.shelf.files) asked.alerts None None None old new answer
-
--- what a call of `first` answers, leaves and prints
-pub record AnswersFirst (asked : FirstAsked) (old new : World) (answer : Answer) : Type 0 where
-  pub between : World
-  pub outcome : EndsFirst asked old between answer
-  pub prints : PrintsFault answer.fault between new
-
--- the answer, seen from the payments file
-pub record FollowsFirst (asked : FirstAsked) (old new : World)
-    (answer : Option Fault) : Type 0 where
-  pub payments : FollowsRows (asked_job asked) asked.payments old new answer
-  pub done : (rows : List Row) → TellsRows old.shelf.files asked.payments (asked_job asked) rows
-      → (answer ≡ None) ⊎ IsExcused old new answer

@@ -1,12 +1,14 @@
+pub mod Follows
+pub mod Prints
 pub mod First
 pub mod Check
 pub mod Plan
+pub mod Inputs
 pub mod Run
 pub mod Save
 pub mod Resume
 pub mod Live
 pub mod Make
-pub mod Explain
 pub mod Verify
 pub mod Answers
 pub mod Sure

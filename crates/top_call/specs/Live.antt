@@ -1,4 +1,4 @@
--- What a call of `live` answers, why, and what it leaves.
+-- What a call of `live` runs, and how it ends.
 use Rattle.std.specs.Prelude.{◌≡◌, ◌⊎◌, List, Option, None, Some}
 use Rattle.jobs.specs.JobView.{JobView}
 use Rattle.payments.specs.Files.{Files}
@@ -13,13 +13,10 @@ use Rattle.report.specs.declared.fault.Fault.TheVariants as fault
 use Rattle.report.specs.declared.fault.FileIs.TheVariants as file
 use Rattle.call_steps.specs.Outcomes.{EndsAfterRun, Stops}
 use Rattle.call_steps.specs.Live.{IsLiveRun, live_fault, live_lines}
-use Rattle.call_steps.specs.Effects.{IsExcused, PrintsFault}
-use Rattle.call_steps.specs.Reading.{AreRequestsOf, AreRowsOf, FollowsJob, FollowsRequests}
-use Rattle.call_steps.specs.Reading.{FollowsRows, IsJobOf, TellsJob, TellsRequests, TellsRows}
 use Rattle.call_steps.specs.Running.{files_of}
 use Rattle.call_steps.specs.declared.answer.Answer.{Answer}
 use Rattle.call_steps.specs.declared.live.LiveDone.{LiveDone}
-use Rattle.top_call.specs.Run.{IsNoRun}
+use Rattle.top_call.specs.Inputs.{AreInputsOf, AreNoInputs}
 
 -- what was run live is what the files hold
 pub record IsLiveRunOfFiles (asked : RunAsked) (files : Option Files) (was now : AsksIs)
@@ -27,15 +24,13 @@ pub record IsLiveRunOfFiles (asked : RunAsked) (files : Option Files) (was now :
   pub job : JobView
   pub requests : List Request
   pub rows : List Row
-  pub of_job : IsJobOf files asked.plan.job job
-  pub of_requests : AreRequestsOf files asked.plan.requests job requests
-  pub of_rows : AreRowsOf files asked.payments job rows
+  pub of_files : AreInputsOf files asked.plan asked.payments job requests rows
   pub run : IsLiveRun job requests rows was now live
 
 -- the call stopped before a run was done; it left the input, unless memory ran out
 pub record StopsLive (asked : RunAsked) (was now : AsksIs) (old new : World) (answer : Answer)
     : Type 0 where
-  pub stops : Stops (IsNoRun asked old.shelf.files) old new answer
+  pub stops : Stops (AreNoInputs old.shelf.files asked.plan asked.payments) old new answer
   pub asks : (now ≡ was) ⊎ (answer.fault ≡ Some fault.NoMemory)
 
 -- the call ran live what the files hold, and came to storing its files and printing its lines; a
@@ -58,31 +53,6 @@ abbrev pub EndsLive : RunAsked → AsksIs → AsksIs → World → World → Ans
 EndsLive asked was now old new answer =
     StopsLive asked was now old new answer ⊎ RunsLive asked was now old new answer
 
--- what a call of `live` answers, leaves and prints
-pub record AnswersLive (asked : RunAsked) (was now : AsksIs) (old new : World) (answer : Answer)
-    : Type 0 where
-  pub between : World
-  pub outcome : EndsLive asked was now old between answer
-  pub prints : PrintsFault answer.fault between new
-
 -- the answer is that of an input that failed, and the input counted a failure
 abbrev pub FailsAsking : AsksIs → AsksIs → Option Fault → Type 0
 FailsAsking was now answer = (answer ≡ Some (fault.Read file.Asks)) × Rose was.faults now.faults
-
--- the answer, seen from the files, of which it reads the same as `run`
-pub record FollowsLive (asked : RunAsked) (was now : AsksIs) (old new : World)
-    (answer : Option Fault) : Type 0 where
-  pub job : FollowsJob asked.plan.job old new answer
-  pub requests :
-      (job : JobView) → TellsJob old.shelf.files asked.plan.job job
-      → FollowsRequests job asked.plan.requests old new answer
-  pub payments :
-      (job : JobView) (requests : List Request) → TellsJob old.shelf.files asked.plan.job job
-      → TellsRequests old.shelf.files asked.plan.requests job requests
-      → FollowsRows job asked.payments old new answer
-  pub done :
-      (job : JobView) (requests : List Request) (rows : List Row)
-      → TellsJob old.shelf.files asked.plan.job job
-      → TellsRequests old.shelf.files asked.plan.requests job requests
-      → TellsRows old.shelf.files asked.payments job rows
-      → (answer ≡ None) ⊎ (FailsAsking was now answer ⊎ IsExcused old new answer)

@@ -1,5 +1,5 @@
--- What a call of `make` answers, why, and what it leaves.
-use Rattle.std.specs.Prelude.{◌≡◌, ◌≢◌, ◌⊎◌, ⊤, List, [], Option, None, Some, Ok, Err}
+-- What a call of `make` runs, why it doesn't, and how it ends.
+use Rattle.std.specs.Prelude.{◌≡◌, ◌≢◌, ◌⊎◌, ⊤, List, [], Option, Some, Ok, Err}
 use Rattle.command_line.specs.Asked.{MakeAsked}
 use Rattle.jobs.specs.JobView.{JobView}
 use Rattle.payments.specs.Causes.{Faults}
@@ -10,14 +10,16 @@ use Rattle.payments.specs.declared.read.PFault.TheVariants as rows
 use Rattle.tuple_trace.specs.declared.row.Row.{Row}
 use Rattle.report.specs.declared.fault.Fault.{Fault}
 use Rattle.report.specs.declared.fault.Fault.TheVariants as fault
-use Rattle.call_steps.specs.Outcomes.{PrintsLines, Stops}
+use Rattle.call_steps.specs.Outcomes.{Stops}
 use Rattle.payments.specs.World.{World}
-use Rattle.call_steps.specs.Effects.{IsExcused, PrintsFault}
+use Rattle.call_steps.specs.Effects.{IsExcused}
 use Rattle.call_steps.specs.SetupFor.{AreSame}
-use Rattle.call_steps.specs.Reading.{FollowsJob, IsJobOf, IsNoJob, TellsJob}
+use Rattle.call_steps.specs.Reading.{IsJobOf, IsNoJob}
 use Rattle.call_steps.specs.Running.{IsRunOf, made_lines}
 use Rattle.call_steps.specs.declared.answer.Answer.{Answer}
 use Rattle.call_steps.specs.declared.running.Done.{Done}
+use Rattle.top_call.specs.Follows.{IsDoneOrExcused}
+use Rattle.top_call.specs.Prints.{PrintsRun}
 
 -- the rows that were run are those that are made for the job of the file, and no request was made
 pub record IsMadeRun (asked : MakeAsked) (files : Option Files) (done : Done) : Type 0 where
@@ -41,34 +43,20 @@ IsNotMade asked files old new why =
     IsNoJob files asked.job old new why ⊎ ((job : JobView) × IsJobOf files asked.job job
     × MakesNoRows asked job why × (new ≡ old))
 
--- ---- the answer
-
--- the call ran the rows, and came to printing the lines of that; it changed no file
-pub record RunsMade (asked : MakeAsked) (old new : World) (answer : Answer) : Type 0 where
-  pub done : Done
-  pub is_so : IsMadeRun asked old.shelf.files done
-  pub lines : PrintsLines (made_lines done) old new answer.fault
-  pub refused : answer.refused ≡ done.refused
-  pub ran : answer.ran ≡ Some done.ran
-  pub start : answer.start ≡ None
+-- ---- how it ends
 
 -- how a call of `make` ends, before the line of its fault is printed
 abbrev pub EndsMake : MakeAsked → World → World → Answer → Type 0
-EndsMake asked old new answer = Stops (IsNotMade asked old.shelf.files) old new answer
-    ⊎ RunsMade asked old new answer
+EndsMake asked old new answer =
+    Stops (IsNotMade asked old.shelf.files) old new answer
+    ⊎ PrintsRun (IsMadeRun asked old.shelf.files) made_lines old new answer
 
--- what a call of `make` answers, leaves and prints
-pub record AnswersMake (asked : MakeAsked) (old new : World) (answer : Answer) : Type 0 where
-  pub between : World
-  pub outcome : EndsMake asked old between answer
-  pub prints : PrintsFault answer.fault between new
-
--- the answer, seen from the job file: the rows are looked at if it holds a job
-pub record FollowsMake (asked : MakeAsked) (old new : World) (answer : Option Fault) : Type 0 where
-  pub job : FollowsJob asked.job old new answer
-  pub rows : (job : JobView) (code : PFault) → TellsJob old.shelf.files asked.job job
-      → made_rows job asked.seed asked.rows ≡ Err code →
+-- the answer, seen from the rows that are to be made, if the job file tells this job
+pub record FollowsMade (asked : MakeAsked) (job : JobView) (old new : World)
+    (answer : Option Fault) : Type 0 where
+  pub refused :
+      (code : PFault) → made_rows job asked.seed asked.rows ≡ Err code →
       (answer ≡ Some (fault.Payments code)) ⊎ IsExcused old new answer
-  pub done : (job : JobView) (rows : List Row) → TellsJob old.shelf.files asked.job job
-      → made_rows job asked.seed asked.rows ≡ Ok rows →
-      (answer ≡ None) ⊎ IsExcused old new answer
+  pub made :
+      (rows : List Row) → made_rows job asked.seed asked.rows ≡ Ok rows →
+      IsDoneOrExcused old new answer

@@ -1,4 +1,4 @@
--- What a call of `plan` answers, why, and what it leaves.
+-- What a call of `plan` makes of its files, why it doesn't, and how it ends.
 use Rattle.std.specs.Prelude.{◌≡◌, ◌⊎◌, ◌++◌, ℕ, List, Option, None}
 use Rattle.jobs.specs.Job.{job_view}
 use Rattle.jobs.specs.JobView.{JobView}
@@ -11,9 +11,7 @@ use Rattle.call_steps.specs.SetupFor.{AreSame, IsSetupFor}
 use Rattle.call_steps.specs.Outcomes.{PrintsLines, Stops}
 use Rattle.report.specs.Lines.{plan_lines, refused_lines}
 use Rattle.payments.specs.World.{World}
-use Rattle.call_steps.specs.Effects.{IsExcused, PrintsFault}
-use Rattle.call_steps.specs.Reading.{AreNoRequests, AreRequestsOf, FollowsJob, FollowsRequests}
-use Rattle.call_steps.specs.Reading.{IsJobOf, IsNoJob, TellsJob, TellsRequests}
+use Rattle.call_steps.specs.Reading.{AreNoRequests, AreRequestsOf, IsJobOf, IsNoJob}
 use Rattle.call_steps.specs.declared.answer.Answer.{Answer}
 use Rattle.report.specs.declared.fault.Fault.{Fault}
 
@@ -34,7 +32,7 @@ IsNoSetup asked files old new why =
     ⊎ ((job : JobView) × IsJobOf files asked.job job
     × AreNoRequests files asked.requests job old new why)
 
--- ---- the answer
+-- ---- how it ends
 
 -- what is printed of a setup: the plan of each accepted request, and then each refused request
 abbrev pub setup_lines : Setup → List ℕ
@@ -55,18 +53,3 @@ pub record PrintsSetup (asked : PlanAsked) (old new : World) (answer : Answer) :
 abbrev pub EndsPlan : PlanAsked → World → World → Answer → Type 0
 EndsPlan asked old new answer = Stops (IsNoSetup asked old.shelf.files) old new answer
     ⊎ PrintsSetup asked old new answer
-
--- what a call of `plan` answers, leaves and prints
-pub record AnswersPlan (asked : PlanAsked) (old new : World) (answer : Answer) : Type 0 where
-  pub between : World
-  pub outcome : EndsPlan asked old between answer
-  pub prints : PrintsFault answer.fault between new
-
--- the answer, seen from the files: each is looked at where those before it hold what they should
-pub record FollowsPlan (asked : PlanAsked) (old new : World) (answer : Option Fault) : Type 0 where
-  pub job : FollowsJob asked.job old new answer
-  pub requests : (job : JobView) → TellsJob old.shelf.files asked.job job
-      → FollowsRequests job asked.requests old new answer
-  pub done : (job : JobView) (requests : List Request) → TellsJob old.shelf.files asked.job job
-      → TellsRequests old.shelf.files asked.requests job requests →
-      (answer ≡ None) ⊎ IsExcused old new answer

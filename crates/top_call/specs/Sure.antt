@@ -3,8 +3,9 @@ use Rattle.std.specs.Prelude.{◌≡◌, ◌⊎◌, ℕ, [], ◌∷◌, Contains
 use Rattle.command_line.specs.Asked.{Asked}
 use Rattle.live_control.specs.Asking.{AsksIs}
 use Rattle.report.specs.Faults.{status_for}
-use Rattle.top_call.specs.Answers.{Answers, AnswersUsage}
+use Rattle.top_call.specs.Answers.{Answered, Ends, IsNothingAsked}
 use Rattle.payments.specs.World.{World}
+use Rattle.call_steps.specs.Outcomes.{Stops}
 use Rattle.call_steps.specs.declared.answer.Answer.{Answer}
 
 -- neither the shelf nor the output has counted a fault
@@ -19,8 +20,9 @@ IsSureStatus status = Contains (0 ∷ 1 ∷ 2 ∷ 3 ∷ 4 ∷ 7 ∷ 8 ∷ 9 ∷ 
 
 -- a call answered this, whatever it was asked
 abbrev pub IsAnswered : AsksIs → AsksIs → World → World → Answer → Type 0
-IsAnswered was now old new answer = AnswersUsage old new answer
-    ⊎ ((asked : Asked) × Answers asked was now old new answer)
+IsAnswered was now old new answer =
+    Answered (Stops IsNothingAsked) old new answer
+    ⊎ ((asked : Asked) × Answered (Ends asked was now) old new answer)
 
 -- a call ends with such a status if neither the shelf nor the output nor the input has counted a
 -- fault before or in it

@@ -1,5 +1,5 @@
--- What a call of `verify` answers, why, and what it leaves.
-use Rattle.std.specs.Prelude.{◌≡◌, ◌⊎◌, List, Option, None, Some}
+-- What a call of `verify` restores, why it doesn't, and how it ends.
+use Rattle.std.specs.Prelude.{◌≡◌, ◌⊎◌, List, Option}
 use Rattle.jobs.specs.JobView.{JobView}
 use Rattle.payments.specs.Causes.{Faults}
 use Rattle.payments.specs.Files.{Files}
@@ -15,15 +15,14 @@ use Rattle.sink_journal.specs.Alerts.{alerts}
 use Rattle.call_steps.specs.Audits.{FollowsAlerts, FollowsAudit, HaveOneVerdict, HoldsAlerts}
 use Rattle.call_steps.specs.Audits.{HoldsNoAlerts, IsAuditOf, IsNoAudit, TellsAlerts, TellsAudit}
 use Rattle.call_steps.specs.Audits.{verified_lines}
-use Rattle.call_steps.specs.Outcomes.{PrintsLines, Stops}
-use Rattle.call_steps.specs.Effects.{IsExcused, PrintsFault}
-use Rattle.call_steps.specs.Reading.{AreRequestsOf, AreRowsOf, FollowsJob, FollowsRequests}
-use Rattle.call_steps.specs.Reading.{FollowsRows, IsJobOf, TellsJob, TellsRequests, TellsRows}
+use Rattle.call_steps.specs.Outcomes.{Stops}
 use Rattle.call_steps.specs.Running.{IsRunOf, alerts_of}
 use Rattle.call_steps.specs.SetupFor.{AreSame, IsSetupFor}
 use Rattle.call_steps.specs.declared.answer.Answer.{Answer}
 use Rattle.call_steps.specs.declared.running.Done.{Done}
-use Rattle.top_call.specs.Run.{HasNoRows}
+use Rattle.top_call.specs.Follows.{IsDoneOrExcused}
+use Rattle.top_call.specs.Inputs.{AreInputsOf, AreNoInputs}
+use Rattle.top_call.specs.Prints.{PrintsRun}
 
 -- The record is the run of what the files hold whose audit the audit's file holds. That file holds
 -- the audit of no other run of the same setup and rows.
@@ -31,9 +30,7 @@ pub record IsRestoredRun (asked : VerifyAsked) (files : Option Files) (done : Do
   pub job : JobView
   pub requests : List Request
   pub rows : List Row
-  pub of_job : IsJobOf files asked.plan.job job
-  pub of_requests : AreRequestsOf files asked.plan.requests job requests
-  pub of_rows : AreRowsOf files asked.payments job rows
+  pub of_files : AreInputsOf files asked.plan asked.payments job requests rows
   pub run : IsRunOf AreSame asked.plan.ordered job requests rows done
   pub of_audit : IsAuditOf files asked.audit done.ran.setup rows (record_view done.ran)
   pub verdict : HaveOneVerdict done.ran.setup rows
@@ -55,9 +52,7 @@ pub record HasNoAudit (asked : VerifyAsked) (files : Option Files) (old new : Fa
   pub requests : List Request
   pub rows : List Row
   pub setup : Setup
-  pub of_job : IsJobOf files asked.plan.job job
-  pub of_requests : AreRequestsOf files asked.plan.requests job requests
-  pub of_rows : AreRowsOf files asked.payments job rows
+  pub of_files : AreInputsOf files asked.plan asked.payments job requests rows
   pub setup_is : IsSetupFor AreSame asked.plan.ordered job requests setup
   pub unread : IsNoAudit files asked.audit setup rows old new why
   pub verdict : HaveOneVerdict setup rows
@@ -73,34 +68,20 @@ pub record HasOtherAlerts (asked : VerifyAsked) (files : Option Files) (old new 
 -- why no run is restored: no job, no requests or no rows were read, or else no audit
 abbrev pub IsNotRestored : VerifyAsked → Option Files → Faults → Faults → Fault → Type 0
 IsNotRestored asked files old new why =
-    HasNoRows asked.plan asked.payments files old new why ⊎ HasNoAudit asked files old new why
+    AreNoInputs files asked.plan asked.payments old new why ⊎ HasNoAudit asked files old new why
 
 -- why no run is verified: none is restored, or else the alerts aren't its
 abbrev pub IsNotVerified : VerifyAsked → Option Files → Faults → Faults → Fault → Type 0
 IsNotVerified asked files old new why =
     IsNotRestored asked files old new why ⊎ HasOtherAlerts asked files old new why
 
--- ---- the answer
-
--- the call rebuilt the run, and came to printing that it is verified; it changed no file
-pub record PrintsVerified (asked : VerifyAsked) (old new : World) (answer : Answer) : Type 0 where
-  pub done : Done
-  pub is_so : IsVerifiedRun asked old.shelf.files done
-  pub lines : PrintsLines (verified_lines done) old new answer.fault
-  pub refused : answer.refused ≡ done.refused
-  pub ran : answer.ran ≡ Some done.ran
-  pub start : answer.start ≡ None
+-- ---- how it ends
 
 -- how a call of `verify` ends, before the line of its fault is printed
 abbrev pub EndsVerify : VerifyAsked → World → World → Answer → Type 0
 EndsVerify asked old new answer =
-    Stops (IsNotVerified asked old.shelf.files) old new answer ⊎ PrintsVerified asked old new answer
-
--- what a call of `verify` answers, leaves and prints
-pub record AnswersVerify (asked : VerifyAsked) (old new : World) (answer : Answer) : Type 0 where
-  pub between : World
-  pub outcome : EndsVerify asked old between answer
-  pub prints : PrintsFault answer.fault between new
+    Stops (IsNotVerified asked old.shelf.files) old new answer
+    ⊎ PrintsRun (IsVerifiedRun asked old.shelf.files) verified_lines old new answer
 
 -- The audit's file is answered by what it holds, seen by the setup of the job and its requests. If
 -- it tells a run, the alerts' file is answered by what it holds. If that is the text of the run's
@@ -116,22 +97,4 @@ pub record FollowsVerdict (asked : VerifyAsked) (job : JobView) (requests : List
   pub done :
       (ran : Ran) → TellsAudit old.shelf.files asked.audit setup rows ran →
       TellsAlerts old.shelf.files asked.alerts (alerts ran.setup.job ran.journals) →
-      (answer ≡ None) ⊎ IsExcused old new answer
-
--- the answer, seen from the files: each is looked at if those before it hold what they should
-pub record FollowsVerify (asked : VerifyAsked) (old new : World)
-    (answer : Option Fault) : Type 0 where
-  pub job : FollowsJob asked.plan.job old new answer
-  pub requests :
-      (job : JobView) → TellsJob old.shelf.files asked.plan.job job →
-      FollowsRequests job asked.plan.requests old new answer
-  pub payments :
-      (job : JobView) (requests : List Request) → TellsJob old.shelf.files asked.plan.job job →
-      TellsRequests old.shelf.files asked.plan.requests job requests →
-      FollowsRows job asked.payments old new answer
-  pub audit :
-      (job : JobView) (requests : List Request) (rows : List Row) →
-      TellsJob old.shelf.files asked.plan.job job →
-      TellsRequests old.shelf.files asked.plan.requests job requests →
-      TellsRows old.shelf.files asked.payments job rows →
-      IsExcused old new answer ⊎ FollowsVerdict asked job requests rows old new answer
+      IsDoneOrExcused old new answer

@@ -11,6 +11,7 @@
 
 mod check;
 mod first;
+mod inputs;
 mod laws;
 mod live;
 mod make;

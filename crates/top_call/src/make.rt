@@ -47,13 +47,7 @@ where
     match run_made(rt, alloc, make, shelf, gate) {
         Ok(done) => {
             let fault = print_run(alloc, &done, out).err();
-            let Done { ran, refused, .. } = done;
-            Answer {
-                fault,
-                refused,
-                ran: Some(ran),
-                start: None,
-            }
+            Answer::of_run(done, fault)
         }
         Err(fault) => Answer::stopped(alloc, fault),
     }

@@ -4,10 +4,8 @@ ghost use Rattle.payments.specs.World.{world};
 ghost use Rattle.call_steps.specs.Parts.{HasWorkers};
 ghost use Rattle.top_call.specs.Resume.{EndsResume, IsNoResume, IsResumedRun};
 
-use call_steps::{
-    Answer, Done, Outputs, job_in, leave_run, requests_in, rows_in, run_later_part, setup_of,
-    start_in,
-};
+use crate::inputs::{RunInputs, inputs_in};
+use call_steps::{Answer, Done, Outputs, leave_run, run_later_part, setup_of, start_in};
 use command_line::ResumeFiles;
 use flow_model::Start;
 use payments::{Shelf, Sink};
@@ -85,9 +83,12 @@ where
         (S.state shelf.old).faults (S.state shelf.new).faults) }
 {
     let run = &files.run;
-    let job = job_in(alloc, &run.plan.job, shelf)?;
-    let requests = requests_in(alloc, &job, &run.plan.requests, shelf)?;
-    let rows = rows_in(alloc, &job, &run.payments, shelf)?;
+    let inputs = inputs_in(alloc, &run.plan, &run.payments, shelf)?;
+    let RunInputs {
+        job,
+        requests,
+        rows,
+    } = inputs;
     let setup = setup_of(alloc, job, &requests, false)?;
     let start = start_in(alloc, &setup, rows.len() as u64, &files.save, shelf)?;
     let done = run_later_part(rt, alloc, gate, run.size, setup, &requests, &rows, &start)?;

@@ -2,9 +2,11 @@ ghost use Rattle.std.specs.Prelude.{◌≡◌, IfOk, IfErr, OnOk, length};
 ghost use Rattle.jobs.specs.Nodes.{worker_count};
 ghost use Rattle.command_line.specs.Asked.{IsSize, run_asked};
 ghost use Rattle.payments.specs.World.{world};
-ghost use Rattle.top_call.specs.Run.{EndsRun, IsNoRun, IsRunOfFiles};
+ghost use Rattle.top_call.specs.Inputs.{AreNoInputs};
+ghost use Rattle.top_call.specs.Run.{EndsRun, IsRunOfFiles};
 
-use call_steps::{Answer, Done, Outputs, job_in, leave_run, requests_in, rows_in, run_on_threads};
+use crate::inputs::{RunInputs, inputs_in};
+use call_steps::{Answer, Done, Outputs, leave_run, run_on_threads};
 use command_line::RunFiles;
 use payments::{Shelf, Sink};
 use report::Fault;
@@ -67,12 +69,16 @@ where
     ensures kept { OnOk result (S.state shelf.new ≡ S.state shelf.old) }
     ensures files { (S.state shelf.new).files ≡ (S.state shelf.old).files }
     ensures draft { (S.state shelf.new).draft ≡ (S.state shelf.old).draft }
-    ensures cause { IfErr result (IsNoRun (run_asked files.now) (S.state shelf.old).files
+    ensures cause { IfErr result (AreNoInputs (S.state shelf.old).files
+        (run_asked files.now).plan files.now.payments
         (S.state shelf.old).faults (S.state shelf.new).faults) }
 {
-    let job = job_in(alloc, &files.plan.job, shelf)?;
-    let requests = requests_in(alloc, &job, &files.plan.requests, shelf)?;
-    let rows = rows_in(alloc, &job, &files.payments, shelf)?;
+    let inputs = inputs_in(alloc, &files.plan, &files.payments, shelf)?;
+    let RunInputs {
+        job,
+        requests,
+        rows,
+    } = inputs;
     Ok(run_on_threads(
         rt,
         alloc,

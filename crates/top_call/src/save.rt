@@ -2,10 +2,11 @@ ghost use Rattle.std.specs.Prelude.{◌≡◌, IfOk, IfErr, OnOk};
 ghost use Rattle.command_line.specs.Asked.{IsSize, save_asked};
 ghost use Rattle.payments.specs.World.{world};
 ghost use Rattle.call_steps.specs.Parts.{HasWorkers};
-ghost use Rattle.top_call.specs.Run.{IsNoRun};
+ghost use Rattle.top_call.specs.Inputs.{AreNoInputs};
 ghost use Rattle.top_call.specs.Save.{EndsSave, IsSavedRun};
 
-use call_steps::{Answer, Done, Outputs, job_in, leave_run, requests_in, rows_in, run_first_part};
+use crate::inputs::{RunInputs, inputs_in};
+use call_steps::{Answer, Done, Outputs, leave_run, run_first_part};
 use command_line::SaveFiles;
 use payments::{Shelf, Sink};
 use report::Fault;
@@ -65,12 +66,16 @@ where
     ensures kept { OnOk result (S.state shelf.new ≡ S.state shelf.old) }
     ensures files { (S.state shelf.new).files ≡ (S.state shelf.old).files }
     ensures draft { (S.state shelf.new).draft ≡ (S.state shelf.old).draft }
-    ensures cause { IfErr result (IsNoRun (save_asked files.now).run (S.state shelf.old).files
+    ensures cause { IfErr result (AreNoInputs (S.state shelf.old).files
+        (save_asked files.now).run.plan files.now.run.payments
         (S.state shelf.old).faults (S.state shelf.new).faults) }
 {
     let run = &files.run;
-    let job = job_in(alloc, &run.plan.job, shelf)?;
-    let requests = requests_in(alloc, &job, &run.plan.requests, shelf)?;
-    let rows = rows_in(alloc, &job, &run.payments, shelf)?;
+    let inputs = inputs_in(alloc, &run.plan, &run.payments, shelf)?;
+    let RunInputs {
+        job,
+        requests,
+        rows,
+    } = inputs;
     Ok(run_first_part(rt, alloc, gate, run.size, job, &requests, &rows, files.rows)?)
 }

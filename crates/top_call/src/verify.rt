@@ -5,42 +5,15 @@ ghost use Rattle.command_line.specs.Asked.{verify_asked};
 ghost use Rattle.payments.specs.World.{world};
 ghost use Rattle.call_steps.specs.Audits.{verified_lines as verified_lines_of};
 ghost use Rattle.call_steps.specs.Effects.{Prints};
-ghost use Rattle.top_call.specs.Verify.{AnswersVerify, EndsVerify, FollowsVerify, IsNotRestored};
-ghost use Rattle.top_call.specs.Verify.{IsNotVerified, IsRestoredRun, IsVerifiedRun};
+ghost use Rattle.top_call.specs.Verify.{EndsVerify, IsNotRestored, IsNotVerified, IsRestoredRun};
+ghost use Rattle.top_call.specs.Verify.{IsVerifiedRun};
 
-use crate::top::report;
-use call_steps::{
-    Answer, Done, audited_run, check_alerts, job_in, print, requests_in, rows_in, setup_of,
-    verified_lines,
-};
+use crate::inputs::{RunInputs, inputs_in};
+use call_steps::{Answer, Done, audited_run, check_alerts, print, setup_of, verified_lines};
 use command_line::VerifyFiles;
-use job_file::{faulty_is_no_job, files_have_one_fault};
 use payments::{Shelf, Sink};
 use report::Fault;
 use std::alloc::Global;
-
-/// Does [`verify_command`], and prints the line of its fault.
-pub(crate) fn answer_verify<S: Shelf, O: Sink>(
-    alloc: Global,
-    files: &VerifyFiles,
-    shelf: &mut S,
-    out: &mut O,
-) -> Answer
-    ensures answers { AnswersVerify (verify_asked files.now)
-        (world (S.state shelf.old) (O.state out.old))
-        (world (S.state shelf.new) (O.state out.new))
-        result }
-    ensures file { FollowsVerify (verify_asked files.now)
-        (world (S.state shelf.old) (O.state out.old))
-        (world (S.state shelf.new) (O.state out.new))
-        result.fault }
-{
-    faulty_is_no_job();
-    files_have_one_fault();
-    let answer = verify_command(alloc, files, shelf, out);
-    report(alloc, answer.fault, out);
-    answer
-}
 
 /// Reads a job, its requests and its payments, judges the requests, and then reads an audit.
 /// Rebuilds the run whose audit it is. If alerts are named it reads them, and they have to be just
@@ -60,13 +33,7 @@ pub fn verify_command<S: Shelf, O: Sink>(
     match verified_run(alloc, files, shelf) {
         Ok(done) => {
             let fault = print_verified(alloc, &done, out).err();
-            let Done { ran, refused, .. } = done;
-            Answer {
-                fault,
-                refused,
-                ran: Some(ran),
-                start: None,
-            }
+            Answer::of_run(done, fault)
         }
         Err(fault) => Answer::stopped(alloc, fault),
     }
@@ -100,9 +67,12 @@ fn rebuild<S: Shelf>(alloc: Global, files: &VerifyFiles, shelf: &mut S) -> Resul
         (S.state shelf.old).faults (S.state shelf.new).faults) }
 {
     let plan = &files.plan;
-    let job = job_in(alloc, &plan.job, shelf)?;
-    let requests = requests_in(alloc, &job, &plan.requests, shelf)?;
-    let rows = rows_in(alloc, &job, &files.payments, shelf)?;
+    let inputs = inputs_in(alloc, plan, &files.payments, shelf)?;
+    let RunInputs {
+        job,
+        requests,
+        rows,
+    } = inputs;
     let setup = setup_of(alloc, job, &requests, plan.ordered)?;
     audited_run(alloc, setup, &requests, &rows, &files.audit, shelf)
 }

@@ -1,4 +1,4 @@
-use Rattle.std.proofs.Common.{inr, refl}
+use Rattle.std.proofs.Common.{inr}
 use Rattle.top_call.proofs.make.make_command.Goals as goal
 
 pub returns-in-Ok : goal.returns-in-Ok
@@ -7,9 +7,9 @@ returns-in-Ok g c = inr (record {
   is_so = c.in-Ok.ensures.run;
   lines = record {
     shelf = c.in-Ok.ensures.kept;
-    prints = rw c.err-fault.ensures.value c.print_run.ensures;
+    prints = rw (c.of_run.ensures.fault, c.err-fault.ensures.value) c.print_run.ensures;
   };
-  refused = refl;
-  ran = refl;
-  start = refl;
+  refused = c.of_run.ensures.refused;
+  ran = c.of_run.ensures.ran;
+  start = c.of_run.ensures.start;
 })

@@ -1,35 +1,20 @@
-use Rattle.std.proofs.Common.{inl, inr}
+use Rattle.std.proofs.Common.{inr}
 use Rattle.std.proofs.lemmas.Result.{err_from_is_err_and}
 use Rattle.jobs.specs.Job.{job_view}
 use Rattle.flow_model.specs.Setup.{setup_view}
 use Rattle.call_steps.proofs.StartLemmas.{save_suits}
 use Rattle.top_call.proofs.resume.run_later.Goals as goal
 
-pub returns-in_err-requests-clause-cause : goal.returns-in_err-requests-clause-cause
-returns-in_err-requests-clause-cause g c =
-    let unread = rw c.in_ok-job.ensures.kept at c.in_err-requests.ensures.cause in
-    let fault = err_from_is_err_and c.from_residual-in_err-requests.result c.from_residual-in_err-requests.ensures.1 in
-    rw (fault.1, fault.2) (inl (inl (inr (job_view c.in_ok-job.job, c.in_ok-job.ensures.job, unread))))
-
-pub returns-in_err-rows-clause-cause : goal.returns-in_err-rows-clause-cause
-returns-in_err-rows-clause-cause g c =
-    let of_requests = rw c.in_ok-job.ensures.kept at c.in_ok-requests.ensures.requests in
-    let unread = rw (c.in_ok-requests.ensures.kept, c.in_ok-job.ensures.kept) at c.in_err-rows.ensures.cause in
-    let fault = err_from_is_err_and c.from_residual-in_err-rows.result c.from_residual-in_err-rows.ensures.1 in
-    rw (fault.1, fault.2) (inl (inr (job_view c.in_ok-job.job, c.in_ok-requests.requests, c.in_ok-job.ensures.job, of_requests, unread)))
-
 pub returns-in_err-start-clause-cause : goal.returns-in_err-start-clause-cause
 returns-in_err-start-clause-cause g c =
-    let unread = rw (c.len.ensures, c.in_ok-rows.ensures.kept, c.in_ok-requests.ensures.kept, c.in_ok-job.ensures.kept) at c.in_err-start.ensures.cause in
+    let unread = rw (c.len.ensures, c.in_ok-inputs.ensures.kept) at c.in_err-start.ensures.cause in
     let fault = err_from_is_err_and c.from_residual-in_err-start.result c.from_residual-in_err-start.ensures.1 in
     rw (fault.1, fault.2) (inr (record {
-      job = job_view c.in_ok-job.job;
-      requests = c.in_ok-requests.requests;
-      rows = c.in_ok-rows.rows;
+      job = job_view c.in_ok-inputs.inputs.job;
+      requests = c.in_ok-inputs.inputs.requests;
+      rows = c.in_ok-inputs.inputs.rows;
       setup = c.in_ok-setup.setup;
-      of_job = c.in_ok-job.ensures.job;
-      of_requests = rw c.in_ok-job.ensures.kept at c.in_ok-requests.ensures.requests;
-      of_rows = rw (c.in_ok-requests.ensures.kept, c.in_ok-job.ensures.kept) at c.in_ok-rows.ensures.rows;
+      of_files = c.in_ok-inputs.ensures.inputs;
       setup_is = c.in_ok-setup.ensures;
       unread = unread;
     }))

@@ -17,9 +17,9 @@ returns-in-Ok g c = inr (record {
   is_so = c.in-Ok.ensures.run;
   lines = record {
     shelf = c.in-Ok.ensures.kept;
-    prints = rw c.err-fault.ensures.value c.print_verified.ensures;
+    prints = rw (c.of_run.ensures.fault, c.err-fault.ensures.value) c.print_verified.ensures;
   };
-  refused = refl;
-  ran = refl;
-  start = refl;
+  refused = c.of_run.ensures.refused;
+  ran = c.of_run.ensures.ran;
+  start = c.of_run.ensures.start;
 })

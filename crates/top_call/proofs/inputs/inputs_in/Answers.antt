@@ -1,7 +1,7 @@
 use Rattle.std.proofs.Common.{inr}
 use Rattle.std.proofs.lemmas.Result.{err_from_is_err_and}
 use Rattle.jobs.specs.Job.{job_view}
-use Rattle.top_call.proofs.run.run_files.Goals as goal
+use Rattle.top_call.proofs.inputs.inputs_in.Goals as goal
 
 pub returns-in_err-rows-clause-cause : goal.returns-in_err-rows-clause-cause
 returns-in_err-rows-clause-cause g c =
