@@ -134,7 +134,10 @@ fn is_read<R>(rt: &R, alloc: Global, length: usize) -> bool
 where
     R: Threads + Wait + Copy + Send + Sync + 'static,
 {
-    let Some(Ok(save)) = SAVED.as_bytes().get(..length).map(str::from_utf8) else {
+    let Some(bytes) = SAVED.as_bytes().get(..length) else {
+        return false;
+    };
+    let Ok(save) = str::from_utf8(bytes) else {
         return false;
     };
     match shelf_of(alloc, before(save)) {
