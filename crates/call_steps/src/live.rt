@@ -33,7 +33,7 @@ use std::alloc::Global;
 use std::sync::Wait;
 use std::thread::{Threads, join_mut};
 use tuple_trace::{Bytes, Gate, NoMemory, Rows};
-use versions::Requests;
+use versions::{MAX_REQUESTS, Requests};
 
 /// What was run live, and what the reader of releases took.
 #[derive(Drop)]
@@ -108,7 +108,7 @@ fn run_beside<R, G: Gate + Sync, Q: Asks>(
 where
     R: Threads + Wait + Sync,
     requires rows { IfSome work.old (λ w. AreFromSources (setup_view w.value.setup).job rows.now) }
-    requires most { most ≤ 64 }
+    requires most { most ≤ MAX_REQUESTS }
     requires untold { teller.old.told ≡ 0 }
     ensures flown { IfSome work.old (λ w. IfOk result.0 (λ (flown, rest). IsFlownLive
         w.value.setup w.value.inbox rows.now flown.setup flown.feeds flown.crew.items rest)) }
@@ -133,7 +133,7 @@ where
             }
         },
         &mut || -> Heard
-            requires most { most ≤ 64 }
+            requires most { most ≤ MAX_REQUESTS }
             requires untold { teller.now.told ≡ 0 }
             ensures heard { IsHeard most (Q.state asks.entry.now) (Q.state asks.exit.now)
                 result }

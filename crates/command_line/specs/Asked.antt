@@ -12,6 +12,7 @@ use Rattle.command_line.specs.declared.command.RunFiles.{RunFiles}
 use Rattle.command_line.specs.declared.command.SaveFiles.{SaveFiles}
 use Rattle.command_line.specs.declared.command.VerifyFiles.{VerifyFiles}
 use Rattle.command_line.specs.declared.topic.Topic.{Topic}
+use Rattle.tuple_trace.specs.declared.limits.TheConstants.{MAX_CAPACITY, MAX_THREADS}
 
 -- ---- what is asked
 
@@ -34,9 +35,9 @@ pub record PlanAsked : Type 0 where
 -- an engine has 1 to 16 threads, and its lanes hold up to 1 to 64 items
 pub record IsSize (size : EngineSize) : Type 0 where
   pub some_threads : 1 ≤ size.threads
-  pub few_threads : size.threads ≤ 16
+  pub few_threads : size.threads ≤ MAX_THREADS
   pub some_items : 1 ≤ size.capacity
-  pub few_items : size.capacity ≤ 64
+  pub few_items : size.capacity ≤ MAX_CAPACITY
 
 -- what `run` is asked to do: the files of `plan`, the payments, the alerts and the audit that it is
 -- to write, and by how large an engine
@@ -77,7 +78,7 @@ pub record VerifyAsked : Type 0 where
 
 -- an engine has 1 to 16 threads
 abbrev pub IsThreads : ℕ → Type 0
-IsThreads threads = (1 ≤ threads) × (threads ≤ 16)
+IsThreads threads = (1 ≤ threads) × (threads ≤ MAX_THREADS)
 
 -- what a command line asks for
 pub data Asked : Type 0 where

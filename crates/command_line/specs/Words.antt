@@ -7,6 +7,7 @@ use Rattle.command_line.specs.declared.command.EngineSize.{EngineSize}
 use Rattle.command_line.specs.declared.topic.Topic.{Topic}
 use Rattle.command_line.specs.declared.topic.Topic.TheVariants as topic
 use Rattle.command_line.specs.Asked.{Asked, Check, First, FirstAsked, Help, Live, Make, MakeAsked, Plan, PlanAsked, Resume, ResumeAsked, Run, RunAsked, Save, SaveAsked, Verify, VerifyAsked, Version}
+use Rattle.tuple_trace.specs.declared.limits.TheConstants.{MAX_CAPACITY, MAX_THREADS, USUAL_CAPACITY}
 
 -- ---- the forms of the commands
 
@@ -197,8 +198,8 @@ engine_of (Some threads) None = None
 
 -- the size of an engine: one thread and lanes of 16 items, if the options aren't there
 abbrev pub engine_in : Values → Option EngineSize
-engine_in values = engine_of (size_in 1 16 (values (codes "threads")))
-    (size_in 16 64 (values (codes "capacity")))
+engine_in values = engine_of (size_in 1 MAX_THREADS (values (codes "threads")))
+    (size_in USUAL_CAPACITY MAX_CAPACITY (values (codes "capacity")))
 
 -- the files of a run, the last two of which are different words
 abbrev pub run_over : PlanAsked → Text → Text → Text → EngineSize → Option RunAsked
@@ -285,7 +286,7 @@ make_of values =
     make_with (name_in values (codes "job"))
     (number_in values (2 ^ 64 - 1) (codes "seed"))
     (number_in values (2 ^ 32 - 1) (codes "rows"))
-    (size_in 1 16 (values (codes "threads")))
+    (size_in 1 MAX_THREADS (values (codes "threads")))
     (is_true (values (codes "ordered")))
 
 -- ---- words

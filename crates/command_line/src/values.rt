@@ -23,7 +23,7 @@ use crate::{
 };
 use clap::ArgMatches;
 use std::alloc::Global;
-use tuple_trace::{NoMemory, Word, digits_up_to};
+use tuple_trace::{MAX_CAPACITY, MAX_THREADS, NoMemory, USUAL_CAPACITY, Word, digits_up_to};
 
 /// The greatest number of rows that a request may wait for, and that come before a savepoint.
 const AFTER_MAX: u64 = 1_048_576;
@@ -234,7 +234,7 @@ fn make_of(alloc: Global, values: &ArgMatches<'_>) -> Result<Make, WordsFault>
     let Some(rows) = number_in(values, "rows", u64::from(u32::MAX)) else {
         return Err(WordsFault::Usage);
     };
-    let Some(threads) = size_in(values.get_str("threads"), 1, 16) else {
+    let Some(threads) = size_in(values.get_str("threads"), 1, MAX_THREADS) else {
         return Err(WordsFault::Usage);
     };
     Ok(Make {
@@ -250,8 +250,8 @@ fn engine_in(values: &ArgMatches<'_>) -> Option<EngineSize>
     ensures is { result ≡ engine_of (first_value (found_of values.now)) }
     ensures sized { IfSome result IsSize }
 {
-    let threads = size_in(values.get_str("threads"), 1, 16)?;
-    let capacity = size_in(values.get_str("capacity"), 16, 64)?;
+    let threads = size_in(values.get_str("threads"), 1, MAX_THREADS)?;
+    let capacity = size_in(values.get_str("capacity"), USUAL_CAPACITY, MAX_CAPACITY)?;
     Some(EngineSize { threads, capacity })
 }
 

@@ -1,7 +1,7 @@
 ghost use Rattle.std.specs.Prelude.{◌<◌, ◌↔◌, IsTrue};
 ghost use Rattle.flow_dag.specs.Masks.{Has};
 
-use flow_dag::{has_bit, has_wide_bit};
+use flow_dag::{MAX_EDGES, MAX_NODES, has_bit, has_wide_bit};
 
 /// The part of a node that isn't covered.
 pub const NO_PART: u8 = 255;
@@ -22,13 +22,13 @@ pub struct Plan {
     pub heads: u64,
     /// The number of each node's part, from 0 in the order of the least nodes of the parts, and
     /// [`NO_PART`] where the node isn't covered.
-    pub part: [u8; 64],
+    pub part: [u8; MAX_NODES],
 }
 
 impl Plan {
     /// Whether the plan covers a node.
     pub fn covers_node(&self, node: u32) -> bool
-        requires { node < 64 }
+        requires { node < MAX_NODES }
         ensures { IsTrue result ↔ Has self.now.nodes node }
     {
         has_bit(self.nodes, node)
@@ -36,7 +36,7 @@ impl Plan {
 
     /// Whether the plan covers an edge.
     pub fn covers_edge(&self, edge: u32) -> bool
-        requires { edge < 128 }
+        requires { edge < MAX_EDGES }
         ensures { IsTrue result ↔ Has self.now.edges edge }
     {
         has_wide_bit(self.edges, edge)
@@ -44,7 +44,7 @@ impl Plan {
 
     /// Whether a node is a head of what the plan covers.
     pub fn is_head(&self, node: u32) -> bool
-        requires { node < 64 }
+        requires { node < MAX_NODES }
         ensures { IsTrue result ↔ Has self.now.heads node }
     {
         has_bit(self.heads, node)

@@ -5,11 +5,11 @@ ghost use Rattle.flow_dag.specs.Edges.{HasEdge};
 ghost use Rattle.cover_planner.specs.Cover.{IsDownstream, IsUpstream, IsCoveredEdge, MarksEdges};
 
 use crate::reach;
-use flow_dag::Dag;
+use flow_dag::{Dag, MAX_NODES};
 
 /// The covered edges, as rows of children: those that lead from a member or a node below one to a
 /// member or a node above one.
-pub fn covered_children(dag: &Dag, members: u64) -> [u64; 64]
+pub fn covered_children(dag: &Dag, members: u64) -> [u64; MAX_NODES]
     requires { (m : ℕ) → Has members m → m < dag.now.nodes }
     ensures { (a b : ℕ) → RowHas result a b
         ↔ IsCoveredEdge (HasEdge dag.now.edges) (Has members) a b }
@@ -36,11 +36,11 @@ fn upstream(dag: &Dag, members: u64) -> u64
 }
 
 /// The rows with only the pairs from a node of the one set to a node of the other.
-fn between(rows: &[u64; 64], from: u64, to: u64) -> [u64; 64]
+fn between(rows: &[u64; MAX_NODES], from: u64, to: u64) -> [u64; MAX_NODES]
     ensures { (a b : ℕ) → RowHas result a b ↔ (RowHas rows.now a b × Has from a × Has to b) }
 {
-    let mut kept = [0u64; 64];
-    for a in 0..64u32 {
+    let mut kept = [0u64; MAX_NODES];
+    for a in 0..MAX_NODES as u32 {
         if flow_dag::has_bit(from, a) {
             kept[a as usize] = rows[a as usize] & to;
         }
@@ -49,18 +49,18 @@ fn between(rows: &[u64; 64], from: u64, to: u64) -> [u64; 64]
 }
 
 /// The neighbours of each node, along an edge or against it.
-pub fn either_way(children: &[u64; 64], parents: &[u64; 64]) -> [u64; 64]
+pub fn either_way(children: &[u64; MAX_NODES], parents: &[u64; MAX_NODES]) -> [u64; MAX_NODES]
     ensures { (a b : ℕ) → RowHas result a b ↔ (RowHas children.now a b ⊎ RowHas parents.now a b) }
 {
-    let mut joined = [0u64; 64];
-    for a in 0..64usize {
+    let mut joined = [0u64; MAX_NODES];
+    for a in 0..MAX_NODES {
         joined[a] = children[a] | parents[a];
     }
     joined
 }
 
 /// The places of the edges that the rows have.
-pub fn marked(dag: &Dag, children: &[u64; 64]) -> u128
+pub fn marked(dag: &Dag, children: &[u64; MAX_NODES]) -> u128
     ensures { MarksEdges dag.now.edges (RowHas children.now) result }
 {
     let mut mask = 0u128;

@@ -5,7 +5,7 @@ ghost use Rattle.flow_dag.specs.Edges.{HasEdge};
 ghost use Rattle.cover_planner.specs.Members.{IsMember};
 
 use crate::reach;
-use flow_dag::Dag;
+use flow_dag::{Dag, MAX_NODES};
 
 /// The asked nodes, those of `splits` from which a path leads to one of them, and those of `copies`
 /// with two edges that lead to one.
@@ -40,7 +40,7 @@ fn has_two(mask: u64) -> bool
         ((b c : ℕ) → Has mask b → Has mask c → b ≢ c → ⊥) }
 {
     let mut one = false;
-    for b in 0..64u32 {
+    for b in 0..MAX_NODES as u32 {
         if flow_dag::has_bit(mask, b) {
             if one {
                 return true;

@@ -1,5 +1,6 @@
 use Rattle.std.specs.Prelude.{ℕ, ◌≤◌, List, length, All}
 use Rattle.flow_dag.specs.declared.edge.Edge.{Edge}
+use Rattle.flow_dag.specs.declared.limits.TheConstants.{MAX_EDGES, MAX_NODES}
 use Rattle.flow_dag.specs.Paths.{IsAcyclic}
 use Rattle.flow_dag.specs.Edges.{HasEdge, IsInside, HaveDistinctEnds}
 use Rattle.flow_dag.specs.Order.{IsTopologicalOrder}
@@ -8,8 +9,8 @@ use Rattle.flow_dag.specs.Order.{IsTopologicalOrder}
 -- of them forward
 pub record IsDag (nodes : ℕ) (edges : List Edge) (order : List ℕ) : Type 0 where
   pub some : 1 ≤ nodes
-  pub size : nodes ≤ 64
-  pub count : length edges ≤ 128
+  pub size : nodes ≤ MAX_NODES
+  pub count : length edges ≤ MAX_EDGES
   pub inside : All (IsInside nodes) edges
   pub distinct : HaveDistinctEnds edges
   pub acyclic : IsAcyclic (HasEdge edges)

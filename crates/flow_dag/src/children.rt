@@ -5,11 +5,11 @@ ghost use Rattle.flow_dag.specs.Fault.{IsFaultOf};
 
 use crate::edge::Edge;
 use crate::fault::DagFault;
-use crate::mask;
+use crate::{MAX_EDGES, MAX_NODES, mask};
 
 /// Refuses an edge with an end outside of the graph.
 pub fn check_ends(n: u32, edges: &[Edge]) -> Result<(), DagFault>
-    requires { length edges.now ≤ 128 }
+    requires { length edges.now ≤ MAX_EDGES }
     ensures inside { OnOk result (All (IsInside n) edges.now) }
     ensures fault { IfErr result (IsFaultOf n edges.now) }
 {
@@ -22,15 +22,15 @@ pub fn check_ends(n: u32, edges: &[Edge]) -> Result<(), DagFault>
 }
 
 /// The children of each node. Refuses an edge with the ends of an earlier one.
-pub fn children(n: u32, edges: &[Edge]) -> Result<[u64; 64], DagFault>
-    requires nodes { n ≤ 64 }
-    requires count { length edges.now ≤ 128 }
+pub fn children(n: u32, edges: &[Edge]) -> Result<[u64; MAX_NODES], DagFault>
+    requires nodes { n ≤ MAX_NODES }
+    requires count { length edges.now ≤ MAX_EDGES }
     requires inside { All (IsInside n) edges.now }
     ensures child { IfOk result (λ child. (a b : ℕ) → RowHas child a b ↔ HasEdge edges.now a b) }
     ensures distinct { OnOk result (HaveDistinctEnds edges.now) }
     ensures fault { IfErr result (IsFaultOf n edges.now) }
 {
-    let mut child = [0u64; 64];
+    let mut child = [0u64; MAX_NODES];
     for (i, edge) in edges.iter().enumerate() {
         let row = child[edge.from as usize];
         if mask::has_bit(row, edge.to) {

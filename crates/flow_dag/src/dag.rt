@@ -11,7 +11,7 @@ use crate::edge::Edge;
 use crate::fault::DagFault;
 use crate::graph::Graph;
 use crate::reach::Reach;
-use crate::{children, mask, order};
+use crate::{MAX_EDGES, MAX_NODES, children, mask, order};
 use std::alloc::{AllocError, Global};
 use std::marker::Model;
 
@@ -56,8 +56,8 @@ impl Dag {
     /// answered. Memory is taken only once the graph is known to be lawful.
     pub fn check(alloc: Global, n: u32, edges: &[Edge]) -> Result<Dag, DagFault>
         requires some { 1 ≤ n }
-        requires nodes { n ≤ 64 }
-        requires count { length edges.now ≤ 128 }
+        requires nodes { n ≤ MAX_NODES }
+        requires count { length edges.now ≤ MAX_EDGES }
         ensures graph { IfOk result (λ dag. (dag.nodes ≡ n) × (dag.edges ≡ edges.now)) }
         ensures fault { IfErr result (IsFaultOf n edges.now) }
     {
@@ -94,7 +94,7 @@ impl Dag {
     /// How many nodes the graph has.
     pub fn nodes(&self) -> u32
         ensures nodes { result ≡ self.now.nodes }
-        ensures size { (1 ≤ result) × (result ≤ 64) }
+        ensures size { (1 ≤ result) × (result ≤ MAX_NODES) }
     {
         self.nodes
     }
@@ -102,7 +102,7 @@ impl Dag {
     /// How many edges the graph has.
     pub fn edges(&self) -> u32
         ensures edges { result ≡ length self.now.edges }
-        ensures count { result ≤ 128 }
+        ensures count { result ≤ MAX_EDGES }
     {
         self.edges.len() as u32
     }
@@ -110,7 +110,7 @@ impl Dag {
     /// All edges, as they were given.
     pub fn all_edges(&self) -> &[Edge]
         ensures edges { result.now ≡ self.now.edges }
-        ensures count { length result.now ≤ 128 }
+        ensures count { length result.now ≤ MAX_EDGES }
     {
         self.edges.as_slice()
     }

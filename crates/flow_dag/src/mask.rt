@@ -1,9 +1,11 @@
 ghost use Rattle.std.specs.Prelude.{◌≢◌, ℕ, ◌<◌, ◌^◌, ◌↔◌, IsTrue};
 ghost use Rattle.flow_dag.specs.Masks.{Has};
 
+use crate::{MAX_EDGES, MAX_NODES};
+
 /// Whether bit `i` of the mask is set.
 pub fn has_bit(mask: u64, i: u32) -> bool
-    requires { i < 64 }
+    requires { i < MAX_NODES }
     ensures { IsTrue result ↔ Has mask i }
 {
     mask >> i & 1 == 1
@@ -11,7 +13,7 @@ pub fn has_bit(mask: u64, i: u32) -> bool
 
 /// The mask with bit `i` set too.
 pub fn with_bit(mask: u64, i: u32) -> u64
-    requires { i < 64 }
+    requires { i < MAX_NODES }
     ensures set { Has result i }
     ensures others { (k : ℕ) → k ≢ i → (Has result k ↔ Has mask k) }
     ensures some { 0 < result }
@@ -22,7 +24,7 @@ pub fn with_bit(mask: u64, i: u32) -> u64
 
 /// Whether bit `i` of a mask of edges is set.
 pub fn has_wide_bit(mask: u128, i: u32) -> bool
-    requires { i < 128 }
+    requires { i < MAX_EDGES }
     ensures { IsTrue result ↔ Has mask i }
 {
     mask >> i & 1 == 1
@@ -30,7 +32,7 @@ pub fn has_wide_bit(mask: u128, i: u32) -> bool
 
 /// The mask of edges with bit `i` set too.
 pub fn with_wide_bit(mask: u128, i: u32) -> u128
-    requires { i < 128 }
+    requires { i < MAX_EDGES }
     ensures set { Has result i }
     ensures others { (k : ℕ) → k ≢ i → (Has result k ↔ Has mask k) }
     ensures some { 0 < result }

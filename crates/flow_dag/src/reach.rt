@@ -6,25 +6,25 @@ ghost use Rattle.flow_dag.specs.Reach.{IsReachOf};
 
 use crate::edge::Edge;
 use crate::fault::DagFault;
-use crate::{children, mask, rows};
+use crate::{MAX_EDGES, MAX_NODES, children, mask, rows};
 
 /// The edges of a graph and the paths over them, as rows of masks.
 #[derive(Clone, Copy)]
 pub struct Reach {
     /// For each node those to which an edge leads from it.
-    pub child: [u64; 64],
+    pub child: [u64; MAX_NODES],
     /// For each node those from which a path leads to it.
-    pub above: [u64; 64],
+    pub above: [u64; MAX_NODES],
     /// For each node those to which a path leads from it.
-    pub below: [u64; 64],
+    pub below: [u64; MAX_NODES],
 }
 
 impl Reach {
     /// The rows of `n` nodes that are joined by these edges. Refuses an edge with the ends of an
     /// earlier one.
     pub fn of(n: u32, edges: &[Edge]) -> Result<Reach, DagFault>
-        requires nodes { n ≤ 64 }
-        requires count { length edges.now ≤ 128 }
+        requires nodes { n ≤ MAX_NODES }
+        requires count { length edges.now ≤ MAX_EDGES }
         requires inside { All (IsInside n) edges.now }
         ensures reach { IfOk result (IsReachOf edges.now) }
         ensures distinct { OnOk result (HaveDistinctEnds edges.now) }
@@ -41,7 +41,7 @@ impl Reach {
 
     /// The least node from which a path leads back to it.
     pub fn first_on_cycle(&self, n: u32) -> Option<u32>
-        requires { n ≤ 64 }
+        requires { n ≤ MAX_NODES }
         ensures { MatchOption result
             ((a : ℕ) → a < n → ¬ RowHas self.now.below a a)
             (λ a. (a < n) × RowHas self.now.below a a

@@ -15,7 +15,7 @@ use flow_dag::Graph;
 use flow_model::{Lane, Setup};
 use lane_core::{Lanes, Origin};
 use std::alloc::Global;
-use tuple_trace::NoMemory;
+use tuple_trace::{MAX_CAPACITY, NoMemory};
 
 /// The endpoints of all lanes of a job, sorted.
 #[derive(Drop)]
@@ -36,7 +36,7 @@ impl<L: Lanes> AllEndpoints<L> {
         cap: u32,
     ) -> Result<AllEndpoints<L>, NoMemory>
         requires some { 1 ≤ cap }
-        requires few { cap ≤ 64 }
+        requires few { cap ≤ MAX_CAPACITY }
         ensures many { IfOk result (λ made. length made.workers.items
             ≡ length (workers_in (setup_view setup.now).job)) }
         ensures workers { IfOk result (λ made. (w : ℕ) (side : SideIs)
@@ -77,7 +77,7 @@ fn make_lane<L: Lanes>(
 ) -> Result<(L::Tx, L::Rx), NoMemory>
     requires lane { slice_get (lanes (setup_view setup.now).job) number ≡ Some lane }
     requires some { 1 ≤ cap }
-    requires few { cap ≤ 64 }
+    requires few { cap ≤ MAX_CAPACITY }
     ensures tx { IfOk result (λ (tx, rx). AreNewAt (setup_view setup.now).job graph number
         (endpoints L.Tx.lane L.Tx.number L.Tx.origin L.Tx.sent (tx ∷ []))) }
     ensures rx { IfOk result (λ (tx, rx). AreNewAt (setup_view setup.now).job graph number

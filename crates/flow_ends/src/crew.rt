@@ -18,7 +18,7 @@ use flow_model::{Setup, Start};
 use flow_worker::Worker;
 use lane_core::Lanes;
 use std::alloc::Global;
-use tuple_trace::NoMemory;
+use tuple_trace::{MAX_CAPACITY, NoMemory};
 
 /// The workers of a setup, and what its feeder is made of.
 #[derive(Drop)]
@@ -36,7 +36,7 @@ impl<L: Lanes> Crew<L> {
     /// items, 1 to 64. The one error is out of memory.
     pub fn make(alloc: Global, form: &L, setup: &Setup, cap: u32) -> Result<Crew<L>, NoMemory>
         requires some { 1 ≤ cap }
-        requires few { cap ≤ 64 }
+        requires few { cap ≤ MAX_CAPACITY }
         ensures workers { IfOk result (λ crew. IsCrew (setup_view setup.now)
             (at_first (setup_view setup.now)) crew.workers.items) }
         ensures posters { IfOk result (λ crew. AreUnused (setup_view setup.now)
@@ -69,7 +69,7 @@ impl<L: Lanes> Crew<L> {
         start: &Start,
     ) -> Result<Crew<L>, NoMemory>
         requires some { 1 ≤ cap }
-        requires few { cap ≤ 64 }
+        requires few { cap ≤ MAX_CAPACITY }
         requires turned { start.now.turned ≤ length (setup_view setup.now).requests }
         requires states { length start.now.states ≡ length (workers_in (setup_view setup.now).job) }
         ensures workers { IfOk result (λ crew. IsCrew (setup_view setup.now) start.now

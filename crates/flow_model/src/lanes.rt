@@ -9,6 +9,7 @@ ghost use Rattle.flow_model.specs.Topology.{IsNumberOf, out_edges};
 ghost use Rattle.flow_model.specs.Workers.{workers_in};
 
 use crate::{Lane, OutEdge, Setup, WorkerAt};
+use flow_dag::MAX_EDGES;
 use tuple_trace::Tuple;
 
 impl Setup {
@@ -16,7 +17,7 @@ impl Setup {
     pub fn lane(&self, number: u32) -> Lane
         requires { number < length (lanes (setup_view self.now).job) }
         ensures lane { slice_get (lanes (setup_view self.now).job) number ≡ Some result }
-        ensures edge { result.edge < 128 }
+        ensures edge { result.edge < MAX_EDGES }
         ensures receiver { result.receiver < length (workers_in (setup_view self.now).job) }
     {
         self.topology.lanes.as_slice()[number as usize]
@@ -81,7 +82,7 @@ impl Setup {
 
     /// Whether a request covers an edge. Takes no memory.
     pub fn covers_edge(&self, request: u64, edge: u32) -> bool
-        requires { edge < 128 }
+        requires { edge < MAX_EDGES }
         ensures { result ≡ covers_edge (setup_view self.now) request edge }
     {
         match self.plan_of(request) {

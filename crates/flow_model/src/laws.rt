@@ -17,6 +17,7 @@ ghost use Rattle.flow_model.specs.Setup.{setup_view};
 ghost use Rattle.flow_model.specs.Workers.{workers_in};
 
 use crate::Setup;
+use marker_align::MAX_LANES_IN;
 use operators::Job;
 
 /// The requests of every setup are accepted when they are judged by themselves, and have the
@@ -74,10 +75,10 @@ pub fn sources_are_unentered(job: &Job)
         → is_source_node (slice_get (job_view job.now).nodes edge.to) ≡ false }
 {}
 
-/// At least one lane leads into each worker, and at most 127 do.
+/// At least one lane leads into each worker, and at most [`MAX_LANES_IN`] do.
 pub fn workers_have_few_lanes(job: &Job)
     ensures some { (worker : ℕ) → worker < length (workers_in (job_view job.now))
         → 1 ≤ length (lanes_in (job_view job.now) worker) }
     ensures few { (worker : ℕ) → worker < length (workers_in (job_view job.now))
-        → length (lanes_in (job_view job.now) worker) ≤ 127 }
+        → length (lanes_in (job_view job.now) worker) ≤ MAX_LANES_IN }
 {}

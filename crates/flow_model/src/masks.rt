@@ -8,14 +8,14 @@ ghost use Rattle.versions.specs.declared.request.Request.{Request as RequestIs};
 ghost use Rattle.flow_model.specs.Planned.{copies_at, is_split_node, makes_split, splits_at};
 ghost use Rattle.jobs.specs.Nodes.{is_replicate, is_split};
 
-use flow_dag::with_bit;
+use flow_dag::{MAX_NODES, with_bit};
 use operators::{NodeDef, is_replicate, is_split};
 use versions::{Change, Request};
 
 /// The nodes that may make pieces of a tuple: those whose function, in the job or by a request, is
 /// a split.
 pub fn splits(nodes: &[NodeDef], requests: &[Request]) -> u64
-    requires nodes { length nodes.now ≤ 64 }
+    requires nodes { length nodes.now ≤ MAX_NODES }
     requires inside { All (λ (request : RequestIs). All
         (λ (change : ChangeIs). change.node < length nodes.now) request.changes) requests.now }
     ensures has { (node : ℕ) → Has result node ↔ IsTrue (splits_at nodes.now requests.now node) }
@@ -30,7 +30,7 @@ pub fn splits(nodes: &[NodeDef], requests: &[Request]) -> u64
 
 /// The nodes that the job makes splits.
 fn job_splits(nodes: &[NodeDef]) -> u64
-    requires { length nodes.now ≤ 64 }
+    requires { length nodes.now ≤ MAX_NODES }
     ensures has { (node : ℕ) → Has result node ↔ IsTrue (is_split_node (slice_get nodes.now node)) }
     ensures below { result < 2 ^ length nodes.now }
 {
@@ -45,7 +45,7 @@ fn job_splits(nodes: &[NodeDef]) -> u64
 
 /// The nodes that these changes make splits, of `count` nodes.
 fn made_splits(count: u32, changes: &[Change]) -> u64
-    requires count { count ≤ 64 }
+    requires count { count ≤ MAX_NODES }
     requires inside { All (λ (change : ChangeIs). change.node < count) changes.now }
     ensures has { (node : ℕ) → Has result node ↔ IsTrue (list_any (makes_split node) changes.now) }
     ensures below { result < 2 ^ count }
@@ -61,7 +61,7 @@ fn made_splits(count: u32, changes: &[Change]) -> u64
 
 /// The nodes that the job makes replicates.
 pub fn copies(nodes: &[NodeDef]) -> u64
-    requires { length nodes.now ≤ 64 }
+    requires { length nodes.now ≤ MAX_NODES }
     ensures has { (node : ℕ) → Has result node ↔ IsTrue (copies_at nodes.now node) }
     ensures below { result < 2 ^ length nodes.now }
 {
@@ -76,7 +76,7 @@ pub fn copies(nodes: &[NodeDef]) -> u64
 
 /// The nodes that the changes name, of `count` nodes.
 pub fn changed(count: u32, changes: &[Change]) -> u64
-    requires count { count ≤ 64 }
+    requires count { count ≤ MAX_NODES }
     requires inside { All (λ (change : ChangeIs). change.node < count) changes.now }
     ensures has { (node : ℕ) → Has result node ↔ IsTrue (is_named changes.now node) }
     ensures below { result < 2 ^ count }

@@ -11,6 +11,7 @@ ghost use Rattle.flow_model.specs.Topology.{out_edge, out_edges, worker_of};
 
 use crate::topology::{Lane, LaneNumbers, OutEdge, OutEdges, WorkerAt};
 use flow_dag::Edge;
+use jobs::MAX_WORKERS;
 use operators::{Job, Ports, is_source, out_ports};
 use std::alloc::Global;
 use tuple_trace::{Items, NoMemory};
@@ -137,7 +138,7 @@ pub fn numbers_in_each(
     workers: usize,
     all: &[Lane],
 ) -> Result<Items<LaneNumbers>, NoMemory>
-    requires workers { workers ≤ 64 }
+    requires workers { workers ≤ MAX_WORKERS }
     requires lanes { length all.now < 2 ^ 32 }
     ensures { IfOk result (λ into. into ≡ map (numbers_in all.now) (range_with_len 0 workers)) }
 {
@@ -167,7 +168,7 @@ pub fn numbers_out_each(
     workers: usize,
     all: &[Lane],
 ) -> Result<Items<LaneNumbers>, NoMemory>
-    requires workers { workers ≤ 64 }
+    requires workers { workers ≤ MAX_WORKERS }
     requires lanes { length all.now < 2 ^ 32 }
     ensures { IfOk result (λ from. from ≡ map (numbers_out all.now) (range_with_len 0 workers)) }
 {

@@ -8,13 +8,14 @@ ghost use Rattle.flow_model.specs.Covers.{covers, is_head, plan_of};
 
 use crate::{Setup, WorkerAt};
 use cover_planner::Plan;
-use jobs::worker_count;
+use flow_dag::MAX_NODES;
+use jobs::{MAX_WORKERS, worker_count};
 
 impl Setup {
     /// How many workers there are: those of the nodes that aren't sources. Takes no memory.
     pub fn workers(&self) -> u32
         ensures value { result ≡ length (workers_in (setup_view self.now).job) }
-        ensures limit { result ≤ 64 }
+        ensures limit { result ≤ MAX_WORKERS }
     {
         worker_count(&self.job) as u32
     }
@@ -34,7 +35,7 @@ impl Setup {
         ensures node { option_map (λ (who : WorkerIs). who.node)
             (slice_get (workers_in (setup_view self.now).job) worker) ≡ Some result }
         ensures at { result ≡ (nth_worker (setup_view self.now).job worker).node }
-        ensures limit { result < 64 }
+        ensures limit { result < MAX_NODES }
     {
         self.worker_at(worker).node
     }

@@ -9,6 +9,7 @@ use Rattle.tuple_trace.specs.declared.tuple.Item.TheVariants.{Carry}
 use Rattle.tuple_trace.specs.declared.tuple.Tuple.{Tuple}
 use Rattle.flow_worker.specs.Pairs.{Each}
 use Rattle.flow_worker.specs.Endpoints.{Filled, Flushed, LaneInIs, LaneOutIs, is_waiting}
+use Rattle.marker_align.specs.declared.limits.TheConstants.{LANE_SET_BITS, MAX_LANES_IN}
 
 -- the item at a place passes a test; none is outside the places
 abbrev pub passes : {A : Type 0} → (A → Bool) → List A → ℕ → Bool
@@ -58,11 +59,12 @@ pub record AreMasks (empty tuples newest : ℕ) (ins : List LaneInIs) : Type 0 w
   pub empty_is : IsMaskOf has_empty empty ins
   pub tuples_is : IsMaskOf has_tuple tuples ins
   pub newest_is : Each (IsFedBy newest) ins
-  pub few : length ins ≤ 127
+  pub few : length ins ≤ MAX_LANES_IN
 
 -- of the first 128 places, the mask has all on which an item waits
 abbrev pub IsMarkOf : ℕ → List LaneOutIs → Type 0
-IsMarkOf mask outs = (k : ℕ) → k < 128 → passes is_waiting outs k ≡ true → has mask k ≡ true
+IsMarkOf mask outs =
+    (k : ℕ) → k < LANE_SET_BITS → passes is_waiting outs k ≡ true → has mask k ≡ true
 
 -- what a worker keeps beside its lanes out: on which an item waits, and for how many items each
 -- lane has memory
@@ -79,7 +81,7 @@ IsMaskWith place is_in before after =
 abbrev pub IsTakenFrom : ℕ → Option ℕ → ℕ → Type 0
 IsTakenFrom before None after = (k : ℕ) → has before k ≡ false
 IsTakenFrom before (Some place) after =
-    (place < 128) × (has before place ≡ true) × (after < before)
+    (place < LANE_SET_BITS) × (has before place ≡ true) × (after < before)
     × IsMaskWith place false before after
 
 -- the first place of the mask from a place on

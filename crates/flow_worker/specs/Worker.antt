@@ -27,6 +27,7 @@ use Rattle.flow_worker.specs.Endpoints.{LaneInIs, IsSteadyIn, IsSteadyOut, LaneO
 use Rattle.flow_worker.specs.Endpoints.{planned}
 use Rattle.flow_model.specs.Dues.{AreDues, IsDueOf}
 use Rattle.flow_model.specs.InForce.{func_in}
+use Rattle.marker_align.specs.declared.limits.TheConstants.{MAX_LANES_IN}
 
 -- A worker: its number, its node and its place there; its journal, and the number of entries for
 -- which it has memory; the function in force, the counts, the latest request turned, and the next
@@ -103,7 +104,7 @@ pub record IsPlaced (setup : SetupView) (who : Worker) (w : WorkerIs) : Type 0 w
   pub ins_are : numbers_in w.ins ≡ lanes_in setup.job w.number
   pub ends_in : Each (IsEndpointIn setup graph) w.ins
   pub some_in : w.next < length w.ins
-  pub few_in : length w.ins ≤ 127
+  pub few_in : length w.ins ≤ MAX_LANES_IN
   pub outs_are : numbers_out w.outs ≡ out_numbers setup.job w.number
   pub ends_out : Each (IsEndpointOut setup graph w.node) w.outs
   pub room_in : length w.ins ≤ w.spare_in

@@ -13,14 +13,14 @@ ghost use Rattle.flow_worker.specs.Steps.{marked_entries};
 
 use crate::lane_in::LaneIn;
 use crate::lane_out::LaneOut;
-use flow_dag::has_wide_bit;
+use flow_dag::{MAX_EDGES, has_wide_bit};
 use lane_core::Lanes;
-use marker_align::{Due, Hand, Holder};
+use marker_align::{Due, Hand, Holder, LANE_SET_BITS, MAX_LANES_IN};
 use sink_journal::Entry;
 use tuple_trace::{Item, Reserved, Tuple};
 
 fn is_in(lanes: u128, place: usize) -> bool
-    requires { place < 128 }
+    requires { place < LANE_SET_BITS }
     ensures { result ≡ has lanes place }
 {
     has_wide_bit(lanes, place as u32)
@@ -50,7 +50,7 @@ fn note_marker<L: Lanes>(
 
 /// Notes the markers of the due in the journal, place by place, and empties their hands.
 pub fn note_markers<L: Lanes>(ins: &mut [LaneIn<L>], due: &Due, journal: &mut Reserved<Entry>)
-    requires few { length ins.old ≤ 127 }
+    requires few { length ins.old ≤ MAX_LANES_IN }
     requires memory { length journal.old.items + length ins.old < journal.old.memory }
     ensures ins { ins.new ≡ emptied due.now.lanes 0 ins.old }
     ensures journal { journal.new.items ≡ journal.old.items
@@ -80,7 +80,7 @@ fn push_marker<L: Lanes>(out: &mut LaneOut<L>, is_covered: bool, due: &Due)
 /// Adds the marker of the due to the waiting items of each lane whose edge is in the mask.
 pub fn push_markers<L: Lanes>(outs: &mut [LaneOut<L>], edges: u128, due: &Due)
     requires room { Each (HasRoom 1) outs.old }
-    requires edges { Each (λ (out : LaneOutIs). out.edge < 128) outs.old }
+    requires edges { Each (λ (out : LaneOutIs). out.edge < MAX_EDGES) outs.old }
     ensures { EachPair (Appended (λ out. if has edges out.edge
         then Mark due.now.request due.now.cover ∷ [] else [])) outs.old outs.new }
 {

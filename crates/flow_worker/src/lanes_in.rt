@@ -17,7 +17,7 @@ use crate::acts::{note_ends, note_markers, note_tuple, tuple_at};
 use crate::lane_in::LaneIn;
 use crate::masks::{all_places, first_from, take_place, with_place, without};
 use lane_core::Lanes;
-use marker_align::{Act, Due, Hand, Holder, LaneSet, decide_among};
+use marker_align::{Act, Due, Hand, Holder, LaneSet, MAX_LANES_IN, decide_among};
 use sink_journal::Entry;
 use std::marker::Model;
 use tuple_trace::{Item, Reserved, Tuple};
@@ -50,7 +50,7 @@ impl<L: Lanes> Model for LanesIn<L> {
 impl<L: Lanes> LanesIn<L> {
     /// Keeps new lanes. Takes no memory.
     pub fn new(lanes: Vec<LaneIn<L>>) -> LanesIn<L>
-        requires few { length lanes.items ≤ 127 }
+        requires few { length lanes.items ≤ MAX_LANES_IN }
         requires hands { Each (λ (a : LaneInIs). a.hand ≡ Empty) lanes.items }
         ensures { result ≡ lanes.items }
     {
@@ -66,7 +66,7 @@ impl<L: Lanes> LanesIn<L> {
     /// Returns how many lanes there are.
     pub fn len(&self) -> usize
         ensures is { result ≡ length self.now }
-        ensures few { result ≤ 127 }
+        ensures few { result ≤ MAX_LANES_IN }
     {
         self.lanes.len()
     }

@@ -13,8 +13,9 @@ ghost use Rattle.flow_worker.specs.Steps.{PushedAt};
 use crate::acts::{push_ends, push_markers};
 use crate::lane_out::{LaneOut, flush_all, reserve_each};
 use crate::masks::{first_places, take_place, with_place};
+use flow_dag::MAX_EDGES;
 use lane_core::Lanes;
-use marker_align::Due;
+use marker_align::{Due, LANE_SET_BITS};
 use std::marker::Model;
 use tuple_trace::{Item, NoMemory};
 
@@ -66,7 +67,7 @@ impl<L: Lanes> LanesOut<L> {
     pub fn is_waiting(&self) -> bool
         ensures { result ≡ list_any is_waiting self.now }
     {
-        if self.waiting == 0 && self.lanes.len() <= 128 {
+        if self.waiting == 0 && self.lanes.len() <= LANE_SET_BITS {
             return false;
         }
         self.lanes.iter().any(|out| out.is_waiting())
@@ -92,7 +93,7 @@ impl<L: Lanes> LanesOut<L> {
         ensures flushed { EachPair Flushed self.old self.new }
         ensures moved { IsTrue result ↔ (all_sent self.old < all_sent self.new) }
     {
-        if self.len() > 128 {
+        if self.len() > LANE_SET_BITS {
             return self.flush_each(need);
         }
         let mut moved = false;
@@ -128,7 +129,7 @@ impl<L: Lanes> LanesOut<L> {
     {
         let lane = &mut self.lanes[place as usize];
         let moved = lane.flush(need);
-        if !lane.is_waiting() && place < 128 {
+        if !lane.is_waiting() && (place as usize) < LANE_SET_BITS {
             self.waiting = with_place(self.waiting, place, false);
         }
         moved
@@ -177,7 +178,7 @@ impl<L: Lanes> LanesOut<L> {
         self.lanes[place].push(item);
         if self.lanes.len() == 1 {
             self.waiting = 1;
-        } else if place < 128 {
+        } else if place < LANE_SET_BITS {
             self.waiting = with_place(self.waiting, place as u32, true);
         }
     }
@@ -185,7 +186,7 @@ impl<L: Lanes> LanesOut<L> {
     /// Adds the marker of the due to the waiting items of each lane whose edge is in the mask.
     pub fn push_markers(&mut self, edges: u128, due: &Due)
         requires room { Each (HasRoom 1) self.old }
-        requires edges { Each (λ (out : LaneOutIs). out.edge < 128) self.old }
+        requires edges { Each (λ (out : LaneOutIs). out.edge < MAX_EDGES) self.old }
         ensures { EachPair (Appended (λ out. if has edges out.edge
             then Mark due.now.request due.now.cover ∷ [] else [])) self.old self.new }
     {

@@ -3,12 +3,12 @@ ghost use Rattle.std.specs.Prelude.{◌≡◌, ◌≢◌, ℕ, ◌<◌, ◌≤�
 ghost use Rattle.flow_dag.specs.Masks.{has};
 ghost use Rattle.flow_worker.specs.Masks.{IsFirstFrom, IsMaskWith, IsTakenFrom};
 
-use marker_align::LaneSet;
+use marker_align::{LANE_SET_BITS, LaneSet, MAX_LANES_IN};
 
 /// Returns the mask with a place in it or out of it. A shift of 128 bits is dear, and place 0, the
 /// one place of most workers, needs none.
 pub fn with_place(mask: LaneSet, place: u32, is_in: bool) -> LaneSet
-    requires { place < 128 }
+    requires { place < LANE_SET_BITS }
     ensures { IsMaskWith place is_in mask result }
 {
     if place == 0 {
@@ -50,7 +50,7 @@ fn split_lowest(mask: LaneSet) -> (u32, LaneSet)
 
 /// Returns the first place of the mask from a place on. Place 0 is tried without a shift.
 pub fn first_from(mask: LaneSet, from: u32) -> Option<u32>
-    requires { from < 128 }
+    requires { from < LANE_SET_BITS }
     ensures { IsFirstFrom mask from result }
 {
     if mask & 1 == 1 && from == 0 {
@@ -65,17 +65,17 @@ pub fn first_from(mask: LaneSet, from: u32) -> Option<u32>
 
 /// Returns the mask of the first places.
 pub fn all_places(count: usize) -> LaneSet
-    requires { count ≤ 127 }
+    requires { count ≤ MAX_LANES_IN }
     ensures { (k : ℕ) → has result k ≡ nat_lt k count }
 {
     (1 << count as u32) - 1
 }
 
-/// Returns a mask of the first places, 128 at most.
+/// Returns a mask of the first places, [`LANE_SET_BITS`] at most.
 pub fn first_places(count: usize) -> u128
-    ensures { (k : ℕ) → k < 128 → k < count → has result k ≡ true }
+    ensures { (k : ℕ) → k < LANE_SET_BITS → k < count → has result k ≡ true }
 {
-    if count <= 127 {
+    if count <= MAX_LANES_IN {
         all_places(count)
     } else {
         u128::MAX

@@ -9,6 +9,7 @@ use Rattle.versions.specs.declared.request.Request.{Request}
 use Rattle.job_file.specs.declared.fault.Part.TheVariants as part
 use Rattle.job_file.specs.Document.{optional_items_at, table_of}
 use Rattle.job_file.specs.Wide.{first_found, found_in, wide_at}
+use Rattle.versions.specs.declared.limits.TheConstants.{MAX_AFTER, MAX_CHANGES, MAX_REQUESTS}
 
 -- ---- numbers that a request has no room for
 
@@ -41,17 +42,17 @@ change_oversize change = oversize change.func
 -- has up to 64 changes
 abbrev pub request_oversize : Request → Option Oversize
 request_oversize request =
-    option_or (outside which.After 0 1048576 request.after)
-    (option_or (outside which.Changes 0 64 (length request.changes))
+    option_or (outside which.After 0 MAX_AFTER request.after)
+    (option_or (outside which.Changes 0 MAX_CHANGES (length request.changes))
     (first_oversize change_oversize request.changes))
 
 -- the first size of a list of requests that is outside of its limits: there are up to 64
 abbrev pub list_oversize : List Request → Option Oversize
 list_oversize requests =
-    option_or (outside which.Requests 0 64 (length requests))
+    option_or (outside which.Requests 0 MAX_REQUESTS (length requests))
     (first_oversize request_oversize requests)
 
 -- so few requests with so few changes that they can be judged
 pub record AreFew (requests : List Request) : Type 0 where
-  pub count : length requests ≤ 64
-  pub changes : All (λ (request : Request). length request.changes ≤ 64) requests
+  pub count : length requests ≤ MAX_REQUESTS
+  pub changes : All (λ (request : Request). length request.changes ≤ MAX_CHANGES) requests

@@ -12,7 +12,7 @@ use crate::fault::Part;
 use crate::wide::wide_at;
 use jobs::{Which, outside, size_fault};
 use toml::{Table as Members, Value as Toml};
-use versions::{Change, Request};
+use versions::{Change, MAX_AFTER, MAX_CHANGES, MAX_REQUESTS, Request};
 
 /// The first number of the requests of a document that a request has no room for.
 pub(crate) fn wide_in_requests(members: &Members) -> Option<(Which, i64)>
@@ -82,7 +82,8 @@ pub(crate) fn list_fault(requests: &[Request]) -> Option<(Which, i64)>
     ensures few { IfNone result (AreFew requests.now) }
     ensures limits { IfNone result (HaveLimits requests.now) }
 {
-    if let Some(fault) = outside(Which::Requests, 0, 64, requests.len() as u64) {
+    let count = requests.len() as u64;
+    if let Some(fault) = outside(Which::Requests, 0, MAX_REQUESTS as u64, count) {
         return Some(fault);
     }
     requests_fault(requests)
@@ -102,10 +103,11 @@ fn requests_fault(requests: &[Request]) -> Option<(Which, i64)>
 fn request_fault(request: &Request) -> Option<(Which, i64)>
     ensures { result ≡ request_oversize request.now }
 {
-    if let Some(fault) = outside(Which::After, 0, 1_048_576, request.after) {
+    if let Some(fault) = outside(Which::After, 0, MAX_AFTER, request.after) {
         return Some(fault);
     }
-    if let Some(fault) = outside(Which::Changes, 0, 64, request.changes.len() as u64) {
+    let count = request.changes.len() as u64;
+    if let Some(fault) = outside(Which::Changes, 0, MAX_CHANGES as u64, count) {
         return Some(fault);
     }
     changes_fault(request.changes.as_slice())

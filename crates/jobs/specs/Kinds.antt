@@ -9,6 +9,7 @@ use Rattle.jobs.specs.declared.kind.Kind.{Kind}
 use Rattle.jobs.specs.declared.kind.Kind.TheVariants as kind
 use Rattle.jobs.specs.declared.kind.Shape.{Shape}
 use Rattle.jobs.specs.declared.kind.Shape.TheVariants as shape
+use Rattle.tuple_trace.specs.declared.limits.TheConstants.{MAX_NODE_WORKERS}
 
 -- what a kind asks of its nodes, and what they do; the fields are those of `KindRow`
 pub record KindView : Type 0 where
@@ -42,7 +43,7 @@ row_of kind.Filter = record {
   entered = true;
   least_outs = 1;
   most_outs = 2;
-  most_workers = 8;
+  most_workers = MAX_NODE_WORKERS;
   counts = false;
   followers = followers.FreeKinds;
 }
@@ -53,7 +54,7 @@ row_of kind.Map = record {
   entered = true;
   least_outs = 1;
   most_outs = 1;
-  most_workers = 8;
+  most_workers = MAX_NODE_WORKERS;
   counts = false;
   followers = followers.FreeKinds;
 }
@@ -64,7 +65,7 @@ row_of kind.Enrich = record {
   entered = true;
   least_outs = 1;
   most_outs = 1;
-  most_workers = 8;
+  most_workers = MAX_NODE_WORKERS;
   counts = false;
   followers = followers.FreeKinds;
 }
@@ -75,7 +76,7 @@ row_of kind.Count = record {
   entered = true;
   least_outs = 1;
   most_outs = 1;
-  most_workers = 8;
+  most_workers = MAX_NODE_WORKERS;
   counts = true;
   followers = followers.SameKind;
 }
@@ -86,7 +87,7 @@ row_of kind.Split = record {
   entered = true;
   least_outs = 1;
   most_outs = 1;
-  most_workers = 8;
+  most_workers = MAX_NODE_WORKERS;
   counts = false;
   followers = followers.FreeKinds;
 }
@@ -97,7 +98,7 @@ row_of kind.Replicate = record {
   entered = true;
   least_outs = 2;
   most_outs = 8;
-  most_workers = 8;
+  most_workers = MAX_NODE_WORKERS;
   counts = false;
   followers = followers.Nothing;
 }

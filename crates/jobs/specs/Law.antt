@@ -13,6 +13,7 @@ use Rattle.jobs.specs.Places.{EachPasses, IsFirstFailure}
 use Rattle.jobs.specs.Ports.{are_ports}
 use Rattle.jobs.specs.Weights.{weight}
 use Rattle.jobs.specs.JobView.{JobView}
+use Rattle.jobs.specs.declared.limits.TheConstants.{MAX_WEIGHT}
 
 -- the columns have different names
 abbrev pub HasColumnNames : JobView → Type 0
@@ -69,7 +70,7 @@ pub record IsLawful (job : JobView) : Type 0 where
   pub acyclic : HasNoCycle job
   pub columns : HasColumns job
   pub tables : HasTables job
-  pub weight : weight job ≤ 1024
+  pub weight : weight job ≤ MAX_WEIGHT
 
 -- what a fault says of the job: it stands, at the first place that has it, and none of the faults
 -- above it does. Out of memory says nothing
@@ -107,7 +108,7 @@ IsRefused (fault.Weight number) job =
     × HasColumns job
     × HasTables job
     × (number ≡ weight job)
-    × (1024 < number)
+    × (MAX_WEIGHT < number)
 IsRefused fault.NoMemory job = ⊤
 
 -- no job is both lawful and refused, out of memory aside

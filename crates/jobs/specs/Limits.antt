@@ -17,6 +17,8 @@ use Rattle.flow_dag.specs.declared.edge.Edge.{Edge}
 use Rattle.jobs.specs.Names.{named_out_count}
 use Rattle.jobs.specs.Nodes.{fan_out, most_roof, most_workers, worker_count}
 use Rattle.jobs.specs.JobView.{JobView}
+use Rattle.jobs.specs.declared.limits.TheConstants.{MAX_COLUMNS, MAX_CONDITIONS, MAX_ENTRIES, MAX_PIECES, MAX_STEPS, MAX_WORKERS, TEXT_MAX}
+use Rattle.flow_dag.specs.declared.limits.TheConstants.{MAX_EDGES, MAX_NODES}
 
 -- a size that is outside of its limits: what it is a size of, and its number, cut to 64 bits
 abbrev pub Oversize : Type 0
@@ -36,19 +38,15 @@ abbrev pub first_oversize : {A : Type 0} → (A → Option Oversize) → List A 
 first_oversize size [] = None
 first_oversize size (x ∷ xs) = option_or (size x) (first_oversize size xs)
 
--- the most bytes of a text
-abbrev pub text_max : ℕ
-text_max = 48
-
--- the length of a text of a table or a literal, if it is above `text_max` bytes
+-- the length of a text of a table or a literal, if it is above `TEXT_MAX` bytes
 abbrev pub text_oversize : List ℕ → Option Oversize
-text_oversize text = outside which.Text 0 text_max (length text)
+text_oversize text = outside which.Text 0 TEXT_MAX (length text)
 
--- the value is no text of more than `text_max` bytes
+-- the value is no text of more than `TEXT_MAX` bytes
 abbrev pub IsShort : Value → Type 0
-IsShort value = length (as_text (Some value)) ≤ text_max
+IsShort value = length (as_text (Some value)) ≤ TEXT_MAX
 
--- no text of the tuple has more than `text_max` bytes
+-- no text of the tuple has more than `TEXT_MAX` bytes
 abbrev pub HasShortTexts : Tuple → Type 0
 HasShortTexts tuple = All IsShort tuple.fields
 
@@ -66,11 +64,12 @@ literal_oversize cond = value_oversize cond.literal
 abbrev pub oversize : Func → Option Oversize
 oversize func.Source = None
 oversize (func.Filter conds) =
-    option_or (outside which.Conditions 0 8 (length conds)) (first_oversize literal_oversize conds)
-oversize (func.Map steps) = outside which.Steps 0 8 (length steps)
+    option_or (outside which.Conditions 0 MAX_CONDITIONS (length conds))
+    (first_oversize literal_oversize conds)
+oversize (func.Map steps) = outside which.Steps 0 MAX_STEPS (length steps)
 oversize (func.Enrich lookup) = value_oversize lookup.other
 oversize (func.Count count) = None
-oversize (func.Split split) = outside which.Most 1 16 split.most
+oversize (func.Split split) = outside which.Most 1 MAX_PIECES split.most
 oversize func.Replicate = None
 oversize (func.Sink listed) = None
 
@@ -109,24 +108,24 @@ table_oversize table = first_oversize entry_oversize (finite.entries table.entri
 -- the first size of the job that is outside of its limits, in this order
 abbrev pub first_oversize_of : JobView → Option Oversize
 first_oversize_of job =
-    option_or (outside which.Nodes 1 64 (length job.nodes))
-    (option_or (outside which.Edges 0 128 (length job.edges))
-    (option_or (outside which.Columns 1 12 (length job.columns))
+    option_or (outside which.Nodes 1 MAX_NODES (length job.nodes))
+    (option_or (outside which.Edges 0 MAX_EDGES (length job.edges))
+    (option_or (outside which.Columns 1 MAX_COLUMNS (length job.columns))
     (option_or (first_oversize workers_oversize job.nodes)
-    (option_or (outside which.AllWorkers 0 64 (worker_count job.nodes))
-    (option_or (outside which.Entries 0 4096 (entry_count job.tables))
+    (option_or (outside which.AllWorkers 0 MAX_WORKERS (worker_count job.nodes))
+    (option_or (outside which.Entries 0 MAX_ENTRIES (entry_count job.tables))
     (option_or (first_oversize table_oversize job.tables)
     (option_or (first_oversize func_oversize job.nodes)
     (first_oversize (roof_oversize job.nodes job.edges) job.nodes))))))))
 
 -- every size is within its limits
 pub record HasLimits (job : JobView) : Type 0 where
-  pub nodes : (1 ≤ length job.nodes) × (length job.nodes ≤ 64)
-  pub edges : length job.edges ≤ 128
-  pub columns : (1 ≤ length job.columns) × (length job.columns ≤ 12)
+  pub nodes : (1 ≤ length job.nodes) × (length job.nodes ≤ MAX_NODES)
+  pub edges : length job.edges ≤ MAX_EDGES
+  pub columns : (1 ≤ length job.columns) × (length job.columns ≤ MAX_COLUMNS)
   pub workers : All (λ node. (1 ≤ node.workers) × (node.workers ≤ most_workers node.func)) job.nodes
-  pub all_workers : worker_count job.nodes ≤ 64
-  pub entries : entry_count job.tables ≤ 4096
+  pub all_workers : worker_count job.nodes ≤ MAX_WORKERS
+  pub entries : entry_count job.tables ≤ MAX_ENTRIES
   pub texts : All (λ table. table_oversize table ≡ None) job.tables
   pub functions : All (λ node. oversize node.func ≡ None) job.nodes
   pub roofs :

@@ -6,6 +6,7 @@ use Rattle.jobs.specs.declared.func.NodeDef.{NodeDef}
 use Rattle.jobs.specs.Kinds.{are_copies, are_free, are_pieces, are_several, are_none, row_at}
 use Rattle.jobs.specs.JobView.{JobView}
 use Rattle.tuple_trace.specs.declared.row.Row.{Row}
+use Rattle.jobs.specs.declared.limits.TheConstants.{MAX_PIECES}
 
 -- rows enter at a source
 abbrev pub is_source : Func → Bool
@@ -46,11 +47,12 @@ fan_out (func.Split split) = split.most
 fan_out func.Replicate = 1
 fan_out (func.Sink listed) = 1
 
--- the greatest roof of a node with this function that this number of edges leaves: 16 if its kind
--- is free, but 1 if two edges leave it, as its kind allows
+-- the greatest roof of a node with this function that this number of edges leaves: `MAX_PIECES` if
+-- its kind is free, but 1 if two edges leave it, as its kind allows
 abbrev pub most_roof : Func → ℕ → ℕ
 most_roof func outs =
-    if is_free func then (if nat_le 2 (row_at func).most_outs && outs == 2 then 1 else 16) else 1
+    if is_free func then (if nat_le 2 (row_at func).most_outs && outs == 2 then 1 else MAX_PIECES)
+    else 1
 
 -- there is a node, and it is a source
 abbrev pub is_source_node : Option NodeDef → Bool

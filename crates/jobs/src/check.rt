@@ -6,8 +6,8 @@ ghost use Rattle.jobs.specs.Weights.{weight};
 ghost use Rattle.jobs.specs.JobView.{job_view_as};
 
 use crate::{
-    Column, ColumnDefs, Job, LawFault, Named, NodeDef, NodeDefs, Table, Tables, fitting, limits,
-    names, ports, weights,
+    Column, ColumnDefs, Job, LawFault, MAX_WEIGHT, Named, NodeDef, NodeDefs, Table, Tables,
+    fitting, limits, names, ports, weights,
 };
 use flow_dag::{Dag, DagFault, Edge};
 use std::alloc::Global;
@@ -119,7 +119,8 @@ fn check_meaning(
     ensures tables { OnOk result
         (HasTables (job_view_as columns.now nodes.now dag.now.edges tables.now)) }
     ensures weight { OnOk result
-        (weight (job_view_as columns.now nodes.now dag.now.edges tables.now) ≤ 1024) }
+        (weight (job_view_as columns.now nodes.now dag.now.edges tables.now)
+        ≤ MAX_WEIGHT) }
     ensures fault { IfErr result (λ fault.
         IsRefused fault (job_view_as columns.now nodes.now dag.now.edges tables.now)) }
 {
@@ -130,7 +131,7 @@ fn check_meaning(
         return Err(LawFault::NoTable(v));
     }
     let weight = weights::weight_of(nodes, dag);
-    if weight > 1024 {
+    if weight > MAX_WEIGHT {
         return Err(LawFault::Weight(weight));
     }
     Ok(())

@@ -8,11 +8,12 @@ ghost use Rattle.jobs.specs.Fits.{step_fits};
 
 use crate::tables::table_fits;
 use crate::{Column, ColumnKind, Cond, Func, NodeDef, Operand, Step, Table, Test};
+use flow_dag::MAX_NODES;
 use tuple_trace::Value;
 
 /// The first node whose function doesn't fit the columns.
 pub fn wrong_columns(columns: &[Column], nodes: &[NodeDef], tables: &[Table]) -> Option<u32>
-    requires { length nodes.now ≤ 64 }
+    requires { length nodes.now ≤ MAX_NODES }
     ensures { FindsFailure (λ _ node. fits_columns columns.now tables.now node.func) nodes.now
         result }
 {
@@ -26,7 +27,7 @@ pub fn wrong_columns(columns: &[Column], nodes: &[NodeDef], tables: &[Table]) ->
 
 /// The first node whose table isn't there.
 pub fn wrong_table(nodes: &[NodeDef], tables: &[Table]) -> Option<u32>
-    requires { length nodes.now ≤ 64 }
+    requires { length nodes.now ≤ MAX_NODES }
     ensures { FindsFailure (λ _ node. fits_table tables.now node.func) nodes.now result }
 {
     for i in 0..nodes.len() {

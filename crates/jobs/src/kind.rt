@@ -3,6 +3,7 @@ ghost use Rattle.std.specs.Prelude.{◌≡◌, find, map};
 ghost use Rattle.jobs.specs.Kinds.{has_name, key_of, kind_named, kind_of, row_of};
 
 use crate::Func;
+use tuple_trace::MAX_NODE_WORKERS;
 
 /// What kind a function is of. [`Kind::row`] says what a kind asks of its nodes, and what they do.
 #[derive(Clone, Copy, Debug, PartialEq, Eq)]
@@ -97,7 +98,7 @@ impl Kind {
                 entered: true,
                 least_outs: 1,
                 most_outs: 2,
-                most_workers: 8,
+                most_workers: MAX_NODE_WORKERS,
                 counts: false,
                 followers: Followers::FreeKinds,
             },
@@ -108,7 +109,7 @@ impl Kind {
                 entered: true,
                 least_outs: 1,
                 most_outs: 1,
-                most_workers: 8,
+                most_workers: MAX_NODE_WORKERS,
                 counts: false,
                 followers: Followers::FreeKinds,
             },
@@ -119,7 +120,7 @@ impl Kind {
                 entered: true,
                 least_outs: 1,
                 most_outs: 1,
-                most_workers: 8,
+                most_workers: MAX_NODE_WORKERS,
                 counts: false,
                 followers: Followers::FreeKinds,
             },
@@ -130,7 +131,7 @@ impl Kind {
                 entered: true,
                 least_outs: 1,
                 most_outs: 1,
-                most_workers: 8,
+                most_workers: MAX_NODE_WORKERS,
                 counts: true,
                 followers: Followers::SameKind,
             },
@@ -141,7 +142,7 @@ impl Kind {
                 entered: true,
                 least_outs: 1,
                 most_outs: 1,
-                most_workers: 8,
+                most_workers: MAX_NODE_WORKERS,
                 counts: false,
                 followers: Followers::FreeKinds,
             },
@@ -152,7 +153,7 @@ impl Kind {
                 entered: true,
                 least_outs: 2,
                 most_outs: 8,
-                most_workers: 8,
+                most_workers: MAX_NODE_WORKERS,
                 counts: false,
                 followers: Followers::Nothing,
             },

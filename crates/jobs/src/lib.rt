@@ -44,7 +44,10 @@ pub use laws::{
     functions_fit, jobs_have_one_fault, names_tell_kinds, refused_is_unlawful, roofs_hold,
     weights_settle,
 };
-pub use limits::{TEXT_MAX, outside, size_fault};
+pub use limits::{
+    MAX_COLUMNS, MAX_CONDITIONS, MAX_ENTRIES, MAX_PIECES, MAX_STEPS, MAX_WEIGHT, MAX_WORKERS,
+    TEXT_MAX, outside, size_fault,
+};
 pub use node::{fan_out, is_count, is_fixed, is_free, is_replicate, is_source, is_split};
 pub use ports::{has_port, out_count};
 pub use queries::{fits, weight, worker_count};

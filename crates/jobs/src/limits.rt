@@ -12,12 +12,33 @@ ghost use Rattle.jobs.specs.JobView.{job_view_as};
 use crate::names::named_out_count;
 use crate::node::{fan_out, most_roof, most_workers};
 use crate::{Column, Cond, Func, NodeDef, Table, Which};
-use flow_dag::Edge;
+use flow_dag::{Edge, MAX_EDGES, MAX_NODES};
 use keyed_state::TextMap;
 use tuple_trace::Value;
 
+/// The most columns of a job.
+pub const MAX_COLUMNS: usize = 12;
+
+/// The most workers of all nodes of a job together, without its sources.
+pub const MAX_WORKERS: u64 = 64;
+
+/// The most entries of all tables of a job together.
+pub const MAX_ENTRIES: usize = 4096;
+
 /// The most bytes of a text.
 pub const TEXT_MAX: usize = 48;
+
+/// The most conditions of a filter.
+pub const MAX_CONDITIONS: usize = 8;
+
+/// The most steps of a map.
+pub const MAX_STEPS: usize = 8;
+
+/// The most pieces that a node makes of one tuple.
+pub const MAX_PIECES: u32 = 16;
+
+/// The most that a job's work on one row may weigh.
+pub const MAX_WEIGHT: u64 = 1024;
 
 /// The first size that is outside of its limits, with its number. The order is: nodes, edges,
 /// columns, the workers of each node, all workers, the entries of all tables, the texts of each
@@ -33,22 +54,22 @@ pub fn first_size_fault(
     ensures limits { IfNone result (HasLimits (job_view_as columns.now nodes.now edges.now
         tables.now)) }
 {
-    if let Some(fault) = outside(Which::Nodes, 1, 64, nodes.len() as u64) {
+    if let Some(fault) = outside(Which::Nodes, 1, MAX_NODES as u64, nodes.len() as u64) {
         return Some(fault);
     }
-    if let Some(fault) = outside(Which::Edges, 0, 128, edges.len() as u64) {
+    if let Some(fault) = outside(Which::Edges, 0, MAX_EDGES as u64, edges.len() as u64) {
         return Some(fault);
     }
-    if let Some(fault) = outside(Which::Columns, 1, 12, columns.len() as u64) {
+    if let Some(fault) = outside(Which::Columns, 1, MAX_COLUMNS as u64, columns.len() as u64) {
         return Some(fault);
     }
     if let Some(fault) = workers_fault(nodes) {
         return Some(fault);
     }
-    if let Some(fault) = outside(Which::AllWorkers, 0, 64, all_workers(nodes)) {
+    if let Some(fault) = outside(Which::AllWorkers, 0, MAX_WORKERS, all_workers(nodes)) {
         return Some(fault);
     }
-    if let Some(fault) = outside(Which::Entries, 0, 4096, entry_count(tables)) {
+    if let Some(fault) = outside(Which::Entries, 0, MAX_ENTRIES as u64, entry_count(tables)) {
         return Some(fault);
     }
     if let Some(fault) = tables_fault(tables) {
@@ -68,9 +89,9 @@ pub fn size_fault(func: &Func) -> Option<(Which, i64)>
 {
     match func {
         Func::Filter(conds) => conds_fault(conds.as_slice()),
-        Func::Map(steps) => outside(Which::Steps, 0, 8, steps.len() as u64),
+        Func::Map(steps) => outside(Which::Steps, 0, MAX_STEPS as u64, steps.len() as u64),
         Func::Enrich(lookup) => value_fault(&lookup.other),
-        Func::Split(split) => outside(Which::Most, 1, 16, u64::from(split.most)),
+        Func::Split(split) => outside(Which::Most, 1, u64::from(MAX_PIECES), u64::from(split.most)),
         Func::Source | Func::Count(_) | Func::Replicate | Func::Sink(_) => None,
     }
 }
@@ -78,7 +99,12 @@ pub fn size_fault(func: &Func) -> Option<(Which, i64)>
 fn conds_fault(conds: &[Cond]) -> Option<(Which, i64)>
     ensures { result ≡ oversize (Filter conds.now) }
 {
-    if let Some(fault) = outside(Which::Conditions, 0, 8, conds.len() as u64) {
+    if let Some(fault) = outside(
+        Which::Conditions,
+        0,
+        MAX_CONDITIONS as u64,
+        conds.len() as u64,
+    ) {
         return Some(fault);
     }
     literals_fault(conds)
@@ -119,7 +145,7 @@ fn workers_fault(nodes: &[NodeDef]) -> Option<(Which, i64)>
 }
 
 fn roofs_fault(nodes: &[NodeDef], edges: &[Edge]) -> Option<(Which, i64)>
-    requires { length edges.now ≤ 128 }
+    requires { length edges.now ≤ MAX_EDGES }
     ensures { result ≡ first_oversize (roof_oversize nodes.now edges.now) nodes.now }
 {
     for node in nodes {
@@ -131,7 +157,7 @@ fn roofs_fault(nodes: &[NodeDef], edges: &[Edge]) -> Option<(Which, i64)>
 }
 
 fn roof_fault(nodes: &[NodeDef], edges: &[Edge], node: &NodeDef) -> Option<(Which, i64)>
-    requires { length edges.now ≤ 128 }
+    requires { length edges.now ≤ MAX_EDGES }
     ensures { result ≡ roof_oversize nodes.now edges.now node.now }
 {
     let outs = named_out_count(nodes, edges, node.name.as_slice());
@@ -147,7 +173,7 @@ fn roof_fault(nodes: &[NodeDef], edges: &[Edge], node: &NodeDef) -> Option<(Whic
 
 // The workers of all nodes that aren't sources.
 pub fn all_workers(nodes: &[NodeDef]) -> u64
-    requires { length nodes.now ≤ 64 }
+    requires { length nodes.now ≤ MAX_NODES }
     ensures { result ≡ worker_count nodes.now }
 {
     let mut sum = 0u64;

@@ -4,12 +4,12 @@ ghost use Rattle.jobs.specs.Names.{has_column_named, has_node_named, is_new_colu
 ghost use Rattle.jobs.specs.Names.{leaves_named, named_out_count};
 ghost use Rattle.jobs.specs.Places.{FindsFailure};
 
-use crate::{Column, NodeDef};
-use flow_dag::Edge;
+use crate::{Column, MAX_COLUMNS, NodeDef};
+use flow_dag::{Edge, MAX_EDGES, MAX_NODES};
 
 /// The first column that has the name of an earlier one.
 pub fn repeated_column(columns: &[Column]) -> Option<u32>
-    requires { length columns.now ≤ 12 }
+    requires { length columns.now ≤ MAX_COLUMNS }
     ensures { FindsFailure (is_new_column columns.now) columns.now result }
 {
     for i in 0..columns.len() {
@@ -28,7 +28,7 @@ fn has_column_named(columns: &[Column], name: &[u8]) -> bool
 
 /// The first node that has the name of an earlier one.
 pub fn repeated_node(nodes: &[NodeDef]) -> Option<u32>
-    requires { length nodes.now ≤ 64 }
+    requires { length nodes.now ≤ MAX_NODES }
     ensures { FindsFailure (is_new_node nodes.now) nodes.now result }
 {
     for i in 0..nodes.len() {
@@ -47,7 +47,7 @@ fn has_node_named(nodes: &[NodeDef], name: &[u8]) -> bool
 
 /// How many edges leave nodes of this name.
 pub fn named_out_count(nodes: &[NodeDef], edges: &[Edge], name: &[u8]) -> u32
-    requires { length edges.now ≤ 128 }
+    requires { length edges.now ≤ MAX_EDGES }
     ensures { result ≡ named_out_count nodes.now edges.now name.now }
 {
     let mut count = 0u32;

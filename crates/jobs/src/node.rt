@@ -3,7 +3,7 @@ ghost use Rattle.std.specs.Prelude.{◌≡◌};
 ghost use Rattle.jobs.specs.Nodes.{fan_out, is_count, is_fixed, is_free, is_replicate, is_source};
 ghost use Rattle.jobs.specs.Nodes.{is_split, most_roof, most_workers, workers_of};
 
-use crate::{Followers, Func, NodeDef, Shape};
+use crate::{Followers, Func, MAX_PIECES, NodeDef, Shape};
 
 impl NodeDef {
     /// How many workers the node has that keep a journal: none for a source, which the feeder
@@ -100,7 +100,7 @@ pub fn most_roof(func: &Func, outs: u32) -> u32
     } else if 2 <= func.kind().row().most_outs && outs == 2 {
         1
     } else {
-        16
+        MAX_PIECES
     }
 }
 

@@ -6,11 +6,11 @@ ghost use Rattle.jobs.specs.Ports.{are_ports, has_edge, has_port, has_ports, is_
 ghost use Rattle.jobs.specs.Ports.{leads_twice, may_enter, may_leave, out_count};
 
 use crate::{Func, NodeDef};
-use flow_dag::Edge;
+use flow_dag::{Edge, MAX_EDGES, MAX_NODES};
 
 /// The first edge that has an end which is none of the first `count` nodes.
 pub fn wrong_end(count: u32, edges: &[Edge]) -> Option<u32>
-    requires { length edges.now ≤ 128 }
+    requires { length edges.now ≤ MAX_EDGES }
     ensures { MatchOption result (All (IsInside count) edges.now) (λ i. IsOutside count edges.now i
         × All (IsInside count) (take i edges.now)) }
 {
@@ -24,8 +24,8 @@ pub fn wrong_end(count: u32, edges: &[Edge]) -> Option<u32>
 
 /// The first node whose edges aren't those of its kind.
 pub fn wrong_ports(nodes: &[NodeDef], edges: &[Edge]) -> Option<u32>
-    requires nodes { length nodes.now ≤ 64 }
-    requires edges { length edges.now ≤ 128 }
+    requires nodes { length nodes.now ≤ MAX_NODES }
+    requires edges { length edges.now ≤ MAX_EDGES }
     ensures { FindsFailure (λ v node. are_ports edges.now v node.func) nodes.now result }
 {
     for i in 0..nodes.len() {
@@ -39,7 +39,7 @@ pub fn wrong_ports(nodes: &[NodeDef], edges: &[Edge]) -> Option<u32>
 // Whether the edges of a node with this function are those of its kind, on the ports from 0 on,
 // each to another node.
 fn are_ports(edges: &[Edge], node: u32, func: &Func) -> bool
-    requires { length edges.now ≤ 128 }
+    requires { length edges.now ≤ MAX_EDGES }
     ensures { result ≡ are_ports edges.now node func.now }
 {
     let outs = out_count(edges, node);
@@ -81,7 +81,7 @@ fn is_entered(edges: &[Edge], node: u32) -> bool
 }
 
 pub fn out_count(edges: &[Edge], node: u32) -> u32
-    requires { length edges.now ≤ 128 }
+    requires { length edges.now ≤ MAX_EDGES }
     ensures { result ≡ out_count edges.now node }
 {
     let mut count = 0u32;

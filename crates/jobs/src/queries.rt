@@ -5,7 +5,7 @@ ghost use Rattle.jobs.specs.Job.{job_view};
 ghost use Rattle.jobs.specs.Nodes.{worker_count};
 ghost use Rattle.jobs.specs.Weights.{weight};
 
-use crate::{Func, Job, fitting, limits, weights};
+use crate::{Func, Job, MAX_WEIGHT, MAX_WORKERS, fitting, limits, weights};
 
 /// Whether a node of the job may have the function: the columns and the table that it names are
 /// there and fit. Takes no memory.
@@ -20,7 +20,7 @@ pub fn fits(job: &Job, func: &Func) -> bool
 /// no memory.
 pub fn weight(job: &Job) -> u64
     ensures value { result ≡ weight (job_view job.now) }
-    ensures limit { result ≤ 1024 }
+    ensures limit { result ≤ MAX_WEIGHT }
 {
     weights::weight_of(job.nodes.as_slice(), &job.dag)
 }
@@ -29,7 +29,7 @@ pub fn weight(job: &Job) -> u64
 /// memory.
 pub fn worker_count(job: &Job) -> u64
     ensures value { result ≡ worker_count job.now.nodes }
-    ensures limit { result ≤ 64 }
+    ensures limit { result ≤ MAX_WORKERS }
 {
     limits::all_workers(job.nodes.as_slice())
 }

@@ -6,7 +6,7 @@ ghost use Rattle.jobs.specs.Weights.{weight_of, weight_from, with_edge, with_mor
 
 use crate::node::is_source;
 use crate::{Func, NodeDef};
-use flow_dag::{Dag, Edge};
+use flow_dag::{Dag, Edge, MAX_NODES};
 
 /// The weight of a job with these nodes and with the edges of this graph. Takes no memory.
 pub fn weight_of(nodes: &[NodeDef], dag: &Dag) -> u64
@@ -18,13 +18,13 @@ pub fn weight_of(nodes: &[NodeDef], dag: &Dag) -> u64
 
 // The weights of the nodes. In the graph's order each node follows its senders, so it is weighed
 // once.
-fn node_weights(nodes: &[NodeDef], dag: &Dag) -> [u32; 64]
+fn node_weights(nodes: &[NodeDef], dag: &Dag) -> [u32; MAX_NODES]
     requires { dag.now.nodes ≡ length nodes.now }
     ensures { (v : ℕ) → v < length nodes.now
         → slice_index result v ≡ node_weight nodes.now dag.now.edges v }
 {
     let edges = dag.all_edges();
-    let mut weights = [0u32; 64];
+    let mut weights = [0u32; MAX_NODES];
     for i in 0..dag.nodes() {
         let v = dag.order(i);
         weights[v as usize] = weighed(nodes, edges, &weights, v);
@@ -33,7 +33,7 @@ fn node_weights(nodes: &[NodeDef], dag: &Dag) -> [u32; 64]
 }
 
 // The weight of a node, by those of its senders.
-fn weighed(nodes: &[NodeDef], edges: &[Edge], weights: &[u32; 64], v: u32) -> u32
+fn weighed(nodes: &[NodeDef], edges: &[Edge], weights: &[u32; MAX_NODES], v: u32) -> u32
     ensures { result ≡ weighed nodes.now edges.now (slice_index weights.now) v }
 {
     if is_source_node(nodes.get(v as usize)) {
@@ -43,7 +43,7 @@ fn weighed(nodes: &[NodeDef], edges: &[Edge], weights: &[u32; 64], v: u32) -> u3
 }
 
 // What the edges that enter a node bring, cut.
-fn brought_to(nodes: &[NodeDef], edges: &[Edge], weights: &[u32; 64], v: u32) -> u32
+fn brought_to(nodes: &[NodeDef], edges: &[Edge], weights: &[u32; MAX_NODES], v: u32) -> u32
     ensures { result ≡ brought_to nodes.now edges.now (slice_index weights.now) v }
 {
     let mut sum = 0u32;
@@ -53,7 +53,7 @@ fn brought_to(nodes: &[NodeDef], edges: &[Edge], weights: &[u32; 64], v: u32) ->
     sum
 }
 
-fn with_edge(nodes: &[NodeDef], weights: &[u32; 64], v: u32, sum: u32, edge: Edge) -> u32
+fn with_edge(nodes: &[NodeDef], weights: &[u32; MAX_NODES], v: u32, sum: u32, edge: Edge) -> u32
     ensures { result ≡ with_edge nodes.now (slice_index weights.now) v sum edge }
 {
     if edge.to != v {
@@ -63,7 +63,7 @@ fn with_edge(nodes: &[NodeDef], weights: &[u32; 64], v: u32, sum: u32, edge: Edg
     with_more(sum, weight, fan_out_at(nodes.get(edge.from as usize)))
 }
 
-fn weight_at(weights: &[u32; 64], v: u32) -> u32
+fn weight_at(weights: &[u32; MAX_NODES], v: u32) -> u32
     ensures { result ≡ slice_index weights.now v }
 {
     match weights.get(v as usize) {
@@ -98,8 +98,8 @@ fn fan_out_at(node: Option<&NodeDef>) -> u32
 }
 
 // The sum of the weights of the nodes that aren't sources.
-fn sum(nodes: &[NodeDef], weights: &[u32; 64]) -> u64
-    requires { length nodes.now ≤ 64 }
+fn sum(nodes: &[NodeDef], weights: &[u32; MAX_NODES]) -> u64
+    requires { length nodes.now ≤ MAX_NODES }
     ensures { result ≡ weight_from (slice_index weights.now) 0 nodes.now }
 {
     let mut sum = 0u64;

@@ -9,6 +9,7 @@ ghost use Rattle.flow_model.specs.declared.topology.Lane.{Lane as LaneIs};
 ghost use Rattle.journal_law.specs.Course.{IsLaneInto, dues_from};
 
 use crate::marks::Marks;
+use flow_dag::MAX_EDGES;
 use flow_model::{Lane, Setup};
 
 /// The first request after this one that covers the worker.
@@ -65,7 +66,7 @@ pub(crate) fn brings_marker(setup: &Setup, worker: u32, lane: u32, request: u64)
 fn lane_into(setup: &Setup, worker: u32, lane: u32) -> Option<Lane>
     ensures some { IfSome result
         (λ found. IsLaneInto (setup_view setup.now).job worker lane found) }
-    ensures edge { IfSome result (λ found. found.edge < 128) }
+    ensures edge { IfSome result (λ found. found.edge < MAX_EDGES) }
     ensures none { IfNone result ((found : LaneIs) →
         ¬ IsLaneInto (setup_view setup.now).job worker lane found) }
 {

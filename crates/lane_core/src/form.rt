@@ -3,7 +3,7 @@ ghost use Rattle.std.specs.Prelude.{◌≡◌, ◌≤◌, [], ◌++◌, IfOk};
 use crate::{Rx, Tx};
 use flow_dag::Graph;
 use std::alloc::Global;
-use tuple_trace::{Item, Items, NoMemory};
+use tuple_trace::{Item, Items, MAX_CAPACITY, NoMemory};
 
 /// Where a lane begins: the graph of the job, and the number of the sending node.
 #[derive(Clone, Copy, Debug, PartialEq, Eq)]
@@ -36,7 +36,7 @@ pub trait Lanes: Send {
         origin: Origin,
     ) -> Result<(Self::Tx, Self::Rx), NoMemory>
         requires some { 1 ≤ cap }
-        requires few { cap ≤ 64 }
+        requires few { cap ≤ MAX_CAPACITY }
         ensures tx { IfOk result (λ (tx, rx). (Self.Tx.sent tx ≡ []) × (Self.Tx.capacity tx ≡ cap)
             × (Self.Tx.number tx ≡ number) × (Self.Tx.origin tx ≡ origin)) }
         ensures rx { IfOk result (λ (tx, rx). (Self.Rx.taken rx ≡ [])

@@ -4,6 +4,7 @@ ghost use Rattle.std.specs.Arc.{arc_value};
 ghost use Rattle.std.specs.Bool.{OnTrue, OnFalse};
 ghost use Rattle.lane_core.specs.Lane.{WasFull};
 ghost use Rattle.lane_core.specs.Steady.{IsSteady, MayFollow};
+ghost use Rattle.tuple_trace.specs.declared.limits.TheConstants.{MAX_CAPACITY};
 ghost use Rattle.lane_ring.specs.Rule.{lane_of, receiver_slots, sender_slots, word_at};
 
 use crate::places::{next_word, opposite, slot_at};
@@ -31,7 +32,7 @@ pub struct RingTx {
         × (seat.table_id.words ≡ 2) },
     ghost first: { seat.id ≡ 0 },
     ghost role: { (seat.me.0.puts ≡ true) × (seat.me.1 ≡ sender_slots seat.me.0) },
-    ghost sized: { (capacity ≡ seat.me.0.capacity) × (0 < capacity) × (capacity ≤ 64) },
+    ghost sized: { (capacity ≡ seat.me.0.capacity) × (0 < capacity) × (capacity ≤ MAX_CAPACITY) },
     ghost tail_is: { tail ≡ word_at capacity (length seat.me.0.sent) },
     ghost limit_is: { (limit ≡ word_at capacity (length seat.me.0.sent + seat.me.0.spare))
         × (seat.me.0.spare ≤ capacity) },
@@ -164,7 +165,7 @@ pub struct RingRx {
     ghost of_ring: { ((arc_value ring).shared.table_id ≡ seat.table_id)
         × (seat.table_id.words ≡ 2) },
     ghost role: { (seat.me.0.takes ≡ true) × (seat.me.1 ≡ receiver_slots seat.me.0) },
-    ghost sized: { (capacity ≡ seat.me.0.capacity) × (0 < capacity) × (capacity ≤ 64) },
+    ghost sized: { (capacity ≡ seat.me.0.capacity) × (0 < capacity) × (capacity ≤ MAX_CAPACITY) },
     ghost head_is: { head ≡ word_at capacity (length seat.me.0.taken) },
     ghost end_is: { (end ≡ word_at capacity (length seat.me.0.taken + length seat.me.0.ahead))
         × (length seat.me.0.ahead ≤ capacity) },

@@ -7,6 +7,7 @@ use std::alloc::Global;
 use std::marker::Model;
 use std::sync::Arc;
 use tuple_trace::NoMemory;
+use versions::MAX_REQUESTS;
 
 /// The reader's endpoint of a line. Contracts see how many releases it told.
 #[derive(Drop)]
@@ -79,7 +80,7 @@ pub fn line(alloc: Global) -> Result<(Teller, Inbox), NoMemory>
 impl Teller {
     /// Tells one more release. It waits for nobody and takes no memory.
     pub fn tell(&mut self)
-        requires { self.old.told < 64 }
+        requires { self.old.told < MAX_REQUESTS }
         ensures { self.new ≡ record self.old { told = self.old.told + 1 } }
     {
         let told = self.told + 1;

@@ -6,7 +6,7 @@ ghost use Rattle.marker_align.specs.Decision.{decided, may_turn as may_turn_of};
 ghost use Rattle.marker_align.specs.Decision.{next_tuple as next_tuple_of};
 ghost use Rattle.marker_align.specs.Hands.{is_issued, is_last, is_marker, is_tuple};
 
-use crate::{Hands, Holder};
+use crate::{Hands, Holder, LANE_SET_BITS, MAX_LANES_IN};
 use flow_dag::has_wide_bit;
 
 /// A set of places of a worker. Its lanes in are its places, by rising lane number, and there are
@@ -48,7 +48,7 @@ pub enum Act {
 /// 4. Nothing is due, and all hands hold ends: close.
 /// 5. Nothing.
 pub fn decide(hands: &Hands, due: Option<&Due>, posted: bool, start: u32) -> Act
-    requires few { length hands.now ≤ 127 }
+    requires few { length hands.now ≤ MAX_LANES_IN }
     requires start { start < length hands.now }
     ensures { result ≡ decided hands.now (option_copied due.entry) posted start }
 {
@@ -57,7 +57,7 @@ pub fn decide(hands: &Hands, due: Option<&Due>, posted: bool, start: u32) -> Act
 
 /// [`decide`] over what has hands.
 pub fn decide_among<H: Holder>(hands: &[H], due: Option<&Due>, posted: bool, start: u32) -> Act
-    requires few { length hands.now ≤ 127 }
+    requires few { length hands.now ≤ MAX_LANES_IN }
     requires start { start < length hands.now }
     ensures { result ≡ decided (map H.hand hands.now) (option_copied due.entry) posted start }
 {
@@ -103,11 +103,11 @@ fn is_aligned<H: Holder>(hands: &[H], due: &Due) -> bool
 fn is_in(lanes: LaneSet, place: usize) -> bool
     ensures { result ≡ has lanes place }
 {
-    place < 128 && has_wide_bit(lanes, place as u32)
+    place < LANE_SET_BITS && has_wide_bit(lanes, place as u32)
 }
 
 fn next_tuple<H: Holder>(hands: &[H], start: u32) -> Option<u32>
-    requires few { length hands.now ≤ 127 }
+    requires few { length hands.now ≤ MAX_LANES_IN }
     requires start { start < length hands.now }
     ensures { result ≡ next_tuple_of start (map H.hand hands.now) }
 {

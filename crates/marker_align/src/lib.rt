@@ -16,6 +16,8 @@
 
 mod decision;
 mod held;
+mod limits;
 
 pub use decision::{Act, Due, LaneSet, decide, decide_among};
 pub use held::{Hand, Hands, Holder};
+pub use limits::{LANE_SET_BITS, MAX_LANES_IN};

@@ -5,7 +5,7 @@ ghost use Rattle.operators.specs.Lanes.{worker_along, worker_among};
 
 use crate::fields::text_at;
 use jobs::{Column, Func, Job, key_of};
-use tuple_trace::{Tuple, spread};
+use tuple_trace::{MAX_NODE_WORKERS, Tuple, spread};
 
 /// The worker that a tuple reaches along the edge with this number, counted from 0 among the
 /// workers of the node where the edge ends.
@@ -22,7 +22,7 @@ pub fn lane_of(job: &Job, edge: u32, tuple: &Tuple) -> u32
 
 fn worker_among(columns: &[Column], func: &Func, workers: u32, tuple: &Tuple) -> u32
     requires some { 1 ≤ workers }
-    requires few { workers ≤ 8 }
+    requires few { workers ≤ MAX_NODE_WORKERS }
     ensures { result ≡ worker_among columns.now func.now workers tuple.now }
 {
     match key_of(func) {

@@ -7,7 +7,7 @@ use Rattle.std.specs.Prelude.{All, option_map}
 use Rattle.tuple_trace.specs.declared.row.Row.{Row}
 use Rattle.tuple_trace.specs.declared.value.Value.{Value}
 use Rattle.tuple_trace.specs.declared.value.Value.TheVariants as value
-use Rattle.jobs.specs.Limits.{HasShortTexts, IsShort, text_max}
+use Rattle.jobs.specs.Limits.{HasShortTexts, IsShort}
 use Rattle.jobs.specs.Weights.{weight}
 use Rattle.jobs.specs.JobView.{JobView}
 use Rattle.jobs.specs.declared.column.Column.{Column}
@@ -18,6 +18,7 @@ use Rattle.payments.specs.declared.read.PFault.TheVariants as fault
 use Rattle.payments.specs.Reading.{cells_behind, field_of, fields_from, first_cell, first_value, row_by, row_of, row_with, rows_from, source_named, value_of, work_max}
 use Rattle.payments.specs.Spelling.{amount_of, number_of}
 use Rattle.payments.proofs.RowLemmas.{before-ok, if-ok}
+use Rattle.jobs.specs.declared.limits.TheConstants.{TEXT_MAX}
 
 -- ---- texts
 
@@ -25,15 +26,15 @@ IsShort-number : (number : Option ℤ) (fault : PFault) (v : Value) → ok_or (o
 IsShort-number None fault v is = absurd (cc is)
 IsShort-number (Some number) fault v is = let same : value.Num number ≡ v = cc is in subst IsShort same (omega arith)
 
-IsShort-text : (b : Bool) (text : List ℕ) (fault : PFault) (v : Value) → nat_le (length text) text_max ≡ b → (if b then Ok (value.Text text) else Err fault) ≡ Ok v → IsShort v
+IsShort-text : (b : Bool) (text : List ℕ) (fault : PFault) (v : Value) → nat_le (length text) TEXT_MAX ≡ b → (if b then Ok (value.Text text) else Err fault) ≡ Ok v → IsShort v
 IsShort-text true text fault v short is =
     let same : value.Text text ≡ v = cc is in
-    let few : length text ≤ text_max = grind (arith, nat_tests) in
+    let few : length text ≤ TEXT_MAX = grind (arith, nat_tests) in
     subst IsShort same few
 IsShort-text false text fault v short is = absurd (cc is)
 
 IsShort-value : (row place : ℕ) (k : ColumnKind) (cell : List ℕ) (v : Value) → value_of row place k cell ≡ Ok v → IsShort v
-IsShort-value row place kind.Text cell v is = IsShort-text (nat_le (length cell) text_max) cell (fault.TextLong row place) v refl is
+IsShort-value row place kind.Text cell v is = IsShort-text (nat_le (length cell) TEXT_MAX) cell (fault.TextLong row place) v refl is
 IsShort-value row place kind.Number cell v is = IsShort-number (number_of cell) (fault.Value row place) v is
 IsShort-value row place kind.Cents cell v is = IsShort-number (amount_of cell) (fault.Value row place) v is
 

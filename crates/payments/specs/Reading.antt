@@ -6,7 +6,6 @@ use Rattle.csv.specs.Reading.{default_config, records, strip_bom}
 use Rattle.tuple_trace.specs.declared.row.Row.{Row}
 use Rattle.tuple_trace.specs.declared.value.Value.{Value}
 use Rattle.tuple_trace.specs.declared.value.Value.TheVariants as value
-use Rattle.jobs.specs.Limits.{text_max}
 use Rattle.jobs.specs.Nodes.{is_source}
 use Rattle.jobs.specs.Weights.{weight}
 use Rattle.jobs.specs.JobView.{JobView}
@@ -17,6 +16,7 @@ use Rattle.jobs.specs.declared.func.NodeDef.{NodeDef}
 use Rattle.payments.specs.declared.read.PFault.{PFault}
 use Rattle.payments.specs.declared.read.PFault.TheVariants as fault
 use Rattle.payments.specs.Spelling.{amount_of, number_of}
+use Rattle.jobs.specs.declared.limits.TheConstants.{TEXT_MAX}
 
 -- the names of the columns that a payments file has
 abbrev pub given_names : List Column → List (List ℕ)
@@ -42,7 +42,7 @@ source_named job name = position (is_source_with name) job.nodes
 -- what a cell of a row stands for in the column at this place
 abbrev pub value_of : ℕ → ℕ → ColumnKind → List ℕ → Result Value PFault
 value_of row place kind.Text cell =
-    if nat_le (length cell) text_max then Ok (value.Text cell)
+    if nat_le (length cell) TEXT_MAX then Ok (value.Text cell)
     else Err (fault.TextLong row place)
 value_of row place kind.Number cell =
     ok_or (option_map value.Num (number_of cell)) (fault.Value row place)

@@ -10,6 +10,7 @@ ghost use Rattle.flow_model.specs.SetupView.{SetupView};
 ghost use Rattle.plan_law.specs.Determined.{HasExactPlans, NumbersAllNodes};
 
 use cover_planner::Plan;
+use flow_dag::MAX_NODES;
 use flow_model::Setup;
 
 /// There is one plan for a graph, the asked nodes, and the masks of the nodes that make several
@@ -40,10 +41,10 @@ fn number_all_nodes(plans: &[Plan])
     ensures { All NumbersAllNodes plans.now }
 {
     for plan in plans {
-        has_64_numbers(&plan.part);
+        numbers_all_nodes(&plan.part);
     }
 }
 
-fn has_64_numbers(part: &[u8; 64])
-    ensures { length part.now ≡ 64 }
+fn numbers_all_nodes(part: &[u8; MAX_NODES])
+    ensures { length part.now ≡ MAX_NODES }
 {}

@@ -9,7 +9,7 @@ ghost use Rattle.report.specs.Lines.{node_names as node_names_of, part_count as 
 ghost use Rattle.report.specs.Lines.{plan_line, plan_lines};
 
 use cover_planner::Plan;
-use flow_dag::{Edge, has_bit, has_wide_bit};
+use flow_dag::{Edge, MAX_EDGES, MAX_NODES, has_bit, has_wide_bit};
 use jobs::{Job, NodeDef};
 use std::alloc::Global;
 use tuple_trace::{Bytes, Items, NoMemory};
@@ -76,7 +76,7 @@ fn push_nodes(
     mask: u64,
     text: &mut Bytes,
 ) -> Result<(), NoMemory>
-    requires { length nodes.now ≤ 64 }
+    requires { length nodes.now ≤ MAX_NODES }
     ensures { OnOk result (text.new ≡ text.old ++ label.now
         ++ listed_of (node_names_of nodes.now mask)) }
 {
@@ -92,7 +92,7 @@ fn push_edges(
     mask: u128,
     text: &mut Bytes,
 ) -> Result<(), NoMemory>
-    requires { length edges.now ≤ 128 }
+    requires { length edges.now ≤ MAX_EDGES }
     ensures { OnOk result (text.new ≡ text.old ++ label.now
         ++ listed_of (edge_names_of nodes.now edges.now mask)) }
 {
@@ -108,7 +108,7 @@ fn push(text: &mut Bytes, label: &[u8], words: &[u8]) -> Result<(), NoMemory>
 }
 
 fn node_list(alloc: Global, nodes: &[NodeDef], mask: u64) -> Result<Bytes, NoMemory>
-    requires { length nodes.now ≤ 64 }
+    requires { length nodes.now ≤ MAX_NODES }
     ensures { IfOk result (λ list. list ≡ listed_of (node_names_of nodes.now mask)) }
 {
     let names = node_names(alloc, nodes, mask)?;
@@ -121,7 +121,7 @@ fn edge_list(
     edges: &[Edge],
     mask: u128,
 ) -> Result<Bytes, NoMemory>
-    requires { length edges.now ≤ 128 }
+    requires { length edges.now ≤ MAX_EDGES }
     ensures { IfOk result (λ list. list ≡ listed_of (edge_names_of nodes.now edges.now mask)) }
 {
     let names = edge_names(alloc, nodes, edges, mask)?;
@@ -144,7 +144,7 @@ fn listed(alloc: Global, texts: &[Bytes]) -> Result<Bytes, NoMemory>
 }
 
 fn node_names(alloc: Global, nodes: &[NodeDef], mask: u64) -> Result<Texts, NoMemory>
-    requires { length nodes.now ≤ 64 }
+    requires { length nodes.now ≤ MAX_NODES }
     ensures { IfOk result (λ names. names ≡ node_names_of nodes.now mask) }
 {
     let mut names = Texts::new(alloc);
@@ -162,7 +162,7 @@ fn edge_names(
     edges: &[Edge],
     mask: u128,
 ) -> Result<Texts, NoMemory>
-    requires { length edges.now ≤ 128 }
+    requires { length edges.now ≤ MAX_EDGES }
     ensures { IfOk result (λ names. names ≡ edge_names_of nodes.now edges.now mask) }
 {
     let mut names = Texts::new(alloc);
@@ -175,14 +175,14 @@ fn edge_names(
 }
 
 fn has_node(mask: u64, number: u32) -> bool
-    requires { number < 64 }
+    requires { number < MAX_NODES }
     ensures { result ≡ has mask number }
 {
     has_bit(mask, number)
 }
 
 fn has_edge(mask: u128, number: u32) -> bool
-    requires { number < 128 }
+    requires { number < MAX_EDGES }
     ensures { result ≡ has mask number }
 {
     has_wide_bit(mask, number)

@@ -6,6 +6,7 @@ use mathlib.Core.Option.{some}
 use lib.ListN.{get_elem?}
 use Rattle.runner.specs.Runner.{EndpointsIs, RunnerIs}
 use Rattle.runner.specs.declared.rule.Tally.{Tally}
+use Rattle.tuple_trace.specs.declared.limits.TheConstants.{MAX_THREADS}
 
 abbrev pub tally : ℕ → List ℕ → Tally
 tally parts list = record { parts = parts; list = list }
@@ -55,7 +56,7 @@ HasEachOf n list = (x : ℕ) → times x list ≡ one_if (nat_lt x n)
 -- a pass with all parts has each number once that isn't in the queue
 abbrev pub HasEachWith : List EndpointsIs → Tally → List RunnerIs → Type 0
 HasEachWith charter v items =
-    v.parts ≡ 16
+    v.parts ≡ MAX_THREADS
     → (x : ℕ) → times x (numbers items) + times x v.list ≡ one_if (nat_lt x (length charter))
 
 -- a pass without a part has no number
@@ -63,11 +64,11 @@ abbrev pub IdleIsEmpty : List Tally → Type 0
 IdleIsEmpty views =
     (port : ℕ) (v : Tally) → get_elem? views port ≡ some v → v.parts ≡ 0 → v.list ≡ []
 
--- The queue and the passes together have each number once and 16 parts. Each runner in the queue
--- agrees with the charter.
+-- The queue and the passes together have each number once and `MAX_THREADS` parts. Each runner in
+-- the queue agrees with the charter.
 pub record IsEachOnce (charter : List EndpointsIs) (items : List RunnerIs) (views : List Tally)
     : Type 0 where
-  pub parts : total (λ v. v.parts) views ≡ 16
+  pub parts : total (λ v. v.parts) views ≡ MAX_THREADS
   pub once :
       (x : ℕ) → times x (numbers items) + total (λ v. times x v.list) views
       ≡ one_if (nat_lt x (length charter))

@@ -3,6 +3,7 @@ ghost use Rattle.runner.specs.Size.{IsEngineSize};
 
 use std::alloc::Global;
 use std::sync::atomic::{AtomicBool, Ordering};
+use tuple_trace::{MAX_CAPACITY, MAX_THREADS};
 
 /// What a run hands down to each of its steps: the runtime, the allocator, the form of its lanes,
 /// its gate, its size, and a word by which each of its threads can stop all of them.
@@ -35,9 +36,9 @@ impl<'a, R, L, G> Engine<'a, R, L, G> {
         capacity: u32,
     ) -> Engine<'a, R, L, G>
         requires some_threads { 1 ≤ threads }
-        requires few_threads { threads ≤ 16 }
+        requires few_threads { threads ≤ MAX_THREADS }
         requires some_items { 1 ≤ capacity }
-        requires few_items { capacity ≤ 64 }
+        requires few_items { capacity ≤ MAX_CAPACITY }
         ensures threads { result.threads ≡ threads }
         ensures capacity { result.capacity ≡ capacity }
     {

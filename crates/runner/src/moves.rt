@@ -10,6 +10,7 @@ use crossbeam_queue::{RuledSegQueue, SegPass};
 use lane_core::Lanes;
 use std::alloc::{AllocError, Global};
 use std::sync::Wait;
+use tuple_trace::MAX_THREADS;
 
 /// Pops a runner. Its number joins the list of the pass. If the queue is empty and the pass has all
 /// parts, its list has each number once.
@@ -25,7 +26,7 @@ pub fn take<'s, R: Wait, L: Lanes, C: Charter>(
     ensures some { IfSome result (λ r. pass.new.me.view.client
         ≡ tally pass.old.me.view.client.parts (pass.old.me.view.client.list ++ r.number ∷ [])) }
     ensures none { IfNone result (pass.new.me.view.client ≡ pass.old.me.view.client) }
-    ensures last { IfNone result (pass.old.me.view.client.parts ≡ 16
+    ensures last { IfNone result (pass.old.me.view.client.parts ≡ MAX_THREADS
         → HasEachOf (length C.endpoints) pass.new.me.view.client.list) }
 {
     queue.pop_as::<Takes<C>, R>(rt, pass)
@@ -88,7 +89,7 @@ pub fn open<'s, L: Lanes, C: Charter>(
     alloc: Global,
 ) -> Result<(Queue<'s, L, C>, SegPass<Runner<'s, L, C>, Tally>), AllocError>
     ensures queue { IfOk result (λ q. IsSegPassOf q.0 q.1) }
-    ensures first { IfOk result (λ q. q.1.me.view.client ≡ tally 16 (up_to (length C.endpoints))) }
+    ensures first { IfOk result (λ q. q.1.me.view.client ≡ tally MAX_THREADS (up_to (length C.endpoints))) }
 {
     RuledSegQueue::<Runner<'s, L, C>, Tally, EachOnce<C>>::with_rule(alloc)
 }

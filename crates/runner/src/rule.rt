@@ -22,11 +22,12 @@ pub struct EachOnce<C> {
 
 impl<'s, L: Lanes, C: Charter> Protocol<Runner<'s, L, C>, Tally> for EachOnce<C> {
     ghost use Rattle.std.specs.Prelude.{length};
+    ghost use Rattle.tuple_trace.specs.declared.limits.TheConstants.{MAX_THREADS};
     ghost use Rattle.runner.specs.Rule.{tally, up_to, IsEachOnce};
 
     ghost holds = { λ items views. IsEachOnce C.endpoints items views };
 
-    ghost first = { tally 16 (up_to (length C.endpoints)) };
+    ghost first = { tally MAX_THREADS (up_to (length C.endpoints)) };
 }
 
 /// The step of a pop.

@@ -12,7 +12,7 @@ use flow_worker::Turn;
 use lane_core::Lanes;
 use runner::{Charter, Engine, Held, Queue, Runner};
 use std::sync::Wait;
-use tuple_trace::{Gate, NoMemory};
+use tuple_trace::{Gate, MAX_THREADS, NoMemory};
 
 /// What the caller does if no other thread runs: it pops all runners. It then visits the feeder and
 /// the runners in turn, until the feeder has stopped and each runner is done.
@@ -25,7 +25,7 @@ pub fn run_alone<'s, R: Wait, L: Lanes, G: Gate, F: Feeding<L>, C: Charter>(
     feeder: &mut F,
 ) -> Result<(), NoMemory>
     requires queue { IsSegPassOf queue.now own.old.pass }
-    requires parts { own.old.pass.me.view.client.parts ≡ 16 }
+    requires parts { own.old.pass.me.view.client.parts ≡ MAX_THREADS }
     requires listed { AreListed C.endpoints own.old.runners.items
         own.old.pass.me.view.client.list }
     requires feeder { IsFeederOf F.LIVE flow.now C.begin (F.feeder feeder.old) }

@@ -15,7 +15,7 @@ use lane_core::Lanes;
 use runner::{Charter, Engine, Held, Queue, Runner, Tally, give, round, take};
 use std::alloc::Global;
 use std::sync::Wait;
-use tuple_trace::{Gate, NoMemory};
+use tuple_trace::{Gate, MAX_THREADS, NoMemory};
 
 /// Pushes the runner of each worker, from the last to the first. A refused push ends the run. The
 /// one error is out of memory.
@@ -28,14 +28,14 @@ pub fn push_all<'s, R: Wait, L: Lanes, C: Charter>(
     mut workers: Vec<Worker<L>>,
 ) -> Result<(), NoMemory>
     requires queue { IsSegPassOf queue.now pass.old }
-    requires parts { pass.old.me.view.client.parts ≡ 16 }
+    requires parts { pass.old.me.view.client.parts ≡ MAX_THREADS }
     requires listed { AreListed C.endpoints (map runner_of workers.items)
         pass.old.me.view.client.list }
     requires setup { setup_view setup.now ≡ C.setup }
     requires numbers { map number_in workers.items ≡ range_with_len 0 (length workers.items) }
     requires law { All (IsWorker (setup_view setup.now) C.begin) workers.items }
     ensures queue { IsSegPassOf queue.now pass.new }
-    ensures parts { pass.new.me.view.client.parts ≡ 16 }
+    ensures parts { pass.new.me.view.client.parts ≡ MAX_THREADS }
     ensures listed { OnOk result (AreListed C.endpoints [] pass.new.me.view.client.list) }
 {
     while let Some(worker) = workers.pop() {
@@ -57,7 +57,7 @@ pub fn drain<'s, R: Wait, L: Lanes, C: Charter>(
     own: &mut Held<'s, L, C>,
 ) -> Result<(), NoMemory>
     requires queue { IsSegPassOf queue.now own.old.pass }
-    requires parts { own.old.pass.me.view.client.parts ≡ 16 }
+    requires parts { own.old.pass.me.view.client.parts ≡ MAX_THREADS }
     requires listed { AreListed C.endpoints own.old.runners.items
         own.old.pass.me.view.client.list }
     ensures once { OnOk result (HasEachOf (length C.endpoints) (numbers own.new.runners.items)) }

@@ -26,7 +26,7 @@ use std::sync::Wait;
 use std::sync::atomic::AtomicBool;
 use std::thread;
 use std::thread::{Scope, Threads};
-use tuple_trace::{Gate, NoMemory};
+use tuple_trace::{Gate, MAX_THREADS, NoMemory};
 
 /// What a run leaves: its workers in the order of their numbers, and its feeder.
 #[derive(Drop)]
@@ -129,7 +129,7 @@ where
     R: Threads + Wait + Sync,
     C: Charter + Send + Sync,
     requires queue { IsSegPassOf queue.now pass }
-    requires parts { pass.me.view.client.parts ≡ 16 }
+    requires parts { pass.me.view.client.parts ≡ MAX_THREADS }
     requires listed { AreListed C.endpoints (map runner_of workers.items) pass.me.view.client.list }
     requires setup { setup_in flow.now ≡ C.setup }
     requires numbers { map number_in workers.items ≡ range_with_len 0 (length workers.items) }
@@ -167,7 +167,7 @@ where
     R: Threads + Wait + Sync,
     C: Charter + Send + Sync,
     requires queue { IsSegPassOf queue.now own.pass }
-    requires parts { own.pass.me.view.client.parts ≡ 16 }
+    requires parts { own.pass.me.view.client.parts ≡ MAX_THREADS }
     requires listed { AreListed C.endpoints own.runners.items own.pass.me.view.client.list }
     requires feeder { IsFeederOf F.LIVE flow.now C.begin (F.feeder feeder) }
     ensures back { IfOk result (λ r. AreBack C.endpoints r.runners.items) }
@@ -184,7 +184,7 @@ where
         move |scope|
             requires queue { IsSegPassOf load.queue.now load.own.pass }
             requires words { length words.now ≤ 15 }
-            requires parts { load.own.pass.me.view.client.parts ≡ 16 }
+            requires parts { load.own.pass.me.view.client.parts ≡ MAX_THREADS }
             requires listed { AreListed C.endpoints load.own.runners.items
                 load.own.pass.me.view.client.list }
             requires feeder { IsFeederOf F.LIVE flow.now C.begin (F.feeder load.feeder) }
@@ -200,7 +200,7 @@ where
 // A word for each thread but the caller's.
 fn cleared(alloc: Global, threads: u32) -> Result<Vec<AtomicBool>, NoMemory>
     requires some { 1 ≤ threads }
-    requires few { threads ≤ 16 }
+    requires few { threads ≤ MAX_THREADS }
     ensures { IfOk result (λ v. vec_len v ≤ 15) }
 {
     let mut words = Vec::new(alloc);
@@ -226,7 +226,7 @@ where
     C: Charter + Send + Sync + 'q,
     requires queue { IsSegPassOf load.queue.now load.own.pass }
     requires words { length words.now ≤ 15 }
-    requires parts { load.own.pass.me.view.client.parts ≡ 16 }
+    requires parts { load.own.pass.me.view.client.parts ≡ MAX_THREADS }
     requires listed { AreListed C.endpoints load.own.runners.items
         load.own.pass.me.view.client.list }
     requires feeder { IsFeederOf F.LIVE flow.now C.begin (F.feeder load.feeder) }
@@ -267,7 +267,7 @@ where
     R: Threads + Wait,
     requires queue { IsSegPassOf queue.now own.old.pass }
     requires some { 0 < own.old.pass.me.view.client.parts }
-    requires parts { own.old.pass.me.view.client.parts + vec_len handles ≡ 16 }
+    requires parts { own.old.pass.me.view.client.parts + vec_len handles ≡ MAX_THREADS }
     requires listed { AreListed C.endpoints own.old.runners.items
         own.old.pass.me.view.client.list }
     requires handles { All (λ h. h.promise.queue.value ≡ queue.now) handles.items }
@@ -299,7 +299,7 @@ where
     R: Threads + Wait,
     requires queue { IsSegPassOf queue.now own.old.pass }
     requires some { 0 < own.old.pass.me.view.client.parts }
-    requires parts { own.old.pass.me.view.client.parts + vec_len handles ≡ 16 }
+    requires parts { own.old.pass.me.view.client.parts + vec_len handles ≡ MAX_THREADS }
     requires listed { AreListed C.endpoints own.old.runners.items
         own.old.pass.me.view.client.list }
     requires handles { All (λ h. h.promise.queue.value ≡ queue.now) handles.items }

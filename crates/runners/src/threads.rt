@@ -9,7 +9,7 @@ use runner::{Charter, Engine, Held, PartPromise, Queue, Ticket, share, start_par
 use std::sync::Wait;
 use std::sync::atomic::AtomicBool;
 use std::thread::{PromisedHandle, Scope, Threads};
-use tuple_trace::{Gate, NoMemory};
+use tuple_trace::{Gate, MAX_THREADS, NoMemory};
 
 /// A thread that was started.
 pub type Handle<'s, L, C> = PromisedHandle<Held<'s, L, C>, PartPromise<'s, L, C>>;
@@ -66,13 +66,13 @@ where
     R: Threads + Wait + Sync + 'q,
     requires queue { IsSegPassOf queue.now own.old.pass }
     requires words { length words.now ≤ 15 }
-    requires parts { own.old.pass.me.view.client.parts ≡ 16 }
+    requires parts { own.old.pass.me.view.client.parts ≡ MAX_THREADS }
     requires listed { AreListed C.endpoints own.old.runners.items
         own.old.pass.me.view.client.list }
     requires handles { handles.old.items ≡ [] }
     ensures queue { OnOk result (IsSegPassOf queue.now own.new.pass) }
     ensures some { OnOk result (0 < own.new.pass.me.view.client.parts) }
-    ensures parts { OnOk result (own.new.pass.me.view.client.parts + vec_len handles.new ≡ 16) }
+    ensures parts { OnOk result (own.new.pass.me.view.client.parts + vec_len handles.new ≡ MAX_THREADS) }
     ensures listed { OnOk result (AreListed C.endpoints own.new.runners.items
         own.new.pass.me.view.client.list) }
     ensures handles { OnOk result (All (λ h. h.promise.queue.value ≡ queue.now)
@@ -138,12 +138,12 @@ pub fn join_all<'s, R: Threads, L: Lanes, C: Charter>(
 ) -> Result<(), NoMemory>
     requires queue { IsSegPassOf queue.now own.old.pass }
     requires some { 0 < own.old.pass.me.view.client.parts }
-    requires parts { own.old.pass.me.view.client.parts + vec_len handles ≡ 16 }
+    requires parts { own.old.pass.me.view.client.parts + vec_len handles ≡ MAX_THREADS }
     requires listed { AreListed C.endpoints own.old.runners.items
         own.old.pass.me.view.client.list }
     requires handles { All (λ h. h.promise.queue.value ≡ queue.now) handles.items }
     ensures queue { OnOk result (IsSegPassOf queue.now own.new.pass) }
-    ensures parts { OnOk result (own.new.pass.me.view.client.parts ≡ 16) }
+    ensures parts { OnOk result (own.new.pass.me.view.client.parts ≡ MAX_THREADS) }
     ensures listed { OnOk result (AreListed C.endpoints own.new.runners.items
         own.new.pass.me.view.client.list) }
 {

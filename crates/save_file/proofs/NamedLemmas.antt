@@ -17,10 +17,10 @@ use Rattle.flow_model.specs.Workers.{nobody, nth_worker, workers_in}
 use Rattle.flow_model.proofs.ElementLemmas.{IsIn, at_of_all, in_of_place}
 use Rattle.flow_model.proofs.WorkerLemmas.{worker_with}
 use Rattle.tuple_trace.specs.Spread.{spread_of}
-use Rattle.jobs.specs.Limits.{text_max}
 use Rattle.savepoint.specs.SaveReading.{Placed, Spelled, is_place, is_worker_of, place_of_key, placed_by, placed_of}
 use Rattle.savepoint.specs.SaveText.{name_of}
 use Rattle.save_file.specs.Steps.{spelled_with, takes_key}
+use Rattle.jobs.specs.declared.limits.TheConstants.{TEXT_MAX}
 
 pub position-at : {A : Type 0} (p : A → Bool) (xs : List A) (i : ℕ) (d : A) → i < length xs → ((k : ℕ) → k < i → p (get_or xs k d) ≡ false) → p (get_or xs i d) ≡ true → position p xs ≡ Some i
 position-at p xs i d lt before at =
@@ -81,7 +81,7 @@ numbered job i who at = let e = (worker_with job i who at).0 in omega (arith, e)
 -- ---- a count has a worker
 
 placed-within : (job : JobView) (s : Spelled) (p : Placed) → placed_of job s ≡ Some p → p.worker < length (workers_in job)
-placed-within job s p is = by_length (nat_le (length s.key) text_max) is
+placed-within job s p is = by_length (nat_le (length s.key) TEXT_MAX) is
   where
     by_place : (b : Bool) → nat_lt (position_or_len (is_worker_of job s) (workers_in job)) (length (workers_in job)) ≡ b
         → option_map (placed_by s) (cond b (Some (position_or_len (is_worker_of job s) (workers_in job))) None) ≡ Some p → p.worker < length (workers_in job)

@@ -17,7 +17,7 @@ use flow_model::Setup;
 use jobs::{Func, NodeDef, TEXT_MAX};
 use std::alloc::Global;
 use std::marker::Model;
-use tuple_trace::{Bytes, NoMemory, spread};
+use tuple_trace::{Bytes, MAX_NODE_WORKERS, NoMemory, spread};
 
 /// A count in its place: the worker's number, the key and the number.
 #[derive(Drop)]
@@ -128,7 +128,7 @@ fn counts(func: &Func) -> bool
 // Whether a worker is the one that is named, and the key is led to its place.
 fn is_led(named: bool, key: &[u8], workers: u32, place: u32) -> bool
     requires some { 1 ≤ workers }
-    requires few { workers ≤ 8 }
+    requires few { workers ≤ MAX_NODE_WORKERS }
     ensures { result ≡ (named && (spread_of key.now workers == place)) }
 {
     named && spread(key, workers) == place

@@ -15,7 +15,6 @@ use Rattle.jobs.specs.Nodes.{is_count}
 use Rattle.jobs.specs.JobView.{JobView}
 use Rattle.jobs.specs.declared.func.NodeDef.{NodeDef}
 use Rattle.keyed_state.specs.Counts.{Counts}
-use Rattle.jobs.specs.Limits.{text_max}
 use Rattle.payments.specs.Spelling.{number_of}
 use Rattle.flow_model.specs.Begin.{Begin}
 use Rattle.flow_model.specs.SetupView.{SetupView, Worker}
@@ -25,6 +24,7 @@ use Rattle.savepoint.specs.Parts.{issued_up_to}
 use Rattle.savepoint.specs.SaveText.{name_of}
 use Rattle.savepoint.specs.declared.fault.SaveFault.{SaveFault}
 use Rattle.savepoint.specs.declared.fault.SaveFault.TheVariants as fault
+use Rattle.jobs.specs.declared.limits.TheConstants.{TEXT_MAX}
 
 -- ---- records and what they spell
 
@@ -121,7 +121,7 @@ placed_by spelled worker = record { worker = worker; key = spelled.key; count = 
 -- a count in its place, if the named worker counts, the key is led to it and isn't too long
 abbrev pub placed_of : JobView → Spelled → Option Placed
 placed_of job spelled =
-    if nat_le (length spelled.key) text_max
+    if nat_le (length spelled.key) TEXT_MAX
     then option_map (placed_by spelled) (position (is_worker_of job spelled) (workers_in job))
     else None
 
@@ -205,5 +205,5 @@ pub record CanSave (setup : SetupView) (rows : ℕ) (begin : Begin) : Type 0 whe
       All (λ (e : List ℕ × ℤ). IsTrue (is_led_to setup.job e.0 who)) (entries counts)
   pub short :
       All (λ (counts : Counts).
-      All (λ (e : List ℕ × ℤ). (length e.0 ≤ text_max) × FitsSigned w64 e.1) (entries counts))
+      All (λ (e : List ℕ × ℤ). (length e.0 ≤ TEXT_MAX) × FitsSigned w64 e.1) (entries counts))
       begin.states

@@ -17,11 +17,8 @@ use report::Fault;
 use std::alloc::Global;
 use std::sync::Wait;
 use std::thread::Threads;
-use tuple_trace::{Gate, Rows};
+use tuple_trace::{Gate, Rows, USUAL_CAPACITY};
 use versions::Requests;
-
-/// How many items a lane holds where no option says so.
-const CAPACITY: u32 = 16;
 
 /// Reads a job, makes rows for it, runs them without requests, and prints the summary. It changes
 /// no file. The first fault ends it.
@@ -80,7 +77,7 @@ where
     let requests = Requests::new(alloc);
     let size = EngineSize {
         threads: make.threads,
-        capacity: CAPACITY,
+        capacity: USUAL_CAPACITY,
     };
     Ok(run_on_threads(rt, alloc, gate, size, job, &requests, &rows, make.ordered)?)
 }

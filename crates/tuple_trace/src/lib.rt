@@ -14,6 +14,7 @@
 mod digits;
 mod gate;
 mod items;
+mod limits;
 mod place;
 mod reserved;
 mod row;
@@ -24,6 +25,7 @@ mod value;
 pub use digits::digits_up_to;
 pub use gate::{Gate, OpenGate};
 pub use items::{Items, NoMemory};
+pub use limits::{MAX_CAPACITY, MAX_NODE_WORKERS, MAX_THREADS, USUAL_CAPACITY};
 pub use place::spread;
 pub use reserved::Reserved;
 pub use row::{Row, Rows};

@@ -4,7 +4,7 @@ ghost use Rattle.versions.specs.Judged.{judged};
 ghost use Rattle.versions.specs.Young.{judged_on, IsYoung};
 ghost use Rattle.versions.specs.declared.request.Request.{Request as RequestIs};
 
-use crate::{Book, QFault, Request, Requests, accept, judge};
+use crate::{Book, MAX_CHANGES, MAX_REQUESTS, QFault, Request, Requests, accept, judge};
 use jobs::Job;
 use std::alloc::Global;
 use tuple_trace::{Items, NoMemory};
@@ -31,8 +31,8 @@ pub struct Judged {
 /// Judges the requests of a job in order, each by the book that those before it leave. A refused
 /// request changes nothing.
 pub fn judge_all(alloc: Global, job: &Job, requests: &Requests) -> Result<Judged, NoMemory>
-    requires count { length requests.now ≤ 64 }
-    requires changes { All (λ request. length request.changes ≤ 64) requests.now }
+    requires count { length requests.now ≤ MAX_REQUESTS }
+    requires changes { All (λ request. length request.changes ≤ MAX_CHANGES) requests.now }
     ensures { IfOk result (λ done. done ≡ judged (job_view job.now) requests.now) }
 {
     let mut bench = Bench {
@@ -68,10 +68,10 @@ fn next(
     place: u32,
     request: &Request,
 ) -> Result<(), NoMemory>
-    requires few { length request.now.changes ≤ 64 }
-    requires place { place ≤ 64 }
-    requires young { IsYoung (job_view job.now) bench.old.book (place * 64) }
-    ensures young { OnOk result (IsYoung (job_view job.now) bench.new.book (place * 64 + 64)) }
+    requires few { length request.now.changes ≤ MAX_CHANGES }
+    requires place { place ≤ MAX_REQUESTS }
+    requires young { IsYoung (job_view job.now) bench.old.book (place * MAX_CHANGES) }
+    ensures young { OnOk result (IsYoung (job_view job.now) bench.new.book (place * MAX_CHANGES + MAX_CHANGES)) }
     ensures judged { OnOk result ((rest : List RequestIs)
         → judged_on (job_view job.now) bench.old place (request.now ∷ rest)
         ≡ judged_on (job_view job.now) bench.new (place + 1) rest) }

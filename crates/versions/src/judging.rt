@@ -15,7 +15,7 @@ ghost use Rattle.versions.specs.Judging.{is_like as is_like_func, roof_at as roo
 ghost use Rattle.versions.specs.Judging.{version_of as version_of_change};
 ghost use Rattle.versions.specs.Judging.{whole_fault as whole_fault_of};
 
-use crate::{Book, Change, Current, QFault, Request};
+use crate::{Book, Change, Current, MAX_CHANGES, QFault, Request};
 use jobs::{
     Func, Job, Kind, NodeDef, fan_out, fits, is_count, is_fixed, is_free, key_of, out_count,
 };
@@ -26,7 +26,7 @@ use keyed_state::Carry;
 ///
 /// `last_after` is the row of the latest accepted request, 0 before the first. Takes no memory.
 pub fn judge(book: &Book, job: &Job, request: &Request, last_after: u64) -> Result<(), QFault>
-    requires { length request.now.changes ≤ 64 }
+    requires { length request.now.changes ≤ MAX_CHANGES }
     ensures ok { OnOk result (fault_of book.now (job_view job.now) request.now last_after ≡ None) }
     ensures err { IfErr result (λ fault. fault_of book.now (job_view job.now) request.now last_after
         ≡ Some fault) }
@@ -83,9 +83,9 @@ enum Code {
 
 /// The place of the first change with this fault, counted from 0.
 fn first_with(code: Code, book: &[Current], job: &Job, changes: &[Change]) -> Option<u32>
-    requires { length changes.now ≤ 64 }
+    requires { length changes.now ≤ MAX_CHANGES }
     ensures first { result ≡ first_with_in code book.now (job_view job.now) [] changes.now }
-    ensures inside { IfSome result (λ place. place < 64) }
+    ensures inside { IfSome result (λ place. place < MAX_CHANGES) }
 {
     for place in 0..changes.len() {
         if has_fault(code, book, job, &changes[..place], &changes[place]) {

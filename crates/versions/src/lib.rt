@@ -16,6 +16,7 @@ mod fault;
 mod in_order;
 mod judging;
 mod laws;
+mod limits;
 mod request;
 
 pub use book::{Book, Current, accept};
@@ -26,4 +27,5 @@ pub use laws::{
     accepted_requests_are_in_order, accepted_requests_carry_well, accepted_requests_keep_kinds,
     accepted_requests_name_nodes, accepted_requests_stay_accepted,
 };
+pub use limits::{MAX_AFTER, MAX_CHANGES, MAX_REQUESTS};
 pub use request::{Change, Changes, Request, Requests};

@@ -14,7 +14,7 @@ use crate::Worker;
 use crate::outputs::enqueue_outputs;
 use flow_model::{Setup, WorkerAt};
 use lane_core::Lanes;
-use marker_align::{Act, Due};
+use marker_align::{Act, Due, MAX_LANES_IN};
 use operators::{most_outputs, outputs_are_few};
 use sink_journal::Entry;
 use tuple_trace::{Gate, NoMemory};
@@ -144,7 +144,7 @@ impl<L: Lanes> Worker<L> {
     // Closes: notes the end of each lane in, and adds `Last` to each lane out.
     #[inline(never)]
     fn close(&mut self) -> Result<(), NoMemory>
-        requires few { length self.old.ins ≤ 127 }
+        requires few { length self.old.ins ≤ MAX_LANES_IN }
         ensures ok { OnOk result (HasClosed self.old self.new) }
         ensures err { OnErr result (MemoryOnly self.old self.new) }
     {
@@ -164,7 +164,7 @@ impl<L: Lanes> Worker<L> {
 // Returns the place after this one, or place 0 after the last.
 fn next_place(place: u32, places: usize) -> u32
     requires within { place < places }
-    requires few { places ≤ 127 }
+    requires few { places ≤ MAX_LANES_IN }
     ensures { result < places }
 {
     let next = place + 1;

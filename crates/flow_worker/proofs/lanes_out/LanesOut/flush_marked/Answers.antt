@@ -11,7 +11,7 @@ use Rattle.flow_worker.proofs.lanes_out.LanesOut.flush_marked.Goals.{else-place-
 
 pub loop-place-init : goal.loop-place-init
 loop-place-init g c =
-    let few : length c.args.self.now ≤ 128 = let a = c.len.ensures in let b = c.if-len-gt128.false in omega (arith, a, b) in
+    let few : length c.args.self.now ≤ 128 = let a = c.len.ensures in let b = c.if-len-gt-LANE_SET_BITS.false in omega (arith, a, b) in
     record {
       left = first_left Flushed c.waiting_places-left.result c.args.self.now (first_flushed c.waiting_places-left.result c.args.self.now few c.waiting_places-left.ensures);
       steady = c.requires.steady;
