@@ -20,8 +20,9 @@ use Rattle.flow_model.proofs.ElementLemmas.{IsIn, all_of_at, in_of_place}
 use Rattle.flow_model.proofs.JobLemmas.{unentered}
 use Rattle.flow_model.proofs.LaneLemmas.{in_lanes_that, lane_is, sender_source}
 use Rattle.flow_worker.proofs.Pairs.{get_mapped}
-use Rattle.coordinator.specs.Starts.{AreNewOuts, IsNewOut}
-use Rattle.coordinator.specs.Views.{OutIs}
+use Rattle.coordinator.specs.Starts.{AreNewOuts}
+use Rattle.flow_model.specs.NewEndpoint.{IsNewEndpoint}
+use Rattle.lane_core.specs.Lane.{EndpointIs}
 use Rattle.flow_ends.specs.Sides.{feeder_sends}
 use Rattle.actor_tests.specs.Fed.{IsUnled}
 
@@ -36,7 +37,7 @@ unled job node law source a (i, edge, lt, at, (from, to)) =
     cc
 
 -- the endpoint of a lane from a source begins where no edge leads
-fed_end : (job : JobView) (graph : Graph) (out : OutIs) → IsLawful job → IsGraphOf job graph → IsNewOut job graph out → IsIn out.number (lanes_that feeder_sends job) → IsUnled out.origin
+fed_end : (job : JobView) (graph : Graph) (out : EndpointIs) → IsLawful job → IsGraphOf job graph → IsNewEndpoint job graph out → IsIn out.number (lanes_that feeder_sends job) → IsUnled out.origin
 fed_end job graph out law is new i =
     let (lane, at, fed) = in_lanes_that feeder_sends job out.number i in
     let same : new.lane ≡ lane = same_Some new.lane lane (sym new.numbered ∙ at) in
@@ -47,9 +48,9 @@ fed_end job graph out law is new i =
     let here : is_source_node (slice_get job.nodes new.edge.from) ≡ true = subst (λ (e : Edge). is_source_node (slice_get job.nodes e.from) ≡ true) edge source in
     subst IsUnled (sym new.origin_is) (λ a h. unled job new.edge.from law here a ((is a new.edge.from).0 h))
 
-pub all_unled : (job : JobView) (outs : List OutIs) (k : ℕ) (out : OutIs) → IsLawful job → AreNewOuts job outs → slice_get outs k ≡ Some out → IsUnled out.origin
+pub all_unled : (job : JobView) (outs : List EndpointIs) (k : ℕ) (out : EndpointIs) → IsLawful job → AreNewOuts job outs → slice_get outs k ≡ Some out → IsUnled out.origin
 all_unled job outs k out law are g =
-    fed_end job are.graph out law are.graph_is (are.new k out g) (subst (IsIn out.number) are.numbers_are (in_of_place out.number (map (λ (o : OutIs). o.number) outs) k (get_mapped (λ (o : OutIs). o.number) outs k out g)))
+    fed_end job are.graph out law are.graph_is (are.new k out g) (subst (IsIn out.number) are.numbers_are (in_of_place out.number (map (λ (o : EndpointIs). o.number) outs) k (get_mapped (λ (o : EndpointIs). o.number) outs k out g)))
 
 -- the last item of a list
 pub last_place : {A B : Type 0} (f : A → B) (xs ys : List A) (x : A) → ys ≡ xs ++ x ∷ [] → slice_get (map f ys) (length xs) ≡ Some (f x)

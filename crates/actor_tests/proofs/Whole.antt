@@ -12,9 +12,10 @@ use Rattle.flow_worker.specs.Turning.{IsDone, SameEndpoints}
 use Rattle.flow_worker.specs.Worker.{IsWorker, WorkerIs}
 use Rattle.flow_worker.proofs.Pairs.{get_map, get_mapped, length_mapped, pairs_keep}
 use Rattle.coordinator.specs.Feeding.{IsFeeder}
-use Rattle.coordinator.specs.Views.{FeederIs, OutIs, end_of}
+use Rattle.coordinator.specs.Views.{FeederIs}
+use Rattle.lane_core.specs.Lane.{EndpointIs, end_of}
 use Rattle.flow_ends.specs.Crews.{IsCrew}
-use Rattle.flow_ends.specs.Ended.{IsOver, fed_end}
+use Rattle.flow_ends.specs.Ended.{IsOver}
 use Rattle.flow_ends.specs.Sides.{AreMatched, lane_ids, worker_side}
 use Rattle.flow_ends.proofs.Matching.{matched_again}
 use Rattle.flow_ends.proofs.Sorting.{each_got, each_placed}
@@ -42,7 +43,7 @@ still_crew setup begin workers later crew law same = record {
   law = λ k w g. each_got (IsWorker setup begin) later k w law g;
 }
 
-pub over : (setup : SetupView) (rows : List Row) (workers later : List WorkerIs) (outs left : List OutIs) (feeder f : FeederIs) (feeds : List Feed) → IsCrew setup (at_first setup) workers → AreMatched (map worker_side workers) (map fed_end outs) → feeder.outs ≡ outs
+pub over : (setup : SetupView) (rows : List Row) (workers later : List WorkerIs) (outs left : List EndpointIs) (feeder f : FeederIs) (feeds : List Feed) → IsCrew setup (at_first setup) workers → AreMatched (map worker_side workers) outs → feeder.outs ≡ outs
     → Each (IsWorker setup (at_first setup)) later → Each IsDone later → map (λ (w : WorkerIs). w.number) later ≡ map (λ (w : WorkerIs). w.number) workers → map lane_ids later ≡ map lane_ids workers
     → IsFeeder false setup (at_first setup) rows f → f.stopped ≡ true → map end_of f.outs ≡ map end_of feeder.outs → feeds ≡ f.feeds → f.outs ≡ left → IsOver setup (at_first setup) rows later feeds left
 over setup rows workers later outs left feeder f feeds crew matched fed laws done number lanes law stopped endpoints feeds_are outs_are = record {

@@ -15,7 +15,8 @@ use Rattle.flow_model.specs.Lanes.{lane_of}
 use Rattle.flow_model.specs.SetupView.{SetupView}
 use Rattle.flow_model.specs.declared.topology.Lane.{Lane}
 use Rattle.coordinator.specs.Boxes.{AreBoxes}
-use Rattle.coordinator.specs.Views.{BoxesIs, FeederIs, OutIs}
+use Rattle.coordinator.specs.Views.{BoxesIs, FeederIs}
+use Rattle.lane_core.specs.Lane.{EndpointIs}
 use Rattle.coordinator.specs.Feeding.{IsFeeding, IsOut, end_at, fed_lanes, issued_in}
 use Rattle.coordinator.specs.Steps.{IsReached, IsAhead, Steps, fed_item}
 use Rattle.coordinator.specs.declared.feeding.FeedTurn.{FeedTurn}
@@ -74,10 +75,10 @@ module _ (setup : SetupView) (begin : Begin) (xs : List ℕ) (rows : List Row) w
   -- ---- an end changes
 
   -- what is known of each end, where one has changed
-  each_out : (graph : Graph) (feeds : List Feed) (ended : ℕ) (outs : List OutIs) (k : ℕ) (o q : OutIs) → slice_get outs k ≡ Some o
+  each_out : (graph : Graph) (feeds : List Feed) (ended : ℕ) (outs : List EndpointIs) (k : ℕ) (o q : EndpointIs) → slice_get outs k ≡ Some o
       → ((lane : Lane) → slice_get (fed_lanes setup.job) k ≡ Some lane → IsOut setup begin rows graph feeds ended k lane q)
-      → ((j : ℕ) (lane : Lane) (out : OutIs) → k ≢ j → slice_get (fed_lanes setup.job) j ≡ Some lane → slice_get outs j ≡ Some out → IsOut setup begin rows graph feeds ended j lane out)
-      → (j : ℕ) (lane : Lane) (out : OutIs) → slice_get (fed_lanes setup.job) j ≡ Some lane → slice_get (set outs k q) j ≡ Some out → IsOut setup begin rows graph feeds ended j lane out
+      → ((j : ℕ) (lane : Lane) (out : EndpointIs) → k ≢ j → slice_get (fed_lanes setup.job) j ≡ Some lane → slice_get outs j ≡ Some out → IsOut setup begin rows graph feeds ended j lane out)
+      → (j : ℕ) (lane : Lane) (out : EndpointIs) → slice_get (fed_lanes setup.job) j ≡ Some lane → slice_get (set outs k q) j ≡ Some out → IsOut setup begin rows graph feeds ended j lane out
   each_out graph feeds ended outs k o q h here other j lane out a b = go (here_or_not k j)
     where
       go : (k ≡ j) ⊎ (k ≢ j) → IsOut setup begin rows graph feeds ended j lane out
@@ -90,9 +91,9 @@ module _ (setup : SetupView) (begin : Begin) (xs : List ℕ) (rows : List Row) w
 
   -- ---- a row
 
-  pub law_feed : (f : FeederIs) (row : Row) (k : ℕ) (found : Lane) (o : OutIs) → IsFeeding setup begin xs rows f → f.stopped ≡ false → IsAhead xs (length rows) f.row f.issued → f.row < length rows
+  pub law_feed : (f : FeederIs) (row : Row) (k : ℕ) (found : Lane) (o : EndpointIs) → IsFeeding setup begin xs rows f → f.stopped ≡ false → IsAhead xs (length rows) f.row f.issued → f.row < length rows
       → slice_get rows f.row ≡ Some row → lane_of setup.job None row.source 0 row.tuple ≡ Some found → slice_get (fed_lanes setup.job) k ≡ Some found → slice_get f.outs k ≡ Some o
-      → IsFeeding setup begin xs rows (record f { feeds = f.feeds ++ Fed (suc f.row) ∷ []; row = suc f.row; outs = set f.outs k (record o { sent = o.sent ++ fed_item f.issued row ∷ [] }); held = None })
+      → IsFeeding setup begin xs rows (record f { feeds = f.feeds ++ Fed (suc f.row) ∷ []; row = suc f.row; outs = set f.outs k (record o { items = o.items ++ fed_item f.issued row ∷ [] }); held = None })
   law_feed f row k found o law s undue lt g by l h = record {
     row_begun = law.row_begun;
     turned_begun = law.turned_begun;
@@ -105,11 +106,11 @@ module _ (setup : SetupView) (begin : Begin) (xs : List ℕ) (rows : List Row) w
         (rest_feed xs (length rows) f.row f.issued lt (later_behind xs 0 (length rows) f.row f.issued law.in_order undue));
     stopped = λ t. absurd (cc);
     places_are = law.places_are;
-    outs_are = length_set f.outs k (record o { sent = o.sent ++ fed_item f.issued row ∷ [] }) ∙ law.outs_are;
-    outs = each_out law.graph (f.feeds ++ Fed (suc f.row) ∷ []) f.ended f.outs k o (record o { sent = o.sent ++ fed_item f.issued row ∷ [] }) h
-        (λ lane a. subst (λ x. IsOut setup begin rows law.graph (f.feeds ++ Fed (suc f.row) ∷ []) f.ended k x (record o { sent = o.sent ++ fed_item f.issued row ∷ [] })) (same_some found lane (sym l ∙ a)) (here (law.outs k found o l h)))
+    outs_are = length_set f.outs k (record o { items = o.items ++ fed_item f.issued row ∷ [] }) ∙ law.outs_are;
+    outs = each_out law.graph (f.feeds ++ Fed (suc f.row) ∷ []) f.ended f.outs k o (record o { items = o.items ++ fed_item f.issued row ∷ [] }) h
+        (λ lane a. subst (λ x. IsOut setup begin rows law.graph (f.feeds ++ Fed (suc f.row) ∷ []) f.ended k x (record o { items = o.items ++ fed_item f.issued row ∷ [] })) (same_some found lane (sym l ∙ a)) (here (law.outs k found o l h)))
         (λ j lane out n a b. elsewhere j lane out (λ e. n (one_place setup.job k j lane (l ∙ ap Some e) a)) (law.outs j lane out a b));
-    ended_within = (let e = length_set f.outs k (record o { sent = o.sent ++ fed_item f.issued row ∷ [] }) in let w = law.ended_within in omega (arith, e, w));
+    ended_within = (let e = length_set f.outs k (record o { items = o.items ++ fed_item f.issued row ∷ [] }) in let w = law.ended_within in omega (arith, e, w));
     ending = λ p. let e = (law.ending p).0 in absurd (omega (arith, e, lt));
     all_ended = λ t. absurd (cc);
     boxes = law.boxes;
@@ -122,9 +123,9 @@ module _ (setup : SetupView) (begin : Begin) (xs : List ℕ) (rows : List Row) w
       none_yet : (j : ℕ) → end_at j f.ended ≡ []
       none_yet j = no_end j f.ended (omega (arith, open_yet))
 
-      here : IsOut setup begin rows law.graph f.feeds f.ended k found o → IsOut setup begin rows law.graph (f.feeds ++ Fed (suc f.row) ∷ []) f.ended k found (record o { sent = o.sent ++ fed_item f.issued row ∷ [] })
+      here : IsOut setup begin rows law.graph f.feeds f.ended k found o → IsOut setup begin rows law.graph (f.feeds ++ Fed (suc f.row) ∷ []) f.ended k found (record o { items = o.items ++ fed_item f.issued row ∷ [] })
       here w =
-          let was : o.sent ≡ fed setup.job rows begin.turned found f.feeds = w.sent_is ∙ (ap (λ l. fed setup.job rows begin.turned found f.feeds ++ l) (none_yet k) ∙ append-nil (fed setup.job rows begin.turned found f.feeds)) in
+          let was : o.items ≡ fed setup.job rows begin.turned found f.feeds = w.sent_is ∙ (ap (λ l. fed setup.job rows begin.turned found f.feeds ++ l) (none_yet k) ∙ append-nil (fed setup.job rows begin.turned found f.feeds)) in
           let more : fed setup.job rows begin.turned found (f.feeds ++ Fed (suc f.row) ∷ []) ≡ fed setup.job rows begin.turned found f.feeds ++ fed_item f.issued row ∷ [] =
           fed_more setup.job rows begin.turned found f.feeds (Fed (suc f.row))
           ∙ ap (λ l. fed setup.job rows begin.turned found f.feeds ++ l) (row_here setup.job rows (begin.turned + issued_in f.feeds) f.row row found g by ∙ ap (λ n. fed_item n row ∷ []) (sym law.counted)) in
@@ -136,7 +137,7 @@ module _ (setup : SetupView) (begin : Begin) (xs : List ℕ) (rows : List Row) w
             sent_is = ap (λ l. l ++ fed_item f.issued row ∷ []) was ∙ (sym more ∙ (sym (append-nil (fed setup.job rows begin.turned found (f.feeds ++ Fed (suc f.row) ∷ []))) ∙ ap (λ l. fed setup.job rows begin.turned found (f.feeds ++ Fed (suc f.row) ∷ []) ++ l) (sym (none_yet k))));
           }
 
-      elsewhere : (j : ℕ) (lane : Lane) (out : OutIs) → (found ≡ lane → ⊥) → IsOut setup begin rows law.graph f.feeds f.ended j lane out → IsOut setup begin rows law.graph (f.feeds ++ Fed (suc f.row) ∷ []) f.ended j lane out
+      elsewhere : (j : ℕ) (lane : Lane) (out : EndpointIs) → (found ≡ lane → ⊥) → IsOut setup begin rows law.graph f.feeds f.ended j lane out → IsOut setup begin rows law.graph (f.feeds ++ Fed (suc f.row) ∷ []) f.ended j lane out
       elsewhere j lane out n w = record {
         edge = w.edge;
         numbered = w.numbered;
@@ -147,8 +148,8 @@ module _ (setup : SetupView) (begin : Begin) (xs : List ℕ) (rows : List Row) w
 
   -- ---- a lane's end
 
-  pub law_end : (f : FeederIs) (o : OutIs) → IsFeeding setup begin xs rows f → f.stopped ≡ false → IsAhead xs (length rows) f.row f.issued → length rows ≤ f.row → slice_get f.outs f.ended ≡ Some o
-      → IsFeeding setup begin xs rows (record f { outs = set f.outs f.ended (record o { sent = o.sent ++ Last ∷ [] }); ended = suc f.ended })
+  pub law_end : (f : FeederIs) (o : EndpointIs) → IsFeeding setup begin xs rows f → f.stopped ≡ false → IsAhead xs (length rows) f.row f.issued → length rows ≤ f.row → slice_get f.outs f.ended ≡ Some o
+      → IsFeeding setup begin xs rows (record f { outs = set f.outs f.ended (record o { items = o.items ++ Last ∷ [] }); ended = suc f.ended })
   law_end f o law s undue le h = record {
     row_begun = law.row_begun;
     turned_begun = law.turned_begun;
@@ -160,11 +161,11 @@ module _ (setup : SetupView) (begin : Begin) (xs : List ℕ) (rows : List Row) w
     going = law.going;
     stopped = law.stopped;
     places_are = law.places_are;
-    outs_are = length_set f.outs f.ended (record o { sent = o.sent ++ Last ∷ [] }) ∙ law.outs_are;
-    outs = each_out law.graph f.feeds (suc f.ended) f.outs f.ended o (record o { sent = o.sent ++ Last ∷ [] }) h
+    outs_are = length_set f.outs f.ended (record o { items = o.items ++ Last ∷ [] }) ∙ law.outs_are;
+    outs = each_out law.graph f.feeds (suc f.ended) f.outs f.ended o (record o { items = o.items ++ Last ∷ [] }) h
         (λ lane a. here lane (law.outs f.ended lane o a h))
         (λ j lane out n a b. elsewhere j lane out n (law.outs j lane out a b));
-    ended_within = (let e = length_set f.outs f.ended (record o { sent = o.sent ++ Last ∷ [] }) in let w = slice_get_within f.outs f.ended o h in omega (arith, e, w));
+    ended_within = (let e = length_set f.outs f.ended (record o { items = o.items ++ Last ∷ [] }) in let w = slice_get_within f.outs f.ended o h in omega (arith, e, w));
     ending = λ p. (le, all_issued xs (length rows) f.row f.issued le law.issued_within undue);
     all_ended = λ t. absurd (cc);
     boxes = law.boxes;
@@ -180,9 +181,9 @@ module _ (setup : SetupView) (begin : Begin) (xs : List ℕ) (rows : List Row) w
           above : (j e : ℕ) → (e ≡ j → ⊥) → e ≤ j → suc e ≤ j
           above j e n ge = omega (arith, n, ge)
 
-      here : (lane : Lane) → IsOut setup begin rows law.graph f.feeds f.ended f.ended lane o → IsOut setup begin rows law.graph f.feeds (suc f.ended) f.ended lane (record o { sent = o.sent ++ Last ∷ [] })
+      here : (lane : Lane) → IsOut setup begin rows law.graph f.feeds f.ended f.ended lane o → IsOut setup begin rows law.graph f.feeds (suc f.ended) f.ended lane (record o { items = o.items ++ Last ∷ [] })
       here lane w =
-          let was : o.sent ≡ fed setup.job rows begin.turned lane f.feeds = w.sent_is ∙ (ap (λ l. fed setup.job rows begin.turned lane f.feeds ++ l) (no_end f.ended f.ended (omega arith)) ∙ append-nil (fed setup.job rows begin.turned lane f.feeds)) in
+          let was : o.items ≡ fed setup.job rows begin.turned lane f.feeds = w.sent_is ∙ (ap (λ l. fed setup.job rows begin.turned lane f.feeds ++ l) (no_end f.ended f.ended (omega arith)) ∙ append-nil (fed setup.job rows begin.turned lane f.feeds)) in
           record {
             edge = w.edge;
             numbered = w.numbered;
@@ -191,7 +192,7 @@ module _ (setup : SetupView) (begin : Begin) (xs : List ℕ) (rows : List Row) w
             sent_is = ap (λ l. l ++ Last ∷ []) was ∙ ap (λ l. fed setup.job rows begin.turned lane f.feeds ++ l) (sym (an_end f.ended (suc f.ended) (omega arith)));
           }
 
-      elsewhere : (j : ℕ) (lane : Lane) (out : OutIs) → f.ended ≢ j → IsOut setup begin rows law.graph f.feeds f.ended j lane out → IsOut setup begin rows law.graph f.feeds (suc f.ended) j lane out
+      elsewhere : (j : ℕ) (lane : Lane) (out : EndpointIs) → f.ended ≢ j → IsOut setup begin rows law.graph f.feeds f.ended j lane out → IsOut setup begin rows law.graph f.feeds (suc f.ended) j lane out
       elsewhere j lane out n w = record {
         edge = w.edge;
         numbered = w.numbered;
@@ -260,7 +261,7 @@ module _ (setup : SetupView) (begin : Begin) (xs : List ℕ) (rows : List Row) w
         subst (λ (z : Tuple). record z { issued = f.issued } ≡ fed_tuple f.issued other) t' (ap (fed_tuple f.issued) r);
   }
 
-  pub law_full : (f : FeederIs) (k n : ℕ) (o : OutIs) → IsFeeding setup begin xs rows f → slice_get f.outs k ≡ Some o → IsFeeding setup begin xs rows (record f { outs = set f.outs k (record o { full = n }) })
+  pub law_full : (f : FeederIs) (k n : ℕ) (o : EndpointIs) → IsFeeding setup begin xs rows f → slice_get f.outs k ≡ Some o → IsFeeding setup begin xs rows (record f { outs = set f.outs k (record o { stalls = n }) })
   law_full f k n o law h = record {
     row_begun = law.row_begun;
     turned_begun = law.turned_begun;
@@ -272,13 +273,13 @@ module _ (setup : SetupView) (begin : Begin) (xs : List ℕ) (rows : List Row) w
     going = law.going;
     stopped = law.stopped;
     places_are = law.places_are;
-    outs_are = length_set f.outs k (record o { full = n }) ∙ law.outs_are;
-    outs = each_out law.graph f.feeds f.ended f.outs k o (record o { full = n }) h
+    outs_are = length_set f.outs k (record o { stalls = n }) ∙ law.outs_are;
+    outs = each_out law.graph f.feeds f.ended f.outs k o (record o { stalls = n }) h
         (λ lane a. let w : IsOut setup begin rows law.graph f.feeds f.ended k lane o = law.outs k lane o a h in record { edge = w.edge; numbered = w.numbered; edge_is = w.edge_is; origin_is = w.origin_is; sent_is = w.sent_is })
         (λ j lane out m a b. law.outs j lane out a b);
-    ended_within = (let e = length_set f.outs k (record o { full = n }) in let w = law.ended_within in omega (arith, e, w));
+    ended_within = (let e = length_set f.outs k (record o { stalls = n }) in let w = law.ended_within in omega (arith, e, w));
     ending = law.ending;
-    all_ended = λ t. (law.all_ended t ∙ sym (length_set f.outs k (record o { full = n })));
+    all_ended = λ t. (law.all_ended t ∙ sym (length_set f.outs k (record o { stalls = n })));
     boxes = law.boxes;
     held = law.held;
   }
@@ -321,20 +322,20 @@ module _ (setup : SetupView) (begin : Begin) (xs : List ℕ) (rows : List Row) w
       let one : old.row + 1 ≡ suc old.row = omega arith in
       let row : Row = h.3.0 in
       let k : ℕ = h.3.1 in
-      let o : OutIs = h.3.2 in
-      let e : new ≡ record old { feeds = old.feeds ++ Fed (suc old.row) ∷ []; row = suc old.row; outs = set old.outs k (record o { sent = o.sent ++ fed_item old.issued row ∷ [] }); held = None } =
-      h.3.6 ∙ ap (λ r. record old { feeds = old.feeds ++ Fed r ∷ []; row = r; outs = set old.outs k (record o { sent = o.sent ++ fed_item old.issued row ∷ [] }); held = None }) one in
+      let o : EndpointIs = h.3.2 in
+      let e : new ≡ record old { feeds = old.feeds ++ Fed (suc old.row) ∷ []; row = suc old.row; outs = set old.outs k (record o { items = o.items ++ fed_item old.issued row ∷ [] }); held = None } =
+      h.3.6 ∙ ap (λ r. record old { feeds = old.feeds ++ Fed r ∷ []; row = r; outs = set old.outs k (record o { items = o.items ++ fed_item old.issued row ∷ [] }); held = None }) one in
       subst (IsFeeding setup begin xs rows) (sym e) (law_feed old row k h.3.4.0 o law h.0 h.1 h.2 h.3.3 h.3.4.1 h.3.4.2 h.3.5)
   keeps old new Idle (inr (inr (inl h))) law =
-      let o : OutIs = h.3.2 in
-      subst (IsFeeding setup begin xs rows) (sym h.3.8) (law_held (record old { outs = set old.outs h.3.1 (record o { full = h.3.3 }) }) h.3.0 (law_full old h.3.1 h.3.3 o law h.3.6) h.3.4)
+      let o : EndpointIs = h.3.2 in
+      subst (IsFeeding setup begin xs rows) (sym h.3.8) (law_held (record old { outs = set old.outs h.3.1 (record o { stalls = h.3.3 }) }) h.3.0 (law_full old h.3.1 h.3.3 o law h.3.6) h.3.4)
   keeps old new Done (inr (inr (inl h))) law = absurd h.3
   keeps old new NoMemory (inr (inr (inl h))) law = subst (IsFeeding setup begin xs rows) (sym h.3) law
   keeps old new Moved (inr (inr (inr h))) law =
       let one : old.ended + 1 ≡ suc old.ended = omega arith in
-      let o : OutIs = h.3.0 in
-      let e : new ≡ record old { outs = set old.outs old.ended (record o { sent = o.sent ++ Last ∷ [] }); ended = suc old.ended } =
-      h.3.2 ∙ ap (λ r. record old { outs = set old.outs old.ended (record o { sent = o.sent ++ Last ∷ [] }); ended = r }) one in
+      let o : EndpointIs = h.3.0 in
+      let e : new ≡ record old { outs = set old.outs old.ended (record o { items = o.items ++ Last ∷ [] }); ended = suc old.ended } =
+      h.3.2 ∙ ap (λ r. record old { outs = set old.outs old.ended (record o { items = o.items ++ Last ∷ [] }); ended = r }) one in
       subst (IsFeeding setup begin xs rows) (sym e) (law_end old o law h.0 h.1 h.2 h.3.1)
   keeps old new Idle (inr (inr (inr h))) law = subst (IsFeeding setup begin xs rows) (sym h.3.4) (law_full old old.ended h.3.1 h.3.0 law h.3.2)
   keeps old new Done (inr (inr (inr h))) law = subst (IsFeeding setup begin xs rows) (sym h.3.1) (law_stop old law h.0 h.1 h.2 h.3.0)

@@ -28,7 +28,8 @@ use Rattle.flow_model.proofs.ElementLemmas.{IsIn, all_of_at, in_filter, in_of_pl
 use Rattle.flow_model.proofs.JobLemmas.{unentered}
 use Rattle.flow_model.proofs.LaneLemmas.{LaneIs, lane_is}
 use Rattle.flow_model.proofs.LaneLemmas.{sender_source}
-use Rattle.coordinator.specs.Views.{FeederIs, OutIs}
+use Rattle.coordinator.specs.Views.{FeederIs}
+use Rattle.lane_core.specs.Lane.{EndpointIs}
 use Rattle.coordinator.specs.Feeding.{IsOut, fed_lanes}
 use Rattle.coordinator.specs.Steps.{Feeds}
 use Rattle.coordinator.specs.Turning.{IsLaneOfRow}
@@ -69,9 +70,9 @@ agrees_last (Mark r c) = tt
 agrees_last Last = tt
 
 -- a tuple that was nowhere yet may follow whatever was sent
-pub may_feed : (setup : SetupView) (begin : Begin) (rows : List Row) (graph : Graph) (feeds : List Feed) (ended place : ℕ) (lane : Lane) (out : OutIs) (t : Tuple) → IsLawful setup.job → IsGraphOf setup.job graph
-    → slice_get (fed_lanes setup.job) place ≡ Some lane → IsOut setup begin rows graph feeds ended place lane out → t.trace ≡ [] → MayFollow out.origin out.sent (Carry t)
-may_feed setup begin rows graph feeds ended place lane out t law is g o e = (way, all_of_at (λ x. Agrees x (Carry t)) out.sent (λ x i. agrees_new t x e))
+pub may_feed : (setup : SetupView) (begin : Begin) (rows : List Row) (graph : Graph) (feeds : List Feed) (ended place : ℕ) (lane : Lane) (out : EndpointIs) (t : Tuple) → IsLawful setup.job → IsGraphOf setup.job graph
+    → slice_get (fed_lanes setup.job) place ≡ Some lane → IsOut setup begin rows graph feeds ended place lane out → t.trace ≡ [] → MayFollow out.origin out.items (Carry t)
+may_feed setup begin rows graph feeds ended place lane out t law is g o e = (way, all_of_at (λ x. Agrees x (Carry t)) out.items (λ x i. agrees_new t x e))
   where
     none : (a : ℕ) → ¬ IsEdge graph a o.edge.from
     none a h = unled setup.job o.edge.from law (from_source setup.job place out.number lane o.edge g o.numbered o.edge_is) a ((is a o.edge.from).0 h)
@@ -83,13 +84,13 @@ may_feed setup begin rows graph feeds ended place lane out t law is g o e = (way
     way = rw o.origin_is (along (map (λ (v : Visit). v.node) t.trace) (ap (map (λ (v : Visit). v.node)) e))
 
 -- and so may the end
-pub may_end : (out : OutIs) → MayFollow out.origin out.sent Last
-may_end out = (tt, all_of_at (λ x. Agrees x Last) out.sent (λ x i. agrees_last x))
+pub may_end : (out : EndpointIs) → MayFollow out.origin out.items Last
+may_end out = (tt, all_of_at (λ x. Agrees x Last) out.items (λ x i. agrees_last x))
 
 -- ---- the next state
 
-pub feed_idle : (job : JobView) (rows : List Row) (v old : FeederIs) (row : Row) (k : ℕ) (t back : Tuple) (outs : List OutIs) (fs : List Feed) → v ≡ old → fs ≡ v.feeds → slice_get rows v.row ≡ Some row → IsLaneOfRow job row k
-    → t ≡ fed_tuple v.issued row → back ≡ t → (o : OutIs) × (n : ℕ) × (slice_get v.outs k ≡ Some o) × (outs ≡ slice_set v.outs k (record o { full = n })) × Rose o.full n
+pub feed_idle : (job : JobView) (rows : List Row) (v old : FeederIs) (row : Row) (k : ℕ) (t back : Tuple) (outs : List EndpointIs) (fs : List Feed) → v ≡ old → fs ≡ v.feeds → slice_get rows v.row ≡ Some row → IsLaneOfRow job row k
+    → t ≡ fed_tuple v.issued row → back ≡ t → (o : EndpointIs) × (n : ℕ) × (slice_get v.outs k ≡ Some o) × (outs ≡ slice_set v.outs k (record o { stalls = n })) × Rose o.stalls n
     → Feeds job rows old (record v { feeds = fs; outs = outs; held = Some back }) Idle
 feed_idle job rows v old row k t back outs fs e f g is same kept (o, n, at, set, rose) =
     subst (λ s. Feeds job rows s (record v { feeds = fs; outs = outs; held = Some back }) Idle) e (
@@ -102,11 +103,11 @@ feed_idle job rows v old row k t back outs fs e f g is same kept (o, n, at, set,
       at,
       rose,
       ap (λ x. record v { feeds = x; outs = outs; held = Some back }) f ∙ (ap (λ x. record v { outs = x; held = Some back }) set
-          ∙ ap (λ (x : Tuple). record v { outs = slice_set v.outs k (record o { full = n }); held = Some x }) (kept ∙ same)),
+          ∙ ap (λ (x : Tuple). record v { outs = slice_set v.outs k (record o { stalls = n }); held = Some x }) (kept ∙ same)),
     )
 
-pub feed_moved : (job : JobView) (rows : List Row) (v old : FeederIs) (row : Row) (k : ℕ) (t : Tuple) (outs : List OutIs) (fs : List Feed) (h : Option Tuple) → v ≡ old → fs ≡ v.feeds ++ Fed (v.row + 1) ∷ [] → slice_get rows v.row ≡ Some row
-    → IsLaneOfRow job row k → t ≡ fed_tuple v.issued row → h ≡ None → (o : OutIs) × (slice_get v.outs k ≡ Some o) × (outs ≡ slice_set v.outs k (record o { sent = o.sent ++ Carry t ∷ [] }))
+pub feed_moved : (job : JobView) (rows : List Row) (v old : FeederIs) (row : Row) (k : ℕ) (t : Tuple) (outs : List EndpointIs) (fs : List Feed) (h : Option Tuple) → v ≡ old → fs ≡ v.feeds ++ Fed (v.row + 1) ∷ [] → slice_get rows v.row ≡ Some row
+    → IsLaneOfRow job row k → t ≡ fed_tuple v.issued row → h ≡ None → (o : EndpointIs) × (slice_get v.outs k ≡ Some o) × (outs ≡ slice_set v.outs k (record o { items = o.items ++ Carry t ∷ [] }))
     → Feeds job rows old (record v { feeds = fs; row = v.row + 1; outs = outs; held = h }) Moved
 feed_moved job rows v old row k t outs fs h e f g is same none (o, at, set) =
     subst (λ s. Feeds job rows s (record v { feeds = fs; row = v.row + 1; outs = outs; held = h }) Moved) e (
@@ -118,11 +119,11 @@ feed_moved job rows v old row k t outs fs h e f g is same none (o, at, set) =
       at,
       ap (λ x. record v { feeds = x; row = v.row + 1; outs = outs; held = h }) f
           ∙ (ap (λ x. record v { feeds = v.feeds ++ Fed (v.row + 1) ∷ []; row = v.row + 1; outs = x; held = h })
-          (set ∙ ap (λ (s : Tuple). slice_set v.outs k (record o { sent = o.sent ++ Carry s ∷ [] })) same)
+          (set ∙ ap (λ (s : Tuple). slice_set v.outs k (record o { items = o.items ++ Carry s ∷ [] })) same)
           ∙ ap (λ (x : Option Tuple). record v {
             feeds = v.feeds ++ Fed (v.row + 1) ∷ [];
             row = v.row + 1;
-            outs = slice_set v.outs k (record o { sent = o.sent ++ Carry (fed_tuple v.issued row) ∷ [] });
+            outs = slice_set v.outs k (record o { items = o.items ++ Carry (fed_tuple v.issued row) ∷ [] });
             held = x;
           }) none),
     )

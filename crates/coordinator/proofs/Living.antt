@@ -18,7 +18,8 @@ use Rattle.coordinator.specs.Feeding.{IsFeeder, IsFeeding, issue_rows, waits}
 use Rattle.coordinator.specs.Live.{AreHeard, AreNumbered, Hears, IsFromFirst, fed_in, released_rows}
 use Rattle.coordinator.specs.Steps.{IsAhead, IsReached, Steps}
 use Rattle.coordinator.specs.Turning.{IsTurn, Waits}
-use Rattle.coordinator.specs.Views.{BoxesIs, FeederIs, OutIs}
+use Rattle.coordinator.specs.Views.{BoxesIs, FeederIs}
+use Rattle.lane_core.specs.Lane.{EndpointIs}
 use Rattle.coordinator.specs.declared.feeding.FeedTurn.{FeedTurn}
 use Rattle.coordinator.specs.declared.feeding.FeedTurn.TheVariants.{Idle}
 use Rattle.coordinator.proofs.ListLemmas.{get_set_same}
@@ -102,7 +103,7 @@ live_waits setup rows released old new lo ln first (inl h) hears = let e = h.2 i
 live_waits setup rows released old new lo ln first (inr (inl h)) hears =
     (ap (λ f. f.feeds) h.2.4, inl (due_now setup rows released old new Idle lo ln first (inr (inl h)) hears h.1, h.2.0))
 live_waits setup rows released old new lo ln first (inr (inr (inl h))) hears =
-    let o : OutIs = h.3.2 in
+    let o : EndpointIs = h.3.2 in
     let s : Steps setup (released_rows released (length rows) (afters setup.requests)) rows old new Idle = inr (inr (inl h)) in (
       ap (λ f. f.feeds) h.3.8,
       inr (inl (
@@ -112,18 +113,18 @@ live_waits setup rows released old new lo ln first (inr (inr (inl h))) hears =
         none_due setup rows released old new Idle lo ln first s hears h.1,
         has_heard setup rows released old new Idle lo ln first s hears h.1,
         h.3.5,
-        (o, record o { full = h.3.3 }, h.3.6, ap (λ f. slice_get f.outs h.3.1) h.3.8 ∙ get_set_same old.outs h.3.1 o (record o { full = h.3.3 }) h.3.6, h.3.7),
+        (o, record o { stalls = h.3.3 }, h.3.6, ap (λ f. slice_get f.outs h.3.1) h.3.8 ∙ get_set_same old.outs h.3.1 o (record o { stalls = h.3.3 }) h.3.6, h.3.7),
       )),
     )
 live_waits setup rows released old new lo ln first (inr (inr (inr h))) hears =
-    let o : OutIs = h.3.0 in
+    let o : EndpointIs = h.3.0 in
     let s : Steps setup (released_rows released (length rows) (afters setup.requests)) rows old new Idle = inr (inr (inr h)) in (
       ap (λ f. f.feeds) h.3.4,
       inr (inr (
         none_due setup rows released old new Idle lo ln first s hears h.1,
         h.2,
         slice_get_within old.outs old.ended o h.3.2,
-        (o, record o { full = h.3.1 }, h.3.2, ap (λ f. slice_get f.outs old.ended) h.3.4 ∙ get_set_same old.outs old.ended o (record o { full = h.3.1 }) h.3.2, h.3.3),
+        (o, record o { stalls = h.3.1 }, h.3.2, ap (λ f. slice_get f.outs old.ended) h.3.4 ∙ get_set_same old.outs old.ended o (record o { stalls = h.3.1 }) h.3.2, h.3.3),
       )),
     )
 
@@ -162,7 +163,7 @@ heard_after setup begin rows released old new turn lo ln first s hears law heard
 
 -- ---- a new feeder
 
-pub new_first : (fs : List Feed) (outs : List OutIs) (b : BoxesIs) (places : List ℕ) (row turned : ℕ) → fs ≡ [] → row ≡ 0 → turned ≡ 0 → IsFromFirst (new_feeder fs outs b places row turned)
+pub new_first : (fs : List Feed) (outs : List EndpointIs) (b : BoxesIs) (places : List ℕ) (row turned : ℕ) → fs ≡ [] → row ≡ 0 → turned ≡ 0 → IsFromFirst (new_feeder fs outs b places row turned)
 new_first fs outs b places row turned none no_row none_turned = record {
   row_first = no_row;
   turned_first = none_turned;
@@ -174,7 +175,7 @@ nothing_held : (fs : List Feed) (r : ℕ) → fs ≡ [] → Contains fs (Issued 
 nothing_held fs r none c = subst (IsIn (Issued r)) none (in_of_contains (Issued r) fs c)
 
 -- the law of a new feeder, whose requests all wait for the last row
-pub live_first : (setup : SetupView) (rows : List Row) (loads : List ℕ) (fs : List Feed) (outs : List OutIs) (b : BoxesIs) (places : List ℕ) (row turned : ℕ) → fs ≡ [] → row ≡ 0 → turned ≡ 0
+pub live_first : (setup : SetupView) (rows : List Row) (loads : List ℕ) (fs : List Feed) (outs : List EndpointIs) (b : BoxesIs) (places : List ℕ) (row turned : ℕ) → fs ≡ [] → row ≡ 0 → turned ≡ 0
     → IsFeeding setup (at_first setup) (replicate (length setup.requests) (length rows)) rows (new_feeder fs outs b places row turned)
     → IsFeeder true setup (at_first setup) rows (record (new_feeder fs outs b places row turned) { loads = loads })
 live_first setup rows loads fs outs b places row turned none no_row none_turned law =

@@ -15,7 +15,8 @@ use Rattle.flow_model.specs.Requests.{afters}
 use Rattle.flow_model.specs.Run.{Ran, put_by}
 use Rattle.flow_model.proofs.ElementLemmas.{IsIn, contains_of_in, in_of_contains}
 use Rattle.flow_model.proofs.WorkerLemmas.{item_at}
-use Rattle.coordinator.specs.Views.{FeederIs, OutIs}
+use Rattle.coordinator.specs.Views.{FeederIs}
+use Rattle.lane_core.specs.Lane.{EndpointIs}
 use Rattle.coordinator.specs.Feeding.{IsFeeder, IsFeeding, IsOut, fed_lanes}
 use Rattle.coordinator.specs.Due.{IsDue, IsReleased}
 use Rattle.coordinator.specs.Meaning.{HasSentAll, SendsTheFeed}
@@ -91,7 +92,7 @@ recorded setup begin xs rows f law = (
 -- ---- what the ends have sent
 
 -- what the law says of an end, with its lane
-at_place : (setup : SetupView) (begin : Begin) (xs : List ℕ) (rows : List Row) (f : FeederIs) (law : IsFeeding setup begin xs rows f) (k : ℕ) (out : OutIs) → slice_get f.outs k ≡ Some out
+at_place : (setup : SetupView) (begin : Begin) (xs : List ℕ) (rows : List Row) (f : FeederIs) (law : IsFeeding setup begin xs rows f) (k : ℕ) (out : EndpointIs) → slice_get f.outs k ≡ Some out
     → (lane : Lane) × (slice_get (fed_lanes setup.job) k ≡ Some lane) × IsOut setup begin rows law.graph f.feeds f.ended k lane out
 at_place setup begin xs rows f law k out h =
     let lt = slice_get_within f.outs k out h in
@@ -103,8 +104,8 @@ sends setup begin xs rows f law k out h =
     let at = at_place setup begin xs rows f law k out h in
     (at.0, at.2.numbered, pick at.0 (nat_lt k f.ended) at.2.sent_is)
   where
-    pick : (lane : Lane) (b : Bool) → out.sent ≡ fed setup.job rows begin.turned lane f.feeds ++ cond b (Last ∷ []) []
-        → (out.sent ≡ fed setup.job rows begin.turned lane f.feeds) ⊎ (out.sent ≡ fed setup.job rows begin.turned lane f.feeds ++ Last ∷ [])
+    pick : (lane : Lane) (b : Bool) → out.items ≡ fed setup.job rows begin.turned lane f.feeds ++ cond b (Last ∷ []) []
+        → (out.items ≡ fed setup.job rows begin.turned lane f.feeds) ⊎ (out.items ≡ fed setup.job rows begin.turned lane f.feeds ++ Last ∷ [])
     pick lane true e = inr e
     pick lane false e = inl (e ∙ append-nil (fed setup.job rows begin.turned lane f.feeds))
 
@@ -115,11 +116,11 @@ sent_all setup begin xs rows f law s k out h =
     (at.0, at.2.numbered, at.2.sent_is ∙ ap (λ l. fed setup.job rows begin.turned at.0 f.feeds ++ l) (an_end k f.ended (omega (arith, lt, law.all_ended s))))
 
 pub puts : (setup : SetupView) (begin : Begin) (xs : List ℕ) (rows : List Row) (f : FeederIs) (ran : Ran) → IsFeeding setup begin xs rows f → f.stopped ≡ true → ran.setup ≡ setup → ran.feeds ≡ f.feeds
-    → (k : ℕ) (out : OutIs) → slice_get f.outs k ≡ Some out → (lane : Lane) × (slice_get (lanes setup.job) out.number ≡ Some lane) × (put_by begin rows ran lane lane.sender ≡ Some out.sent)
+    → (k : ℕ) (out : EndpointIs) → slice_get f.outs k ≡ Some out → (lane : Lane) × (slice_get (lanes setup.job) out.number ≡ Some lane) × (put_by begin rows ran lane lane.sender ≡ Some out.items)
 puts setup begin xs rows f ran law s e fs k out h =
     let at = at_place setup begin xs rows f law k out h in
     let lt = slice_get_within f.outs k out h in
-    let sent : out.sent ≡ fed setup.job rows begin.turned at.0 f.feeds ++ Last ∷ [] =
+    let sent : out.items ≡ fed setup.job rows begin.turned at.0 f.feeds ++ Last ∷ [] =
     at.2.sent_is ∙ ap (λ l. fed setup.job rows begin.turned at.0 f.feeds ++ l) (an_end k f.ended (omega (arith, lt, law.all_ended s))) in (
       at.0,
       at.2.numbered,

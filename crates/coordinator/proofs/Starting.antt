@@ -13,15 +13,17 @@ use Rattle.flow_model.specs.SetupView.{SetupView}
 use Rattle.flow_model.specs.declared.topology.Lane.{Lane}
 use Rattle.flow_model.proofs.ElementLemmas.{in_filter, in_of_place}
 use Rattle.flow_model.proofs.LaneLemmas.{in_enumerate}
-use Rattle.coordinator.specs.Views.{BoxesIs, FeederIs, OutIs}
+use Rattle.coordinator.specs.Views.{BoxesIs, FeederIs}
+use Rattle.lane_core.specs.Lane.{EndpointIs}
 use Rattle.coordinator.specs.Feeding.{AreRising, IsFeeding, fed_lanes, places_of}
-use Rattle.coordinator.specs.Starts.{AreNewOuts, AreUnused, IsNewOut}
+use Rattle.coordinator.specs.Starts.{AreNewOuts, AreUnused}
+use Rattle.flow_model.specs.NewEndpoint.{IsNewEndpoint}
 use Rattle.coordinator.specs.Boxes.{AreBoxes}
 use Rattle.coordinator.proofs.Issuing.{first_boxes}
 use Rattle.coordinator.proofs.Keeping.{no_end}
 use Rattle.coordinator.proofs.ListLemmas.{same_some}
 
-abbrev pub new_feeder : List Feed → List OutIs → BoxesIs → List ℕ → ℕ → ℕ → FeederIs
+abbrev pub new_feeder : List Feed → List EndpointIs → BoxesIs → List ℕ → ℕ → ℕ → FeederIs
 new_feeder feeds outs boxes places row turned = record {
   feeds = feeds;
   outs = outs;
@@ -58,12 +60,12 @@ get_map f (z ∷ xs) zero x h = ap Some (ap f (same_some z x h))
 get_map f (z ∷ xs) (suc k) x h = get_map f xs k x h
 
 -- the end at a place has the number of the lane at that place
-number_at : (job : JobView) (outs : List OutIs) (k : ℕ) (lane : Lane) (out : OutIs) → map (λ (o : OutIs). o.number) outs ≡ lanes_that (λ (l : Lane). is_same_sender None l.sender) job
+number_at : (job : JobView) (outs : List EndpointIs) (k : ℕ) (lane : Lane) (out : EndpointIs) → map (λ (o : EndpointIs). o.number) outs ≡ lanes_that (λ (l : Lane). is_same_sender None l.sender) job
     → slice_get (fed_lanes job) k ≡ Some lane → slice_get outs k ≡ Some out → slice_get (lanes job) out.number ≡ Some lane
 number_at job outs k lane out are g h =
     let test : Lane → Bool = λ l. is_same_sender None l.sender in
     let among : List (ℕ × Lane) = filter (λ (p : ℕ × Lane). test p.1) (enumerate_from 0 (lanes job)) in
-    let a : slice_get (map (λ (p : ℕ × Lane). p.0) among) k ≡ Some out.number = ap (λ (l : List ℕ). slice_get l k) (sym are) ∙ get_map (λ (o : OutIs). o.number) outs k out h in
+    let a : slice_get (map (λ (p : ℕ × Lane). p.0) among) k ≡ Some out.number = ap (λ (l : List ℕ). slice_get l k) (sym are) ∙ get_map (λ (o : EndpointIs). o.number) outs k out h in
     let p = map_get (λ (p : ℕ × Lane). p.0) among k out.number a in
     let b : slice_get (map (λ (p : ℕ × Lane). p.1) among) k ≡ Some lane = ap (λ (l : List Lane). slice_get l k) (sym (numbered test 0 (lanes job))) ∙ g in
     let q : p.0.1 ≡ lane = same_some p.0.1 lane (sym (get_map (λ (p : ℕ × Lane). p.1) among k p.0 p.1) ∙ b) in
@@ -71,14 +73,14 @@ number_at job outs k lane out are g h =
     let at : i.0 ≡ out.number = omega (arith, i.1, p.2) in
     subst (λ n. slice_get (lanes job) n ≡ Some lane) at (i.2 ∙ ap Some q)
 
-as_many : (job : JobView) (outs : List OutIs) → map (λ (o : OutIs). o.number) outs ≡ lanes_that (λ (l : Lane). is_same_sender None l.sender) job → length outs ≡ length (fed_lanes job)
+as_many : (job : JobView) (outs : List EndpointIs) → map (λ (o : EndpointIs). o.number) outs ≡ lanes_that (λ (l : Lane). is_same_sender None l.sender) job → length outs ≡ length (fed_lanes job)
 as_many job outs are =
     let test : Lane → Bool = λ l. is_same_sender None l.sender in
     let among : List (ℕ × Lane) = filter (λ (p : ℕ × Lane). test p.1) (enumerate_from 0 (lanes job)) in
-    sym (length-map outs (λ (o : OutIs). o.number)) ∙ (ap (λ (l : List ℕ). length l) are ∙ (length-map among (λ (p : ℕ × Lane). p.0)
+    sym (length-map outs (λ (o : EndpointIs). o.number)) ∙ (ap (λ (l : List ℕ). length l) are ∙ (length-map among (λ (p : ℕ × Lane). p.0)
     ∙ (sym (length-map among (λ (p : ℕ × Lane). p.1)) ∙ ap (λ (l : List Lane). length l) (sym (numbered test 0 (lanes job))))))
 
-law_first : (setup : SetupView) (begin : Begin) (xs : List ℕ) (rows : List Row) (outs : List OutIs) (b : BoxesIs) (places : List ℕ) → places ≡ places_of setup.job → AreRising 0 xs → begin.turned ≤ length xs → AreNewOuts setup.job outs → AreBoxes setup begin.turned begin.turned b
+law_first : (setup : SetupView) (begin : Begin) (xs : List ℕ) (rows : List Row) (outs : List EndpointIs) (b : BoxesIs) (places : List ℕ) → places ≡ places_of setup.job → AreRising 0 xs → begin.turned ≤ length xs → AreNewOuts setup.job outs → AreBoxes setup begin.turned begin.turned b
     → IsFeeding setup begin xs rows (new_feeder [] outs b places begin.row begin.turned)
 law_first setup begin xs rows outs b places at o le are boxes = record {
   row_begun = refl;
@@ -93,7 +95,7 @@ law_first setup begin xs rows outs b places at o le are boxes = record {
   places_are = at;
   outs_are = as_many setup.job outs are.numbers_are;
   outs = λ k lane out g h.
-      let new : IsNewOut setup.job are.graph out = are.new k out h in
+      let new : IsNewEndpoint setup.job are.graph out = are.new k out h in
       let n : slice_get (lanes setup.job) out.number ≡ Some lane = number_at setup.job outs k lane out are.numbers_are g h in
       let same : new.lane ≡ lane = same_some new.lane lane (sym new.numbered ∙ n) in
       record {
@@ -110,7 +112,7 @@ law_first setup begin xs rows outs b places at o le are boxes = record {
   held = λ t row h g. absurd (cc);
 }
 
-pub begins : (setup : SetupView) (begin : Begin) (xs : List ℕ) (rows : List Row) (fs : List Feed) (outs os : List OutIs) (b : BoxesIs) (ps : List PosterIs) (places : List ℕ) (row turned : ℕ) → places ≡ places_of setup.job → fs ≡ [] → outs ≡ os
+pub begins : (setup : SetupView) (begin : Begin) (xs : List ℕ) (rows : List Row) (fs : List Feed) (outs os : List EndpointIs) (b : BoxesIs) (ps : List PosterIs) (places : List ℕ) (row turned : ℕ) → places ≡ places_of setup.job → fs ≡ [] → outs ≡ os
     → b ≡ record { posters = ps; covered = replicate (length ps) 0; ready = 0 } → begin.row ≡ row → begin.turned ≡ turned
     → AreRising 0 xs → turned ≤ length xs → AreNewOuts setup.job os → AreUnused setup ps → IsFeeding setup begin xs rows (new_feeder fs outs b places row turned)
 begins setup begin xs rows fs outs os b ps places row turned at a e f d t o le are unused =

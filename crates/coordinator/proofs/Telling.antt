@@ -11,7 +11,8 @@ use Rattle.flow_model.specs.Begin.{Begin}
 use Rattle.flow_model.specs.SetupView.{SetupView}
 use Rattle.flow_model.specs.Requests.{afters}
 use Rattle.coordinator.specs.Boxes.{AsIssued, SameBoxes, SamePosts}
-use Rattle.coordinator.specs.Views.{FeederIs, OutIs, end_of}
+use Rattle.coordinator.specs.Views.{FeederIs}
+use Rattle.lane_core.specs.Lane.{EndpointIs, end_of}
 use Rattle.coordinator.specs.Due.{HasHeard, IsDue, NoneIsDue}
 use Rattle.coordinator.specs.Feeding.{IsFeeder, IsFeeding}
 use Rattle.coordinator.specs.Steps.{IsAhead, IsReached, Steps, fed_item}
@@ -23,7 +24,7 @@ use Rattle.coordinator.proofs.ListLemmas.{get_set_same, same_some}
 
 -- ---- ends
 
-map_kept : (xs : List OutIs) (k : ℕ) (o q : OutIs) → slice_get xs k ≡ Some o → end_of q ≡ end_of o → map end_of (set xs k q) ≡ map end_of xs
+map_kept : (xs : List EndpointIs) (k : ℕ) (o q : EndpointIs) → slice_get xs k ≡ Some o → end_of q ≡ end_of o → map end_of (set xs k q) ≡ map end_of xs
 map_kept [] k o q h e = absurd (cc)
 map_kept (x ∷ xs) zero o q h e = let p : x ≡ o = cc in ap (λ t. t ∷ map end_of xs) (e ∙ sym (ap end_of p))
 map_kept (x ∷ xs) (suc k) o q h e = ap (λ l. end_of x ∷ l) (map_kept xs k o q h e)
@@ -35,19 +36,19 @@ ends_kept setup xs rows old new Idle (inr (inl h)) = ap (λ f. map end_of f.outs
 ends_kept setup xs rows old new Done (inr (inl h)) = absurd h.2
 ends_kept setup xs rows old new NoMemory (inr (inl h)) = ap (λ f. map end_of f.outs) h.2
 ends_kept setup xs rows old new Moved (inr (inr (inl h))) =
-    let o : OutIs = h.3.2 in
-    ap (λ f. map end_of f.outs) h.3.6 ∙ map_kept old.outs h.3.1 o (record o { sent = o.sent ++ fed_item old.issued h.3.0 ∷ [] }) h.3.5 refl
+    let o : EndpointIs = h.3.2 in
+    ap (λ f. map end_of f.outs) h.3.6 ∙ map_kept old.outs h.3.1 o (record o { items = o.items ++ fed_item old.issued h.3.0 ∷ [] }) h.3.5 refl
 ends_kept setup xs rows old new Idle (inr (inr (inl h))) =
-    let o : OutIs = h.3.2 in
-    ap (λ f. map end_of f.outs) h.3.8 ∙ map_kept old.outs h.3.1 o (record o { full = h.3.3 }) h.3.6 refl
+    let o : EndpointIs = h.3.2 in
+    ap (λ f. map end_of f.outs) h.3.8 ∙ map_kept old.outs h.3.1 o (record o { stalls = h.3.3 }) h.3.6 refl
 ends_kept setup xs rows old new Done (inr (inr (inl h))) = absurd h.3
 ends_kept setup xs rows old new NoMemory (inr (inr (inl h))) = ap (λ f. map end_of f.outs) h.3
 ends_kept setup xs rows old new Moved (inr (inr (inr h))) =
-    let o : OutIs = h.3.0 in
-    ap (λ f. map end_of f.outs) h.3.2 ∙ map_kept old.outs old.ended o (record o { sent = o.sent ++ Last ∷ [] }) h.3.1 refl
+    let o : EndpointIs = h.3.0 in
+    ap (λ f. map end_of f.outs) h.3.2 ∙ map_kept old.outs old.ended o (record o { items = o.items ++ Last ∷ [] }) h.3.1 refl
 ends_kept setup xs rows old new Idle (inr (inr (inr h))) =
-    let o : OutIs = h.3.0 in
-    ap (λ f. map end_of f.outs) h.3.4 ∙ map_kept old.outs old.ended o (record o { full = h.3.1 }) h.3.2 refl
+    let o : EndpointIs = h.3.0 in
+    ap (λ f. map end_of f.outs) h.3.4 ∙ map_kept old.outs old.ended o (record o { stalls = h.3.1 }) h.3.2 refl
 ends_kept setup xs rows old new Done (inr (inr (inr h))) = ap (λ f. map end_of f.outs) h.3.1
 ends_kept setup xs rows old new NoMemory (inr (inr (inr h))) = ap (λ f. map end_of f.outs) h.3
 
@@ -104,8 +105,8 @@ moved_grew setup xs rows old new (inl h) = let e = h.2 in absurd (cc)
 moved_grew setup xs rows old new (inr (inl h)) = inl (Issued (old.issued + 1), ap (λ f. f.feeds) h.2.3)
 moved_grew setup xs rows old new (inr (inr (inl h))) = inl (Fed (old.row + 1), ap (λ f. f.feeds) h.3.6)
 moved_grew setup xs rows old new (inr (inr (inr h))) =
-    let o : OutIs = h.3.0 in
-    inr (old.ended, o, record o { sent = o.sent ++ Last ∷ [] }, Last, h.3.1, ap (λ f. slice_get f.outs old.ended) h.3.2 ∙ get_set_same old.outs old.ended o (record o { sent = o.sent ++ Last ∷ [] }) h.3.1, refl)
+    let o : EndpointIs = h.3.0 in
+    inr (old.ended, o, record o { items = o.items ++ Last ∷ [] }, Last, h.3.1, ap (λ f. slice_get f.outs old.ended) h.3.2 ∙ get_set_same old.outs old.ended o (record o { items = o.items ++ Last ∷ [] }) h.3.1, refl)
 
 -- ---- boxes
 
@@ -283,7 +284,7 @@ pub idle_waits : (setup : SetupView) (rows : List Row) (old new : FeederIs) → 
 idle_waits setup rows old new (inl h) = let e = h.2 in absurd (cc)
 idle_waits setup rows old new (inr (inl h)) = (ap (λ f. f.feeds) h.2.4, inl (due_now setup rows new.loads old h.1, h.2.0))
 idle_waits setup rows old new (inr (inr (inl h))) =
-    let o : OutIs = h.3.2 in (
+    let o : EndpointIs = h.3.2 in (
       ap (λ f. f.feeds) h.3.8,
       inr (inl (
         h.3.0,
@@ -292,17 +293,17 @@ idle_waits setup rows old new (inr (inr (inl h))) =
         none_due setup rows new.loads old h.1,
         none_heard setup rows old new h.1,
         h.3.5,
-        (o, record o { full = h.3.3 }, h.3.6, ap (λ f. slice_get f.outs h.3.1) h.3.8 ∙ get_set_same old.outs h.3.1 o (record o { full = h.3.3 }) h.3.6, h.3.7),
+        (o, record o { stalls = h.3.3 }, h.3.6, ap (λ f. slice_get f.outs h.3.1) h.3.8 ∙ get_set_same old.outs h.3.1 o (record o { stalls = h.3.3 }) h.3.6, h.3.7),
       )),
     )
 idle_waits setup rows old new (inr (inr (inr h))) =
-    let o : OutIs = h.3.0 in (
+    let o : EndpointIs = h.3.0 in (
       ap (λ f. f.feeds) h.3.4,
       inr (inr (
         none_due setup rows new.loads old h.1,
         h.2,
         slice_get_within old.outs old.ended o h.3.2,
-        (o, record o { full = h.3.1 }, h.3.2, ap (λ f. slice_get f.outs old.ended) h.3.4 ∙ get_set_same old.outs old.ended o (record o { full = h.3.1 }) h.3.2, h.3.3),
+        (o, record o { stalls = h.3.1 }, h.3.2, ap (λ f. slice_get f.outs old.ended) h.3.4 ∙ get_set_same old.outs old.ended o (record o { stalls = h.3.1 }) h.3.2, h.3.3),
       )),
     )
 

@@ -19,7 +19,8 @@ use Rattle.flow_model.specs.SetupView.{SetupView}
 use Rattle.flow_model.specs.declared.topology.Lane.{Lane}
 use Rattle.flow_model.specs.Requests.{afters}
 use Rattle.coordinator.specs.Boxes.{AreBoxes, LastAtLeast}
-use Rattle.coordinator.specs.Views.{FeederIs, OutIs}
+use Rattle.coordinator.specs.Views.{FeederIs}
+use Rattle.lane_core.specs.Lane.{EndpointIs}
 
 -- the lanes on which the feeder sends: those out of the sources, in the order of their numbers
 abbrev pub fed_lanes : JobView → List Lane
@@ -70,12 +71,12 @@ end_at place ended = if nat_lt place ended then item.Last ∷ [] else []
 -- The endpoint of a lane of a source: it begins at the source, and has sent what the feed so far
 -- puts there, followed by the end of the stream if the lane was ended.
 pub record IsOut (setup : SetupView) (begin : Begin) (rows : List Row) (graph : Graph)
-    (feeds : List Feed) (ended place : ℕ) (lane : Lane) (out : OutIs) : Type 0 where
+    (feeds : List Feed) (ended place : ℕ) (lane : Lane) (out : EndpointIs) : Type 0 where
   pub edge : Edge
   pub numbered : slice_get (lanes setup.job) out.number ≡ Some lane
   pub edge_is : slice_get setup.job.edges lane.edge ≡ Some edge
   pub origin_is : out.origin ≡ record { graph = graph; from = edge.from }
-  pub sent_is : out.sent ≡ fed setup.job rows begin.turned lane feeds ++ end_at place ended
+  pub sent_is : out.items ≡ fed setup.job rows begin.turned lane feeds ++ end_at place ended
 
 -- The law of a feeder from a beginning on, if the requests wait for these rows.
 pub record IsFeeding (setup : SetupView) (begin : Begin) (afters : List ℕ) (rows : List Row)
@@ -96,7 +97,7 @@ pub record IsFeeding (setup : SetupView) (begin : Begin) (afters : List ℕ) (ro
   pub places_are : f.places ≡ places_of setup.job
   pub outs_are : length f.outs ≡ length (fed_lanes setup.job)
   pub outs :
-      (place : ℕ) (lane : Lane) (out : OutIs) → slice_get (fed_lanes setup.job) place ≡ Some lane
+      (place : ℕ) (lane : Lane) (out : EndpointIs) → slice_get (fed_lanes setup.job) place ≡ Some lane
       → slice_get f.outs place ≡ Some out
       → IsOut setup begin rows graph f.feeds f.ended place lane out
   -- a lane is ended only if all rows are fed and all requests issued, and each is once it stopped

@@ -8,7 +8,8 @@ use Rattle.flow_model.specs.Feeding.{fed, feed_from}
 use Rattle.flow_model.specs.Lanes.{lanes}
 use Rattle.flow_model.specs.SetupView.{SetupView}
 use Rattle.flow_model.specs.declared.topology.Lane.{Lane}
-use Rattle.coordinator.specs.Views.{FeederIs, OutIs}
+use Rattle.coordinator.specs.Views.{FeederIs}
+use Rattle.lane_core.specs.Lane.{EndpointIs}
 
 -- the feed so far is the front of the whole feed
 abbrev pub IsFront : Begin → List ℕ → List Row → FeederIs → Type 0
@@ -18,14 +19,14 @@ IsFront begin afters rows f = (more : List Feed)
 -- what a lane's end has sent is what the feed so far puts there, with at most one end behind it
 abbrev pub SendsTheFeed : SetupView → Begin → List Row → FeederIs → Type 0
 SendsTheFeed setup begin rows f =
-    (k : ℕ) (out : OutIs) → slice_get f.outs k ≡ Some out → (lane : Lane)
+    (k : ℕ) (out : EndpointIs) → slice_get f.outs k ≡ Some out → (lane : Lane)
     × (slice_get (lanes setup.job) out.number ≡ Some lane)
-    × ((out.sent ≡ fed setup.job rows begin.turned lane f.feeds)
-    ⊎ (out.sent ≡ fed setup.job rows begin.turned lane f.feeds ++ Last ∷ []))
+    × ((out.items ≡ fed setup.job rows begin.turned lane f.feeds)
+    ⊎ (out.items ≡ fed setup.job rows begin.turned lane f.feeds ++ Last ∷ []))
 
 -- each lane's end has sent what the feed puts there, and the end
 abbrev pub HasSentAll : SetupView → Begin → List Row → FeederIs → Type 0
 HasSentAll setup begin rows f =
-    (k : ℕ) (out : OutIs) → slice_get f.outs k ≡ Some out → (lane : Lane)
+    (k : ℕ) (out : EndpointIs) → slice_get f.outs k ≡ Some out → (lane : Lane)
     × (slice_get (lanes setup.job) out.number ≡ Some lane)
-    × (out.sent ≡ fed setup.job rows begin.turned lane f.feeds ++ Last ∷ [])
+    × (out.items ≡ fed setup.job rows begin.turned lane f.feeds ++ Last ∷ [])

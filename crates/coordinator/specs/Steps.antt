@@ -13,7 +13,8 @@ use Rattle.coordinator.specs.declared.feeding.FeedTurn.{FeedTurn}
 use Rattle.coordinator.specs.declared.feeding.FeedTurn.TheVariants as turn
 use Rattle.coordinator.specs.Boxes.{AreBoxes, AsIssued, SameBoxes, SamePosts, SomeBelow}
 use Rattle.coordinator.specs.Turning.{IsLaneOfRow}
-use Rattle.coordinator.specs.Views.{FeederIs, OutIs}
+use Rattle.coordinator.specs.Views.{FeederIs}
+use Rattle.lane_core.specs.Lane.{EndpointIs}
 
 -- the row of the next request is fed
 abbrev pub IsReached : List ℕ → ℕ → ℕ → ℕ → Type 0
@@ -51,19 +52,19 @@ fed_item issued row = item.Carry (fed_tuple issued row)
 -- the step for the next row
 abbrev pub Feeds : JobView → List Row → FeederIs → FeederIs → FeedTurn → Type 0
 Feeds job rows old new turn.Moved =
-    (row : Row) × (k : ℕ) × (o : OutIs) × (slice_get rows old.row ≡ Some row)
+    (row : Row) × (k : ℕ) × (o : EndpointIs) × (slice_get rows old.row ≡ Some row)
     × IsLaneOfRow job row k × (slice_get old.outs k ≡ Some o)
     × (new ≡ record old {
       feeds = old.feeds ++ feed.Fed (old.row + 1) ∷ [];
       row = old.row + 1;
-      outs = slice_set old.outs k (record o { sent = o.sent ++ fed_item old.issued row ∷ [] });
+      outs = slice_set old.outs k (record o { items = o.items ++ fed_item old.issued row ∷ [] });
       held = None;
     })
 Feeds job rows old new turn.Idle =
-    (row : Row) × (k : ℕ) × (o : OutIs) × (n : ℕ) × (slice_get rows old.row ≡ Some row)
-    × IsLaneOfRow job row k × (slice_get old.outs k ≡ Some o) × Rose o.full n
+    (row : Row) × (k : ℕ) × (o : EndpointIs) × (n : ℕ) × (slice_get rows old.row ≡ Some row)
+    × IsLaneOfRow job row k × (slice_get old.outs k ≡ Some o) × Rose o.stalls n
     × (new ≡ record old {
-      outs = slice_set old.outs k (record o { full = n });
+      outs = slice_set old.outs k (record o { stalls = n });
       held = Some (fed_tuple old.issued row);
     })
 Feeds job rows old new turn.Done = ⊥
@@ -72,14 +73,14 @@ Feeds job rows old new turn.NoMemory = new ≡ old
 -- the step once all rows are fed and all requests issued
 abbrev pub Stops : FeederIs → FeederIs → FeedTurn → Type 0
 Stops old new turn.Moved =
-    (o : OutIs) × (slice_get old.outs old.ended ≡ Some o)
+    (o : EndpointIs) × (slice_get old.outs old.ended ≡ Some o)
     × (new ≡ record old {
-      outs = slice_set old.outs old.ended (record o { sent = o.sent ++ item.Last ∷ [] });
+      outs = slice_set old.outs old.ended (record o { items = o.items ++ item.Last ∷ [] });
       ended = old.ended + 1;
     })
 Stops old new turn.Idle =
-    (o : OutIs) × (n : ℕ) × (slice_get old.outs old.ended ≡ Some o) × Rose o.full n
-    × (new ≡ record old { outs = slice_set old.outs old.ended (record o { full = n }) })
+    (o : EndpointIs) × (n : ℕ) × (slice_get old.outs old.ended ≡ Some o) × Rose o.stalls n
+    × (new ≡ record old { outs = slice_set old.outs old.ended (record o { stalls = n }) })
 Stops old new turn.Done =
     (old.ended ≡ length old.outs)
     × (new ≡ record old { feeds = old.feeds ++ feed.Stopped ∷ []; stopped = true })

@@ -16,13 +16,14 @@ use Rattle.coordinator.specs.declared.feeding.FeedTurn.TheVariants as turn
 use Rattle.coordinator.specs.Boxes.{AsIssued, SameBoxes, SamePosts, SomeBelow}
 use Rattle.coordinator.specs.Due.{HasHeard, IsDue, NoneIsDue}
 use Rattle.coordinator.specs.Feeding.{IsFeeder, fed_lanes}
-use Rattle.coordinator.specs.Views.{FeederIs, OutIs, end_of}
+use Rattle.coordinator.specs.Views.{FeederIs}
+use Rattle.lane_core.specs.Lane.{EndpointIs, end_of}
 
 -- the lane at this place was full
-abbrev pub FoundFull : ℕ → List OutIs → List OutIs → Type 0
+abbrev pub FoundFull : ℕ → List EndpointIs → List EndpointIs → Type 0
 FoundFull place old new =
-    (o : OutIs) × (q : OutIs) × (slice_get old place ≡ Some o) × (slice_get new place ≡ Some q)
-    × Rose o.full q.full
+    (o : EndpointIs) × (q : EndpointIs) × (slice_get old place ≡ Some o) × (slice_get new place ≡ Some q)
+    × Rose o.stalls q.stalls
 
 -- a request is due, and a worker hasn't turned all earlier ones that cover it
 abbrev pub RequestWaits : Bool → SetupView → List Row → FeederIs → FeederIs → Type 0
@@ -58,8 +59,8 @@ Waits live setup rows old new =
 abbrev pub Grew : FeederIs → FeederIs → Type 0
 Grew old new =
     ((entry : Feed) × (new.feeds ≡ old.feeds ++ entry ∷ []))
-    ⊎ ((place : ℕ) × (o : OutIs) × (q : OutIs) × (item : Item) × (slice_get old.outs place ≡ Some o)
-    × (slice_get new.outs place ≡ Some q) × (q.sent ≡ o.sent ++ item ∷ []))
+    ⊎ ((place : ℕ) × (o : EndpointIs) × (q : EndpointIs) × (item : Item) × (slice_get old.outs place ≡ Some o)
+    × (slice_get new.outs place ≡ Some q) × (q.items ≡ o.items ++ item ∷ []))
 
 -- the list is as before, or has one item more
 abbrev pub AtMostOneMore : {A : Type 0} → List A → List A → Type 0

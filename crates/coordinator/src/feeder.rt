@@ -4,7 +4,7 @@ ghost use Rattle.flow_model.specs.Begin.{at_first};
 ghost use Rattle.flow_model.specs.Setup.{setup_view};
 ghost use Rattle.coordinator.specs.Feeding.{IsFeeder};
 ghost use Rattle.coordinator.specs.Starts.{AreNewOuts, AreUnused};
-ghost use Rattle.coordinator.specs.Views.{FeederIs, outs_of};
+ghost use Rattle.coordinator.specs.Views.{FeederIs};
 
 use crate::state::FeederState;
 use crate::{FeedParts, FeedTurn, Feeding};
@@ -44,13 +44,11 @@ impl<L: Lanes> Feeder<L> {
         start: &Start,
     ) -> Result<Feeder<L>, NoMemory>
         requires turned { start.now.turned ≤ length (setup_view setup.now).requests }
-        requires outs { AreNewOuts (setup_view setup.now).job (outs_of L.Tx.lane L.Tx.number
-            L.Tx.origin L.Tx.capacity L.Tx.sent L.Tx.full outs.items) }
+        requires outs { AreNewOuts (setup_view setup.now).job (map L.Tx.state outs.items) }
         requires boxes { AreUnused (setup_view setup.now) posters.items }
         ensures law { IfOk result (λ (f : FeederIs). (rows : List RowIs)
             → IsFeeder false (setup_view setup.now) start.now rows f) }
-        ensures outs { IfOk result (λ (f : FeederIs). f.outs ≡ outs_of L.Tx.lane L.Tx.number
-            L.Tx.origin L.Tx.capacity L.Tx.sent L.Tx.full outs.items) }
+        ensures outs { IfOk result (λ (f : FeederIs). f.outs ≡ map L.Tx.state outs.items) }
         ensures boxes { IfOk result (λ (f : FeederIs). f.boxes.posters ≡ posters.items) }
     {
         let (row, turned) = (start.row as usize, start.turned as usize);
@@ -81,14 +79,12 @@ impl<L: Lanes> Feeding<L> for Feeder<L> {
         posters: Vec<Poster>,
         _seed: (),
     ) -> Result<Feeder<L>, NoMemory>
-        requires outs { AreNewOuts (setup_view setup.now).job (outs_of L.Tx.lane L.Tx.number
-            L.Tx.origin L.Tx.capacity L.Tx.sent L.Tx.full outs.items) }
+        requires outs { AreNewOuts (setup_view setup.now).job (map L.Tx.state outs.items) }
         requires boxes { AreUnused (setup_view setup.now) posters.items }
         ensures law { IfOk result (λ (f : FeederIs). (rows : List RowIs)
             → IsFeeder false (setup_view setup.now) (at_first (setup_view setup.now)) rows f) }
         ensures kept { IfOk result (λ f. ⊤) }
-        ensures outs { IfOk result (λ (f : FeederIs). f.outs ≡ outs_of L.Tx.lane L.Tx.number
-            L.Tx.origin L.Tx.capacity L.Tx.sent L.Tx.full outs.items) }
+        ensures outs { IfOk result (λ (f : FeederIs). f.outs ≡ map L.Tx.state outs.items) }
         ensures boxes { IfOk result (λ (f : FeederIs). f.boxes.posters ≡ posters.items) }
     {
         let state = FeederState::make(alloc, setup, outs, posters, 0, 0)?;

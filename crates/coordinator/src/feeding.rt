@@ -7,7 +7,7 @@ ghost use Rattle.flow_model.specs.Setup.{setup_view};
 ghost use Rattle.coordinator.specs.Feeding.{IsFeeder};
 ghost use Rattle.coordinator.specs.Starts.{AreNewOuts, AreUnused};
 ghost use Rattle.coordinator.specs.Turning.{IsTurn};
-ghost use Rattle.coordinator.specs.Views.{FeederIs, outs_of};
+ghost use Rattle.coordinator.specs.Views.{FeederIs};
 
 use control_box::Poster;
 use flow_model::Setup;
@@ -69,15 +69,13 @@ pub trait Feeding<L: Lanes>: Sized {
         posters: Vec<Poster>,
         seed: Self::Seed,
     ) -> Result<Self, NoMemory>
-        requires outs { AreNewOuts (setup_view setup.now).job (outs_of L.Tx.lane L.Tx.number
-            L.Tx.origin L.Tx.capacity L.Tx.sent L.Tx.full outs.items) }
+        requires outs { AreNewOuts (setup_view setup.now).job (map L.Tx.state outs.items) }
         requires boxes { AreUnused (setup_view setup.now) posters.items }
         ensures law { IfOk result (λ f. (rows : List RowIs)
             → IsFeeder LIVE (setup_view setup.now) (at_first (setup_view setup.now)) rows
             (feeder f)) }
         ensures kept { IfOk result (λ f. kept seed (feeder f).feeds (rest f)) }
-        ensures outs { IfOk result (λ f. (feeder f).outs ≡ outs_of L.Tx.lane L.Tx.number
-            L.Tx.origin L.Tx.capacity L.Tx.sent L.Tx.full outs.items) }
+        ensures outs { IfOk result (λ f. (feeder f).outs ≡ map L.Tx.state outs.items) }
         ensures boxes { IfOk result (λ f. (feeder f).boxes.posters ≡ posters.items) };
 
     /// One turn. It issues the request that is due, once each worker has turned all earlier ones
@@ -103,7 +101,6 @@ pub trait Feeding<L: Lanes>: Sized {
     fn finish(self) -> (FeedParts<L>, Self::Rest)
         requires { IsTrue (feeder self).stopped }
         ensures feeds { result.0.feeds ≡ (feeder self).feeds }
-        ensures outs { (feeder self).outs ≡ outs_of L.Tx.lane L.Tx.number L.Tx.origin
-            L.Tx.capacity L.Tx.sent L.Tx.full result.0.outs.items }
+        ensures outs { (feeder self).outs ≡ map L.Tx.state result.0.outs.items }
         ensures rest { result.1 ≡ rest self };
 }

@@ -14,7 +14,8 @@ ghost use Rattle.flow_model.specs.Run.{Ran, put_by};
 ghost use Rattle.coordinator.specs.Due.{IsDue};
 ghost use Rattle.coordinator.specs.Feeding.{IsFeeder, IsFeeding};
 ghost use Rattle.coordinator.specs.Meaning.{HasSentAll, IsFront, SendsTheFeed};
-ghost use Rattle.coordinator.specs.Views.{FeederIs, OutIs};
+ghost use Rattle.coordinator.specs.Views.{FeederIs};
+ghost use Rattle.lane_core.specs.Lane.{EndpointIs};
 
 /// The feed so far is the front of the feed of the rows that the requests wait for. Each lane has
 /// sent what the feed so far puts there, followed by at most one end of the stream. A request that
@@ -42,7 +43,7 @@ pub fn feeders_follow_the_feed()
     ensures puts { (setup : SetupView) (begin : Begin) (waits : List ℕ) (rows : List RowIs)
         (f : FeederIs) (ran : Ran) → IsFeeding setup begin waits rows f → f.stopped ≡ true
         → ran.setup ≡ setup → ran.feeds ≡ f.feeds
-        → (k : ℕ) (out : OutIs) → slice_get f.outs k ≡ Some out → (lane : Lane)
+        → (k : ℕ) (out : EndpointIs) → slice_get f.outs k ≡ Some out → (lane : Lane)
         × (slice_get (lanes setup.job) out.number ≡ Some lane)
-        × (put_by begin rows ran lane lane.sender ≡ Some out.sent) }
+        × (put_by begin rows ran lane lane.sender ≡ Some out.items) }
 {}

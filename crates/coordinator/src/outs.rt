@@ -3,7 +3,7 @@ ghost use Rattle.std.specs.Prelude.{slice_get, slice_set};
 ghost use Rattle.tuple_trace.specs.Counts.{Rose};
 ghost use Rattle.tuple_trace.specs.declared.tuple.Item.TheVariants.{Carry};
 ghost use Rattle.lane_core.specs.Steady.{MayFollow};
-ghost use Rattle.coordinator.specs.Views.{OutIs, outs_of};
+ghost use Rattle.lane_core.specs.Lane.{EndpointIs};
 
 use lane_core::Tx;
 use std::marker::{Model, PhantomData};
@@ -18,18 +18,17 @@ pub struct Outs<N, T: Tx<N>> {
 
 impl<N, T: Tx<N>> Model for Outs<N, T> {
     ghost use Rattle.std.specs.Prelude.{List};
-    ghost use Rattle.coordinator.specs.Views.{OutIs, outs_of};
+    ghost use Rattle.lane_core.specs.Lane.{EndpointIs};
 
-    ghost Value = { List OutIs };
+    ghost Value = { List EndpointIs };
 
-    ghost view = { λ o. outs_of T.lane T.number T.origin T.capacity T.sent T.full
+    ghost view = { λ o. map T.state
         o.endpoints.items };
 }
 
 impl<N, T: Tx<N>> Outs<N, T> {
     pub fn of(endpoints: Vec<T>) -> Outs<N, T>
-        ensures { result ≡ outs_of T.lane T.number T.origin T.capacity T.sent
-            T.full endpoints.items }
+        ensures { result ≡ map T.state endpoints.items }
     {
         Outs {
             endpoints,
@@ -38,8 +37,7 @@ impl<N, T: Tx<N>> Outs<N, T> {
     }
 
     pub fn open(self) -> Vec<T>
-        ensures { self ≡ outs_of T.lane T.number T.origin T.capacity T.sent
-            T.full result.items }
+        ensures { self ≡ map T.state result.items }
     {
         let Outs { endpoints, .. } = self;
         endpoints
@@ -54,13 +52,13 @@ impl<N, T: Tx<N>> Outs<N, T> {
     /// Puts an item on the lane at this place. A full lane hands it back.
     pub fn put(&mut self, need: &mut N, place: usize, item: Item) -> Result<(), Item>
         requires place { place < length self.old }
-        requires steady { (o : OutIs) → slice_get self.old place ≡ Some o
-            → MayFollow o.origin o.sent item }
-        ensures put { OnOk result ((o : OutIs) × (slice_get self.old place ≡ Some o)
-            × (self.new ≡ slice_set self.old place (record o { sent = o.sent ++ item ∷ [] }))) }
-        ensures full { IfErr result (λ back. (back ≡ item) × ((o : OutIs) × (n : ℕ)
+        requires steady { (o : EndpointIs) → slice_get self.old place ≡ Some o
+            → MayFollow o.origin o.items item }
+        ensures put { OnOk result ((o : EndpointIs) × (slice_get self.old place ≡ Some o)
+            × (self.new ≡ slice_set self.old place (after_item item o))) }
+        ensures full { IfErr result (λ back. (back ≡ item) × ((o : EndpointIs) × (n : ℕ)
             × (slice_get self.old place ≡ Some o)
-            × (self.new ≡ slice_set self.old place (record o { full = n })) × Rose o.full n)) }
+            × (self.new ≡ slice_set self.old place (record o { stalls = n })) × Rose o.stalls n)) }
     {
         self.endpoints[place].put(need, item)
     }
@@ -68,14 +66,13 @@ impl<N, T: Tx<N>> Outs<N, T> {
     /// Puts a tuple on the lane at this place. A full lane hands it back.
     pub fn feed(&mut self, need: &mut N, place: usize, tuple: Tuple) -> Result<(), Tuple>
         requires place { place < length self.old }
-        requires steady { (o : OutIs) → slice_get self.old place ≡ Some o
-            → MayFollow o.origin o.sent (Carry tuple) }
-        ensures put { OnOk result ((o : OutIs) × (slice_get self.old place ≡ Some o)
-            × (self.new ≡ slice_set self.old place
-            (record o { sent = o.sent ++ Carry tuple ∷ [] }))) }
-        ensures full { IfErr result (λ back. (back ≡ tuple) × ((o : OutIs) × (n : ℕ)
+        requires steady { (o : EndpointIs) → slice_get self.old place ≡ Some o
+            → MayFollow o.origin o.items (Carry tuple) }
+        ensures put { OnOk result ((o : EndpointIs) × (slice_get self.old place ≡ Some o)
+            × (self.new ≡ slice_set self.old place (after_item (Carry tuple) o))) }
+        ensures full { IfErr result (λ back. (back ≡ tuple) × ((o : EndpointIs) × (n : ℕ)
             × (slice_get self.old place ≡ Some o)
-            × (self.new ≡ slice_set self.old place (record o { full = n })) × Rose o.full n)) }
+            × (self.new ≡ slice_set self.old place (record o { stalls = n })) × Rose o.stalls n)) }
     {
         match self.put(need, place, Item::Carry(tuple)) {
             Ok(()) => Ok(()),

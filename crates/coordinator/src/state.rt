@@ -12,7 +12,7 @@ ghost use Rattle.coordinator.specs.Live.{AreHeard, Hears, IsFromFirst, released_
 ghost use Rattle.coordinator.specs.Starts.{AreNewOuts, AreUnused};
 ghost use Rattle.coordinator.specs.Steps.{Feeds, IsAhead, IsReached, Issues, Steps, Stops};
 ghost use Rattle.coordinator.specs.Turning.{IsTurn};
-ghost use Rattle.coordinator.specs.Views.{FeederIs, outs_of};
+ghost use Rattle.coordinator.specs.Views.{FeederIs};
 
 use crate::FeedTurn;
 use crate::boxes::Boxes;
@@ -80,8 +80,7 @@ impl<N, T: Tx<N> + Drop> FeederState<N, T> {
         turned: usize,
     ) -> Result<FeederState<N, T>, NoMemory>
         requires turned { turned ≤ length (setup_view setup.now).requests }
-        requires outs { AreNewOuts (setup_view setup.now).job (outs_of T.lane T.number T.origin
-            T.capacity T.sent T.full outs.items) }
+        requires outs { AreNewOuts (setup_view setup.now).job (map T.state outs.items) }
         requires boxes { AreUnused (setup_view setup.now) posters.items }
         ensures law { IfOk result (λ (f : FeederIs). (begin : Begin) (rows : List RowIs)
             → begin.row ≡ row → begin.turned ≡ turned
@@ -90,8 +89,7 @@ impl<N, T: Tx<N> + Drop> FeederState<N, T> {
         ensures live { row ≡ 0 → turned ≡ 0 → IfOk result (λ (f : FeederIs). IsFromFirst f
             × ((loads : List ℕ) (rows : List RowIs) → IsFeeder true (setup_view setup.now)
             (at_first (setup_view setup.now)) rows (record f { loads = loads }))) }
-        ensures outs { IfOk result (λ (f : FeederIs). f.outs ≡ outs_of T.lane T.number T.origin
-            T.capacity T.sent T.full outs.items) }
+        ensures outs { IfOk result (λ (f : FeederIs). f.outs ≡ map T.state outs.items) }
         ensures boxes { IfOk result (λ (f : FeederIs). f.boxes.posters ≡ posters.items) }
     {
         setups_are_planned(setup);
@@ -154,7 +152,7 @@ impl<N, T: Tx<N> + Drop> FeederState<N, T> {
     /// The feed and the endpoints.
     pub fn open(self) -> (Feeds, Vec<T>)
         ensures feeds { result.0 ≡ self.feeds }
-        ensures outs { self.outs ≡ outs_of T.lane T.number T.origin T.capacity T.sent T.full
+        ensures outs { self.outs ≡ map T.state
             result.1.items }
     {
         let FeederState { feeds, outs, .. } = self;

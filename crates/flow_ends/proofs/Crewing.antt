@@ -13,7 +13,8 @@ use Rattle.flow_model.specs.Workers.{workers_in}
 use Rattle.flow_model.proofs.ElementLemmas.{IsIn}
 use Rattle.flow_model.proofs.LaneLemmas.{in_lanes_that}
 use Rattle.flow_worker.specs.Endpoints.{LaneInIs}
-use Rattle.flow_worker.specs.Parts.{EndpointIs, endpoint_in, endpoint_out}
+use Rattle.flow_worker.specs.Parts.{endpoint_in, endpoint_out}
+use Rattle.lane_core.specs.Lane.{EndpointIs}
 use Rattle.flow_worker.specs.Worker.{IsWorker, WorkerIs, numbers_in}
 use Rattle.std.proofs.Common.{append-nil, append_assoc, length-append}
 use Rattle.std.proofs.lemmas.List.{length-map, map-append}

@@ -19,15 +19,15 @@ use Rattle.flow_model.specs.Run.{IsFinishedFrom, IsRunSince, IsWorked, Ran, fina
 use Rattle.flow_model.specs.Workers.{workers_in}
 use Rattle.flow_model.proofs.WorkerLemmas.{item_at}
 use Rattle.flow_worker.specs.Endpoints.{LaneInIs, LaneOutIs, in_hand, planned}
-use Rattle.flow_worker.specs.Parts.{EndpointIs, WorkedIs, endpoint_in, endpoint_out}
+use Rattle.flow_worker.specs.Parts.{WorkedIs, endpoint_in, endpoint_out}
+use Rattle.lane_core.specs.Lane.{EndpointIs}
 use Rattle.flow_worker.specs.Turning.{IsDone}
 use Rattle.flow_worker.specs.Worker.{IsWorker, Sends, ShowsTaken, WorkerIs}
 use Rattle.flow_worker.proofs.Pairs.{get_map, get_mapped, length_mapped}
 use Rattle.coordinator.specs.Conservation.{AreFinished}
-use Rattle.coordinator.specs.Views.{OutIs}
 use Rattle.coordinator.proofs.Meaning.{puts}
 use Rattle.coordinator.proofs.Conserving.{lane_conserved}
-use Rattle.flow_ends.specs.Ended.{IsOver, fed_end, record_of, worked_of}
+use Rattle.flow_ends.specs.Ended.{IsOver, record_of, worked_of}
 use Rattle.flow_ends.specs.Sides.{AreSettled, ins_at, IsAmong, IsSettled, outs_at, side_ins, side_outs, SideIs, worker_side}
 use Rattle.flow_ends.proofs.Sorting.{each_got, lane_sender}
 
@@ -47,7 +47,7 @@ out_lane workers fed w worker x g (k, h) =
     let (out, at, e) = get_map endpoint_out worker.outs k x there in
     (k, out, at, e)
 
-module _ (setup : SetupView) (begin : Begin) (rows : List Row) (workers : List WorkerIs) (feeds : List Feed) (outs : List OutIs) (over : IsOver setup begin rows workers feeds outs) where
+module _ (setup : SetupView) (begin : Begin) (rows : List Row) (workers : List WorkerIs) (feeds : List Feed) (outs : List EndpointIs) (over : IsOver setup begin rows workers feeds outs) where
   -- ---- a worker
 
   -- what is known of the worker with a number
@@ -120,7 +120,7 @@ module _ (setup : SetupView) (begin : Begin) (rows : List Row) (workers : List W
 
   -- ---- a lane
 
-  module _ (n : ℕ) (lane : Lane) (at : slice_get (lanes setup.job) n ≡ Some lane) (s : IsSettled (map worker_side workers) (map fed_end outs) n lane) where
+  module _ (n : ℕ) (lane : Lane) (at : slice_get (lanes setup.job) n ≡ Some lane) (s : IsSettled (map worker_side workers) outs n lane) where
     taken : (journal : List Entry) → slice_get ran.journals lane.receiver ≡ Some journal → s.rx.items ≡ shown setup n journal
     taken journal g =
         let (worker, there, e) = of_journal lane.receiver journal g in
@@ -133,11 +133,11 @@ module _ (setup : SetupView) (begin : Begin) (rows : List Row) (workers : List W
         ∙ (takes ∙ (ap (λ h. shown setup a.number worker.journal ++ in_hand h) empty
         ∙ (append-nil (shown setup a.number worker.journal) ∙ (ap (λ m. shown setup m worker.journal) number ∙ ap (shown setup n) (sym e)))))
 
-    put_by_worker : (w : ℕ) (worker : WorkerIs) → slice_get workers w ≡ Some worker → IsAmong (outs_at (Some w) (map worker_side workers) (map fed_end outs)) s.tx
+    put_by_worker : (w : ℕ) (worker : WorkerIs) → slice_get workers w ≡ Some worker → IsAmong (outs_at (Some w) (map worker_side workers) outs) s.tx
         → sent_by setup begin lane (slice_get (workers_in setup.job) w) (slice_get begin.states w) (slice_get ran.journals w) ≡ Some s.tx.items
     put_by_worker w worker there among =
         let (who, counts, is) = worker_at w worker there in
-        let (k, out, at_out, x) = out_lane workers (map fed_end outs) w worker s.tx there among in
+        let (k, out, at_out, x) = out_lane workers outs w worker s.tx there among in
         let number : out.number ≡ n = ap (λ (y : EndpointIs). y.number) (sym x) ∙ s.tx_number in
         let sends = each_got (Sends setup begin is.law.who is.law.begun worker.journal) worker.outs k out is.law.sends at_out lane (ap (slice_get (lanes setup.job)) number ∙ at) in
         let none = each_got (λ (o : LaneOutIs). o.waiting ≡ []) worker.outs k out is.done.1 at_out in
@@ -147,18 +147,16 @@ module _ (setup : SetupView) (begin : Begin) (rows : List Row) (workers : List W
         ∙ (ap (λ (o : Option Counts). sent_by setup begin lane (Some is.law.who) o (slice_get ran.journals w)) (is.begun_is ∙ ap Some (sym is.same_counts))
         ∙ (ap (λ (o : Option (List Entry)). sent_by setup begin lane (Some is.law.who) (Some is.law.begun) o) (at_journal w worker there) ∙ ap Some items))
 
-    put_by_feeder : IsAmong (map fed_end outs) s.tx → put_by begin rows ran lane lane.sender ≡ Some s.tx.items
+    put_by_feeder : IsAmong outs s.tx → put_by begin rows ran lane lane.sender ≡ Some s.tx.items
     put_by_feeder (k, h) =
-        let (out, at_out, x) = get_map fed_end outs k s.tx h in
-        let (other, numbered, put) = puts setup begin (afters setup.requests) rows over.feeder ran over.feeding over.stopped refl over.feeds_are k out (ap (λ l. slice_get l k) (sym over.outs_are) ∙ at_out) in
-        let number : out.number ≡ n = ap (λ (y : EndpointIs). y.number) (sym x) ∙ s.tx_number in
-        let same : other ≡ lane = same_Some other lane (sym numbered ∙ (ap (slice_get (lanes setup.job)) number ∙ at)) in
-        ap (λ (l : Lane). put_by begin rows ran l l.sender) (sym same) ∙ (put ∙ ap (λ (y : EndpointIs). Some y.items) (sym x))
+        let (other, numbered, put) = puts setup begin (afters setup.requests) rows over.feeder ran over.feeding over.stopped refl over.feeds_are k s.tx (ap (λ l. slice_get l k) (sym over.outs_are) ∙ h) in
+        let same : other ≡ lane = same_Some other lane (sym numbered ∙ (ap (slice_get (lanes setup.job)) s.tx_number ∙ at)) in
+        ap (λ (l : Lane). put_by begin rows ran l l.sender) (sym same) ∙ put
 
     put : put_by begin rows ran lane lane.sender ≡ Some s.tx.items
     put = go lane.sender refl (lane_sender setup.job n lane at) s.sender
       where
-        go : (sender : Option ℕ) → lane.sender ≡ sender → IfSome sender (λ w. w < length (workers_in setup.job)) → IsAmong (outs_at sender (map worker_side workers) (map fed_end outs)) s.tx
+        go : (sender : Option ℕ) → lane.sender ≡ sender → IfSome sender (λ w. w < length (workers_in setup.job)) → IsAmong (outs_at sender (map worker_side workers) outs) s.tx
             → put_by begin rows ran lane lane.sender ≡ Some s.tx.items
         go None e lt among = put_by_feeder among
         go (Some w) e lt among =
@@ -169,7 +167,7 @@ module _ (setup : SetupView) (begin : Begin) (rows : List Row) (workers : List W
     conserved : (journal : List Entry) → slice_get ran.journals lane.receiver ≡ Some journal → put_by begin rows ran lane lane.sender ≡ Some (shown setup n journal)
     conserved journal g = (lane_conserved begin rows ran n lane all_finished at journal s.tx.items s.rx.items s.left g put (taken journal g) s.settled).conserved
 
-  pub is_run : AreSettled setup.job (map worker_side workers) (map fed_end outs) → IsRunSince begin setup rows ran
+  pub is_run : AreSettled setup.job (map worker_side workers) outs → IsRunSince begin setup rows ran
   is_run settled = record {
     setup_is = refl;
     run = record {
@@ -183,10 +181,8 @@ module _ (setup : SetupView) (begin : Begin) (rows : List Row) (workers : List W
   }
 
   -- the same of the endpoints and workers as code has them
-  pub run_so : (job : JobView) (all : List SideIs) (fed : List EndpointIs) (left : List WorkedIs) → setup.job ≡ job → all ≡ map worker_side workers → map fed_end outs ≡ fed → left ≡ map worked_of workers
-      → AreSettled job all fed → IsRunSince begin setup rows (record_of setup feeds left)
-  run_so job all fed left e s f l settled =
+  pub run_so : (job : JobView) (all : List SideIs) (left : List WorkedIs) → setup.job ≡ job → all ≡ map worker_side workers → left ≡ map worked_of workers
+      → AreSettled job all outs → IsRunSince begin setup rows (record_of setup feeds left)
+  run_so job all left e s l settled =
       subst (λ (ws : List WorkedIs). IsRunSince begin setup rows (record_of setup feeds ws)) (sym l)
-      (is_run
-      (subst (AreSettled setup.job (map worker_side workers)) (sym f)
-      (subst (λ (xs : List SideIs). AreSettled setup.job xs fed) s (subst (λ (j : JobView). AreSettled j all fed) (sym e) settled))))
+      (is_run (subst (λ (xs : List SideIs). AreSettled setup.job xs outs) s (subst (λ (j : JobView). AreSettled j all outs) (sym e) settled)))

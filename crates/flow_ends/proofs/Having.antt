@@ -12,15 +12,14 @@ use Rattle.flow_model.proofs.ElementLemmas.{in_filter, in_of_place}
 use Rattle.flow_model.proofs.LaneLemmas.{in_enumerate, same_number}
 use Rattle.flow_worker.specs.Endpoints.{LaneOutIs}
 use Rattle.flow_worker.specs.Pairs.{Each}
-use Rattle.flow_worker.specs.Parts.{EndpointIs, endpoint_out}
+use Rattle.flow_worker.specs.Parts.{endpoint_out}
+use Rattle.lane_core.specs.Lane.{EndpointIs}
 use Rattle.flow_worker.specs.Worker.{WorkerIs, numbers_out}
 use Rattle.flow_worker.proofs.Pairs.{get_map, get_mapped, length_mapped}
 use Rattle.coordinator.specs.Feeding.{fed_lanes}
-use Rattle.coordinator.specs.Views.{OutIs}
-use Rattle.flow_ends.specs.Ended.{IsOver, fed_end}
+use Rattle.flow_ends.specs.Ended.{IsOver}
 use Rattle.flow_ends.specs.Sides.{AreMatched, HaveAllLanes, SideIs, feeder_sends, numbers_of, worker_side}
 use Rattle.flow_ends.proofs.Crewing.{same_in}
-use Rattle.flow_ends.proofs.Making.{match_so}
 use Rattle.flow_ends.proofs.Sorting.{each_placed}
 
 same_out : (outs : List LaneOutIs) → numbers_of (map endpoint_out outs) ≡ numbers_out outs
@@ -64,8 +63,8 @@ fed_numbers job ns many at = same_lists ns (lanes_that feeder_sends job) long sa
         let e : i.0 ≡ m = omega (arith, i.1, number) in
         same_number job p.1 p.1 n m (at k n p.1 g lane) (subst (λ j. slice_get (lanes job) j ≡ Some p.1) e i.2) refl
 
-module _ (setup : SetupView) (begin : Begin) (rows : List Row) (workers : List WorkerIs) (feeds : List Feed) (outs : List OutIs) (over : IsOver setup begin rows workers feeds outs) where
-  pub have_all : HaveAllLanes setup.job (map worker_side workers) (map fed_end outs)
+module _ (setup : SetupView) (begin : Begin) (rows : List Row) (workers : List WorkerIs) (feeds : List Feed) (outs : List EndpointIs) (over : IsOver setup begin rows workers feeds outs) where
+  pub have_all : HaveAllLanes setup.job (map worker_side workers) outs
   have_all = record {
     many = length_mapped worker_side workers ∙ over.crew.many;
     ins = λ w side g.
@@ -74,20 +73,19 @@ module _ (setup : SetupView) (begin : Begin) (rows : List Row) (workers : List W
     outs = λ w side g.
         let (worker, at, e) = get_map worker_side workers w side g in
         ap (λ (s : SideIs). numbers_of s.outs) e ∙ (same_out worker.outs ∙ ((over.crew.law w worker at).placed.outs_are ∙ ap (out_numbers setup.job) (over.crew.number w worker at)));
-    feeder = fed_numbers setup.job (numbers_of (map fed_end outs)) long numbered;
+    feeder = fed_numbers setup.job (numbers_of outs) long numbered;
   }
     where
-      long : length (numbers_of (map fed_end outs)) ≡ length (fed_lanes setup.job)
+      long : length (numbers_of outs) ≡ length (fed_lanes setup.job)
       long =
-          length_mapped (λ (x : EndpointIs). x.number) (map fed_end outs)
-          ∙ (length_mapped fed_end outs ∙ (ap (λ (l : List OutIs). length l) over.outs_are ∙ over.feeding.outs_are))
+          length_mapped (λ (x : EndpointIs). x.number) outs
+          ∙ (ap (λ (l : List EndpointIs). length l) over.outs_are ∙ over.feeding.outs_are)
 
-      numbered : (k n : ℕ) (lane : Lane) → slice_get (numbers_of (map fed_end outs)) k ≡ Some n → slice_get (fed_lanes setup.job) k ≡ Some lane → slice_get (lanes setup.job) n ≡ Some lane
+      numbered : (k n : ℕ) (lane : Lane) → slice_get (numbers_of outs) k ≡ Some n → slice_get (fed_lanes setup.job) k ≡ Some lane → slice_get (lanes setup.job) n ≡ Some lane
       numbered k n lane g h =
-          let (x, at, e) = get_map (λ (x : EndpointIs). x.number) (map fed_end outs) k n g in
-          let (out, there, f) = get_map fed_end outs k x at in
-          let is = over.feeding.outs k lane out h (ap (λ l. slice_get l k) (sym over.outs_are) ∙ there) in
-          ap (slice_get (lanes setup.job)) (e ∙ ap (λ (y : EndpointIs). y.number) f) ∙ is.numbered
+          let (x, at, e) = get_map (λ (x : EndpointIs). x.number) outs k n g in
+          let is = over.feeding.outs k lane x h (ap (λ l. slice_get l k) (sym over.outs_are) ∙ at) in
+          ap (slice_get (lanes setup.job)) e ∙ is.numbered
 
   pub room_in : Each (λ (w : WorkerIs). length w.ins ≤ w.spare_in) workers
   room_in = each_placed (λ (w : WorkerIs). length w.ins ≤ w.spare_in) workers (λ k w g. (over.crew.law k w g).placed.room_in)
@@ -96,11 +94,9 @@ module _ (setup : SetupView) (begin : Begin) (rows : List Row) (workers : List W
   room_out = each_placed (λ (w : WorkerIs). length w.outs ≤ w.spare_out) workers (λ k w g. (over.crew.law k w g).placed.room_out)
 
   -- the same of the endpoints as code has them
-  pub have_so : (job : JobView) (sides : List SideIs) (fed : List EndpointIs) → setup.job ≡ job → sides ≡ map worker_side workers → map fed_end outs ≡ fed → HaveAllLanes job sides fed
-  have_so job sides fed e s f =
-      subst (HaveAllLanes job sides) f
-      (subst (λ (xs : List SideIs). HaveAllLanes job xs (map fed_end outs)) (sym s)
-      (subst (λ (j : JobView). HaveAllLanes j (map worker_side workers) (map fed_end outs)) e have_all))
+  pub have_so : (job : JobView) (sides : List SideIs) → setup.job ≡ job → sides ≡ map worker_side workers → HaveAllLanes job sides outs
+  have_so job sides e s =
+      subst (λ (xs : List SideIs). HaveAllLanes job xs outs) (sym s) (subst (λ (j : JobView). HaveAllLanes j (map worker_side workers) outs) e have_all)
 
-  pub matched_so : (sides : List SideIs) (fed : List EndpointIs) → sides ≡ map worker_side workers → map fed_end outs ≡ fed → AreMatched sides fed
-  matched_so sides fed s f = match_so (map worker_side workers) sides (map fed_end outs) fed s (sym f) over.matched
+  pub matched_so : (sides : List SideIs) → sides ≡ map worker_side workers → AreMatched sides outs
+  matched_so sides s = subst (λ (xs : List SideIs). AreMatched xs outs) (sym s) over.matched

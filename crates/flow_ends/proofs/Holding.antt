@@ -1,7 +1,7 @@
 -- The lanes out of the workers hold as many items as was asked, as lane after lane is made.
 use Rattle.std.proofs.Common.{◌≡◌, ◌≢◌, ◌⊎◌, ◌∙◌, ℕ, List, [], ◌∷◌, ◌++◌, inl, inr, sym, ap, subst, Option, Some, None, slice_get, replicate}
 use Rattle.flow_worker.specs.Pairs.{Each}
-use Rattle.flow_worker.specs.Parts.{EndpointIs}
+use Rattle.lane_core.specs.Lane.{EndpointIs}
 use Rattle.flow_ends.specs.Sides.{HoldAtMost, SideIs, empty_side}
 use Rattle.flow_ends.specs.Sorted.{changed, more_in, more_out, with_out}
 use Rattle.flow_ends.proofs.Making.{get-replicate}

@@ -6,7 +6,7 @@ use Rattle.std.proofs.lemmas.Option.{same_Some}
 use Rattle.flow_dag.specs.declared.edge.Edge.{Edge}
 use Rattle.flow_dag.specs.declared.graph.Graph.{Graph}
 use Rattle.jobs.specs.JobView.{JobView}
-use Rattle.lane_core.specs.Lane.{LaneId}
+use Rattle.lane_core.specs.Lane.{EndpointIs, LaneId}
 use Rattle.lane_core.specs.declared.form.Origin.{Origin}
 use Rattle.tuple_trace.specs.declared.tuple.Item.{Item}
 use Rattle.flow_model.specs.Agreement.{IsGraphOf}
@@ -16,11 +16,10 @@ use Rattle.flow_model.specs.Workers.{workers_in}
 use Rattle.flow_model.proofs.LaneLemmas.{lane_is}
 use Rattle.flow_model.proofs.PlaceLemmas.{append_get, get_left}
 use Rattle.flow_worker.specs.Pairs.{Each}
-use Rattle.flow_worker.specs.Parts.{AreNewEndpoints, EndpointIs, IsNewEndpoint, endpoints}
+use Rattle.flow_worker.specs.Parts.{AreNewEndpoints}
+use Rattle.flow_model.specs.NewEndpoint.{IsNewEndpoint}
 use Rattle.flow_worker.proofs.Pairs.{each_map}
-use Rattle.coordinator.specs.Starts.{AreNewOuts, IsNewOut}
-use Rattle.coordinator.specs.Views.{OutIs, outs_of}
-use Rattle.flow_ends.specs.Ended.{fed_end}
+use Rattle.coordinator.specs.Starts.{AreNewOuts}
 use Rattle.flow_ends.specs.Sides.{AreMatched, empty_side, feeder_sends, ins_at, IsAmong, numbers_of, outs_at, side_ins, side_outs, SideIs}
 use Rattle.std.proofs.Common.{length-append}
 use Rattle.flow_ends.specs.Sorted.{HasLanes, AreMarked, AreNewAt, HaveFirstLanes, IsMarked, changed, leads_to, leads_from, more_in, with_fed, with_out}
@@ -132,34 +131,15 @@ marked_match job graph i marks all fed (long, h) sender receiver tx rx a b same 
     let q = in_has job (λ sender. IsMarked job graph marks) (λ worker. IsMarked job graph marks) i i all fed h receiver rx b in
     same_Some tx.lane rx.lane (sym p.1 ∙ (ap (slice_get marks) same ∙ q.1))
 
-pub match_so : (was now : List SideIs) (fed ends : List EndpointIs) → now ≡ was → ends ≡ fed → AreMatched was fed → AreMatched now ends
-match_so was now fed ends s f matched = subst (AreMatched now) (sym f) (subst (λ (xs : List SideIs). AreMatched xs fed) (sym s) matched)
-
-module _ {T : Type 0} (lane : T → LaneId) (number : T → ℕ) (origin : T → Origin) (capacity : T → ℕ) (sent : T → List Item) (full : T → ℕ) where
-  -- the endpoints of the feeder, as its law sees them
-  pub fed_ends : (ts : List T) → map fed_end (outs_of lane number origin capacity sent full ts) ≡ endpoints lane number origin sent ts
-  fed_ends [] = refl
-  fed_ends (t ∷ ts) = ap (λ l. record { lane = lane t; number = number t; origin = origin t; items = sent t } ∷ l) (fed_ends ts)
-
-  same_numbers : (ts : List T) → map (λ (out : OutIs). out.number) (outs_of lane number origin capacity sent full ts) ≡ numbers_of (endpoints lane number origin sent ts)
-  same_numbers [] = refl
-  same_numbers (t ∷ ts) = ap (λ l. number t ∷ l) (same_numbers ts)
-
-  each_new : (job : JobView) (graph : Graph) (ts : List T) → Each (IsNewEndpoint job graph) (endpoints lane number origin sent ts) → (k : ℕ) (out : OutIs) → slice_get (outs_of lane number origin capacity sent full ts) k ≡ Some out → IsNewOut job graph out
-  each_new job graph [] e k out g = absurd (cc)
-  each_new job graph (t ∷ ts) e zero out g =
-      let same : record { lane = lane t; number = number t; origin = origin t; capacity = capacity t; sent = sent t; full = full t } ≡ out = cc in
-      subst (IsNewOut job graph) same (record { lane = e.0.lane; edge = e.0.edge; numbered = e.0.numbered; edge_is = e.0.edge_is; origin_is = e.0.origin_is; empty = e.0.empty })
-  each_new job graph (t ∷ ts) e (suc k) out g = each_new job graph ts e.1 k out g
-
-  pub marked_feeder : (job : JobView) (graph : Graph) (i : ℕ) (marks : List LaneId) (all : List SideIs) (ts : List T) → IsGraphOf job graph → length (lanes job) ≤ i
-      → AreMarked job graph i marks all (endpoints lane number origin sent ts) → AreNewOuts job (outs_of lane number origin capacity sent full ts)
-  marked_feeder job graph i marks all ts is le (long, h) = record {
-    graph = graph;
-    graph_is = is;
-    numbers_are = same_numbers ts ∙ (h.feeder.numbers ∙ first_all feeder_sends job i le);
-    new = each_new job graph ts (each_map (IsMarked job graph marks) (IsNewEndpoint job graph) (endpoints lane number origin sent ts) (λ x m. m.0) h.feeder.each);
-  }
+-- the endpoints of the feeder are new
+pub marked_feeder : (job : JobView) (graph : Graph) (i : ℕ) (marks : List LaneId) (all : List SideIs) (fed : List EndpointIs) → IsGraphOf job graph → length (lanes job) ≤ i
+    → AreMarked job graph i marks all fed → AreNewOuts job fed
+marked_feeder job graph i marks all fed is le (long, h) = record {
+  graph = graph;
+  graph_is = is;
+  numbers_are = h.feeder.numbers ∙ first_all feeder_sends job i le;
+  new = λ k end g. (each_got (IsMarked job graph marks) fed k end h.feeder.each g).0;
+}
 
 -- ---- a new endpoint
 

@@ -1,12 +1,10 @@
 -- Endpoints match by their lanes and numbers, whatever items went by them.
 use Rattle.std.proofs.Common.{◌≡◌, ◌∙◌, ℕ, List, refl, sym, ap, map, Option, Some, None, slice_get}
-use Rattle.lane_core.specs.Lane.{LaneId}
+use Rattle.lane_core.specs.Lane.{EndIs, EndpointIs, LaneId, end_of}
 use Rattle.flow_worker.specs.Endpoints.{LaneInIs, LaneOutIs}
-use Rattle.flow_worker.specs.Parts.{EndpointIs, endpoint_in, endpoint_out}
+use Rattle.flow_worker.specs.Parts.{endpoint_in, endpoint_out}
 use Rattle.flow_worker.specs.Worker.{WorkerIs}
 use Rattle.flow_worker.proofs.Pairs.{get_map, get_mapped}
-use Rattle.coordinator.specs.Views.{EndIs, OutIs, end_of}
-use Rattle.flow_ends.specs.Ended.{fed_end}
 use Rattle.flow_ends.specs.Sides.{AreMatched, ins_at, IsAmong, lane_ids, outs_at, side_ins, side_outs, SideIs, worker_side}
 use Rattle.flow_ends.proofs.Ending.{in_lane, out_lane}
 
@@ -21,7 +19,7 @@ record IsSeen (ends : List EndpointIs) (end : EndpointIs) : Type 0 where
   lane : end.lane ≡ was.lane
   number : end.number ≡ was.number
 
-module _ (workers later : List WorkerIs) (outs left : List OutIs) (same : map lane_ids later ≡ map lane_ids workers) (ends : map end_of left ≡ map end_of outs) where
+module _ (workers later : List WorkerIs) (outs left : List EndpointIs) (same : map lane_ids later ≡ map lane_ids workers) (ends : map end_of left ≡ map end_of outs) where
   -- the worker with the same number, before
   worker_seen : (w k : ℕ) (x : EndpointIs) (o : Option SideIs) → slice_get (map worker_side later) w ≡ o → slice_get (side_ins o) k ≡ Some x → (v : WorkerIs) × (slice_get later w ≡ Some v)
   worker_seen w k x None e g = absurd (cc)
@@ -44,20 +42,14 @@ module _ (workers later : List WorkerIs) (outs left : List OutIs) (same : map la
         number = ap (λ (y : EndpointIs). y.number) e ∙ ap (λ (p : LaneId × ℕ). p.1) h;
       }
 
-  tx_seen : (sender : Option ℕ) (x : EndpointIs) → IsAmong (outs_at sender (map worker_side later) (map fed_end left)) x → IsSeen (outs_at sender (map worker_side workers) (map fed_end outs)) x
+  tx_seen : (sender : Option ℕ) (x : EndpointIs) → IsAmong (outs_at sender (map worker_side later) left) x → IsSeen (outs_at sender (map worker_side workers) outs) x
   tx_seen None x (k, g) =
-      let (a, at_a, e) = get_map fed_end left k x g in
-      let (b, at_b, h) = seen end_of outs left k a ends at_a in
-      record {
-        was = fed_end b;
-        among = (k, get_mapped fed_end outs k b at_b);
-        lane = ap (λ (y : EndpointIs). y.lane) e ∙ ap (λ (y : EndIs). y.lane) h;
-        number = ap (λ (y : EndpointIs). y.number) e ∙ ap (λ (y : EndIs). y.number) h;
-      }
+      let (b, at_b, h) = seen end_of outs left k x ends g in
+      record { was = b; among = (k, at_b); lane = ap (λ (y : EndIs). y.lane) h; number = ap (λ (y : EndIs). y.number) h }
   tx_seen (Some w) x (k, g) =
       let (v, at_v) = sender_seen w k x (slice_get (map worker_side later) w) refl g in
       let (u, at_u, f) = seen lane_ids workers later w v same at_v in
-      let (j, a, at_a, e) = out_lane later (map fed_end left) w v x at_v (k, g) in
+      let (j, a, at_a, e) = out_lane later left w v x at_v (k, g) in
       let (b, at_b, h) = seen (λ (y : LaneOutIs). (y.lane, y.number)) u.outs v.outs j a (ap (λ (p : List (LaneId × ℕ) × List (LaneId × ℕ)). p.1) f) at_a in
       record {
         was = endpoint_out b;
@@ -66,7 +58,7 @@ module _ (workers later : List WorkerIs) (outs left : List OutIs) (same : map la
         number = ap (λ (y : EndpointIs). y.number) e ∙ ap (λ (p : LaneId × ℕ). p.1) h;
       }
 
-  pub matched_again : AreMatched (map worker_side workers) (map fed_end outs) → AreMatched (map worker_side later) (map fed_end left)
+  pub matched_again : AreMatched (map worker_side workers) outs → AreMatched (map worker_side later) left
   matched_again matched sender receiver tx rx a b number =
       let s = tx_seen sender tx a in
       let t = rx_seen receiver rx b in

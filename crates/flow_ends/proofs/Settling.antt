@@ -7,7 +7,7 @@ use Rattle.jobs.specs.JobView.{JobView}
 use Rattle.tuple_trace.specs.declared.tuple.Item.{Item}
 use Rattle.flow_model.specs.Lanes.{lanes}
 use Rattle.flow_model.specs.declared.topology.Lane.{Lane}
-use Rattle.flow_worker.specs.Parts.{EndpointIs}
+use Rattle.lane_core.specs.Lane.{EndpointIs}
 use Rattle.flow_ends.specs.Sides.{AreMatched, AreSettled, feeder_sends, HaveAllLanes, ins_at, IsAmong, IsSettled, outs_at, side_ins, side_outs, SideIs}
 use Rattle.flow_ends.specs.Sorted.{HaveFirstLanes, changed, leads_to, leads_from, more_in, with_fed, with_out}
 use Rattle.flow_ends.proofs.Numbers.{first_all}

@@ -13,7 +13,7 @@ use Rattle.flow_model.proofs.LaneLemmas.{lane_is, sender_worker}
 use Rattle.flow_model.proofs.LaneNumbers.{receiver_there}
 use Rattle.flow_model.proofs.WorkerLemmas.{item_at}
 use Rattle.flow_worker.specs.Pairs.{Each}
-use Rattle.flow_worker.specs.Parts.{EndpointIs}
+use Rattle.lane_core.specs.Lane.{EndpointIs}
 use Rattle.flow_worker.proofs.Pairs.{each_map}
 use Rattle.flow_ends.specs.Sides.{SideIs, ins_at, side_ins, feeder_sends, numbers_of, outs_at, side_outs}
 use Rattle.flow_ends.specs.Sorted.{HaveFirstLanes, HasLanes, changed, first_numbers, leads_to, leads_from, more_in, more_out, with_fed, with_out}

@@ -2,32 +2,28 @@
 use Rattle.std.specs.Prelude.{◌≡◌, List, length, map, true}
 use Rattle.sink_journal.specs.declared.journal.Feed.{Feed}
 use Rattle.tuple_trace.specs.declared.row.Row.{Row}
+use Rattle.lane_core.specs.Lane.{EndpointIs}
 use Rattle.flow_model.specs.Begin.{Begin}
 use Rattle.flow_model.specs.SetupView.{SetupView}
 use Rattle.flow_model.specs.Requests.{afters}
 use Rattle.flow_model.specs.Run.{Ran, ran_as}
 use Rattle.flow_model.specs.Workers.{workers_in}
 use Rattle.flow_worker.specs.Pairs.{Each}
-use Rattle.flow_worker.specs.Parts.{EndpointIs, WorkedIs}
+use Rattle.flow_worker.specs.Parts.{WorkedIs}
 use Rattle.flow_worker.specs.Turning.{IsDone}
 use Rattle.flow_worker.specs.Worker.{WorkerIs}
 use Rattle.coordinator.specs.Feeding.{IsFeeding}
-use Rattle.coordinator.specs.Views.{FeederIs, OutIs}
+use Rattle.coordinator.specs.Views.{FeederIs}
 use Rattle.flow_ends.specs.Crews.{IsCrew}
 use Rattle.flow_ends.specs.Sides.{AreMatched, worker_side}
 
--- the endpoint of the same lane
-abbrev pub fed_end : OutIs → EndpointIs
-fed_end out =
-    record { lane = out.lane; number = out.number; origin = out.origin; items = out.sent }
-
 -- the workers of a run are done, and its feeder has stopped and left this feed and these endpoints
 pub record IsOver (setup : SetupView) (begin : Begin) (rows : List Row) (workers : List WorkerIs)
-    (feeds : List Feed) (outs : List OutIs) : Type 0 where
+    (feeds : List Feed) (outs : List EndpointIs) : Type 0 where
   pub starts : length begin.states ≡ length (workers_in setup.job)
   pub crew : IsCrew setup begin workers
   pub done : Each IsDone workers
-  pub matched : AreMatched (map worker_side workers) (map fed_end outs)
+  pub matched : AreMatched (map worker_side workers) outs
   pub feeder : FeederIs
   pub feeding : IsFeeding setup begin (afters setup.requests) rows feeder
   pub stopped : feeder.stopped ≡ true

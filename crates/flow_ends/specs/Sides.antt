@@ -2,14 +2,14 @@
 use Rattle.std.specs.Prelude.{◌≡◌, ℕ, Bool, List, [], ◌++◌, length, map, Option, Some, None}
 use Rattle.std.specs.Prelude.{slice_get}
 use Rattle.jobs.specs.JobView.{JobView}
-use Rattle.lane_core.specs.Lane.{LaneId}
+use Rattle.lane_core.specs.Lane.{EndpointIs, LaneId}
 use Rattle.tuple_trace.specs.declared.tuple.Item.{Item}
 use Rattle.flow_model.specs.Lanes.{is_same_sender, lanes, lanes_in, lanes_that, out_numbers}
 use Rattle.flow_model.specs.declared.topology.Lane.{Lane}
 use Rattle.flow_model.specs.Workers.{workers_in}
 use Rattle.flow_worker.specs.Endpoints.{LaneInIs, LaneOutIs}
 use Rattle.flow_worker.specs.Pairs.{Each}
-use Rattle.flow_worker.specs.Parts.{EndpointIs, endpoint_in, endpoint_out}
+use Rattle.flow_worker.specs.Parts.{endpoint_in, endpoint_out}
 use Rattle.flow_worker.specs.Worker.{WorkerIs}
 
 -- A worker's endpoints: of its lanes in, and of its lanes out.

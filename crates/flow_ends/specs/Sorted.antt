@@ -4,12 +4,12 @@ use Rattle.std.specs.Prelude.{filter, take, Option, Some, None, slice_get}
 use Rattle.std.specs.List.{enumerate_from}
 use Rattle.flow_dag.specs.declared.graph.Graph.{Graph}
 use Rattle.jobs.specs.JobView.{JobView}
-use Rattle.lane_core.specs.Lane.{LaneId}
+use Rattle.lane_core.specs.Lane.{EndpointIs, LaneId}
 use Rattle.flow_model.specs.Lanes.{is_sender, lanes}
 use Rattle.flow_model.specs.declared.topology.Lane.{Lane}
 use Rattle.flow_model.specs.Workers.{workers_in}
 use Rattle.flow_worker.specs.Pairs.{Each}
-use Rattle.flow_worker.specs.Parts.{EndpointIs, IsNewEndpoint}
+use Rattle.flow_model.specs.NewEndpoint.{IsNewEndpoint}
 use Rattle.flow_ends.specs.Sides.{SideIs, feeder_sends, numbers_of}
 
 -- the item at a place is changed

@@ -4,15 +4,14 @@ ghost use Rattle.std.specs.Prelude.{All, replicate, slice_get};
 ghost use Rattle.flow_model.specs.Lanes.{lanes};
 ghost use Rattle.flow_model.specs.Setup.{setup_view};
 ghost use Rattle.flow_model.specs.Workers.{workers_in};
-ghost use Rattle.flow_worker.specs.Parts.{AreNewEndpoints, endpoints};
+ghost use Rattle.flow_worker.specs.Parts.{AreNewEndpoints};
 ghost use Rattle.coordinator.specs.Starts.{AreNewOuts};
-ghost use Rattle.coordinator.specs.Views.{outs_of};
 ghost use Rattle.flow_ends.specs.Sides.{AreMatched, HoldAtMost, SideIs, empty_side};
 ghost use Rattle.flow_ends.specs.Sorted.{AreNewAt, changed, more_in, more_out, with_fed, with_out};
 
 use crate::Side;
 use flow_dag::Graph;
-use flow_model::{Lane, Setup};
+use flow_model::Setup;
 use lane_core::{Lanes, Origin};
 use std::alloc::Global;
 use tuple_trace::{MAX_CAPACITY, NoMemory};
@@ -43,13 +42,13 @@ impl<L: Lanes> AllEndpoints<L> {
             → slice_get made.workers.items w ≡ Some side
             → AreNewEndpoints (setup_view setup.now).job w side.ins side.outs) }
         ensures feeder { IfOk result (λ made. AreNewOuts (setup_view setup.now).job
-            (outs_of L.Tx.lane L.Tx.number L.Tx.origin L.Tx.capacity L.Tx.sent L.Tx.full
+            (map L.Tx.state
             made.feeder.items)) }
-        ensures capacity { IfOk result (λ made. All (λ end. L.Tx.capacity end ≡ cap)
+        ensures capacity { IfOk result (λ made. All (λ end. (L.Tx.state end).lane.capacity ≡ cap)
             made.feeder.items) }
         ensures hold { IfOk result (λ made. HoldAtMost cap made.workers.items) }
         ensures matched { IfOk result (λ made. AreMatched made.workers.items
-            (endpoints L.Tx.lane L.Tx.number L.Tx.origin L.Tx.sent made.feeder.items)) }
+            (map L.Tx.state made.feeder.items)) }
     {
         let graph = setup.job.dag.graph();
         let mut workers = new_sides(alloc, setup.workers() as usize)?;
@@ -57,7 +56,7 @@ impl<L: Lanes> AllEndpoints<L> {
         let count = setup.topology.lanes.len() as u32;
         for number in 0..count {
             let lane = setup.lane(number);
-            let (tx, rx) = make_lane(alloc, form, setup, graph, number, lane, cap)?;
+            let (tx, rx) = make_lane(alloc, form, setup, graph, number, cap)?;
             add_out(&mut workers, &mut feeder, lane.sender, tx)?;
             add_in(&mut workers, lane.receiver, rx)?;
         }
@@ -65,28 +64,26 @@ impl<L: Lanes> AllEndpoints<L> {
     }
 }
 
-// Makes a lane of the job.
+// Makes the lane of the job with this number.
 fn make_lane<L: Lanes>(
     alloc: Global,
     form: &L,
     setup: &Setup,
     graph: Graph,
     number: u32,
-    lane: Lane,
     cap: u32,
 ) -> Result<(L::Tx, L::Rx), NoMemory>
-    requires lane { slice_get (lanes (setup_view setup.now).job) number ≡ Some lane }
+    requires there { number < length (lanes (setup_view setup.now).job) }
     requires some { 1 ≤ cap }
     requires few { cap ≤ MAX_CAPACITY }
     ensures tx { IfOk result (λ (tx, rx). AreNewAt (setup_view setup.now).job graph number
-        (endpoints L.Tx.lane L.Tx.number L.Tx.origin L.Tx.sent (tx ∷ []))) }
+        (L.Tx.state tx ∷ [])) }
     ensures rx { IfOk result (λ (tx, rx). AreNewAt (setup_view setup.now).job graph number
-        (endpoints L.Rx.lane L.Rx.number L.Rx.origin L.Rx.taken (rx ∷ []))) }
-    ensures capacity { IfOk result (λ (tx, rx). L.Tx.capacity tx ≡ cap) }
-    ensures holds { IfOk result (λ (tx, rx). (L.Tx.lane tx).capacity ≡ cap) }
-    ensures lane { IfOk result (λ (tx, rx). L.Tx.lane tx ≡ L.Rx.lane rx) }
+        (L.Rx.state rx ∷ [])) }
+    ensures holds { IfOk result (λ (tx, rx). (L.Tx.state tx).lane.capacity ≡ cap) }
+    ensures lane { IfOk result (λ (tx, rx). (L.Tx.state tx).lane ≡ (L.Rx.state rx).lane) }
 {
-    let from = setup.job.dag.edge(lane.edge).from;
+    let from = setup.job.dag.edge(setup.lane(number).edge).from;
     form.make(alloc, number, cap, Origin { graph, from })
 }
 
@@ -100,14 +97,14 @@ fn add_out<L: Lanes>(
 ) -> Result<(), NoMemory>
     requires { IfSome sender (λ worker. worker < length workers.old) }
     ensures workers { OnOk result (workers.new ≡ with_out sender
-        (endpoints L.Tx.lane L.Tx.number L.Tx.origin L.Tx.sent (tx ∷ [])) workers.old) }
+        (L.Tx.state tx ∷ []) workers.old) }
     ensures feeder { OnOk result
-        (endpoints L.Tx.lane L.Tx.number L.Tx.origin L.Tx.sent feeder.new.items
-        ≡ with_fed sender (endpoints L.Tx.lane L.Tx.number L.Tx.origin L.Tx.sent (tx ∷ []))
-        (endpoints L.Tx.lane L.Tx.number L.Tx.origin L.Tx.sent feeder.old.items)) }
-    ensures capacity { OnOk result ((n : ℕ) → L.Tx.capacity tx ≡ n
-        → All (λ end. L.Tx.capacity end ≡ n) feeder.old.items
-        → All (λ end. L.Tx.capacity end ≡ n) feeder.new.items) }
+        (map L.Tx.state feeder.new.items
+        ≡ with_fed sender (L.Tx.state tx ∷ [])
+        (map L.Tx.state feeder.old.items)) }
+    ensures capacity { OnOk result ((n : ℕ) → (L.Tx.state tx).lane.capacity ≡ n
+        → All (λ end. (L.Tx.state end).lane.capacity ≡ n) feeder.old.items
+        → All (λ end. (L.Tx.state end).lane.capacity ≡ n) feeder.new.items) }
 {
     match sender {
         Some(worker) => add_out_at(workers, worker, tx),
@@ -121,7 +118,7 @@ fn add_out<L: Lanes>(
 fn add_out_at<L: Lanes>(workers: &mut [Side<L>], worker: u32, tx: L::Tx) -> Result<(), NoMemory>
     requires { worker < length workers.old }
     ensures { OnOk result (workers.new ≡ changed (more_out
-        (endpoints L.Tx.lane L.Tx.number L.Tx.origin L.Tx.sent (tx ∷ []))) worker workers.old) }
+        (L.Tx.state tx ∷ [])) worker workers.old) }
 {
     workers[worker as usize].push_out(tx)
 }
@@ -129,7 +126,7 @@ fn add_out_at<L: Lanes>(workers: &mut [Side<L>], worker: u32, tx: L::Tx) -> Resu
 fn add_in<L: Lanes>(workers: &mut [Side<L>], worker: u32, rx: L::Rx) -> Result<(), NoMemory>
     requires { worker < length workers.old }
     ensures { OnOk result (workers.new ≡ changed (more_in
-        (endpoints L.Rx.lane L.Rx.number L.Rx.origin L.Rx.taken (rx ∷ []))) worker workers.old) }
+        (L.Rx.state rx ∷ [])) worker workers.old) }
 {
     workers[worker as usize].push_in(rx)
 }

@@ -7,9 +7,7 @@ ghost use Rattle.flow_model.specs.Workers.{workers_in};
 ghost use Rattle.flow_worker.specs.Parts.{AreNewEndpoints};
 ghost use Rattle.flow_worker.specs.Worker.{WorkerIs};
 ghost use Rattle.coordinator.specs.Starts.{AreNewOuts, AreUnused};
-ghost use Rattle.coordinator.specs.Views.{outs_of};
 ghost use Rattle.flow_ends.specs.Crews.{IsCrew};
-ghost use Rattle.flow_ends.specs.Ended.{fed_end};
 ghost use Rattle.flow_ends.specs.Sides.{AreMatched, HoldAtMost, SideIs, worker_side};
 
 use crate::{AllEndpoints, Side};
@@ -44,15 +42,14 @@ impl<L: Lanes> Crew<L> {
         ensures boxes { IfOk result (λ crew. ShareBoxes crew.posters.items
             (map (λ (w : WorkerIs). w.owner) crew.workers.items)) }
         ensures outs { IfOk result (λ crew. AreNewOuts (setup_view setup.now).job
-            (outs_of L.Tx.lane L.Tx.number L.Tx.origin L.Tx.capacity L.Tx.sent L.Tx.full
+            (map L.Tx.state
             crew.outs.items)) }
-        ensures capacity { IfOk result (λ crew. All (λ end. L.Tx.capacity end ≡ cap)
+        ensures capacity { IfOk result (λ crew. All (λ end. (L.Tx.state end).lane.capacity ≡ cap)
             crew.outs.items) }
         ensures hold { IfOk result (λ crew. HoldAtMost cap
             (map worker_side crew.workers.items)) }
         ensures matched { IfOk result (λ crew. AreMatched (map worker_side crew.workers.items)
-            (map fed_end (outs_of L.Tx.lane L.Tx.number L.Tx.origin L.Tx.capacity L.Tx.sent
-            L.Tx.full crew.outs.items))) }
+            (map L.Tx.state crew.outs.items)) }
     {
         let start = Start::first(alloc, setup)?;
         Crew::make_from(alloc, form, setup, cap, &start)
@@ -79,15 +76,14 @@ impl<L: Lanes> Crew<L> {
         ensures boxes { IfOk result (λ crew. ShareBoxes crew.posters.items
             (map (λ (w : WorkerIs). w.owner) crew.workers.items)) }
         ensures outs { IfOk result (λ crew. AreNewOuts (setup_view setup.now).job
-            (outs_of L.Tx.lane L.Tx.number L.Tx.origin L.Tx.capacity L.Tx.sent L.Tx.full
+            (map L.Tx.state
             crew.outs.items)) }
-        ensures capacity { IfOk result (λ crew. All (λ end. L.Tx.capacity end ≡ cap)
+        ensures capacity { IfOk result (λ crew. All (λ end. (L.Tx.state end).lane.capacity ≡ cap)
             crew.outs.items) }
         ensures hold { IfOk result (λ crew. HoldAtMost cap
             (map worker_side crew.workers.items)) }
         ensures matched { IfOk result (λ crew. AreMatched (map worker_side crew.workers.items)
-            (map fed_end (outs_of L.Tx.lane L.Tx.number L.Tx.origin L.Tx.capacity L.Tx.sent
-            L.Tx.full crew.outs.items))) }
+            (map L.Tx.state crew.outs.items)) }
     {
         let AllEndpoints { workers, feeder } = AllEndpoints::make(alloc, form, setup, cap)?;
         let (workers, posters) = make_workers(alloc, setup, workers, start)?;

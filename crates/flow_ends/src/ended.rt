@@ -8,7 +8,6 @@ ghost use Rattle.flow_model.specs.Setup.{setup_view};
 ghost use Rattle.flow_worker.specs.Pairs.{Each};
 ghost use Rattle.flow_worker.specs.Turning.{IsDone};
 ghost use Rattle.flow_worker.specs.Worker.{WorkerIs};
-ghost use Rattle.coordinator.specs.Views.{outs_of};
 ghost use Rattle.flow_ends.specs.Ended.{IsOver, record_of, worked_of};
 ghost use Rattle.flow_ends.specs.Sides.{worker_side};
 
@@ -45,14 +44,12 @@ pub fn end_run<L: Lanes>(
 ) -> Result<Ended<L>, NoMemory>
     requires over { (ran : SetupView) × (begin : Begin) × (rows : List RowIs)
         × (ran.job ≡ (setup_view setup.now).job)
-        × IsOver ran begin rows workers.items feeder.feeds (outs_of L.Tx.lane L.Tx.number
-        L.Tx.origin L.Tx.capacity L.Tx.sent L.Tx.full feeder.outs.items) }
+        × IsOver ran begin rows workers.items feeder.feeds (map L.Tx.state feeder.outs.items) }
     ensures feeds { IfOk result (λ ended. ended.feeds ≡ feeder.feeds) }
     ensures workers { IfOk result (λ ended. ended.workers.items ≡ map worked_of workers.items) }
     ensures run { IfOk result (λ ended. (ran : SetupView) (begin : Begin) (rows : List RowIs)
         → ran.job ≡ (setup_view setup.now).job
-        → IsOver ran begin rows workers.items feeder.feeds (outs_of L.Tx.lane L.Tx.number
-        L.Tx.origin L.Tx.capacity L.Tx.sent L.Tx.full feeder.outs.items)
+        → IsOver ran begin rows workers.items feeder.feeds (map L.Tx.state feeder.outs.items)
         → IsRunSince begin ran rows (record_of ran ended.feeds ended.workers.items)) }
 {
     let FeedParts { feeds, outs } = feeder;

@@ -5,17 +5,16 @@ ghost use Rattle.versions.specs.declared.request.Request.{Request as RequestIs};
 ghost use Rattle.flow_model.specs.Begin.{Begin};
 ghost use Rattle.flow_model.specs.SetupView.{SetupView};
 ghost use Rattle.flow_worker.specs.Worker.{WorkerIs};
-ghost use Rattle.coordinator.specs.Views.{OutIs, end_of};
+ghost use Rattle.lane_core.specs.Lane.{EndpointIs, end_of};
 ghost use Rattle.flow_ends.specs.Crews.{IsCrew};
-ghost use Rattle.flow_ends.specs.Ended.{fed_end};
 ghost use Rattle.flow_ends.specs.Sides.{AreMatched, lane_ids, worker_side};
 
 /// If no endpoint has got another lane or number, then endpoints that matched still match.
 pub fn endpoints_stay_matched()
-    ensures { (workers later : List WorkerIs) (outs left : List OutIs)
+    ensures { (workers later : List WorkerIs) (outs left : List EndpointIs)
         → map lane_ids later ≡ map lane_ids workers → map end_of left ≡ map end_of outs
-        → AreMatched (map worker_side workers) (map fed_end outs)
-        → AreMatched (map worker_side later) (map fed_end left) }
+        → AreMatched (map worker_side workers) outs
+        → AreMatched (map worker_side later) left }
 {}
 
 /// The law of a worker doesn't read the rows that the requests wait for: a crew of a setup is a

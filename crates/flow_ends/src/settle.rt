@@ -1,7 +1,6 @@
 // The settling of all lanes, one after another, from the last to the first.
 ghost use Rattle.std.specs.Prelude.{◌≡◌, ◌<◌, ◌∷◌, [], IfNone, IfSome, OnOk, Some, length};
 ghost use Rattle.flow_model.specs.Setup.{setup_view};
-ghost use Rattle.flow_worker.specs.Parts.{endpoints};
 ghost use Rattle.flow_ends.specs.Sides.{AreMatched, AreSettled, HaveAllLanes, ins_at, outs_at};
 ghost use Rattle.flow_ends.specs.Sorted.{changed, more_in, more_out, with_fed, with_out};
 
@@ -24,11 +23,11 @@ pub fn settle_all<L: Lanes>(
     feeder: Vec<L::Tx>,
 ) -> Result<(), NoMemory>
     requires lanes { HaveAllLanes (setup_view setup.now).job sides.items
-        (endpoints L.Tx.lane L.Tx.number L.Tx.origin L.Tx.sent feeder.items) }
+        (map L.Tx.state feeder.items) }
     requires matched { AreMatched sides.items
-        (endpoints L.Tx.lane L.Tx.number L.Tx.origin L.Tx.sent feeder.items) }
+        (map L.Tx.state feeder.items) }
     ensures { OnOk result (AreSettled (setup_view setup.now).job sides.items
-        (endpoints L.Tx.lane L.Tx.number L.Tx.origin L.Tx.sent feeder.items)) }
+        (map L.Tx.state feeder.items)) }
 {
     let mut sides = sides;
     let mut feeder = feeder;
@@ -55,13 +54,13 @@ fn take_out<L: Lanes>(
 ) -> Option<L::Tx>
     requires { IfSome sender (λ worker. worker < length sides.old) }
     ensures sides { IfSome result (λ tx. sides.old ≡ with_out sender
-        (endpoints L.Tx.lane L.Tx.number L.Tx.origin L.Tx.sent (tx ∷ [])) sides.new) }
+        (L.Tx.state tx ∷ []) sides.new) }
     ensures feeder { IfSome result (λ tx.
-        endpoints L.Tx.lane L.Tx.number L.Tx.origin L.Tx.sent feeder.old.items
-        ≡ with_fed sender (endpoints L.Tx.lane L.Tx.number L.Tx.origin L.Tx.sent (tx ∷ []))
-        (endpoints L.Tx.lane L.Tx.number L.Tx.origin L.Tx.sent feeder.new.items)) }
+        map L.Tx.state feeder.old.items
+        ≡ with_fed sender (L.Tx.state tx ∷ [])
+        (map L.Tx.state feeder.new.items)) }
     ensures none { IfNone result (outs_at sender sides.old
-        (endpoints L.Tx.lane L.Tx.number L.Tx.origin L.Tx.sent feeder.old.items) ≡ []) }
+        (map L.Tx.state feeder.old.items) ≡ []) }
 {
     match sender {
         Some(worker) => take_out_at(sides, worker),
@@ -72,7 +71,7 @@ fn take_out<L: Lanes>(
 fn take_out_at<L: Lanes>(sides: &mut [Side<L>], worker: u32) -> Option<L::Tx>
     requires { worker < length sides.old }
     ensures some { IfSome result (λ tx. sides.old ≡ changed (more_out
-        (endpoints L.Tx.lane L.Tx.number L.Tx.origin L.Tx.sent (tx ∷ []))) worker sides.new) }
+        (L.Tx.state tx ∷ [])) worker sides.new) }
     ensures none { IfNone result (outs_at (Some worker) sides.old [] ≡ []) }
 {
     sides[worker as usize].pop_out()
@@ -82,7 +81,7 @@ fn take_out_at<L: Lanes>(sides: &mut [Side<L>], worker: u32) -> Option<L::Tx>
 fn take_in<L: Lanes>(sides: &mut [Side<L>], worker: u32) -> Option<L::Rx>
     requires { worker < length sides.old }
     ensures some { IfSome result (λ rx. sides.old ≡ changed (more_in
-        (endpoints L.Rx.lane L.Rx.number L.Rx.origin L.Rx.taken (rx ∷ []))) worker sides.new) }
+        (L.Rx.state rx ∷ [])) worker sides.new) }
     ensures none { IfNone result (ins_at worker sides.old ≡ []) }
 {
     sides[worker as usize].pop_in()

@@ -1,5 +1,4 @@
 ghost use Rattle.std.specs.Prelude.{◌≡◌, [], ◌∷◌, ◌++◌, IfNone, IfSome, OnErr, OnOk};
-ghost use Rattle.flow_worker.specs.Parts.{endpoints};
 ghost use Rattle.flow_ends.specs.Sides.{empty_side};
 ghost use Rattle.flow_ends.specs.Sorted.{more_in, more_out};
 
@@ -17,14 +16,13 @@ pub struct Side<L: Lanes> {
 }
 
 impl<L: Lanes> Model for Side<L> {
-    ghost use Rattle.flow_worker.specs.Parts.{endpoints};
     ghost use Rattle.flow_ends.specs.Sides.{SideIs};
 
     ghost Value = { SideIs };
 
     ghost view = { λ s. record {
-      ins = endpoints L.Rx.lane L.Rx.number L.Rx.origin L.Rx.taken s.ins.items;
-      outs = endpoints L.Tx.lane L.Tx.number L.Tx.origin L.Tx.sent s.outs.items;
+      ins = map L.Rx.state s.ins.items;
+      outs = map L.Tx.state s.outs.items;
     } };
 }
 
@@ -42,8 +40,8 @@ impl<L: Lanes> Side<L> {
     /// Makes a side of these endpoints. Takes no memory.
     pub fn of(ins: Vec<L::Rx>, outs: Vec<L::Tx>) -> Side<L>
         ensures { result ≡ record {
-          ins = endpoints L.Rx.lane L.Rx.number L.Rx.origin L.Rx.taken ins.items;
-          outs = endpoints L.Tx.lane L.Tx.number L.Tx.origin L.Tx.sent outs.items;
+          ins = map L.Rx.state ins.items;
+          outs = map L.Tx.state outs.items;
         } }
     {
         Side { ins, outs }
@@ -54,7 +52,7 @@ impl<L: Lanes> Side<L> {
     pub fn push_in(&mut self, end: L::Rx) -> Result<(), NoMemory>
         ensures ok { OnOk result (self.new ≡ record self.old {
           ins = self.old.ins
-              ++ endpoints L.Rx.lane L.Rx.number L.Rx.origin L.Rx.taken (end ∷ []);
+              ++ L.Rx.state end ∷ [];
         }) }
         ensures err { OnErr result (self.new ≡ self.old) }
     {
@@ -67,7 +65,7 @@ impl<L: Lanes> Side<L> {
     pub fn push_out(&mut self, end: L::Tx) -> Result<(), NoMemory>
         ensures ok { OnOk result (self.new ≡ record self.old {
           outs = self.old.outs
-              ++ endpoints L.Tx.lane L.Tx.number L.Tx.origin L.Tx.sent (end ∷ []);
+              ++ L.Tx.state end ∷ [];
         }) }
         ensures err { OnErr result (self.new ≡ self.old) }
     {
@@ -78,7 +76,7 @@ impl<L: Lanes> Side<L> {
     /// Removes the receiving endpoint of the last lane in, if there is one. Takes no memory.
     pub fn pop_in(&mut self) -> Option<L::Rx>
         ensures some { IfSome result (λ end. self.old ≡ more_in
-            (endpoints L.Rx.lane L.Rx.number L.Rx.origin L.Rx.taken (end ∷ [])) self.new) }
+            (L.Rx.state end ∷ []) self.new) }
         ensures none { IfNone result (self.old.ins ≡ []) }
     {
         self.ins.pop()
@@ -87,7 +85,7 @@ impl<L: Lanes> Side<L> {
     /// Removes the sending endpoint of the last lane out, if there is one. Takes no memory.
     pub fn pop_out(&mut self) -> Option<L::Tx>
         ensures some { IfSome result (λ end. self.old ≡ more_out
-            (endpoints L.Tx.lane L.Tx.number L.Tx.origin L.Tx.sent (end ∷ [])) self.new) }
+            (L.Tx.state end ∷ []) self.new) }
         ensures none { IfNone result (self.old.outs ≡ []) }
     {
         self.outs.pop()
@@ -95,9 +93,9 @@ impl<L: Lanes> Side<L> {
 
     /// Returns the receiving and the sending endpoints. Takes no memory.
     pub fn open(self) -> (Vec<L::Rx>, Vec<L::Tx>)
-        ensures ins { endpoints L.Rx.lane L.Rx.number L.Rx.origin L.Rx.taken result.0.items
+        ensures ins { map L.Rx.state result.0.items
             ≡ self.ins }
-        ensures outs { endpoints L.Tx.lane L.Tx.number L.Tx.origin L.Tx.sent result.1.items
+        ensures outs { map L.Tx.state result.1.items
             ≡ self.outs }
     {
         let Side { ins, outs } = self;

@@ -4,7 +4,7 @@ use Rattle.std.specs.List.{range_with_len}
 use Rattle.std.proofs.lemmas.List.{length-map}
 use Rattle.std.proofs.lemmas.Simd.{map-map}
 use Rattle.std.proofs.lemmas.Option.{same_Some}
-use Rattle.lane_core.specs.Lane.{LaneId}
+use Rattle.lane_core.specs.Lane.{EndIs, EndpointIs, LaneId, end_of}
 use Rattle.jobs.specs.Nodes.{AreFromSources}
 use Rattle.sink_journal.specs.declared.journal.Feed.{Feed}
 use Rattle.tuple_trace.specs.declared.row.Row.{Row}
@@ -25,11 +25,11 @@ use Rattle.flow_worker.specs.Parts.{WorkedIs}
 use Rattle.flow_worker.specs.Turning.{IsDone}
 use Rattle.flow_worker.specs.Worker.{WorkerIs}
 use Rattle.coordinator.specs.Feeding.{AreRising, IsFeeder, IsFeeding, issue_rows, waits}
-use Rattle.coordinator.specs.Views.{FeederIs, OutIs, end_of}
+use Rattle.coordinator.specs.Views.{FeederIs}
 use Rattle.runners.specs.Crew.{AreWorkers, fixed_in, number_in}
-use Rattle.runner.specs.Runner.{EndIs, EndpointsIs, end_in, end_out}
+use Rattle.runner.specs.Runner.{EndpointsIs, end_in, end_out}
 use Rattle.flow_ends.specs.Crews.{IsCrew}
-use Rattle.flow_ends.specs.Ended.{IsOver, fed_end, record_of, worked_of}
+use Rattle.flow_ends.specs.Ended.{IsOver, record_of, worked_of}
 use Rattle.flow_ends.specs.Sides.{AreMatched, lane_ids, worker_side}
 use Rattle.runners.proofs.Crewing.{in_order}
 use Rattle.coordinator.proofs.Recording.{all_issued, all_waited}
@@ -85,11 +85,11 @@ numbers_after setup begin begun new old left same crew are is =
 -- ---- the end of the turns
 
 -- what was made for a run, and what its turns leave
-pub record HasTurned (live : Bool) (setup : SetupView) (begin : Begin) (rows : List Row) (old new : List WorkerIs) (fed left : List OutIs) (feeds : List Feed) (f : FeederIs) : Type 0 where
+pub record HasTurned (live : Bool) (setup : SetupView) (begin : Begin) (rows : List Row) (old new : List WorkerIs) (fed left : List EndpointIs) (feeds : List Feed) (f : FeederIs) : Type 0 where
   pub starts : length begin.states ≡ length (workers_in setup.job)
   pub first : live ≡ true → IsFirst begin
   pub crew : IsCrew setup begin old
-  pub matched : AreMatched (map worker_side old) (map fed_end fed)
+  pub matched : AreMatched (map worker_side old) fed
   pub are : AreWorkers setup begin new
   pub done : Each IsDone new
   pub same : map fixed_in new ≡ map fixed_in old
@@ -101,8 +101,8 @@ pub record HasTurned (live : Bool) (setup : SetupView) (begin : Begin) (rows : L
 
 -- endpoints that matched still match, and workers read no rows that requests wait for
 abbrev pub Stay : Type 0
-Stay = (workers later : List WorkerIs) (outs left : List OutIs) → map lane_ids later ≡ map lane_ids workers → map end_of left ≡ map end_of outs
-    → AreMatched (map worker_side workers) (map fed_end outs) → AreMatched (map worker_side later) (map fed_end left)
+Stay = (workers later : List WorkerIs) (outs left : List EndpointIs) → map lane_ids later ≡ map lane_ids workers → map end_of left ≡ map end_of outs
+    → AreMatched (map worker_side workers) outs → AreMatched (map worker_side later) left
 
 abbrev pub ReadNoRows : Type 0
 ReadNoRows = (setup : SetupView) (begin : Begin) (requests : List Request) (workers : List WorkerIs) → map (λ (request : Request). request.changes) requests ≡ map (λ (request : Request). request.changes) setup.requests
@@ -112,7 +112,7 @@ pub job_recorded : (live : Bool) (feeds : List Feed) (setup : SetupView) → (re
 job_recorded false feeds setup = refl
 job_recorded true feeds setup = refl
 
-module _ (setup : SetupView) (begin : Begin) (rows : List Row) (old new : List WorkerIs) (fed left : List OutIs) (feeds : List Feed) (f : FeederIs) where
+module _ (setup : SetupView) (begin : Begin) (rows : List Row) (old new : List WorkerIs) (fed left : List EndpointIs) (feeds : List Feed) (f : FeederIs) where
   -- the rows of a live run
   pub waits_are : HasTurned true setup begin rows old new fed left feeds f → AreWaits (length rows) setup.requests (issue_rows 0 feeds)
   waits_are h =

@@ -10,7 +10,7 @@ ghost use Rattle.flow_model.specs.Setup.{setup_view};
 ghost use Rattle.flow_model.specs.Workers.{workers_in};
 ghost use Rattle.flow_worker.specs.Worker.{WorkerIs};
 ghost use Rattle.flow_ends.specs.Crews.{IsCrew};
-ghost use Rattle.flow_ends.specs.Ended.{fed_end, record_of};
+ghost use Rattle.flow_ends.specs.Ended.{record_of};
 ghost use Rattle.flow_ends.specs.Sides.{AreMatched, worker_side};
 ghost use Rattle.runners.specs.Crew.{IsFeederOf, setup_in};
 ghost use Rattle.flow_engine.specs.Flown.{number_of};
@@ -205,7 +205,7 @@ where
     requires first { F.LIVE ≡ true → IsFirst B.begin }
     requires crew { IsCrew (setup_in flow.now) B.begin workers.items }
     requires matched { AreMatched (map worker_side workers.items)
-        (map fed_end (F.feeder feeder).outs) }
+        (F.feeder feeder).outs }
     requires feeder { IsFeederOf F.LIVE flow.now B.begin (F.feeder feeder) }
     requires boxes { ShareBoxes (F.feeder feeder).boxes.posters
         (map (λ (w : WorkerIs). w.owner) workers.items) }

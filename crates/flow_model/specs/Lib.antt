@@ -21,6 +21,7 @@ pub mod Run
 pub mod Record
 pub mod Whole
 pub mod Agreement
+pub mod NewEndpoint
 pub mod Fresh
 pub mod Alone
 pub mod Consistent

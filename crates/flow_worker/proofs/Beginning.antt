@@ -39,7 +39,9 @@ use Rattle.flow_worker.specs.Pairs.{Each}
 use Rattle.flow_model.specs.Dues.{AreDues, IsDueAfter, IsDueOf, edges_in}
 use Rattle.flow_model.specs.InForce.{func_in}
 use Rattle.flow_worker.specs.Endpoints.{LaneInIs, LaneOutIs, in_hand, planned}
-use Rattle.flow_worker.specs.Parts.{AreNewEndpoints, EndpointIs, IsNewEndpoint, IsStateAt, endpoint_in, endpoint_out}
+use Rattle.flow_worker.specs.Parts.{AreNewEndpoints, IsStateAt, endpoint_in, endpoint_out}
+use Rattle.lane_core.specs.Lane.{EndpointIs}
+use Rattle.flow_model.specs.NewEndpoint.{IsNewEndpoint}
 use Rattle.flow_worker.specs.Worker.{IsEndpointIn, IsEndpointOut, IsOnLane, IsPlaced, IsWorker, Sends, ShowsTaken, WorkerIs, view_now, numbers_in, numbers_out, progress_now}
 use Rattle.flow_worker.proofs.PlaceLemmas.{placed_edges}
 use Rattle.flow_worker.proofs.Pairs.{each_map, each_of, get_mapped, length_mapped}

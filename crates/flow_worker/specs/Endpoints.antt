@@ -2,7 +2,7 @@
 use Rattle.std.specs.Prelude.{◌≡◌, ◌≢◌, ◌⊎◌, ℕ, ◌+◌, ◌≤◌, List, [], ◌∷◌, ◌++◌, Bool, length, nat_lt}
 use Rattle.tuple_trace.specs.Counts.{Rose}
 use Rattle.tuple_trace.specs.declared.tuple.Item.{Item}
-use Rattle.lane_core.specs.Lane.{LaneId}
+use Rattle.lane_core.specs.Lane.{EndpointIs, LaneId}
 use Rattle.lane_core.specs.Steady.{IsSteady}
 use Rattle.lane_core.specs.declared.form.Origin.{Origin}
 use Rattle.marker_align.specs.declared.held.Hand.{Hand}
@@ -30,6 +30,31 @@ pub record LaneOutIs : Type 0 where
   pub waiting : List Item
   pub full : ℕ
   pub memory : ℕ
+
+-- the lane in with this endpoint, edge and hand
+abbrev pub lane_in_of : EndpointIs → ℕ → Hand → LaneInIs
+lane_in_of end edge hand = record {
+  lane = end.lane;
+  number = end.number;
+  origin = end.origin;
+  edge = edge;
+  taken = end.items;
+  dry = end.stalls;
+  hand = hand;
+}
+
+-- the lane out with this endpoint and edge, on which these items wait, in this memory
+abbrev pub lane_out_of : EndpointIs → ℕ → List Item → ℕ → LaneOutIs
+lane_out_of end edge waiting memory = record {
+  lane = end.lane;
+  number = end.number;
+  origin = end.origin;
+  edge = edge;
+  sent = end.items;
+  waiting = waiting;
+  full = end.stalls;
+  memory = memory;
+}
 
 -- what the worker has sent and will send
 abbrev pub planned : LaneOutIs → List Item

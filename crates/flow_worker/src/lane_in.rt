@@ -1,6 +1,6 @@
 ghost use Rattle.std.specs.Prelude.{◌≡◌, ◌≢◌, ℕ, ◌+◌, ◌<◌, ◌≤◌, ◌↔◌, [], IsTrue, false, length};
 ghost use Rattle.marker_align.specs.declared.held.Hand.TheVariants.{Empty};
-ghost use Rattle.flow_worker.specs.Endpoints.{Filled};
+ghost use Rattle.flow_worker.specs.Endpoints.{Filled, lane_in_of};
 ghost use Rattle.flow_worker.specs.Masks.{is_empty};
 ghost use Rattle.flow_worker.specs.Parts.{endpoint_in};
 
@@ -20,21 +20,13 @@ pub struct LaneIn<L: Lanes> {
 
 impl<L: Lanes> Model for LaneIn<L> {
     ghost use Rattle.std.specs.Prelude.{◌≡◌};
-    ghost use Rattle.flow_worker.specs.Endpoints.{LaneInIs};
+    ghost use Rattle.flow_worker.specs.Endpoints.{LaneInIs, lane_in_of};
 
     ghost Value = { LaneInIs };
 
-    ghost view = { λ o. record {
-      lane = L.Rx.lane o.end;
-      number = o.number;
-      origin = L.Rx.origin o.end;
-      edge = o.edge;
-      taken = L.Rx.taken o.end;
-      dry = L.Rx.dry o.end;
-      hand = o.hand;
-    } };
+    ghost view = { λ o. lane_in_of (L.Rx.state o.end) o.edge o.hand };
 
-    ghost invariant = { λ o. L.Rx.number o.end ≡ o.number };
+    ghost invariant = { λ o. (L.Rx.state o.end).number ≡ o.number };
 }
 
 impl<L: Lanes> Holder for LaneIn<L> {
@@ -48,16 +40,8 @@ impl<L: Lanes> Holder for LaneIn<L> {
 impl<L: Lanes> LaneIn<L> {
     /// Makes the lane of an endpoint, with an empty hand.
     pub fn new(end: L::Rx, number: u32, edge: u32) -> LaneIn<L>
-        requires { L.Rx.number end ≡ number }
-        ensures { result ≡ record {
-          lane = L.Rx.lane end;
-          number = L.Rx.number end;
-          origin = L.Rx.origin end;
-          edge = edge;
-          taken = L.Rx.taken end;
-          dry = L.Rx.dry end;
-          hand = Empty;
-        } }
+        requires { (L.Rx.state end).number ≡ number }
+        ensures { result ≡ lane_in_of (L.Rx.state end) edge Empty }
     {
         LaneIn {
             end,
@@ -117,12 +101,7 @@ impl<L: Lanes> LaneIn<L> {
 
     /// Returns the endpoint.
     pub fn end(self) -> L::Rx
-        ensures { record {
-          lane = L.Rx.lane result;
-          number = L.Rx.number result;
-          origin = L.Rx.origin result;
-          items = L.Rx.taken result;
-        } ≡ endpoint_in self }
+        ensures { L.Rx.state result ≡ endpoint_in self }
     {
         let LaneIn { end, .. } = self;
         end

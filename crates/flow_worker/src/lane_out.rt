@@ -2,7 +2,7 @@ ghost use Rattle.std.specs.Prelude.{◌≡◌, ℕ, ◌+◌, ◌<◌, ◌≤◌,
 ghost use Rattle.std.specs.Prelude.{◌↔◌, IsTrue};
 ghost use Rattle.flow_worker.specs.Pairs.{Each, EachPair};
 ghost use Rattle.flow_worker.specs.Endpoints.{Flushed, HasRoom, IsSteadyOut, LaneOutIs, Reserved};
-ghost use Rattle.flow_worker.specs.Endpoints.{SameButMemory, all_sent, is_waiting};
+ghost use Rattle.flow_worker.specs.Endpoints.{SameButMemory, all_sent, is_waiting, lane_out_of};
 ghost use Rattle.flow_worker.specs.Parts.{endpoint_out};
 
 use lane_core::{Lanes, Tx};
@@ -21,35 +21,18 @@ pub struct LaneOut<L: Lanes> {
 
 impl<L: Lanes> Model for LaneOut<L> {
     ghost use Rattle.std.specs.VecDeque.{deque_capacity};
-    ghost use Rattle.flow_worker.specs.Endpoints.{LaneOutIs};
+    ghost use Rattle.flow_worker.specs.Endpoints.{LaneOutIs, lane_out_of};
 
     ghost Value = { LaneOutIs };
 
-    ghost view = { λ o. record {
-      lane = L.Tx.lane o.end;
-      number = L.Tx.number o.end;
-      origin = L.Tx.origin o.end;
-      edge = o.edge;
-      sent = L.Tx.sent o.end;
-      waiting = o.waiting.items;
-      full = L.Tx.full o.end;
-      memory = deque_capacity o.waiting;
-    } };
+    ghost view = { λ o.
+        lane_out_of (L.Tx.state o.end) o.edge o.waiting.items (deque_capacity o.waiting) };
 }
 
 impl<L: Lanes> LaneOut<L> {
     /// Makes the lane of an endpoint, on which nothing waits. Takes no memory.
     pub fn new(alloc: Global, end: L::Tx, edge: u32) -> LaneOut<L>
-        ensures { result ≡ record {
-          lane = L.Tx.lane end;
-          number = L.Tx.number end;
-          origin = L.Tx.origin end;
-          edge = edge;
-          sent = L.Tx.sent end;
-          waiting = [];
-          full = L.Tx.full end;
-          memory = result.memory;
-        } }
+        ensures { result ≡ lane_out_of (L.Tx.state end) edge [] result.memory }
     {
         LaneOut {
             end,
@@ -114,12 +97,7 @@ impl<L: Lanes> LaneOut<L> {
     /// Returns the endpoint of a lane on which nothing waits.
     pub fn end(self) -> L::Tx
         requires done { self.waiting ≡ [] }
-        ensures { record {
-          lane = L.Tx.lane result;
-          number = L.Tx.number result;
-          origin = L.Tx.origin result;
-          items = L.Tx.sent result;
-        } ≡ endpoint_out self }
+        ensures { L.Tx.state result ≡ endpoint_out self }
     {
         let LaneOut { end, .. } = self;
         end

@@ -6,7 +6,7 @@ ghost use Rattle.flow_model.specs.Lanes.{lanes};
 ghost use Rattle.flow_model.specs.Setup.{setup_view};
 ghost use Rattle.flow_worker.specs.Endpoints.{LaneInIs, LaneOutIs};
 ghost use Rattle.flow_worker.specs.Pairs.{Each};
-ghost use Rattle.flow_worker.specs.Parts.{endpoint_in, endpoint_out, endpoints};
+ghost use Rattle.flow_worker.specs.Parts.{endpoint_in, endpoint_out};
 ghost use Rattle.flow_worker.specs.Worker.{IsOnLane};
 
 use crate::lane_in::LaneIn;
@@ -85,7 +85,7 @@ pub struct Parts<L: Lanes> {
 pub fn part_ins<L: Lanes>(ins: Vec<LaneIn<L>>, spare: Vec<L::Rx>) -> Vec<L::Rx>
     requires empty { spare.items ≡ [] }
     requires room { length ins.items ≤ vec_capacity spare }
-    ensures { endpoints L.Rx.lane L.Rx.number L.Rx.origin L.Rx.taken result.items
+    ensures { map L.Rx.state result.items
         ≡ map endpoint_in ins.items }
 {
     let mut ends = spare;
@@ -101,7 +101,7 @@ pub fn part_outs<L: Lanes>(outs: Vec<LaneOut<L>>, spare: Vec<L::Tx>) -> Vec<L::T
     requires empty { spare.items ≡ [] }
     requires room { length outs.items ≤ vec_capacity spare }
     requires done { Each (λ (out : LaneOutIs). out.waiting ≡ []) outs.items }
-    ensures { endpoints L.Tx.lane L.Tx.number L.Tx.origin L.Tx.sent result.items
+    ensures { map L.Tx.state result.items
         ≡ map endpoint_out outs.items }
 {
     let mut ends = spare;
@@ -121,10 +121,10 @@ pub fn new_ins<L: Lanes>(
 ) -> Vec<LaneIn<L>>
     requires empty { room.items ≡ [] }
     requires room { length ends.items ≤ vec_capacity room }
-    requires numbers { map (λ x. L.Rx.number x) ends.items ≡ numbers.now }
+    requires numbers { map (λ x. (L.Rx.state x).number) ends.items ≡ numbers.now }
     requires there { Each (λ n. n < length (lanes (setup_view setup.now).job)) numbers.now }
     ensures ends { map endpoint_in result.items
-        ≡ endpoints L.Rx.lane L.Rx.number L.Rx.origin L.Rx.taken ends.items }
+        ≡ map L.Rx.state ends.items }
     ensures edges { Each (λ (a : LaneInIs). IsOnLane (setup_view setup.now).job a.number a.edge)
         result.items }
     ensures hands { Each (λ (a : LaneInIs). a.hand ≡ Empty) result.items }
@@ -149,10 +149,10 @@ pub fn new_outs<L: Lanes>(
 ) -> Vec<LaneOut<L>>
     requires empty { room.items ≡ [] }
     requires room { length ends.items ≤ vec_capacity room }
-    requires numbers { map (λ x. L.Tx.number x) ends.items ≡ numbers.now }
+    requires numbers { map (λ x. (L.Tx.state x).number) ends.items ≡ numbers.now }
     requires there { Each (λ n. n < length (lanes (setup_view setup.now).job)) numbers.now }
     ensures ends { map endpoint_out result.items
-        ≡ endpoints L.Tx.lane L.Tx.number L.Tx.origin L.Tx.sent ends.items }
+        ≡ map L.Tx.state ends.items }
     ensures edges { Each (λ (out : LaneOutIs). IsOnLane (setup_view setup.now).job out.number
         out.edge)
         result.items }

@@ -9,7 +9,6 @@ ghost use Rattle.flow_model.specs.Workers.{workers_in};
 ghost use Rattle.flow_worker.specs.Endpoints.{IsSteadyOut, all_sent, all_taken, is_waiting};
 ghost use Rattle.flow_worker.specs.Pairs.{Each};
 ghost use Rattle.flow_worker.specs.Parts.{AreNewEndpoints, IsStateAt, endpoint_in, endpoint_out};
-ghost use Rattle.flow_worker.specs.Parts.{endpoints};
 ghost use Rattle.flow_worker.specs.Steps.{PollsOnly, PutsOnly, TakesOnly};
 ghost use Rattle.flow_worker.specs.Turning.{IsDone, IsTurn};
 ghost use Rattle.flow_worker.specs.Worker.{IsWorker, hands};
@@ -129,15 +128,15 @@ impl<L: Lanes> Worker<L> {
     ) -> Result<Worker<L>, NoMemory>
         requires there { number < length (workers_in (setup_view setup.now).job) }
         requires ends { AreNewEndpoints (setup_view setup.now).job number
-            (endpoints L.Rx.lane L.Rx.number L.Rx.origin L.Rx.taken ins.items)
-            (endpoints L.Tx.lane L.Tx.number L.Tx.origin L.Tx.sent outs.items) }
+            (map L.Rx.state ins.items)
+            (map L.Tx.state outs.items) }
         requires owner { owner.turned ≡ 0 }
         ensures law { IfOk result (IsWorker (setup_view setup.now)
             (at_first (setup_view setup.now))) }
         ensures ins { IfOk result (λ w. map endpoint_in w.ins
-            ≡ endpoints L.Rx.lane L.Rx.number L.Rx.origin L.Rx.taken ins.items) }
+            ≡ map L.Rx.state ins.items) }
         ensures outs { IfOk result (λ w. map endpoint_out w.outs
-            ≡ endpoints L.Tx.lane L.Tx.number L.Tx.origin L.Tx.sent outs.items) }
+            ≡ map L.Tx.state outs.items) }
         ensures owner { IfOk result (λ w. w.owner ≡ owner) }
     {
         let state = WorkerState::new(alloc);
@@ -161,16 +160,16 @@ impl<L: Lanes> Worker<L> {
     ) -> Result<Worker<L>, NoMemory>
         requires there { number < length (workers_in (setup_view setup.now).job) }
         requires ends { AreNewEndpoints (setup_view setup.now).job number
-            (endpoints L.Rx.lane L.Rx.number L.Rx.origin L.Rx.taken ins.items)
-            (endpoints L.Tx.lane L.Tx.number L.Tx.origin L.Tx.sent outs.items) }
+            (map L.Rx.state ins.items)
+            (map L.Tx.state outs.items) }
         requires owner { owner.turned ≡ 0 }
         requires turned { start.now.turned ≤ length (setup_view setup.now).requests }
         requires states { length start.now.states ≡ length (workers_in (setup_view setup.now).job) }
         ensures law { IfOk result (IsWorker (setup_view setup.now) start.now) }
         ensures ins { IfOk result (λ w. map endpoint_in w.ins
-            ≡ endpoints L.Rx.lane L.Rx.number L.Rx.origin L.Rx.taken ins.items) }
+            ≡ map L.Rx.state ins.items) }
         ensures outs { IfOk result (λ w. map endpoint_out w.outs
-            ≡ endpoints L.Tx.lane L.Tx.number L.Tx.origin L.Tx.sent outs.items) }
+            ≡ map L.Tx.state outs.items) }
         ensures owner { IfOk result (λ w. w.owner ≡ owner) }
     {
         let turned = start.turned;
@@ -196,17 +195,17 @@ impl<L: Lanes> Worker<L> {
     ) -> Result<Worker<L>, NoMemory>
         requires there { number < length (workers_in (setup_view setup.now).job) }
         requires ends { AreNewEndpoints (setup_view setup.now).job number
-            (endpoints L.Rx.lane L.Rx.number L.Rx.origin L.Rx.taken ins.items)
-            (endpoints L.Tx.lane L.Tx.number L.Tx.origin L.Tx.sent outs.items) }
+            (map L.Rx.state ins.items)
+            (map L.Tx.state outs.items) }
         requires owner { owner.turned ≡ 0 }
         requires unended { beginning.state.ended ≡ 0 }
         ensures law { IfOk result (λ w. (begin : Begin)
             → IsStateAt (setup_view setup.now) begin number beginning
             → IsWorker (setup_view setup.now) begin w) }
         ensures ins { IfOk result (λ w. map endpoint_in w.ins
-            ≡ endpoints L.Rx.lane L.Rx.number L.Rx.origin L.Rx.taken ins.items) }
+            ≡ map L.Rx.state ins.items) }
         ensures outs { IfOk result (λ w. map endpoint_out w.outs
-            ≡ endpoints L.Tx.lane L.Tx.number L.Tx.origin L.Tx.sent outs.items) }
+            ≡ map L.Tx.state outs.items) }
         ensures owner { IfOk result (λ w. w.owner ≡ owner) }
     {
         let at = setup.worker_at(number);
@@ -246,9 +245,9 @@ impl<L: Lanes> Worker<L> {
         requires room_out { length self.outs ≤ self.spare_out }
         ensures worked { result.worked
             ≡ record { number = self.number; journal = self.journal; state = self.counts } }
-        ensures ins { endpoints L.Rx.lane L.Rx.number L.Rx.origin L.Rx.taken result.ins.items
+        ensures ins { map L.Rx.state result.ins.items
             ≡ map endpoint_in self.ins }
-        ensures outs { endpoints L.Tx.lane L.Tx.number L.Tx.origin L.Tx.sent result.outs.items
+        ensures outs { map L.Tx.state result.outs.items
             ≡ map endpoint_out self.outs }
     {
         let Worker {

@@ -37,12 +37,15 @@ pub trait Lanes: Send {
     ) -> Result<(Self::Tx, Self::Rx), NoMemory>
         requires some { 1 ≤ cap }
         requires few { cap ≤ MAX_CAPACITY }
-        ensures tx { IfOk result (λ (tx, rx). (Self.Tx.sent tx ≡ []) × (Self.Tx.capacity tx ≡ cap)
-            × (Self.Tx.number tx ≡ number) × (Self.Tx.origin tx ≡ origin)) }
-        ensures rx { IfOk result (λ (tx, rx). (Self.Rx.taken rx ≡ [])
-            × (Self.Rx.number rx ≡ number) × (Self.Rx.origin rx ≡ origin)) }
-        ensures lane { IfOk result (λ (tx, rx). Self.Tx.lane tx ≡ Self.Rx.lane rx) }
-        ensures holds { IfOk result (λ (tx, rx). (Self.Tx.lane tx).capacity ≡ cap) };
+        ensures tx { IfOk result (λ (tx, rx). Self.Tx.state tx ≡ record {
+          lane = (Self.Tx.state tx).lane;
+          number = number;
+          origin = origin;
+          items = [];
+          stalls = 0;
+        }) }
+        ensures rx { IfOk result (λ (tx, rx). Self.Rx.state rx ≡ Self.Tx.state tx) }
+        ensures holds { IfOk result (λ (tx, rx). (Self.Tx.state tx).lane.capacity ≡ cap) };
 
     /// Ends a lane, and answers what was put on it and not taken. A refusal gives both ends up.
     fn settle(
@@ -52,6 +55,7 @@ pub trait Lanes: Send {
         tx: Self::Tx,
         rx: Self::Rx,
     ) -> Result<Left, NoMemory>
-        requires { Self.Tx.lane tx ≡ Self.Rx.lane rx }
-        ensures { IfOk result (λ left. Self.Tx.sent tx ≡ Self.Rx.taken rx ++ left) };
+        requires { (Self.Tx.state tx).lane ≡ (Self.Rx.state rx).lane }
+        ensures { IfOk result (λ left. (Self.Tx.state tx).items
+            ≡ (Self.Rx.state rx).items ++ left) };
 }

@@ -46,20 +46,13 @@ impl QueueTx {
 }
 
 impl<R: Wait> Tx<R> for QueueTx {
-    ghost sent = { λ s. (view s.pass).sent };
-
-    ghost capacity = { λ s. (view s.pass).capacity };
-
-    ghost number = { λ s. s.number };
-
-    ghost origin = { λ s. (view s.pass).origin };
-
-    ghost lane = { λ s. record {
-      table = s.pass.table_id;
-      capacity = (view s.pass).capacity;
+    ghost state = { λ s. record {
+      lane = record { table = s.pass.table_id; capacity = (view s.pass).capacity };
+      number = s.number;
+      origin = (view s.pass).origin;
+      items = (view s.pass).sent;
+      stalls = s.full;
     } };
-
-    ghost full = { λ s. s.full };
 
     fn put(&mut self, need: &mut R, item: Item) -> Result<(), Item> {
         match self.line.push_as::<Puts, R>(need, &mut self.pass, item) {
@@ -93,18 +86,13 @@ impl QueueRx {
 }
 
 impl<R: Wait> Rx<R> for QueueRx {
-    ghost taken = { λ s. (view s.pass).taken };
-
-    ghost number = { λ s. s.number };
-
-    ghost origin = { λ s. (view s.pass).origin };
-
-    ghost lane = { λ s. record {
-      table = s.pass.table_id;
-      capacity = (view s.pass).capacity;
+    ghost state = { λ s. record {
+      lane = record { table = s.pass.table_id; capacity = (view s.pass).capacity };
+      number = s.number;
+      origin = (view s.pass).origin;
+      items = (view s.pass).taken;
+      stalls = s.dry;
     } };
-
-    ghost dry = { λ s. s.dry };
 
     fn take(&mut self, need: &mut R) -> Option<Item> {
         match self.line.pop_as::<Takes, R>(need, &mut self.pass) {

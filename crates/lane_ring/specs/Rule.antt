@@ -8,7 +8,7 @@ use lib.ListN.{get_elem?}
 use Rattle.atomic_table.specs.Seated.{TableId}
 use Rattle.atomic_table.specs.Table.{State, Me}
 use Rattle.tuple_trace.specs.declared.tuple.Item.{Item}
-use Rattle.lane_core.specs.Lane.{LaneId, WasFull}
+use Rattle.lane_core.specs.Lane.{EndpointIs, LaneId, WasFull}
 use Rattle.lane_core.specs.Steady.{IsSteady}
 use Rattle.lane_ring.specs.declared.rule.Charter.{Charter}
 use Rattle.lane_ring.specs.declared.rule.View.{View}
@@ -60,6 +60,29 @@ spent = record {
 -- the lane of a seat of this table
 abbrev pub lane_of : TableId → View → LaneId
 lane_of table v = record { table = table; capacity = v.capacity }
+
+-- the endpoint of the lane with this number that has a seat of this table: it sends, or it takes
+abbrev pub sending_end : ℕ → TableId → View → EndpointIs
+sending_end number table v = record {
+  lane = lane_of table v;
+  number = number;
+  origin = v.origin;
+  items = v.sent;
+  stalls = v.full;
+}
+
+abbrev pub receiving_end : ℕ → TableId → View → EndpointIs
+receiving_end number table v = record {
+  lane = lane_of table v;
+  number = number;
+  origin = v.origin;
+  items = v.taken;
+  stalls = v.dry;
+}
+
+-- a call of the endpoint found the lane full or empty: only the number of such calls rises, by one
+abbrev pub HasStalledOnce : EndpointIs → EndpointIs → Type 0
+HasStalledOnce before after = after ≡ record before { stalls = before.stalls + 1 }
 
 -- the word at n items
 abbrev pub word_at : ℕ → ℕ → ℕ

@@ -2,10 +2,11 @@ ghost use Rattle.std.specs.Prelude.{◌≡◌, ℕ, ◌+◌, ◌<◌, ◌≤◌,
 ghost use Rattle.std.specs.Prelude.{true, IfErr, IfOk, IfSome, IfNone, OnErr, OnOk};
 ghost use Rattle.std.specs.Arc.{arc_value};
 ghost use Rattle.std.specs.Bool.{OnTrue, OnFalse};
-ghost use Rattle.lane_core.specs.Lane.{WasFull};
+ghost use Rattle.lane_core.specs.Lane.{WasFull, after_item};
 ghost use Rattle.lane_core.specs.Steady.{IsSteady, MayFollow};
 ghost use Rattle.tuple_trace.specs.declared.limits.TheConstants.{MAX_CAPACITY};
-ghost use Rattle.lane_ring.specs.Rule.{lane_of, receiver_slots, sender_slots, word_at};
+ghost use Rattle.lane_ring.specs.Rule.{HasStalledOnce, receiver_slots, receiving_end, sender_slots};
+ghost use Rattle.lane_ring.specs.Rule.{sending_end, word_at};
 
 use crate::places::{next_word, opposite, slot_at};
 use crate::rule::{
@@ -114,33 +115,20 @@ impl RingTx {
 }
 
 impl Tx<()> for RingTx {
-    ghost sent = { λ s. s.seat.me.0.sent };
+    ghost state = { λ s. sending_end s.number s.seat.table_id s.seat.me.0 };
 
-    ghost capacity = { λ s. s.seat.me.0.capacity };
-
-    ghost number = { λ s. s.number };
-
-    ghost origin = { λ s. s.seat.me.0.origin };
-
-    ghost lane = { λ s. lane_of s.seat.table_id s.seat.me.0 };
-
-    ghost full = { λ s. s.seat.me.0.full };
-
-    /// Puts an item behind those that were sent. With a refusal `full` rises by one, which is the
-    /// ring's own: only a step that found the lane full raises the seat's `full`.
+    /// Puts an item behind those that were sent. With a refusal the number of stalls rises by one,
+    /// which is the ring's own: only a step that found the lane full raises the seat's `full`.
     fn put(&mut self, _need: &mut (), item: Item) -> Result<(), Item>
         requires { MayFollow self.old.seat.me.0.origin self.old.seat.me.0.sent item }
-        ensures end { (self.new.seat.me.0.capacity ≡ self.old.seat.me.0.capacity)
-            × (self.new.number ≡ self.old.number)
-            × (self.new.seat.me.0.origin ≡ self.old.seat.me.0.origin)
-            × (lane_of self.new.seat.table_id self.new.seat.me.0
-            ≡ lane_of self.old.seat.table_id self.old.seat.me.0) }
-        ensures put { OnOk result (
-            (self.new.seat.me.0.sent ≡ self.old.seat.me.0.sent ++ item ∷ [])
-            × (self.new.seat.me.0.full ≡ self.old.seat.me.0.full)) }
+        ensures put { OnOk result (sending_end self.new.number self.new.seat.table_id
+            self.new.seat.me.0
+            ≡ after_item item (sending_end self.old.number self.old.seat.table_id
+            self.old.seat.me.0)) }
         ensures refused { IfErr result (λ back. (back ≡ item)
-            × (self.new.seat.me.0.sent ≡ self.old.seat.me.0.sent)
-            × (self.new.seat.me.0.full ≡ self.old.seat.me.0.full + 1)) }
+            × HasStalledOnce
+            (sending_end self.old.number self.old.seat.table_id self.old.seat.me.0)
+            (sending_end self.new.number self.new.seat.table_id self.new.seat.me.0)) }
         ensures was_full { OnErr result (WasFull self.old.seat.me.0.capacity
             self.old.seat.me.0.sent) }
     {
@@ -271,30 +259,20 @@ impl RingRx {
 }
 
 impl Rx<()> for RingRx {
-    ghost taken = { λ s. s.seat.me.0.taken };
+    ghost state = { λ s. receiving_end s.number s.seat.table_id s.seat.me.0 };
 
-    ghost number = { λ s. s.number };
-
-    ghost origin = { λ s. s.seat.me.0.origin };
-
-    ghost lane = { λ s. lane_of s.seat.table_id s.seat.me.0 };
-
-    ghost dry = { λ s. s.seat.me.0.dry };
-
-    /// Takes the next item. With None `dry` rises by one, which is the ring's own: only a step that
-    /// found the lane empty raises the seat's `dry`.
+    /// Takes the next item. With None the number of stalls rises by one, which is the ring's own:
+    /// only a step that found the lane empty raises the seat's `dry`.
     fn take(&mut self, _need: &mut ()) -> Option<Item>
-        ensures end { (self.new.number ≡ self.old.number)
-            × (self.new.seat.me.0.origin ≡ self.old.seat.me.0.origin)
-            × (lane_of self.new.seat.table_id self.new.seat.me.0
-            ≡ lane_of self.old.seat.table_id self.old.seat.me.0) }
         ensures taken { IfSome result (λ item.
-            (self.new.seat.me.0.taken ≡ self.old.seat.me.0.taken ++ item ∷ [])
-            × (self.new.seat.me.0.dry ≡ self.old.seat.me.0.dry)) }
+            receiving_end self.new.number self.new.seat.table_id self.new.seat.me.0
+            ≡ after_item item (receiving_end self.old.number self.old.seat.table_id
+            self.old.seat.me.0)) }
         ensures steady { IfSome result (λ item.
             IsSteady self.new.seat.me.0.origin self.new.seat.me.0.taken) }
-        ensures none { IfNone result ((self.new.seat.me.0.taken ≡ self.old.seat.me.0.taken)
-            × (self.new.seat.me.0.dry ≡ self.old.seat.me.0.dry + 1)) }
+        ensures none { IfNone result (HasStalledOnce
+            (receiving_end self.old.number self.old.seat.table_id self.old.seat.me.0)
+            (receiving_end self.new.number self.new.seat.table_id self.new.seat.me.0)) }
     {
         self.next()
     }

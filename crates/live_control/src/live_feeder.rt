@@ -5,7 +5,6 @@ ghost use Rattle.flow_model.specs.Setup.{setup_view};
 ghost use Rattle.coordinator.specs.Feeding.{IsFeeder};
 ghost use Rattle.coordinator.specs.Live.{Hears};
 ghost use Rattle.coordinator.specs.Starts.{AreNewOuts, AreUnused};
-ghost use Rattle.coordinator.specs.Views.{outs_of};
 ghost use Rattle.live_control.specs.Kept.{IsKept, LiveIs};
 
 use crate::Inbox;
@@ -62,15 +61,13 @@ impl<L: Lanes> Feeding<L> for LiveFeeder<L> {
         posters: Vec<Poster>,
         seed: Inbox,
     ) -> Result<LiveFeeder<L>, NoMemory>
-        requires outs { AreNewOuts (setup_view setup.now).job (outs_of L.Tx.lane L.Tx.number
-            L.Tx.origin L.Tx.capacity L.Tx.sent L.Tx.full outs.items) }
+        requires outs { AreNewOuts (setup_view setup.now).job (map L.Tx.state outs.items) }
         requires boxes { AreUnused (setup_view setup.now) posters.items }
         ensures law { IfOk result (λ (f : LiveIs). (rows : List RowIs)
             → IsFeeder true (setup_view setup.now) (at_first (setup_view setup.now)) rows
             f.feeder) }
         ensures kept { IfOk result (λ (f : LiveIs). IsKept seed f.feeder.feeds f.inbox) }
-        ensures outs { IfOk result (λ (f : LiveIs). f.feeder.outs ≡ outs_of L.Tx.lane L.Tx.number
-            L.Tx.origin L.Tx.capacity L.Tx.sent L.Tx.full outs.items) }
+        ensures outs { IfOk result (λ (f : LiveIs). f.feeder.outs ≡ map L.Tx.state outs.items) }
         ensures boxes { IfOk result (λ (f : LiveIs). f.feeder.boxes.posters ≡ posters.items) }
     {
         let state = FeederState::make(alloc, setup, outs, posters, 0, 0)?;

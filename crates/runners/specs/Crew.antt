@@ -7,7 +7,8 @@ use Rattle.flow_model.specs.Setup.{setup_view}
 use Rattle.flow_model.specs.SetupView.{SetupView}
 use Rattle.flow_worker.specs.Worker.{IsWorker, WorkerIs}
 use Rattle.coordinator.specs.Feeding.{IsFeeder}
-use Rattle.coordinator.specs.Views.{FeederIs, end_of}
+use Rattle.coordinator.specs.Views.{FeederIs}
+use Rattle.lane_core.specs.Lane.{end_of}
 use Rattle.runner.specs.Rule.{Agrees, HasEachOf, HasEnded, numbers}
 use Rattle.runner.specs.Runner.{EndpointsIs, RunnerIs, endpoints_of}
 use Rattle.runners.specs.declared.flow.Flow.{Flow}

@@ -2,7 +2,6 @@ ghost use Rattle.std.specs.Prelude.{◌≡◌, ℕ, []};
 ghost use Rattle.flow_dag.specs.Graph.{IsEdge};
 ghost use Rattle.jobs.specs.Job.{job_view};
 ghost use Rattle.coordinator.specs.Starts.{AreNewOuts};
-ghost use Rattle.coordinator.specs.Views.{outs_of};
 ghost use Rattle.actor_tests.specs.Fed.{IsUnled};
 
 use lane_core::{Lanes, Tx};
@@ -13,14 +12,13 @@ use tuple_trace::{Item, Tuple};
 #[derive(Drop)]
 pub struct FedLane<L: Lanes> {
     end: L::Tx,
-    ghost unled: { IsUnled (L.Tx.origin end) },
+    ghost unled: { IsUnled ((L.Tx.state end).origin) },
 }
 
 impl<L: Lanes> FedLane<L> {
     /// Takes the last of the feeder's lanes, if it has one.
     pub fn last_of(job: &Job, feeder: Vec<L::Tx>) -> Option<FedLane<L>>
-        requires { AreNewOuts (job_view job.now) (outs_of L.Tx.lane L.Tx.number L.Tx.origin
-            L.Tx.capacity L.Tx.sent L.Tx.full feeder.items) }
+        requires { AreNewOuts (job_view job.now) (map L.Tx.state feeder.items) }
     {
         let mut feeder = feeder;
         let end = feeder.pop()?;

@@ -8,7 +8,8 @@ ghost use Rattle.flow_worker.specs.Pairs.{Each};
 ghost use Rattle.flow_worker.specs.Turning.{IsDone};
 ghost use Rattle.flow_worker.specs.Worker.{IsWorker, WorkerIs};
 ghost use Rattle.coordinator.specs.Feeding.{IsFeeder};
-ghost use Rattle.coordinator.specs.Views.{FeederIs, end_of};
+ghost use Rattle.coordinator.specs.Views.{FeederIs};
+ghost use Rattle.lane_core.specs.Lane.{end_of};
 ghost use Rattle.flow_ends.specs.Ended.{record_of};
 ghost use Rattle.flow_ends.specs.Sides.{lane_ids};
 

@@ -8,5 +8,5 @@ use Rattle.flow_ends.proofs.all_endpoints.add_in.Goals as goal
 pub returns : goal.returns
 returns g c =
     on_ok c.push_in.result (λ e.
-    set-changed (more_in (record { lane = g.L.Rx.Rx.lane c.args.rx; number = g.L.Rx.Rx.number c.args.rx; origin = g.L.Rx.Rx.origin c.args.rx; items = g.L.Rx.Rx.taken c.args.rx } ∷ []))
+    set-changed (more_in (g.L.Rx.Rx.state c.args.rx ∷ []))
     c.args.workers.now c.args.worker _ c.push_in.new.self (slice_get-get_or c.args.workers.now c.args.worker c.index-workers-worker.result c.requires) e) c.push_in.ensures.ok

@@ -8,5 +8,5 @@ use Rattle.flow_ends.proofs.all_endpoints.add_out_at.Goals as goal
 pub returns : goal.returns
 returns g c =
     on_ok c.push_out.result (λ e.
-    set-changed (more_out (record { lane = g.L.Tx.Tx.lane c.args.tx; number = g.L.Tx.Tx.number c.args.tx; origin = g.L.Tx.Tx.origin c.args.tx; items = g.L.Tx.Tx.sent c.args.tx } ∷ []))
+    set-changed (more_out (g.L.Tx.Tx.state c.args.tx ∷ []))
     c.args.workers.now c.args.worker _ c.push_out.new.self (slice_get-get_or c.args.workers.now c.args.worker c.index-workers-worker.result c.requires) e) c.push_out.ensures.ok

@@ -3,7 +3,8 @@ use Rattle.std.specs.Vec.Iter.{into_iter_items}
 use Rattle.control_box.specs.Endpoints.{OwnerIs, PosterIs}
 use Rattle.flow_model.specs.Setup.{setup_view}
 use Rattle.flow_model.proofs.SizeLemmas.{workers-few}
-use Rattle.flow_worker.specs.Parts.{AreNewEndpoints, EndpointIs, endpoints}
+use Rattle.flow_worker.specs.Parts.{AreNewEndpoints}
+use Rattle.lane_core.specs.Lane.{EndpointIs}
 use Rattle.flow_worker.specs.Worker.{IsWorker, WorkerIs}
 use Rattle.flow_ends.specs.Sides.{SideIs, worker_side}
 use Rattle.flow_ends.proofs.Crewing.{all_made, has_number, next_side, placed_more, share_more, side_is, side_made}
@@ -22,8 +23,8 @@ make_from-requires-clause-ends g c κs within =
     let number : c.len-number.result ≡ length workers = c.len-number.ensures ∙ c.loop-side.workers.ok.0 in
     let at = next_side workers c.args.sides.items _ (into_iter_items c.next.new.self) c.in-Some.side c.loop-side.invariant.sides c.in-Some.ensures.steps.0 in
     let new : AreNewEndpoints job (length workers) c.in-Some.side.ins c.in-Some.side.outs = c.requires.sides (length workers) c.in-Some.side at.1 in
-    let I : List EndpointIs = endpoints g.L.Rx.Rx.lane g.L.Rx.Rx.number g.L.Rx.Rx.origin g.L.Rx.Rx.taken c.open-ins.result.0.items in
-    let O : List EndpointIs = endpoints g.L.Tx.Tx.lane g.L.Tx.Tx.number g.L.Tx.Tx.origin g.L.Tx.Tx.sent c.open-ins.result.1.items in
+    let I : List EndpointIs = map g.L.Rx.Rx.state c.open-ins.result.0.items in
+    let O : List EndpointIs = map g.L.Tx.Tx.state c.open-ins.result.1.items in
     subst (λ (n : ℕ). AreNewEndpoints job n I O) (sym number)
     (subst (λ (xs : List EndpointIs). AreNewEndpoints job (length workers) xs O) (sym c.open-ins.ensures.ins)
     (subst (λ (xs : List EndpointIs). AreNewEndpoints job (length workers) c.in-Some.side.ins xs) (sym c.open-ins.ensures.outs) new))

@@ -1,7 +1,6 @@
 use Rattle.flow_model.specs.Setup.{setup_view}
 use Rattle.flow_ends.proofs.Ending.{run_so}
 use Rattle.flow_ends.proofs.Having.{have_so, matched_so, room_in, room_out}
-use Rattle.flow_ends.proofs.Making.{fed_ends}
 use Rattle.flow_ends.proofs.ended.end_run.Goals as goal
 
 pub finish_all-requires-clause-room_in : goal.finish_all-requires-clause-room_in
@@ -13,17 +12,14 @@ finish_all-requires-clause-room_out g c κs within = let o = c.requires.over in 
 pub settle_all-requires-clause-lanes : goal.settle_all-requires-clause-lanes
 settle_all-requires-clause-lanes g c κs within =
     let o = c.requires.over in
-    have_so o.0 o.1 o.2 c.args.workers.items _ _ o.4 (setup_view c.args.setup.now).job c.in_ok-workers.sides.items _ o.3 c.in_ok-workers.ensures.sides
-    (fed_ends g.L.Tx.Tx.lane g.L.Tx.Tx.number g.L.Tx.Tx.origin g.L.Tx.Tx.capacity g.L.Tx.Tx.sent g.L.Tx.Tx.full c.args.feeder.outs.items)
+    have_so o.0 o.1 o.2 c.args.workers.items _ _ o.4 (setup_view c.args.setup.now).job c.in_ok-workers.sides.items o.3 c.in_ok-workers.ensures.sides
 
 pub settle_all-requires-clause-matched : goal.settle_all-requires-clause-matched
 settle_all-requires-clause-matched g c κs within =
     let o = c.requires.over in
-    matched_so o.0 o.1 o.2 c.args.workers.items _ _ o.4 c.in_ok-workers.sides.items _ c.in_ok-workers.ensures.sides
-    (fed_ends g.L.Tx.Tx.lane g.L.Tx.Tx.number g.L.Tx.Tx.origin g.L.Tx.Tx.capacity g.L.Tx.Tx.sent g.L.Tx.Tx.full c.args.feeder.outs.items)
+    matched_so o.0 o.1 o.2 c.args.workers.items _ _ o.4 c.in_ok-workers.sides.items c.in_ok-workers.ensures.sides
 
 pub returns-clause-run : goal.returns-clause-run
 returns-clause-run g c ran begin rows job over =
-    run_so ran begin rows c.args.workers.items _ _ over (setup_view c.args.setup.now).job c.in_ok-workers.sides.items _ c.in_ok-workers.workers.items job c.in_ok-workers.ensures.sides
-    (fed_ends g.L.Tx.Tx.lane g.L.Tx.Tx.number g.L.Tx.Tx.origin g.L.Tx.Tx.capacity g.L.Tx.Tx.sent g.L.Tx.Tx.full c.args.feeder.outs.items)
+    run_so ran begin rows c.args.workers.items _ _ over (setup_view c.args.setup.now).job c.in_ok-workers.sides.items c.in_ok-workers.workers.items job c.in_ok-workers.ensures.sides
     c.in_ok-workers.ensures.workers c.in_ok-settle_all.ensures

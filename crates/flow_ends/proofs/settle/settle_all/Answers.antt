@@ -6,7 +6,7 @@ use Rattle.flow_model.specs.Setup.{setup_view}
 use Rattle.flow_model.specs.Workers.{workers_in}
 use Rattle.flow_model.specs.declared.topology.Topology.{Topology}
 use Rattle.flow_model.proofs.SizeLemmas.{lanes-few}
-use Rattle.flow_worker.specs.Parts.{EndpointIs, endpoints}
+use Rattle.lane_core.specs.Lane.{EndpointIs}
 use Rattle.flow_ends.specs.Sides.{SideIs, ins_at, outs_at}
 use Rattle.flow_ends.proofs.Settling.{IsSettling, again, last_two, none_of, one_lane, rx_there, settling_first, settling_next, tx_there}
 use Rattle.flow_ends.proofs.Sorting.{lane_sender}
@@ -22,7 +22,7 @@ pub loop-number-init : goal.loop-number-init
 loop-number-init g c =
     let all = ap (λ (t : Topology). length t.lanes) c.args.setup.now.topology_is in
     settling_first (setup_view c.args.setup.now).job c.args.sides.items
-    (endpoints g.L.Tx.Tx.lane g.L.Tx.Tx.number g.L.Tx.Tx.origin g.L.Tx.Tx.sent c.args.feeder.items)
+    (map g.L.Tx.Tx.state c.args.feeder.items)
     c.len-number.result (omega (arith, all, c.len-number.ensures)) c.requires.lanes
 
 pub lane-lane-requires : goal.lane-lane-requires
@@ -37,7 +37,7 @@ take_out-requires-after_bounds g c κs up =
 pub unreachable-requires : goal.unreachable-requires
 unreachable-requires g c =
     let job = (setup_view c.args.setup.now).job in
-    let ends : List g.row.L-Tx.Denot → List EndpointIs = λ ts. endpoints g.L.Tx.Tx.lane g.L.Tx.Tx.number g.L.Tx.Tx.origin g.L.Tx.Tx.sent ts in
+    let ends : List g.row.L-Tx.Denot → List EndpointIs = λ ts. map g.L.Tx.Tx.state ts in
     let all = c.args.sides.items in
     let fed = ends c.args.feeder.items in
     let n = c.loop-number.number - 1 in
@@ -52,7 +52,7 @@ unreachable-requires g c =
 pub unreachable-requires-in_default-take_in : goal.unreachable-requires-in_default-take_in
 unreachable-requires-in_default-take_in g c =
     let job = (setup_view c.args.setup.now).job in
-    let ends : List g.row.L-Tx.Denot → List EndpointIs = λ ts. endpoints g.L.Tx.Tx.lane g.L.Tx.Tx.number g.L.Tx.Tx.origin g.L.Tx.Tx.sent ts in
+    let ends : List g.row.L-Tx.Denot → List EndpointIs = λ ts. map g.L.Tx.Tx.state ts in
     let all = c.args.sides.items in
     let fed = ends c.args.feeder.items in
     let n = c.loop-number.number - 1 in
@@ -63,7 +63,7 @@ unreachable-requires-in_default-take_in g c =
     let settling : IsSettling job all fed (n + 1) was.items before = again job all fed c.loop-number.number (n + 1) was.items before one c.loop-number.invariant in
     let middle = c.take_out.new.sides in
     let left = ends c.take_out.new.feeder.items in
-    let T : EndpointIs = record { lane = g.L.Tx.Tx.lane c.in-Some.tx; number = g.L.Tx.Tx.number c.in-Some.tx; origin = g.L.Tx.Tx.origin c.in-Some.tx; items = g.L.Tx.Tx.sent c.in-Some.tx } in
+    let T : EndpointIs = g.L.Tx.Tx.state c.in-Some.tx in
     let a = sym c.deref_mut.ensures.value ∙ c.in-Some.ensures.sides in
     let b = c.in-Some.ensures.feeder in
     let long : length middle ≡ was.len = c.take_out.auto.sides ∙ (ap (λ (xs : List SideIs). length xs) c.deref_mut.ensures.value ∙ sym was.ok.0) in
@@ -75,7 +75,7 @@ unreachable-requires-in_default-take_in g c =
 pub settle-requires : goal.settle-requires
 settle-requires g c =
     let job = (setup_view c.args.setup.now).job in
-    let ends : List g.row.L-Tx.Denot → List EndpointIs = λ ts. endpoints g.L.Tx.Tx.lane g.L.Tx.Tx.number g.L.Tx.Tx.origin g.L.Tx.Tx.sent ts in
+    let ends : List g.row.L-Tx.Denot → List EndpointIs = λ ts. map g.L.Tx.Tx.state ts in
     let all = c.args.sides.items in
     let fed = ends c.args.feeder.items in
     let n = c.loop-number.number - 1 in
@@ -86,14 +86,14 @@ settle-requires g c =
     let settling : IsSettling job all fed (n + 1) was.items before = again job all fed c.loop-number.number (n + 1) was.items before one c.loop-number.invariant in
     let middle = c.take_out.new.sides in
     let left = ends c.take_out.new.feeder.items in
-    let T : EndpointIs = record { lane = g.L.Tx.Tx.lane c.in-Some.tx; number = g.L.Tx.Tx.number c.in-Some.tx; origin = g.L.Tx.Tx.origin c.in-Some.tx; items = g.L.Tx.Tx.sent c.in-Some.tx } in
+    let T : EndpointIs = g.L.Tx.Tx.state c.in-Some.tx in
     let a = sym c.deref_mut.ensures.value ∙ c.in-Some.ensures.sides in
     let b = c.in-Some.ensures.feeder in
     let long : length middle ≡ was.len = c.take_out.auto.sides ∙ (ap (λ (xs : List SideIs). length xs) c.deref_mut.ensures.value ∙ sym was.ok.0) in
     let first : (with_items was middle).items ≡ middle = with_items_is was middle long in
     let there : c.deref_mut-in-loop-number.result.now ≡ middle = c.deref_mut-in-loop-number.ensures.value ∙ first in
     let now = c.take_in.new.sides in
-    let R : EndpointIs = record { lane = g.L.Rx.Rx.lane c.in-Some-take_in.rx; number = g.L.Rx.Rx.number c.in-Some-take_in.rx; origin = g.L.Rx.Rx.origin c.in-Some-take_in.rx; items = g.L.Rx.Rx.taken c.in-Some-take_in.rx } in
+    let R : EndpointIs = g.L.Rx.Rx.state c.in-Some-take_in.rx in
     let d = sym there ∙ c.in-Some-take_in.ensures.some in
     let last = last_two job all fed n lane T R was.items middle now before left c.lane-lane.ensures.lane settling a b d in
     one_lane job all fed n lane T R now left c.requires.matched last
@@ -101,7 +101,7 @@ settle-requires g c =
 pub loop-number-preserved : goal.loop-number-preserved
 loop-number-preserved g c =
     let job = (setup_view c.args.setup.now).job in
-    let ends : List g.row.L-Tx.Denot → List EndpointIs = λ ts. endpoints g.L.Tx.Tx.lane g.L.Tx.Tx.number g.L.Tx.Tx.origin g.L.Tx.Tx.sent ts in
+    let ends : List g.row.L-Tx.Denot → List EndpointIs = λ ts. map g.L.Tx.Tx.state ts in
     let all = c.args.sides.items in
     let fed = ends c.args.feeder.items in
     let n = c.loop-number.number - 1 in
@@ -112,14 +112,14 @@ loop-number-preserved g c =
     let settling : IsSettling job all fed (n + 1) was.items before = again job all fed c.loop-number.number (n + 1) was.items before one c.loop-number.invariant in
     let middle = c.take_out.new.sides in
     let left = ends c.take_out.new.feeder.items in
-    let T : EndpointIs = record { lane = g.L.Tx.Tx.lane c.in-Some.tx; number = g.L.Tx.Tx.number c.in-Some.tx; origin = g.L.Tx.Tx.origin c.in-Some.tx; items = g.L.Tx.Tx.sent c.in-Some.tx } in
+    let T : EndpointIs = g.L.Tx.Tx.state c.in-Some.tx in
     let a = sym c.deref_mut.ensures.value ∙ c.in-Some.ensures.sides in
     let b = c.in-Some.ensures.feeder in
     let long : length middle ≡ was.len = c.take_out.auto.sides ∙ (ap (λ (xs : List SideIs). length xs) c.deref_mut.ensures.value ∙ sym was.ok.0) in
     let first : (with_items was middle).items ≡ middle = with_items_is was middle long in
     let there : c.deref_mut-in-loop-number.result.now ≡ middle = c.deref_mut-in-loop-number.ensures.value ∙ first in
     let now = c.take_in.new.sides in
-    let R : EndpointIs = record { lane = g.L.Rx.Rx.lane c.in-Some-take_in.rx; number = g.L.Rx.Rx.number c.in-Some-take_in.rx; origin = g.L.Rx.Rx.origin c.in-Some-take_in.rx; items = g.L.Rx.Rx.taken c.in-Some-take_in.rx } in
+    let R : EndpointIs = g.L.Rx.Rx.state c.in-Some-take_in.rx in
     let d = sym there ∙ c.in-Some-take_in.ensures.some in
     let last = last_two job all fed n lane T R was.items middle now before left c.lane-lane.ensures.lane settling a b d in
     let second : (with_items (with_items was middle) now).items ≡ now =

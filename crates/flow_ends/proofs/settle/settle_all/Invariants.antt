@@ -1,5 +1,4 @@
 use Rattle.flow_model.specs.Setup.{setup_view}
-use Rattle.flow_worker.specs.Parts.{endpoints}
 use Rattle.flow_ends.proofs.Settling.{IsSettling}
 use Rattle.flow_ends.proofs.settle.settle_all.Given as goal
 
@@ -7,9 +6,9 @@ use Rattle.flow_ends.proofs.settle.settle_all.Given as goal
 abbrev pub invariant-loop-number : goal.invariant-loop-number
 invariant-loop-number g l =
     IsSettling (setup_view l.setup).job l.fn.sides.items
-    (endpoints g.L.Tx.Tx.lane g.L.Tx.Tx.number g.L.Tx.Tx.origin g.L.Tx.Tx.sent l.fn.feeder.items)
+    (map g.L.Tx.Tx.state l.fn.feeder.items)
     l.number l.sides.items
-    (endpoints g.L.Tx.Tx.lane g.L.Tx.Tx.number g.L.Tx.Tx.origin g.L.Tx.Tx.sent l.feeder.items)
+    (map g.L.Tx.Tx.state l.feeder.items)
 
 abbrev pub decreases-loop-number : goal.decreases-loop-number
 decreases-loop-number g l = l.number

@@ -9,7 +9,7 @@ use Rattle.flow_ends.proofs.settle.take_in.Goals as goal
 pub returns-clause-some : goal.returns-clause-some
 returns-clause-some g c =
     if_some _ _ c.pop_in.result (λ x e.
-    changed-set (more_in (record { lane = g.L.Rx.Rx.lane x; number = g.L.Rx.Rx.number x; origin = g.L.Rx.Rx.origin x; items = g.L.Rx.Rx.taken x } ∷ []))
+    changed-set (more_in (g.L.Rx.Rx.state x ∷ []))
     c.args.sides.now c.args.worker _ c.pop_in.new.self (slice_get-get_or c.args.sides.now c.args.worker c.index-sides-worker.result c.requires) e) c.pop_in.ensures.some
 
 pub returns-clause-none : goal.returns-clause-none

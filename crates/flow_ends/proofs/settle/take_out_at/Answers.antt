@@ -9,7 +9,7 @@ use Rattle.flow_ends.proofs.settle.take_out_at.Goals as goal
 pub returns-clause-some : goal.returns-clause-some
 returns-clause-some g c =
     if_some _ _ c.pop_out.result (λ x e.
-    changed-set (more_out (record { lane = g.L.Tx.Tx.lane x; number = g.L.Tx.Tx.number x; origin = g.L.Tx.Tx.origin x; items = g.L.Tx.Tx.sent x } ∷ []))
+    changed-set (more_out (g.L.Tx.Tx.state x ∷ []))
     c.args.sides.now c.args.worker _ c.pop_out.new.self (slice_get-get_or c.args.sides.now c.args.worker c.index-sides-worker.result c.requires) e) c.pop_out.ensures.some
 
 pub returns-clause-none : goal.returns-clause-none

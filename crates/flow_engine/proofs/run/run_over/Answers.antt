@@ -1,4 +1,3 @@
-use Rattle.coordinator.specs.Views.{outs_of}
 use Rattle.runners.specs.Crew.{setup_in}
 use Rattle.flow_engine.specs.Recorded.{recorded}
 use Rattle.flow_engine.proofs.Over.{HasTurned, are_over, has_run_so, job_recorded, to_workers}
@@ -12,7 +11,7 @@ end_run-requires-clause-over g c κs within =
     let setup = setup_in c.args.flow.now in
     let feeds = c.finish-parts.result.0.feeds in
     let fed = (g.F.Feeding.feeder c.args.feeder).outs in
-    let left = outs_of g.L.Tx.Tx.lane g.L.Tx.Tx.number g.L.Tx.Tx.origin g.L.Tx.Tx.capacity g.L.Tx.Tx.sent g.L.Tx.Tx.full c.finish-parts.result.0.outs.items in
+    let left = map g.L.Tx.Tx.state c.finish-parts.result.0.outs.items in
     let f = g.F.Feeding.feeder c.in_ok-workers.field-0.feeder in (
       recorded g.F.Feeding.LIVE feeds setup,
       g.B.Beginning.begin,
@@ -42,7 +41,7 @@ returns-clause-run g c =
     let f = g.F.Feeding.feeder c.in_ok-workers.field-0.feeder in
     let ended = c.in_ok-ended.ended in
     let fed = (g.F.Feeding.feeder c.args.feeder).outs in
-    let left = outs_of g.L.Tx.Tx.lane g.L.Tx.Tx.number g.L.Tx.Tx.origin g.L.Tx.Tx.capacity g.L.Tx.Tx.sent g.L.Tx.Tx.full c.finish-parts.result.0.outs.items in
+    let left = map g.L.Tx.Tx.state c.finish-parts.result.0.outs.items in
     let turned : HasTurned g.F.Feeding.LIVE setup g.B.Beginning.begin c.args.flow.now.rows.now c.args.workers.items c.in_ok-workers.field-0.workers.items fed left feeds f = record {
       starts = c.requires.states;
       first = c.requires.first;

@@ -2,15 +2,14 @@ use Rattle.std.proofs.Common.{List, map, subst, sym}
 use Rattle.control_box.specs.Endpoints.{PosterIs, ShareBoxes}
 use Rattle.flow_model.specs.Begin.{Begin}
 use Rattle.flow_worker.specs.Worker.{WorkerIs}
-use Rattle.coordinator.specs.Views.{OutIs}
-use Rattle.flow_ends.specs.Ended.{fed_end}
+use Rattle.lane_core.specs.Lane.{EndpointIs}
 use Rattle.flow_ends.specs.Sides.{AreMatched, worker_side}
 use Rattle.runners.specs.Crew.{IsFeederOf}
 use Rattle.flow_engine.proofs.run.run_seeded.Goals as goal
 
 pub run_over-requires-clause-matched : goal.run_over-requires-clause-matched
 run_over-requires-clause-matched g c κs within =
-    subst (λ (outs : List OutIs). AreMatched (map worker_side c.in_ok-workers.field-0.workers.items) (map fed_end outs)) (sym c.in_ok-feeder.ensures.outs) c.in_ok-workers.ensures.matched
+    subst (λ (outs : List EndpointIs). AreMatched (map worker_side c.in_ok-workers.field-0.workers.items) outs) (sym c.in_ok-feeder.ensures.outs) c.in_ok-workers.ensures.matched
 
 pub run_over-requires-clause-feeder : goal.run_over-requires-clause-feeder
 run_over-requires-clause-feeder g c κs within =

@@ -3,7 +3,8 @@ use Rattle.std.specs.Vec.Iter.{into_iter_items}
 use Rattle.marker_align.specs.declared.held.Hand.TheVariants.{Empty}
 use Rattle.flow_model.specs.Setup.{setup_view}
 use Rattle.flow_worker.specs.Endpoints.{LaneInIs}
-use Rattle.flow_worker.specs.Parts.{EndpointIs, endpoint_in}
+use Rattle.flow_worker.specs.Parts.{endpoint_in}
+use Rattle.lane_core.specs.Lane.{EndpointIs}
 use Rattle.flow_worker.specs.Worker.{IsOnLane}
 use Rattle.flow_worker.proofs.Making.{drop-rest, each_more, get-drop, moved_over, on_lane}
 use Rattle.flow_worker.proofs.parts.new_ins.Goals as goal
@@ -18,8 +19,8 @@ loop-end-preserved g c =
     let its = into_iter_items c.loop-end.end-iterator in
     let rest = into_iter_items c.next.new.self in
     let next = c.in-Some.ensures.steps in
-    let F : g.row.L-Rx.Denot → EndpointIs = λ x. record { lane = g.L.Rx.Rx.lane x; number = g.L.Rx.Rx.number x; origin = g.L.Rx.Rx.origin x; items = g.L.Rx.Rx.taken x } in
-    let N : g.row.L-Rx.Denot → ℕ = λ x. g.L.Rx.Rx.number x in
+    let F : g.row.L-Rx.Denot → EndpointIs = g.L.Rx.Rx.state in
+    let N : g.row.L-Rx.Denot → ℕ = λ x. (g.L.Rx.Rx.state x).number in
     let pushed : new ≡ old ++ c.new.result ∷ [] = c.push_reserved.ensures.items in
     let long : length new ≡ length old + 1 = ap (λ (xs : List LaneInIs). length xs) pushed ∙ length-append old (c.new.result ∷ []) in
     let fewer = ap (length {A = g.row.L-Rx.Denot}) next.0 in

@@ -5,7 +5,8 @@ use Rattle.marker_align.specs.declared.held.Hand.TheVariants.{Empty}
 use Rattle.flow_model.specs.Setup.{setup_view}
 use Rattle.flow_worker.specs.Endpoints.{LaneInIs}
 use Rattle.flow_worker.specs.Pairs.{Each}
-use Rattle.flow_worker.specs.Parts.{EndpointIs, endpoint_in}
+use Rattle.flow_worker.specs.Parts.{endpoint_in}
+use Rattle.lane_core.specs.Lane.{EndpointIs}
 use Rattle.flow_worker.specs.Worker.{IsOnLane}
 use Rattle.flow_worker.proofs.parts.new_ins.Given as goal
 
@@ -16,9 +17,9 @@ invariant-loop-end g l = record {
   finite : (goal.iterator-loop-end g).is_finite l.end-iterator;
   counted : into_iter_len l.end-iterator ≡ length (into_iter_items l.end-iterator);
   room : length l.ins.items + length (into_iter_items l.end-iterator) ≤ vec_capacity l.ins;
-  ends : map endpoint_in l.ins.items ++ map {B = EndpointIs} (λ x. record { lane = g.L.Rx.Rx.lane x; number = g.L.Rx.Rx.number x; origin = g.L.Rx.Rx.origin x; items = g.L.Rx.Rx.taken x }) (into_iter_items l.end-iterator)
-      ≡ map {B = EndpointIs} (λ x. record { lane = g.L.Rx.Rx.lane x; number = g.L.Rx.Rx.number x; origin = g.L.Rx.Rx.origin x; items = g.L.Rx.Rx.taken x }) l.fn.ends.items;
-  numbers : map (λ x. g.L.Rx.Rx.number x) (into_iter_items l.end-iterator) ≡ drop (length l.ins.items) l.numbers;
+  ends : map endpoint_in l.ins.items ++ map g.L.Rx.Rx.state (into_iter_items l.end-iterator)
+      ≡ map g.L.Rx.Rx.state l.fn.ends.items;
+  numbers : map (λ x. (g.L.Rx.Rx.state x).number) (into_iter_items l.end-iterator) ≡ drop (length l.ins.items) l.numbers;
   on_lanes : Each (λ (a : LaneInIs). IsOnLane (setup_view l.setup).job a.number a.edge) l.ins.items;
   hands : Each (λ (a : LaneInIs). a.hand ≡ Empty) l.ins.items;
 }

@@ -2,7 +2,8 @@ use Rattle.std.proofs.Common.{◌≡◌, ◌∙◌, ◌+◌, ◌++◌, ℕ, List
 use Rattle.std.specs.Vec.Iter.{into_iter_items}
 use Rattle.flow_model.specs.Setup.{setup_view}
 use Rattle.flow_worker.specs.Endpoints.{LaneOutIs}
-use Rattle.flow_worker.specs.Parts.{EndpointIs, endpoint_out}
+use Rattle.flow_worker.specs.Parts.{endpoint_out}
+use Rattle.lane_core.specs.Lane.{EndpointIs}
 use Rattle.flow_worker.specs.Worker.{IsOnLane}
 use Rattle.flow_worker.proofs.Making.{drop-rest, each_more, get-drop, moved_over, on_lane}
 use Rattle.flow_worker.proofs.parts.new_outs.Goals as goal
@@ -17,8 +18,8 @@ loop-end-preserved g c =
     let its = into_iter_items c.loop-end.end-iterator in
     let rest = into_iter_items c.next.new.self in
     let next = c.in-Some.ensures.steps in
-    let F : g.row.L-Tx.Denot → EndpointIs = λ x. record { lane = g.L.Tx.Tx.lane x; number = g.L.Tx.Tx.number x; origin = g.L.Tx.Tx.origin x; items = g.L.Tx.Tx.sent x } in
-    let N : g.row.L-Tx.Denot → ℕ = λ x. g.L.Tx.Tx.number x in
+    let F : g.row.L-Tx.Denot → EndpointIs = g.L.Tx.Tx.state in
+    let N : g.row.L-Tx.Denot → ℕ = λ x. (g.L.Tx.Tx.state x).number in
     let pushed : new ≡ old ++ c.new.result ∷ [] = c.push_reserved.ensures.items in
     let long : length new ≡ length old + 1 = ap (λ (xs : List LaneOutIs). length xs) pushed ∙ length-append old (c.new.result ∷ []) in
     let fewer = ap (length {A = g.row.L-Tx.Denot}) next.0 in

@@ -4,7 +4,8 @@ use Rattle.std.specs.Vec.Iter.{into_iter_items, into_iter_len}
 use Rattle.flow_model.specs.Setup.{setup_view}
 use Rattle.flow_worker.specs.Endpoints.{LaneOutIs}
 use Rattle.flow_worker.specs.Pairs.{Each}
-use Rattle.flow_worker.specs.Parts.{EndpointIs, endpoint_out}
+use Rattle.flow_worker.specs.Parts.{endpoint_out}
+use Rattle.lane_core.specs.Lane.{EndpointIs}
 use Rattle.flow_worker.specs.Worker.{IsOnLane}
 use Rattle.flow_worker.proofs.parts.new_outs.Given as goal
 
@@ -15,9 +16,9 @@ invariant-loop-end g l = record {
   finite : (goal.iterator-loop-end g).is_finite l.end-iterator;
   counted : into_iter_len l.end-iterator ≡ length (into_iter_items l.end-iterator);
   room : length l.outs.items + length (into_iter_items l.end-iterator) ≤ vec_capacity l.outs;
-  ends : map endpoint_out l.outs.items ++ map {B = EndpointIs} (λ x. record { lane = g.L.Tx.Tx.lane x; number = g.L.Tx.Tx.number x; origin = g.L.Tx.Tx.origin x; items = g.L.Tx.Tx.sent x }) (into_iter_items l.end-iterator)
-      ≡ map {B = EndpointIs} (λ x. record { lane = g.L.Tx.Tx.lane x; number = g.L.Tx.Tx.number x; origin = g.L.Tx.Tx.origin x; items = g.L.Tx.Tx.sent x }) l.fn.ends.items;
-  numbers : map (λ x. g.L.Tx.Tx.number x) (into_iter_items l.end-iterator) ≡ drop (length l.outs.items) l.numbers;
+  ends : map endpoint_out l.outs.items ++ map g.L.Tx.Tx.state (into_iter_items l.end-iterator)
+      ≡ map g.L.Tx.Tx.state l.fn.ends.items;
+  numbers : map (λ x. (g.L.Tx.Tx.state x).number) (into_iter_items l.end-iterator) ≡ drop (length l.outs.items) l.numbers;
   on_lanes : Each (λ (out : LaneOutIs). IsOnLane (setup_view l.setup).job out.number out.edge) l.outs.items;
   waiting : Each (λ (out : LaneOutIs). out.waiting ≡ []) l.outs.items;
 }

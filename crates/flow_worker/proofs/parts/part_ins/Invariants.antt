@@ -1,7 +1,8 @@
 use Rattle.std.proofs.Common.{◌≡◌, ◌≤◌, ◌+◌, ◌++◌, length, map}
 use Rattle.std.specs.Vec.{vec_capacity}
 use Rattle.std.specs.Vec.Iter.{into_iter_items, into_iter_len}
-use Rattle.flow_worker.specs.Parts.{EndpointIs, endpoint_in}
+use Rattle.flow_worker.specs.Parts.{endpoint_in}
+use Rattle.lane_core.specs.Lane.{EndpointIs}
 use Rattle.flow_worker.proofs.parts.part_ins.Given as goal
 
 -- the ends so far, with those of the lanes that are left, are the ends of all lanes
@@ -11,5 +12,5 @@ invariant-loop-lane g l = record {
   finite : (goal.iterator-loop-lane g).is_finite l.lane-iterator;
   counted : into_iter_len l.lane-iterator ≡ length (into_iter_items l.lane-iterator);
   room : length l.ends.items + length (into_iter_items l.lane-iterator) ≤ vec_capacity l.ends;
-  whole : map {B = EndpointIs} (λ x. record { lane = g.L.Rx.Rx.lane x; number = g.L.Rx.Rx.number x; origin = g.L.Rx.Rx.origin x; items = g.L.Rx.Rx.taken x }) l.ends.items ++ map endpoint_in (into_iter_items l.lane-iterator) ≡ map endpoint_in l.fn.ins.items;
+  whole : map g.L.Rx.Rx.state l.ends.items ++ map endpoint_in (into_iter_items l.lane-iterator) ≡ map endpoint_in l.fn.ins.items;
 }

@@ -3,7 +3,8 @@ use Rattle.std.specs.Vec.{vec_capacity}
 use Rattle.std.specs.Vec.Iter.{into_iter_items, into_iter_len}
 use Rattle.flow_worker.specs.Endpoints.{LaneOutIs}
 use Rattle.flow_worker.specs.Pairs.{Each}
-use Rattle.flow_worker.specs.Parts.{EndpointIs, endpoint_out}
+use Rattle.flow_worker.specs.Parts.{endpoint_out}
+use Rattle.lane_core.specs.Lane.{EndpointIs}
 use Rattle.flow_worker.proofs.parts.part_outs.Given as goal
 
 -- the ends so far, with those of the lanes that are left, are the ends of all lanes
@@ -14,5 +15,5 @@ invariant-loop-lane g l = record {
   counted : into_iter_len l.lane-iterator ≡ length (into_iter_items l.lane-iterator);
   room : length l.ends.items + length (into_iter_items l.lane-iterator) ≤ vec_capacity l.ends;
   done : Each (λ (out : LaneOutIs). out.waiting ≡ []) (into_iter_items l.lane-iterator);
-  whole : map {B = EndpointIs} (λ x. record { lane = g.L.Tx.Tx.lane x; number = g.L.Tx.Tx.number x; origin = g.L.Tx.Tx.origin x; items = g.L.Tx.Tx.sent x }) l.ends.items ++ map endpoint_out (into_iter_items l.lane-iterator) ≡ map endpoint_out l.fn.outs.items;
+  whole : map g.L.Tx.Tx.state l.ends.items ++ map endpoint_out (into_iter_items l.lane-iterator) ≡ map endpoint_out l.fn.outs.items;
 }

@@ -2,7 +2,7 @@ use Rattle.std.proofs.Common.{◌≡◌, false, map}
 use Rattle.flow_model.specs.Begin.{at_first}
 use Rattle.flow_model.specs.Setup.{setup_view}
 use Rattle.coordinator.specs.Feeding.{IsFeeder}
-use Rattle.coordinator.specs.Views.{end_of}
+use Rattle.lane_core.specs.Lane.{end_of}
 use Rattle.actor_tests.proofs.tests.whole.until_stopped.Given as goal
 
 -- the feeder has its law, and its endpoints

@@ -8,7 +8,7 @@ use Rattle.flow_model.specs.Setup.{setup_view}
 use Rattle.flow_model.specs.Workers.{workers_in}
 use Rattle.flow_model.specs.declared.topology.Topology.{Topology}
 use Rattle.flow_model.proofs.SizeLemmas.{lanes-few}
-use Rattle.flow_worker.specs.Parts.{EndpointIs, endpoints}
+use Rattle.lane_core.specs.Lane.{EndpointIs}
 use Rattle.flow_ends.specs.Sides.{HoldAtMost, SideIs}
 use Rattle.flow_ends.specs.Sorted.{AreMarked, changed, more_in, with_out}
 use Rattle.flow_ends.proofs.Holding.{hold_in, hold_none, hold_sent}
@@ -27,13 +27,18 @@ lane-lane-requires g c =
     let all = ap (λ (t : Topology). length t.lanes) c.args.setup.now.topology_is in
     omega (arith, c.len-count.ensures, all, c.loop-number-test.true)
 
+pub tx-requires-clause-there : goal.tx-requires-clause-there
+tx-requires-clause-there g c κs up =
+    let all = ap (λ (t : Topology). length t.lanes) c.args.setup.now.topology_is in
+    omega (arith, c.len-count.ensures, all, c.loop-number-test.true)
+
 pub loop-number-init : goal.loop-number-init
 loop-number-init g c =
-    let P : g.row.L-Tx.Denot → Type 0 = λ end. g.L.Tx.Tx.capacity end ≡ c.args.cap in
+    let P : g.row.L-Tx.Denot → Type 0 = λ end. (g.L.Tx.Tx.state end).lane.capacity ≡ c.args.cap in
     record {
       sorted =
           marked_first (setup_view c.args.setup.now).job c.graph-graph.result c.workers.result c.in_ok-workers.workers.items _ c.workers.ensures.value c.in_ok-workers.ensures
-          (ap (λ ts. endpoints g.L.Tx.Tx.lane g.L.Tx.Tx.number g.L.Tx.Tx.origin g.L.Tx.Tx.sent ts) c.new-feeder.ensures.items);
+          (ap (λ ts. map g.L.Tx.Tx.state ts) c.new-feeder.ensures.items);
       capacity = subst (All P) (sym c.new-feeder.ensures.items) (All-nil P);
       hold = hold_none c.args.cap c.workers.result c.in_ok-workers.workers.items c.in_ok-workers.ensures;
     }
@@ -53,11 +58,11 @@ loop-number-preserved g c =
     let was = c.loop-number.workers in
     let middle = c.add_out.new.workers in
     let last = c.add_in.new.workers in
-    let ends : List g.row.L-Tx.Denot → List EndpointIs = λ ts. endpoints g.L.Tx.Tx.lane g.L.Tx.Tx.number g.L.Tx.Tx.origin g.L.Tx.Tx.sent ts in
+    let ends : List g.row.L-Tx.Denot → List EndpointIs = λ ts. map g.L.Tx.Tx.state ts in
     let old = ends c.loop-number.feeder.items in
     let new = ends c.add_out.new.feeder.items in
-    let T : EndpointIs = record { lane = g.L.Tx.Tx.lane c.in_ok-tx.tx; number = g.L.Tx.Tx.number c.in_ok-tx.tx; origin = g.L.Tx.Tx.origin c.in_ok-tx.tx; items = g.L.Tx.Tx.sent c.in_ok-tx.tx } in
-    let R : EndpointIs = record { lane = g.L.Rx.Rx.lane c.in_ok-tx.rx; number = g.L.Rx.Rx.number c.in_ok-tx.rx; origin = g.L.Rx.Rx.origin c.in_ok-tx.rx; items = g.L.Rx.Rx.taken c.in_ok-tx.rx } in
+    let T : EndpointIs = g.L.Tx.Tx.state c.in_ok-tx.tx in
+    let R : EndpointIs = g.L.Rx.Rx.state c.in_ok-tx.rx in
     let long : length middle ≡ was.len = c.add_out.auto.workers ∙ (ap (λ (xs : List SideIs). length xs) c.deref_mut.ensures.value ∙ sym was.ok.0) in
     let first : (with_items was middle).items ≡ middle = with_items_is was middle long in
     let there = c.deref_mut-in-loop-number.ensures.value ∙ first in
@@ -72,7 +77,7 @@ loop-number-preserved g c =
         subst (λ (xs : List SideIs). AreMarked job graph (i + 1) marked.0 xs new) (sym all)
             (subst (AreMarked job graph (i + 1) marked.0 (changed (more_in (R ∷ [])) lane.receiver (with_out lane.sender (T ∷ []) was.items))) (sym c.in_ok-add_out.ensures.feeder) marked.1),
       );
-      capacity = c.in_ok-add_out.ensures.capacity c.args.cap c.in_ok-tx.ensures.capacity c.loop-number.invariant.capacity;
+      capacity = c.in_ok-add_out.ensures.capacity c.args.cap c.in_ok-tx.ensures.holds c.loop-number.invariant.capacity;
       hold =
           subst (HoldAtMost c.args.cap) (sym all)
           (hold_in c.args.cap R lane.receiver (with_out lane.sender (T ∷ []) was.items) (hold_sent c.args.cap T lane.sender was.items c.in_ok-tx.ensures.holds c.loop-number.invariant.hold));
@@ -92,7 +97,7 @@ returns-clause-feeder g c =
     let all = ap (λ (t : Topology). length t.lanes) c.args.setup.now.topology_is in
     let le : length (lanes job) ≤ c.loop-number.number = omega (arith, c.len-count.ensures, all, c.loop-number-test.false) in
     let inv = c.loop-number.invariant.sorted in
-    marked_feeder g.L.Tx.Tx.lane g.L.Tx.Tx.number g.L.Tx.Tx.origin g.L.Tx.Tx.capacity g.L.Tx.Tx.sent g.L.Tx.Tx.full job c.graph-graph.result c.loop-number.number inv.0 c.loop-number.workers.items c.loop-number.feeder.items c.graph-graph.ensures.edges le inv.1
+    marked_feeder job c.graph-graph.result c.loop-number.number inv.0 c.loop-number.workers.items (map g.L.Tx.Tx.state c.loop-number.feeder.items) c.graph-graph.ensures.edges le inv.1
 
 pub returns-clause-capacity : goal.returns-clause-capacity
 returns-clause-capacity g c = c.loop-number.invariant.capacity

@@ -2,7 +2,6 @@ use Rattle.std.proofs.Common.{◌≡◌, List}
 use Rattle.std.specs.Prelude.{All}
 use Rattle.flow_model.specs.Setup.{setup_view}
 use Rattle.lane_core.specs.Lane.{LaneId}
-use Rattle.flow_worker.specs.Parts.{endpoints}
 use Rattle.flow_ends.specs.Sides.{HoldAtMost}
 use Rattle.flow_ends.specs.Sorted.{AreMarked}
 use Rattle.flow_ends.proofs.all_endpoints.AllEndpoints.make.Given as goal
@@ -13,7 +12,7 @@ abbrev pub invariant-loop-number : goal.invariant-loop-number
 invariant-loop-number g l = record {
   sorted :
       (marks : List LaneId) × AreMarked (setup_view l.setup).job l.graph l.number marks l.workers.items
-      (endpoints g.L.Tx.Tx.lane g.L.Tx.Tx.number g.L.Tx.Tx.origin g.L.Tx.Tx.sent l.feeder.items);
-  capacity : All (λ (end : g.row.L-Tx.Denot). g.L.Tx.Tx.capacity end ≡ l.cap) l.feeder.items;
+      (map g.L.Tx.Tx.state l.feeder.items);
+  capacity : All (λ (end : g.row.L-Tx.Denot). (g.L.Tx.Tx.state end).lane.capacity ≡ l.cap) l.feeder.items;
   hold : HoldAtMost l.cap l.workers.items;
 }

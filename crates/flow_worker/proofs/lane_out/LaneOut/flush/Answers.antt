@@ -8,8 +8,8 @@ use Rattle.flow_worker.proofs.lane_out.LaneOut.flush.Goals as goal
 
 pub put-requires : goal.put-requires
 put-requires g c =
-    let o = g.L.Tx.Tx.origin c.loop-item.self-inside.end in
-    let sent = g.L.Tx.Tx.sent c.loop-item.self-inside.end in
+    let o = (g.L.Tx.Tx.state c.loop-item.self-inside.end).origin in
+    let sent = (g.L.Tx.Tx.state c.loop-item.self-inside.end).items in
     let P : Origin → Type 0 = λ q. IsSteady q (planned c.args.self.now) in
     let Q : List Item → Type 0 = λ l. IsSteady o l in
     let R : List Item → Type 0 = λ l. IsSteady o (sent ++ l) in

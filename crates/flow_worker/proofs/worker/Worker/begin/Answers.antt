@@ -10,14 +10,16 @@ use Rattle.flow_model.specs.declared.topology.WorkerAt.{WorkerAt}
 use Rattle.flow_model.proofs.FewLanes.{few_lanes}
 use Rattle.flow_model.proofs.WorkerPlaces.{get-nth_worker}
 use Rattle.flow_worker.specs.Pairs.{Each}
-use Rattle.flow_worker.specs.Parts.{EndpointIs, IsNewEndpoint, endpoint_in, endpoint_out}
+use Rattle.flow_worker.specs.Parts.{endpoint_in, endpoint_out}
+use Rattle.lane_core.specs.Lane.{EndpointIs}
+use Rattle.flow_model.specs.NewEndpoint.{IsNewEndpoint}
 use Rattle.flow_worker.proofs.Beginning.{begins_from, lanes_there, new_hands, new_waiting, stands}
 use Rattle.flow_worker.proofs.Pairs.{length_mapped}
 use Rattle.flow_worker.proofs.worker.Worker.begin.Goals as goal
 
 pub new_ins-ins-requires-clause-numbers : goal.new_ins-ins-requires-clause-numbers
 new_ins-ins-requires-clause-numbers g c κs up =
-    let F : g.row.L-Rx.Denot → EndpointIs = λ x. record { lane = g.L.Rx.Rx.lane x; number = g.L.Rx.Rx.number x; origin = g.L.Rx.Rx.origin x; items = g.L.Rx.Rx.taken x } in
+    let F : g.row.L-Rx.Denot → EndpointIs = g.L.Rx.Rx.state in
     sym (map-map (λ (end : EndpointIs). end.number) F c.args.ins.items) ∙ (c.requires.ends.ins_are ∙ sym c.lanes_in.ensures)
 
 pub new_ins-ins-requires-clause-there : goal.new_ins-ins-requires-clause-there
@@ -27,7 +29,7 @@ new_ins-ins-requires-clause-there g c κs up =
 
 pub new_outs-outs-requires-clause-numbers : goal.new_outs-outs-requires-clause-numbers
 new_outs-outs-requires-clause-numbers g c κs up =
-    let F : g.row.L-Tx.Denot → EndpointIs = λ x. record { lane = g.L.Tx.Tx.lane x; number = g.L.Tx.Tx.number x; origin = g.L.Tx.Tx.origin x; items = g.L.Tx.Tx.sent x } in
+    let F : g.row.L-Tx.Denot → EndpointIs = g.L.Tx.Tx.state in
     sym (map-map (λ (end : EndpointIs). end.number) F c.args.outs.items) ∙ (c.requires.ends.outs_are ∙ sym c.lanes_out.ensures)
 
 pub new_outs-outs-requires-clause-there : goal.new_outs-outs-requires-clause-there
@@ -38,7 +40,7 @@ new_outs-outs-requires-clause-there g c κs up =
 pub new-requires-2-clause-few : goal.new-requires-2-clause-few
 new-requires-2-clause-few g c κs up =
     let job = (setup_view c.args.setup.now).job in
-    let F : g.row.L-Rx.Denot → EndpointIs = λ x. record { lane = g.L.Rx.Rx.lane x; number = g.L.Rx.Rx.number x; origin = g.L.Rx.Rx.origin x; items = g.L.Rx.Rx.taken x } in
+    let F : g.row.L-Rx.Denot → EndpointIs = g.L.Rx.Rx.state in
     let ins = c.new_ins-ins.result.items in
     let long : length ins ≡ length c.args.ins.items = sym (length_mapped endpoint_in ins) ∙ (ap (λ (xs : List EndpointIs). length xs) c.new_ins-ins.ensures.ends ∙ length_mapped F c.args.ins.items) in
     let all = ap (λ (xs : List ℕ). length xs) c.requires.ends.ins_are in
@@ -56,8 +58,8 @@ returns-clause-law g c begin s =
     let job = setup.job in
     let who = nth_worker job c.args.number in
     let at = c.worker_at-at.ensures.at in
-    let F : g.row.L-Rx.Denot → EndpointIs = λ x. record { lane = g.L.Rx.Rx.lane x; number = g.L.Rx.Rx.number x; origin = g.L.Rx.Rx.origin x; items = g.L.Rx.Rx.taken x } in
-    let G : g.row.L-Tx.Denot → EndpointIs = λ x. record { lane = g.L.Tx.Tx.lane x; number = g.L.Tx.Tx.number x; origin = g.L.Tx.Tx.origin x; items = g.L.Tx.Tx.sent x } in
+    let F : g.row.L-Rx.Denot → EndpointIs = g.L.Rx.Rx.state in
+    let G : g.row.L-Tx.Denot → EndpointIs = g.L.Tx.Tx.state in
     let ins = c.new_ins-ins.result.items in
     let outs = c.new_outs-outs.result.items in
     let long_in : length ins ≡ length c.args.ins.items = sym (length_mapped endpoint_in ins) ∙ (ap (λ (xs : List EndpointIs). length xs) c.new_ins-ins.ensures.ends ∙ length_mapped F c.args.ins.items) in
