@@ -57,7 +57,8 @@ pub fn check_audit(
         Fits (map noted_as setup.judged.refused) bytes.now run →
         IfErr result (λ fault. fault ≡ OutOfMemory) }
 {
-    runs_are_consistent(&setup, rows);
+    rows.are_numbered();
+    runs_are_consistent(&setup);
     match rebuild(alloc, &setup, rows, bytes) {
         Ok((feeds, restored)) => Ok(RunRecord {
             setup,

@@ -5,7 +5,7 @@
 //!
 //! ```
 //! later_rows_are_whole(&setup, &rows);
-//! let flown = run_from(&engine, setup, &rows, &start)?;
+//! let flown = run_from(&engine, setup, &FeedRows::all(&rows), start)?;
 //! ```
 #![tactic(auto)]
 

@@ -48,7 +48,8 @@ pub fn audited_run<S: Shelf>(
     ensures cause { IfErr result (IsNoAudit (S.state shelf.old).files name.now setup rows.now
         (S.state shelf.old).faults (S.state shelf.new).faults) }
 {
-    runs_are_consistent(&setup, rows);
+    rows.are_numbered();
+    runs_are_consistent(&setup);
     ordered_runs_are_serial(&setup, rows);
     texts_of_runs_have_no_fault(&setup, rows);
     texts_have_one_fault(&setup);

@@ -45,8 +45,8 @@ pub fn saved_runs_go_on(setup: &Setup, rows: &Rows)
         AreOneRun (setup_view setup.now) rows.now row (record_view first.ran)
         (record_view second.ran) }
 {
-    let _numbered = rows.as_slice();
-    runs_are_consistent(setup, rows);
+    rows.are_numbered();
+    runs_are_consistent(setup);
 }
 
 /// However a call ends whose run was completed, each file is as before or whole.

@@ -32,7 +32,7 @@ use report::{Fault, FileIs, push_refused};
 use std::alloc::Global;
 use std::sync::Wait;
 use std::thread::{Threads, join_mut};
-use tuple_trace::{Bytes, Gate, NoMemory, Rows};
+use tuple_trace::{Bytes, FeedRows, Gate, NoMemory, Rows};
 use versions::{MAX_REQUESTS, Requests};
 
 /// What was run live, and what the reader of releases took.
@@ -76,11 +76,13 @@ where
     let mut work = Some(work);
     let lanes = RingLanes;
     let engine = Engine::new(rt, alloc, &lanes, gate, size.threads, size.capacity);
-    let (flown, heard) = run_beside(&engine, &mut work, rows, asks, &mut teller, most);
+    let fed = FeedRows::all(rows);
+    let (flown, heard) = run_beside(&engine, &mut work, &fed, asks, &mut teller, most);
     let (flown, inbox) = flown?;
     let _met = meet(teller, inbox);
     let ran = flown.record(alloc)?;
-    runs_are_consistent(&ran.setup, rows);
+    rows.are_numbered();
+    runs_are_consistent(&ran.setup);
     ordered_runs_are_serial(&ran.setup, rows);
     let done = done_of(alloc, ran, requests, rows)?;
     Ok(LiveDone { done, heard })
@@ -100,7 +102,7 @@ type Run = Result<(Flown<RingLanes>, Inbox), NoMemory>;
 fn run_beside<R, G: Gate + Sync, Q: Asks>(
     engine: &Engine<'_, R, RingLanes, G>,
     work: &mut Option<Box<Work>>,
-    rows: &Rows,
+    rows: &FeedRows<'_>,
     asks: &mut Q,
     teller: &mut Teller,
     most: u32,

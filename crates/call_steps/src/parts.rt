@@ -25,7 +25,7 @@ use savepoint::{first_of, first_parts_can_be_saved};
 use std::alloc::Global;
 use std::sync::Wait;
 use std::thread::Threads;
-use tuple_trace::{Gate, NoMemory, Row, Rows};
+use tuple_trace::{FeedRows, Gate, NoMemory, Row, Rows};
 use versions::Requests;
 
 /// Judges the requests, and runs the first `most` rows, or all if there are fewer.
@@ -63,10 +63,12 @@ where
     first_parts_can_be_saved(&setup, rows);
     let turned = issued_up_to(&setup, row, count);
     let part = first_of(setup, turned);
-    runs_are_consistent(&part, &first);
+    first.are_numbered();
+    runs_are_consistent(&part);
     let lanes = RingLanes;
     let engine = Engine::new(rt, alloc, &lanes, gate, size.threads, size.capacity);
-    let flown = run_flow(&engine, part, &first)?;
+    let fed = FeedRows::all(&first);
+    let flown = run_flow(&engine, part, &fed)?;
     let ran = flown.record(alloc)?;
     done_of(alloc, ran, requests, &first)
 }
@@ -113,8 +115,8 @@ fn copy_of(row: &Row) -> Result<Row, NoMemory>
 
 /// Runs the rows after a start and the requests that it hasn't turned, by a setup that was judged.
 ///
-/// `rows` are all rows, and the start has turned no more requests than the setup has. The one error
-/// is out of memory.
+/// `rows` are all rows, and the start has turned no more requests than the setup has. Its counts are
+/// moved into the run. The one error is out of memory; it gives the start up.
 pub fn run_later_part<R, G>(
     rt: &R,
     alloc: Global,
@@ -123,22 +125,23 @@ pub fn run_later_part<R, G>(
     setup: Setup,
     requests: &Requests,
     rows: &Rows,
-    start: &Start,
+    start: Start,
 ) -> Result<Done, NoMemory>
 where
     R: Threads + Wait + Copy + Send + Sync + 'static,
     G: Gate + Sync,
     requires size { IsSize size }
     requires sources { AreFromSources (setup_view setup).job rows.now }
-    requires turned { start.now.turned ≤ length (setup_view setup).requests }
-    requires states { length start.now.states ≡ length (workers_in (setup_view setup).job) }
-    ensures run { IfOk result (IsRunFromStart start.now setup requests.now rows.now) }
+    requires turned { start.turned ≤ length (setup_view setup).requests }
+    requires states { length start.states ≡ length (workers_in (setup_view setup).job) }
+    ensures run { IfOk result (IsRunFromStart start setup requests.now rows.now) }
     ensures workers { IfOk result HasWorkers }
 {
     later_rows_are_whole(&setup, rows);
     let lanes = RingLanes;
     let engine = Engine::new(rt, alloc, &lanes, gate, size.threads, size.capacity);
-    let flown = run_from(&engine, setup, rows, start)?;
+    let fed = FeedRows::all(rows);
+    let flown = run_from(&engine, setup, &fed, start)?;
     let ran = flown.record(alloc)?;
     done_of(alloc, ran, requests, rows)
 }

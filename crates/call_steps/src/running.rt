@@ -33,7 +33,7 @@ use sink_journal::{alerts_text, audit_text};
 use std::alloc::Global;
 use std::sync::Wait;
 use std::thread::Threads;
-use tuple_trace::{Bytes, Gate, NoMemory, Rows, Word};
+use tuple_trace::{Bytes, FeedRows, Gate, NoMemory, Rows, Word};
 use versions::{Refusals, Requests};
 
 /// What was run.
@@ -68,7 +68,8 @@ pub fn run_in_order(
         ≡ worker_count done.ran.setup.job.nodes) }
 {
     let setup = setup_of(alloc, job, requests, false)?;
-    runs_are_consistent(&setup, rows);
+    rows.are_numbered();
+    runs_are_consistent(&setup);
     ordered_runs_are_serial(&setup, rows);
     let ran = plain_run(alloc, setup, rows)?;
     done_of(alloc, ran, requests, rows)
@@ -98,11 +99,13 @@ where
         ≡ worker_count done.ran.setup.job.nodes) }
 {
     let setup = setup_of(alloc, job, requests, ordered)?;
-    runs_are_consistent(&setup, rows);
+    rows.are_numbered();
+    runs_are_consistent(&setup);
     ordered_runs_are_serial(&setup, rows);
     let lanes = RingLanes;
     let engine = Engine::new(rt, alloc, &lanes, gate, size.threads, size.capacity);
-    let flown = run_flow(&engine, setup, rows)?;
+    let fed = FeedRows::all(rows);
+    let flown = run_flow(&engine, setup, &fed)?;
     let ran = flown.record(alloc)?;
     done_of(alloc, ran, requests, rows)
 }

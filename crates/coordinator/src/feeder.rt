@@ -1,6 +1,6 @@
 ghost use Rattle.std.specs.Prelude.{◌≡◌, ◌≤◌, IfOk, List, false, length, ⊤};
 ghost use Rattle.tuple_trace.specs.declared.row.Row.{Row as RowIs};
-ghost use Rattle.flow_model.specs.Begin.{at_first};
+ghost use Rattle.flow_model.specs.Begin.{Begin, at_first};
 ghost use Rattle.flow_model.specs.Setup.{setup_view};
 ghost use Rattle.coordinator.specs.Feeding.{IsFeeder};
 ghost use Rattle.coordinator.specs.Starts.{AreNewOuts, AreUnused};
@@ -9,11 +9,11 @@ ghost use Rattle.coordinator.specs.Views.{FeederIs};
 use crate::state::FeederState;
 use crate::{FeedParts, FeedTurn, Feeding};
 use control_box::Poster;
-use flow_model::{Setup, Start};
+use flow_model::Setup;
 use lane_core::Lanes;
 use std::alloc::Global;
 use std::marker::Model;
-use tuple_trace::{Gate, NoMemory, Rows};
+use tuple_trace::{FeedRows, Gate, NoMemory};
 
 /// The feeder that issues each request directly after the row that the request names.
 #[derive(Drop)]
@@ -30,8 +30,8 @@ impl<L: Lanes> Model for Feeder<L> {
 }
 
 impl<L: Lanes> Feeder<L> {
-    /// A feeder from a beginning on: it feeds the rows after the first `start.row`, and issues the
-    /// requests after the first `start.turned`, which are those of the setup at most.
+    /// A feeder from a beginning on: it feeds the rows after the first `row`, and issues the requests
+    /// after the first `turned`, which are those of the setup at most.
     ///
     /// `outs` are the endpoints of the lanes of all sources, in the order of the lanes' numbers.
     /// `posters` are those of all workers, in their order. The one error is out of memory; it gives
@@ -41,17 +41,19 @@ impl<L: Lanes> Feeder<L> {
         setup: &Setup,
         outs: Vec<L::Tx>,
         posters: Vec<Poster>,
-        start: &Start,
+        row: u64,
+        turned: u64,
     ) -> Result<Feeder<L>, NoMemory>
-        requires turned { start.now.turned ≤ length (setup_view setup.now).requests }
+        requires turned { turned ≤ length (setup_view setup.now).requests }
         requires outs { AreNewOuts (setup_view setup.now).job (map L.Tx.state outs.items) }
         requires boxes { AreUnused (setup_view setup.now) posters.items }
-        ensures law { IfOk result (λ (f : FeederIs). (rows : List RowIs)
-            → IsFeeder false (setup_view setup.now) start.now rows f) }
+        ensures law { IfOk result (λ (f : FeederIs). (begin : Begin) (rows : List RowIs)
+            → begin.row ≡ row → begin.turned ≡ turned
+            → IsFeeder false (setup_view setup.now) begin rows f) }
         ensures outs { IfOk result (λ (f : FeederIs). f.outs ≡ map L.Tx.state outs.items) }
         ensures boxes { IfOk result (λ (f : FeederIs). f.boxes.posters ≡ posters.items) }
     {
-        let (row, turned) = (start.row as usize, start.turned as usize);
+        let (row, turned) = (row as usize, turned as usize);
         let state = FeederState::make(alloc, setup, outs, posters, row, turned)?;
         Ok(Feeder { state })
     }
@@ -95,7 +97,7 @@ impl<L: Lanes> Feeding<L> for Feeder<L> {
         &mut self,
         need: &mut L::Need,
         setup: &Setup,
-        rows: &Rows,
+        rows: &FeedRows<'_>,
         gate: &G,
     ) -> FeedTurn {
         self.state.turn(need, setup, rows, gate)

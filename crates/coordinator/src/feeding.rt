@@ -14,7 +14,7 @@ use flow_model::Setup;
 use lane_core::Lanes;
 use sink_journal::Feeds;
 use std::alloc::Global;
-use tuple_trace::{Gate, NoMemory, Rows};
+use tuple_trace::{FeedRows, Gate, NoMemory};
 
 /// The outcome of a turn of a feeder.
 #[derive(Clone, Copy, Debug, PartialEq, Eq)]
@@ -86,7 +86,7 @@ pub trait Feeding<L: Lanes>: Sized {
         &mut self,
         need: &mut L::Need,
         setup: &Setup,
-        rows: &Rows,
+        rows: &FeedRows<'_>,
         gate: &G,
     ) -> FeedTurn
         requires law { (begin : Begin)

@@ -6,6 +6,7 @@
 //!
 //! ```
 //! let mut feeder = Feeder::make(alloc, &setup, outs, posters, ())?;
+//! let rows = FeedRows::all(&rows);
 //! while feeder.turn(&mut need, &setup, &rows, &gate) != FeedTurn::Done {}
 //! let parts = feeder.finish();
 //! ```

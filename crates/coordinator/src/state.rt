@@ -24,7 +24,7 @@ use lane_core::Tx;
 use sink_journal::{Feed, Feeds};
 use std::alloc::Global;
 use std::marker::Model;
-use tuple_trace::{Gate, Item, NoMemory, Row, Rows, Tuple};
+use tuple_trace::{FeedRows, Gate, Item, NoMemory, Row, Tuple};
 use versions::accepted_requests_are_in_order;
 
 /// What a feeder has done and holds. `N` is what the calls of its lanes take from the toolchain.
@@ -112,7 +112,13 @@ impl<N, T: Tx<N> + Drop> FeederState<N, T> {
     }
 
     /// One turn of a feeder that isn't live.
-    pub fn turn<G: Gate>(&mut self, need: &mut N, setup: &Setup, rows: &Rows, gate: &G) -> FeedTurn
+    pub fn turn<G: Gate>(
+        &mut self,
+        need: &mut N,
+        setup: &Setup,
+        rows: &FeedRows<'_>,
+        gate: &G,
+    ) -> FeedTurn
         requires law { (begin : Begin) × IsFeeder false (setup_view setup.now) begin rows.now
             self.old }
         requires rows { AreFromSources (setup_view setup.now).job rows.now }
@@ -127,7 +133,7 @@ impl<N, T: Tx<N> + Drop> FeederState<N, T> {
         &mut self,
         need: &mut N,
         setup: &Setup,
-        rows: &Rows,
+        rows: &FeedRows<'_>,
         gate: &G,
         released: u64,
     ) -> FeedTurn
@@ -163,7 +169,7 @@ impl<N, T: Tx<N> + Drop> FeederState<N, T> {
         &mut self,
         need: &mut N,
         setup: &Setup,
-        rows: &Rows,
+        rows: &FeedRows<'_>,
         gate: &G,
         released: u64,
     ) -> FeedTurn
@@ -213,7 +219,7 @@ impl<N, T: Tx<N> + Drop> FeederState<N, T> {
     }
 
     // Issues the next request, once each worker has turned all earlier ones that cover it.
-    fn issue_next<G: Gate>(&mut self, setup: &Setup, rows: &Rows, gate: &G) -> FeedTurn
+    fn issue_next<G: Gate>(&mut self, setup: &Setup, rows: &FeedRows<'_>, gate: &G) -> FeedTurn
         requires law { (begin : Begin) × (waits : List ℕ)
             × IsFeeding (setup_view setup.now) begin waits rows.now self.old }
         requires left { self.old.issued < length (setup_view setup.now).requests }
@@ -235,7 +241,7 @@ impl<N, T: Tx<N> + Drop> FeederState<N, T> {
     }
 
     // Feeds the next row.
-    fn feed_next(&mut self, need: &mut N, setup: &Setup, rows: &Rows) -> FeedTurn
+    fn feed_next(&mut self, need: &mut N, setup: &Setup, rows: &FeedRows<'_>) -> FeedTurn
         requires law { (begin : Begin) × (waits : List ℕ)
             × IsFeeding (setup_view setup.now) begin waits rows.now self.old }
         requires rows { AreFromSources (setup_view setup.now).job rows.now }
@@ -245,7 +251,9 @@ impl<N, T: Tx<N> + Drop> FeederState<N, T> {
         if self.feeds.reserve(1).is_err() {
             return FeedTurn::NoMemory;
         }
-        let row = &rows.as_slice()[self.row];
+        let Some(row) = rows.kept(self.row) else {
+            return FeedTurn::NoMemory;
+        };
         let Ok(tuple) = take_tuple(&mut self.held, row, self.issued as u64) else {
             return FeedTurn::NoMemory;
         };
@@ -265,7 +273,7 @@ impl<N, T: Tx<N> + Drop> FeederState<N, T> {
     }
 
     // Ends the next lane, or stops if each is ended.
-    fn stop_next(&mut self, need: &mut N, setup: &Setup, rows: &Rows) -> FeedTurn
+    fn stop_next(&mut self, need: &mut N, setup: &Setup, rows: &FeedRows<'_>) -> FeedTurn
         requires law { (begin : Begin) × (waits : List ℕ)
             × IsFeeding (setup_view setup.now) begin waits rows.now self.old }
         ensures { Stops self.old self.new result }

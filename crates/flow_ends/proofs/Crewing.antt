@@ -1,10 +1,11 @@
 -- The workers are made one after another.
-use Rattle.std.proofs.Common.{◌≡◌, ◌⊎◌, ◌∙◌, ◌==◌, ◌+◌, ◌<◌, ℕ, zero, suc, List, [], ◌∷◌, ◌++◌, inl, inr, refl, sym, ap, subst, arith, length, map, Some, slice_get}
+use Rattle.std.proofs.Common.{◌≡◌, ◌⊎◌, ◌∙◌, ◌==◌, ◌+◌, ◌-◌, ◌<◌, ℕ, drop, length-drop, zero, suc, List, [], ◌∷◌, ◌++◌, inl, inr, refl, sym, ap, subst, arith, length, map, Some, slice_get}
 use Rattle.std.proofs.lemmas.Bool.{eqb-true}
 use Rattle.std.proofs.lemmas.Option.{same_Some}
 use Rattle.atomic_table.specs.Seated.{TableId}
 use Rattle.control_box.specs.Endpoints.{OwnerIs, PosterIs, ShareBoxes}
 use Rattle.jobs.specs.JobView.{JobView}
+use Rattle.keyed_state.specs.Counts.{Counts}
 use Rattle.flow_model.specs.Begin.{Begin, at_first}
 use Rattle.flow_model.specs.Lanes.{lanes_in}
 use Rattle.flow_model.specs.declared.topology.Lane.{Lane}
@@ -112,3 +113,21 @@ share_more posters more workers new poster worker boxed pushed same share =
     ∙ (sym (map-append of_owner (map owner workers) (worker.owner ∷ []))
     ∙ (ap (map of_owner) (sym (map-append owner workers (worker ∷ [])))
     ∙ ap (λ ws. map of_owner (map owner ws)) (sym pushed))))))
+
+-- the counts that are left begin with those of the next worker
+pub next_counts : (all its rest : List Counts) (k : ℕ) (x : Counts) → its ≡ drop k all → its ≡ x ∷ rest → (slice_get all k ≡ Some x) × (rest ≡ drop (k + 1) all)
+next_counts all its rest k x left next = go all k (sym left ∙ next)
+  where
+    go : (all : List Counts) (k : ℕ) → drop k all ≡ x ∷ rest → (slice_get all k ≡ Some x) × (rest ≡ drop (k + 1) all)
+    go [] zero e = absurd (cc)
+    go [] (suc k) e = absurd (cc)
+    go (y ∷ all) zero e = let a : y ≡ x = cc in let b : all ≡ rest = cc in (ap Some a, sym b)
+    go (y ∷ all) (suc k) e =
+        let more = go all k e in
+        let n : k + 1 ≡ suc k = omega arith in
+        let m : suc k + 1 ≡ suc (suc k) = omega arith in
+        (more.0, more.1 ∙ (ap (λ j. drop j all) n ∙ ap (λ j. drop j (y ∷ all)) (sym m)))
+
+-- there are counts for the next worker
+pub some_counts : (all its : List Counts) (k : ℕ) → its ≡ drop k all → k < length all → 0 < length its
+some_counts all its k left lt = let a = ap length left in let b = length-drop k all in omega (arith, a, b, lt)

@@ -13,7 +13,7 @@ ghost use Rattle.flow_ends.specs.Sides.{AreMatched, HoldAtMost, SideIs, worker_s
 use crate::{AllEndpoints, Side};
 use control_box::{Poster, make_box};
 use flow_model::{Setup, Start};
-use flow_worker::Worker;
+use flow_worker::{Worker, WorkerStart};
 use lane_core::Lanes;
 use std::alloc::Global;
 use tuple_trace::{MAX_CAPACITY, NoMemory};
@@ -52,24 +52,25 @@ impl<L: Lanes> Crew<L> {
             (map L.Tx.state crew.outs.items)) }
     {
         let start = Start::first(alloc, setup)?;
-        Crew::make_from(alloc, form, setup, cap, &start)
+        Crew::make_from(alloc, form, setup, cap, start)
     }
 
     /// Makes each worker at this beginning, over lanes of this form that hold at most `cap` items,
     /// 1 to 64. The beginning has counts for each worker, and has turned no more requests than the
-    /// setup has. The one error is out of memory.
+    /// setup has. The counts are moved into the workers. The one error is out of memory; it gives
+    /// the beginning up.
     pub fn make_from(
         alloc: Global,
         form: &L,
         setup: &Setup,
         cap: u32,
-        start: &Start,
+        start: Start,
     ) -> Result<Crew<L>, NoMemory>
         requires some { 1 ≤ cap }
         requires few { cap ≤ MAX_CAPACITY }
-        requires turned { start.now.turned ≤ length (setup_view setup.now).requests }
-        requires states { length start.now.states ≡ length (workers_in (setup_view setup.now).job) }
-        ensures workers { IfOk result (λ crew. IsCrew (setup_view setup.now) start.now
+        requires turned { start.turned ≤ length (setup_view setup.now).requests }
+        requires states { length start.states ≡ length (workers_in (setup_view setup.now).job) }
+        ensures workers { IfOk result (λ crew. IsCrew (setup_view setup.now) start
             crew.workers.items) }
         ensures posters { IfOk result (λ crew. AreUnused (setup_view setup.now)
             crew.posters.items) }
@@ -101,26 +102,36 @@ fn make_workers<L: Lanes>(
     alloc: Global,
     setup: &Setup,
     sides: Vec<Side<L>>,
-    start: &Start,
+    start: Start,
 ) -> Result<Made<L>, NoMemory>
     requires many { length sides.items ≡ length (workers_in (setup_view setup.now).job) }
     requires sides { (w : ℕ) (side : SideIs) → slice_get sides.items w ≡ Some side
         → AreNewEndpoints (setup_view setup.now).job w side.ins side.outs }
-    requires turned { start.now.turned ≤ length (setup_view setup.now).requests }
-    requires states { length start.now.states ≡ length (workers_in (setup_view setup.now).job) }
-    ensures workers { IfOk result (λ made. IsCrew (setup_view setup.now) start.now made.0.items) }
+    requires turned { start.turned ≤ length (setup_view setup.now).requests }
+    requires states { length start.states ≡ length (workers_in (setup_view setup.now).job) }
+    ensures workers { IfOk result (λ made. IsCrew (setup_view setup.now) start made.0.items) }
     ensures posters { IfOk result (λ made. AreUnused (setup_view setup.now) made.1.items) }
     ensures boxes { IfOk result (λ made. ShareBoxes made.1.items
         (map (λ (w : WorkerIs). w.owner) made.0.items)) }
     ensures sides { IfOk result (λ made. map worker_side made.0.items ≡ sides.items) }
 {
+    let Start { turned, states, .. } = start;
+    let mut states = states.into_iter();
     let mut workers = Vec::new(alloc);
     let mut posters = Vec::new(alloc);
     for side in sides {
         let (poster, owner) = make_box(alloc)?;
         let (ins, outs) = side.open();
         let number = workers.len() as u32;
-        let worker = Worker::make_from(alloc, setup, number, ins, outs, owner, start)?;
+        let Some(counts) = states.next() else {
+            unreachable!()
+        };
+        let from = WorkerStart {
+            number,
+            turned,
+            counts,
+        };
+        let worker = Worker::make_from(alloc, setup, ins, outs, owner, from)?;
         workers.push(worker)?;
         posters.push(poster)?;
     }

@@ -8,7 +8,7 @@
 //!
 //! ```
 //! let engine = Engine::new(&rt, alloc, &RingLanes, &OpenGate, 4, 16);
-//! let flown = run_flow(&engine, setup, &rows)?;
+//! let flown = run_flow(&engine, setup, &FeedRows::all(&rows))?;
 //! let record = flown.record(alloc)?;
 //! ```
 #![tactic(auto)]

@@ -28,7 +28,7 @@ use runners::{Beginning, Engine, Flow, Ran, run_all};
 use std::marker::Brand;
 use std::sync::Wait;
 use std::thread::Threads;
-use tuple_trace::{Gate, NoMemory, Rows};
+use tuple_trace::{FeedRows, Gate, NoMemory};
 
 /// Runs rows by a setup on an engine, which says on how many threads, and over which lanes.
 ///
@@ -42,7 +42,7 @@ use tuple_trace::{Gate, NoMemory, Rows};
 pub fn run_flow<R, L: Lanes + Sync, G: Gate + Sync>(
     engine: &Engine<'_, R, L, G>,
     setup: Setup,
-    rows: &Rows,
+    rows: &FeedRows<'_>,
 ) -> Result<Flown<L>, NoMemory>
 where
     R: Threads + Wait + Sync,
@@ -70,7 +70,7 @@ pub fn run_with<R, L: Lanes + Sync, G: Gate + Sync, F: Feeding<L> + Drop>(
     engine: &Engine<'_, R, L, G>,
     setup: Setup,
     seed: F::Seed,
-    rows: &Rows,
+    rows: &FeedRows<'_>,
 ) -> Result<(Flown<L>, F::Rest), NoMemory>
 where
     R: Threads + Wait + Sync,
@@ -91,41 +91,42 @@ where
 {
     let flow = Flow {
         setup: &setup,
-        rows,
+        rows: &*rows,
     };
     let (ended, rest) = run_seeded::<R, L, G, F, Brand>(engine, &flow, seed)?;
     let (feeds, crew) = (ended.feeds, ended.workers);
     let setup = recorded_by::<L, F>(engine.alloc, setup, &feeds)?;
-    runs_are_consistent(&setup, rows);
+    rows.are_numbered();
+    runs_are_consistent(&setup);
     Ok((Flown { setup, feeds, crew }, rest))
 }
 
 /// As [`run_flow`], but from a beginning on. `rows` are all rows, also those that were fed before;
-/// the first `start.row` of them aren't fed again. The beginning has counts for each worker, and
-/// has turned no more requests than the setup has.
+/// the first `start.row` of them aren't fed again, so they may be blank. The beginning has counts
+/// for each worker, and has turned no more requests than the setup has. Its counts are moved.
 ///
 /// The record of what it returns is a run of the setup and the rows from this beginning on. The one
-/// error is out of memory.
+/// error is out of memory, also if a row to be fed is blank. It gives the beginning up.
 pub fn run_from<R, L: Lanes + Sync, G: Gate + Sync>(
     engine: &Engine<'_, R, L, G>,
     setup: Setup,
-    rows: &Rows,
-    start: &Start,
+    rows: &FeedRows<'_>,
+    start: Start,
 ) -> Result<Flown<L>, NoMemory>
 where
     R: Threads + Wait + Sync,
     requires rows { AreFromSources (setup_view setup).job rows.now }
-    requires turned { start.now.turned ≤ length (setup_view setup).requests }
-    requires states { length start.now.states ≡ length (workers_in (setup_view setup).job) }
+    requires turned { start.turned ≤ length (setup_view setup).requests }
+    requires states { length start.states ≡ length (workers_in (setup_view setup).job) }
     ensures setup { IfOk result (λ flown. flown.setup ≡ setup) }
     ensures crew { IfOk result (λ flown. map number_of flown.crew.items
         ≡ range_with_len 0 (length (workers_in (setup_view setup).job))) }
-    ensures run { IfOk result (λ flown. IsRunSince start.now (setup_view setup) rows.now
+    ensures run { IfOk result (λ flown. IsRunSince start (setup_view setup) rows.now
         (record_of (setup_view setup) flown.feeds flown.crew.items)) }
 {
     let flow = Flow {
         setup: &setup,
-        rows,
+        rows: &*rows,
     };
     let ended = run_begun::<R, L, G, Brand>(engine, &flow, start)?;
     let Ended { feeds, workers } = ended;
@@ -164,16 +165,17 @@ where
 fn run_begun<R, L: Lanes + Sync, G: Gate + Sync, B: Beginning>(
     engine: &Engine<'_, R, L, G>,
     flow: &Flow<'_>,
-    start: &Start,
+    start: Start,
 ) -> Result<Ended<L>, NoMemory>
 where
     R: Threads + Wait + Sync,
-    requires begin { B.begin ≡ start.now }
-    requires turned { start.now.turned ≤ length (setup_in flow.now).requests }
-    requires states { length start.now.states ≡ length (workers_in (setup_in flow.now).job) }
-    ensures { IfOk result (λ ended. HasRun false start.now (setup_in flow.now)
+    requires begin { B.begin ≡ start }
+    requires turned { start.turned ≤ length (setup_in flow.now).requests }
+    requires states { length start.states ≡ length (workers_in (setup_in flow.now).job) }
+    ensures { IfOk result (λ ended. HasRun false start (setup_in flow.now)
         flow.now.rows.now ended.feeds ended.workers.items) }
 {
+    let (row, turned) = (start.row, start.turned);
     let Crew {
         workers,
         posters,
@@ -185,7 +187,7 @@ where
         engine.capacity,
         start,
     )?;
-    let feeder = Feeder::make_from(engine.alloc, flow.setup, outs, posters, start)?;
+    let feeder = Feeder::make_from(engine.alloc, flow.setup, outs, posters, row, turned)?;
     let (ended, ()) = run_over::<R, L, G, Feeder<L>, B>(engine, flow, workers, feeder)?;
     Ok(ended)
 }

@@ -26,7 +26,8 @@ pub fn plain_run(alloc: Global, setup: Setup, rows: &Rows) -> Result<RunRecord, 
     ensures consistent { IfOk result (λ ran. IsConsistent rows.now (record_view ran)) }
     ensures same { IfOk result (λ ran. ran.setup ≡ setup) }
 {
-    runs_are_consistent(&setup, rows);
+    rows.are_numbered();
+    runs_are_consistent(&setup);
     let Left {
         feeds,
         journals,

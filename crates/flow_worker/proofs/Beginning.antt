@@ -104,7 +104,8 @@ own_func setup w there =
 -- the state of a worker where a beginning is
 pub state_at : (setup : SetupView) (begin : Begin) (w node turned last : ℕ) (at : InForce) (counts : Counts) → w < length (workers_in setup.job) → slice_get begin.states w ≡ Some counts → turned ≡ begin.turned → node ≡ (nth_worker setup.job w).node
     → ((func : Func) → func_in setup node Own ≡ Some func → func_in setup node at ≡ Some (func_after setup node func turned)) → last ≡ last_after setup (nth_worker setup.job w).node turned
-    → IsStateAt setup begin w (record {
+    → IsStateAt setup begin (record {
+      number = w;
       turned = turned;
       state = record { func = at; counts = counts; last = last; ended = 0 };
     })
@@ -121,7 +122,8 @@ state_at setup begin w node turned last at counts there c t n f l =
     }
 
 -- the state at the beginning of all
-pub first_state : (setup : SetupView) (w : ℕ) (counts : Counts) → w < length (workers_in setup.job) → counts ≡ empty → IsStateAt setup (at_first setup) w (record {
+pub first_state : (setup : SetupView) (w : ℕ) (counts : Counts) → w < length (workers_in setup.job) → counts ≡ empty → IsStateAt setup (at_first setup) (record {
+  number = w;
   turned = 0;
   state = record { func = Own; counts = counts; last = 0; ended = 0 };
 })

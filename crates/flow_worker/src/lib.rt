@@ -28,4 +28,4 @@ mod worker;
 
 pub use laws::control_overtakes_tuples;
 pub use parts::{Opened, Parts, Worked};
-pub use worker::{Turn, Worker};
+pub use worker::{Turn, Worker, WorkerStart};

@@ -8,7 +8,8 @@ ghost use Rattle.flow_model.specs.Setup.{setup_view};
 ghost use Rattle.flow_model.specs.Workers.{workers_in};
 ghost use Rattle.flow_worker.specs.Endpoints.{IsSteadyOut, all_sent, all_taken, is_waiting};
 ghost use Rattle.flow_worker.specs.Pairs.{Each};
-ghost use Rattle.flow_worker.specs.Parts.{AreNewEndpoints, IsStateAt, endpoint_in, endpoint_out};
+ghost use Rattle.flow_worker.specs.Parts.{AreNewEndpoints, IsStartOf, IsStateAt, endpoint_in};
+ghost use Rattle.flow_worker.specs.Parts.{endpoint_out};
 ghost use Rattle.flow_worker.specs.Steps.{PollsOnly, PutsOnly, TakesOnly};
 ghost use Rattle.flow_worker.specs.Turning.{IsDone, IsTurn};
 ghost use Rattle.flow_worker.specs.Worker.{IsWorker, hands};
@@ -18,7 +19,8 @@ use crate::lanes_out::LanesOut;
 use crate::parts::{Parts, Worked, new_ins, new_outs, part_ins, part_outs};
 use crate::worker::acting::Acted;
 use control_box::Owner;
-use flow_model::{Setup, Start, WorkerState, workers_keep_steady};
+use flow_model::{Setup, WorkerState, workers_keep_steady};
+use keyed_state::Keyed;
 use lane_core::Lanes;
 use marker_align::{Act, Due};
 use operators::Outs;
@@ -105,9 +107,21 @@ impl<L: Lanes> Model for Worker<L> {
         × (w.state.ended ≡ 0) };
 }
 
-// What a worker begins with: how many requests were turned before it, and what they left in force.
+/// Where a worker begins.
+#[derive(Drop)]
+pub struct WorkerStart {
+    /// The number of the worker.
+    pub number: u32,
+    /// How many requests were turned before.
+    pub turned: u64,
+    /// What the worker has counted.
+    pub counts: Keyed,
+}
+
+// Where a worker begins, and what is in force there.
 #[derive(Drop)]
 pub(crate) struct Beginning {
+    number: u32,
     turned: u64,
     state: WorkerState,
 }
@@ -140,67 +154,35 @@ impl<L: Lanes> Worker<L> {
         ensures owner { IfOk result (λ w. w.owner ≡ owner) }
     {
         let state = WorkerState::new(alloc);
-        let beginning = Beginning { turned: 0, state };
-        Worker::begin(alloc, setup, number, ins, outs, owner, beginning)
+        let beginning = Beginning {
+            number,
+            turned: 0,
+            state,
+        };
+        Worker::begin(alloc, setup, ins, outs, owner, beginning)
     }
 
-    /// Makes the worker with this number where `start` begins: with a copy of its counts there, and
-    /// with what the requests that were turned before have put in force.
+    /// Makes the worker of a start, with what the requests that were turned before have put in
+    /// force. The counts are moved into it.
     ///
-    /// `ins`, `outs` and the one error are those of [`Worker::make`]. `owner` is its end of a new
-    /// box, which counts the requests that cover the worker after those.
+    /// `ins` and `outs` are those of [`Worker::make`]. `owner` is its end of a new box, which
+    /// counts the requests that cover the worker after those. The one error is out of memory; it
+    /// gives the endpoints and the counts up.
     pub fn make_from(
         alloc: Global,
         setup: &Setup,
-        number: u32,
         ins: Vec<L::Rx>,
         outs: Vec<L::Tx>,
         owner: Owner,
-        start: &Start,
+        start: WorkerStart,
     ) -> Result<Worker<L>, NoMemory>
-        requires there { number < length (workers_in (setup_view setup.now).job) }
-        requires ends { AreNewEndpoints (setup_view setup.now).job number
+        requires there { start.number < length (workers_in (setup_view setup.now).job) }
+        requires ends { AreNewEndpoints (setup_view setup.now).job start.number
             (map L.Rx.state ins.items)
             (map L.Tx.state outs.items) }
         requires owner { owner.turned ≡ 0 }
-        requires turned { start.now.turned ≤ length (setup_view setup.now).requests }
-        requires states { length start.now.states ≡ length (workers_in (setup_view setup.now).job) }
-        ensures law { IfOk result (IsWorker (setup_view setup.now) start.now) }
-        ensures ins { IfOk result (λ w. map endpoint_in w.ins
-            ≡ map L.Rx.state ins.items) }
-        ensures outs { IfOk result (λ w. map endpoint_out w.outs
-            ≡ map L.Tx.state outs.items) }
-        ensures owner { IfOk result (λ w. w.owner ≡ owner) }
-    {
-        let turned = start.turned;
-        let state = WorkerState {
-            func: setup.in_force_after(setup.node_of(number), turned),
-            counts: start.states.as_slice()[number as usize].copy()?,
-            last: setup.last_covering(number, turned),
-            ended: 0,
-        };
-        let beginning = Beginning { turned, state };
-        Worker::begin(alloc, setup, number, ins, outs, owner, beginning)
-    }
-
-    // Makes the worker of a beginning.
-    fn begin(
-        alloc: Global,
-        setup: &Setup,
-        number: u32,
-        ins: Vec<L::Rx>,
-        outs: Vec<L::Tx>,
-        owner: Owner,
-        beginning: Beginning,
-    ) -> Result<Worker<L>, NoMemory>
-        requires there { number < length (workers_in (setup_view setup.now).job) }
-        requires ends { AreNewEndpoints (setup_view setup.now).job number
-            (map L.Rx.state ins.items)
-            (map L.Tx.state outs.items) }
-        requires owner { owner.turned ≡ 0 }
-        requires unended { beginning.state.ended ≡ 0 }
-        ensures law { IfOk result (λ w. (begin : Begin)
-            → IsStateAt (setup_view setup.now) begin number beginning
+        requires turned { start.turned ≤ length (setup_view setup.now).requests }
+        ensures law { IfOk result (λ w. (begin : Begin) → IsStartOf begin start
             → IsWorker (setup_view setup.now) begin w) }
         ensures ins { IfOk result (λ w. map endpoint_in w.ins
             ≡ map L.Rx.state ins.items) }
@@ -208,6 +190,54 @@ impl<L: Lanes> Worker<L> {
             ≡ map L.Tx.state outs.items) }
         ensures owner { IfOk result (λ w. w.owner ≡ owner) }
     {
+        let WorkerStart {
+            number,
+            turned,
+            counts,
+        } = start;
+        let state = WorkerState {
+            func: setup.in_force_after(setup.node_of(number), turned),
+            counts,
+            last: setup.last_covering(number, turned),
+            ended: 0,
+        };
+        let beginning = Beginning {
+            number,
+            turned,
+            state,
+        };
+        Worker::begin(alloc, setup, ins, outs, owner, beginning)
+    }
+
+    // Makes the worker of a beginning.
+    fn begin(
+        alloc: Global,
+        setup: &Setup,
+        ins: Vec<L::Rx>,
+        outs: Vec<L::Tx>,
+        owner: Owner,
+        beginning: Beginning,
+    ) -> Result<Worker<L>, NoMemory>
+        requires there { beginning.number < length (workers_in (setup_view setup.now).job) }
+        requires ends { AreNewEndpoints (setup_view setup.now).job beginning.number
+            (map L.Rx.state ins.items)
+            (map L.Tx.state outs.items) }
+        requires owner { owner.turned ≡ 0 }
+        requires unended { beginning.state.ended ≡ 0 }
+        ensures law { IfOk result (λ w. (begin : Begin)
+            → IsStateAt (setup_view setup.now) begin beginning
+            → IsWorker (setup_view setup.now) begin w) }
+        ensures ins { IfOk result (λ w. map endpoint_in w.ins
+            ≡ map L.Rx.state ins.items) }
+        ensures outs { IfOk result (λ w. map endpoint_out w.outs
+            ≡ map L.Tx.state outs.items) }
+        ensures owner { IfOk result (λ w. w.owner ≡ owner) }
+    {
+        let Beginning {
+            number,
+            turned,
+            state,
+        } = beginning;
         let at = setup.worker_at(number);
         let room_in = Vec::with_capacity(alloc, ins.len())?;
         let spare_ins = Vec::with_capacity(alloc, ins.len())?;
@@ -215,7 +245,6 @@ impl<L: Lanes> Worker<L> {
         let spare_outs = Vec::with_capacity(alloc, outs.len())?;
         let ins = new_ins(setup, ins, setup.lanes_in(number), room_in);
         let outs = new_outs(alloc, setup, outs, setup.lanes_out(number), room_out);
-        let Beginning { turned, state } = beginning;
         let due = setup.due_after(number, turned);
         Ok(Worker {
             alloc,

@@ -14,7 +14,7 @@ use flow_model::Setup;
 use lane_core::Lanes;
 use std::alloc::Global;
 use std::marker::Model;
-use tuple_trace::{Gate, NoMemory, Rows};
+use tuple_trace::{FeedRows, Gate, NoMemory};
 
 /// The feeder that issues a request once its release was received and its row is fed, or after the
 /// last row.
@@ -78,7 +78,7 @@ impl<L: Lanes> Feeding<L> for LiveFeeder<L> {
         &mut self,
         need: &mut L::Need,
         setup: &Setup,
-        rows: &Rows,
+        rows: &FeedRows<'_>,
         gate: &G,
     ) -> FeedTurn {
         let released = released(&mut self.inbox, setup.request_count() as u64);

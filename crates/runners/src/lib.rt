@@ -10,7 +10,7 @@
 //! ```
 //! let (lanes, gate) = (QueueLanes::new(*rt), OpenGate);
 //! let engine = Engine::new(rt, alloc, &lanes, &gate, 4, 16);
-//! let flow = Flow { setup: &setup, rows: &rows };
+//! let flow = Flow { setup: &setup, rows: &FeedRows::all(&rows) };
 //! let ran = run_all::<_, _, _, _, Brand>(&engine, &flow, workers, feeder)?;
 //! ```
 #![tactic(auto)]

@@ -1,4 +1,4 @@
-use flow_model::{RunRecord, Start};
+use flow_model::RunRecord;
 use report::Fault;
 use versions::Refusals;
 
@@ -15,6 +15,7 @@ pub struct Outcome {
     pub refused: Refusals,
     /// What the run did, if one was completed.
     pub ran: Option<RunRecord>,
-    /// Where the run began, if the call read a savepoint and completed a run from there.
-    pub start: Option<Start>,
+    /// After how many rows the run began, if the call read a savepoint and completed a run from
+    /// there.
+    pub start: Option<u64>,
 }

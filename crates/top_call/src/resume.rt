@@ -1,5 +1,6 @@
 ghost use Rattle.std.specs.Prelude.{◌≡◌, IfOk, IfErr, OnOk};
 ghost use Rattle.command_line.specs.Asked.{IsSize, resume_asked};
+ghost use Rattle.flow_model.specs.Begin.{Begin};
 ghost use Rattle.payments.specs.World.{world};
 ghost use Rattle.call_steps.specs.Parts.{HasWorkers};
 ghost use Rattle.top_call.specs.Resume.{EndsResume, IsNoResume, IsResumedRun};
@@ -7,7 +8,6 @@ ghost use Rattle.top_call.specs.Resume.{EndsResume, IsNoResume, IsResumedRun};
 use crate::inputs::{RunInputs, inputs_in};
 use call_steps::{Answer, Done, Outputs, leave_run, run_later_part, setup_of, start_in};
 use command_line::ResumeFiles;
-use flow_model::Start;
 use payments::{Shelf, Sink};
 use report::Fault;
 use std::alloc::Global;
@@ -15,11 +15,11 @@ use std::sync::Wait;
 use std::thread::Threads;
 use tuple_trace::Gate;
 
-// A run from a savepoint on, and where it began.
+// A run from a savepoint on, and after how many rows it began.
 #[derive(Drop)]
 struct Resumed {
     done: Done,
-    start: Start,
+    row: u64,
 }
 
 /// Reads a job, its requests and its payments, judges the requests, and then reads a savepoint.
@@ -50,9 +50,9 @@ where
         save: None,
     };
     match run_later(rt, alloc, files, shelf, gate) {
-        Ok(Resumed { done, start }) => {
+        Ok(Resumed { done, row }) => {
             let mut answer = leave_run(alloc, done, names, shelf, out);
-            answer.start = Some(start);
+            answer.start = Some(row);
             answer
         }
         Err(fault) => Answer::stopped(alloc, fault),
@@ -72,9 +72,8 @@ where
     S: Shelf,
     G: Gate + Sync,
     requires { IsSize files.now.run.size }
-    ensures run { IfOk result (λ resumed.
-        IsResumedRun (resume_asked files.now)
-        (S.state shelf.old).files resumed.start resumed.done) }
+    ensures run { IfOk result (λ resumed. (start : Begin) × (start.row ≡ resumed.row)
+        × IsResumedRun (resume_asked files.now) (S.state shelf.old).files start resumed.done) }
     ensures workers { IfOk result (λ resumed. HasWorkers resumed.done) }
     ensures kept { OnOk result (S.state shelf.new ≡ S.state shelf.old) }
     ensures files { (S.state shelf.new).files ≡ (S.state shelf.old).files }
@@ -91,6 +90,7 @@ where
     } = inputs;
     let setup = setup_of(alloc, job, &requests, false)?;
     let start = start_in(alloc, &setup, rows.len() as u64, &files.save, shelf)?;
-    let done = run_later_part(rt, alloc, gate, run.size, setup, &requests, &rows, &start)?;
-    Ok(Resumed { done, start })
+    let row = start.row;
+    let done = run_later_part(rt, alloc, gate, run.size, setup, &requests, &rows, start)?;
+    Ok(Resumed { done, row })
 }

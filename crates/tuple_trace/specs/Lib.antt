@@ -1,5 +1,6 @@
 pub mod Counts
 pub mod Digits
+pub mod FeedRows
 pub mod Reserved
 pub mod Rows
 pub mod Short

@@ -12,6 +12,7 @@
 #![tactic(auto)]
 
 mod digits;
+mod feed_rows;
 mod gate;
 mod items;
 mod limits;
@@ -23,6 +24,7 @@ mod tuple;
 mod value;
 
 pub use digits::digits_up_to;
+pub use feed_rows::FeedRows;
 pub use gate::{Gate, OpenGate};
 pub use items::{Items, NoMemory};
 pub use limits::{MAX_CAPACITY, MAX_NODE_WORKERS, MAX_THREADS, USUAL_CAPACITY};

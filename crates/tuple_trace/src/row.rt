@@ -60,6 +60,13 @@ impl Rows {
         self.rows.len()
     }
 
+    /// The rows are numbered by their places. Does nothing.
+    pub fn are_numbered(&self)
+        ensures { AreRows self.now }
+    {
+        let _rows = self.rows.as_slice();
+    }
+
     /// Appends the next row. After [`NoMemory`] the rows are as before, and the row is given up.
     pub fn push(&mut self, row: Row) -> Result<(), NoMemory>
         requires { IsRow (length self.old + 1) row }

@@ -15,7 +15,7 @@ use plain_runs::{Case, Inputs};
 use sink_journal::{Feed, Feeds};
 use std::alloc::Global;
 use std::sync::Wait;
-use tuple_trace::{NoMemory, OpenGate, Rows};
+use tuple_trace::{FeedRows, NoMemory, OpenGate};
 
 const CHAIN: &str = r#"columns = ["amount:cents"]
 node = [
@@ -84,7 +84,7 @@ fn feed_of<L: Lanes, F: Feeding<L> + Drop>(
     mut feeder: F,
     need: &mut L::Need,
     setup: &Setup,
-    rows: &Rows,
+    rows: &FeedRows<'_>,
     owners: &mut [Owner],
     turns: u32,
 ) -> Option<Feeds>
@@ -114,7 +114,7 @@ fn fed<L: Lanes, F: Feeding<L> + Drop>(
     alloc: Global,
     form: &L,
     setup: &Setup,
-    rows: &Rows,
+    rows: &FeedRows<'_>,
     seed: F::Seed,
 ) -> Result<Option<Feeds>, NoMemory>
 where
@@ -169,7 +169,8 @@ where
     F::Rest: Drop,
     F::Seed: Drop,
 {
-    match fed::<L, F>(alloc, form, &case.setup, &case.rows, seed) {
+    let rows = FeedRows::all(&case.rows);
+    match fed::<L, F>(alloc, form, &case.setup, &rows, seed) {
         Ok(Some(feeds)) => feeds.as_slice() == feed,
         Ok(None) | Err(_) => false,
     }

@@ -22,14 +22,14 @@ use lane_core::{Lanes, QueueLanes};
 use plain_runs::Case;
 use sink_journal::Feed;
 use std::alloc::Global;
-use tuple_trace::{NoMemory, OpenGate, Rows};
+use tuple_trace::{FeedRows, NoMemory, OpenGate};
 
 /// Lets the feeder take turns until it has stopped, but at most `turns`.
 fn until_stopped<L: Lanes>(
     feeder: Feeder<L>,
     need: &mut L::Need,
     setup: &Setup,
-    rows: &Rows,
+    rows: &FeedRows<'_>,
     turns: u32,
 ) -> Option<Feeder<L>>
     requires law { IsFeeder false (setup_view setup.now) (at_first (setup_view setup.now)) rows.now
@@ -110,7 +110,7 @@ fn whole<L: Lanes>(
     alloc: Global,
     form: &L,
     setup: &Setup,
-    rows: &Rows,
+    rows: &FeedRows<'_>,
     turns: u32,
 ) -> Result<Whole<L>, NoMemory>
     requires { AreFromSources (setup_view setup.now).job rows.now }
@@ -163,7 +163,8 @@ fn runs<L: Lanes>(alloc: Global, form: &L) -> bool {
 }
 
 fn runs_case<L: Lanes>(alloc: Global, form: &L, case: &Case) -> bool {
-    match whole(alloc, form, &case.setup, &case.rows, 100) {
+    let rows = FeedRows::all(&case.rows);
+    match whole(alloc, form, &case.setup, &rows, 100) {
         Ok(Some(ended)) => leaves_all(ended),
         Ok(None) | Err(_) => false,
     }

@@ -1,8 +1,8 @@
 // Tests of tuple_trace: values, tuples, rows and small types.
 use std::alloc::Global;
 use tuple_trace::{
-    Births, Bytes, Fields, Gate, Items, NoMemory, OpenGate, Reserved, Row, Rows, Tuple, Txt, Value,
-    Visit, Visits, Word, digits_up_to, number_in, spread, text_in,
+    Births, Bytes, FeedRows, Fields, Gate, Items, NoMemory, OpenGate, Reserved, Row, Rows, Tuple,
+    Txt, Value, Visit, Visits, Word, digits_up_to, number_in, spread, text_in,
 };
 
 #[test]
@@ -120,6 +120,38 @@ fn kept_rows(alloc: Global) -> Result<usize, NoMemory> {
 #[test]
 fn rows_are_kept_in_order(rt: HostRuntime) {
     assert!(rt; matches!(kept_rows(rt.alloc()), Ok(1)));
+}
+
+// The number of the row that is kept at a place.
+fn number_at(fed: &FeedRows<'_>, place: usize) -> Option<u64> {
+    Some(fed.kept(place)?.tuple.row)
+}
+
+// The numbers of the rows at four places, where the third row stands behind two blank ones.
+fn third_behind_two(alloc: Global) -> [Option<u64>; 4] {
+    let tuple = Tuple {
+        row: 3,
+        birth: Births::new(alloc),
+        issued: 0,
+        fields: Fields::new(alloc),
+        trace: Visits::new(alloc),
+    };
+    let rows = [Row { source: 0, tuple }];
+    let fed = FeedRows::behind(&rows, 2, 0);
+    if fed.len() != 3 {
+        return [None; 4];
+    }
+    [
+        number_at(&fed, 0),
+        number_at(&fed, 1),
+        number_at(&fed, 2),
+        number_at(&fed, 3),
+    ]
+}
+
+#[test]
+fn rows_behind_blank_ones_are_numbered_on(rt: HostRuntime) {
+    assert_eq!(rt; third_behind_two(rt.alloc()), [None, None, Some(3), None]);
 }
 
 fn bytes_are_well(alloc: Global) -> Result<bool, NoMemory> {

@@ -10,4 +10,4 @@ pub returns-in-Ok-clause-only : goal.returns-in-Ok-clause-only
 returns-in-Ok-clause-only c run is fits = c.in-Ok.ensures.only run is fits
 
 pub returns-in-Ok-clause-consistent : goal.returns-in-Ok-clause-consistent
-returns-in-Ok-clause-consistent c = c.runs_are_consistent.ensures _ c.in-Ok.ensures.run c.requires
+returns-in-Ok-clause-consistent c = c.runs_are_consistent.ensures _ _ c.are_numbered.ensures c.in-Ok.ensures.run c.requires

@@ -68,7 +68,7 @@ returns-clause-run g c =
       run = λ ordered job is.
           is_run_of AreSame ordered job c.args.requests.now rows setup ran done is
           (record {
-            consistent = c.runs_are_consistent.ensures;
+            consistent = λ ran. c.runs_are_consistent.ensures c.args.rows.now ran c.are_numbered.ensures;
             prefix = c.ordered_runs_are_serial.ensures.prefix;
             serial = c.ordered_runs_are_serial.ensures.landings;
           })

@@ -32,14 +32,15 @@ run_beside-flown-requires-clause-most g c κs within =
 
 pub run_beside-flown-requires-clause-rows : goal.run_beside-flown-requires-clause-rows
 run_beside-flown-requires-clause-rows g c κs within =
-    subst (λ (w : Work). AreFromSources (setup_view w.setup).job c.args.rows.now) (sym c.in_ok-work.ensures.ok)
-    (subst (λ (j : JobView). AreFromSources j c.args.rows.now) (sym c.in_ok-setup.ensures.job_is) c.requires.sources)
+    rw c.all-fed.ensures
+    (subst (λ (w : Work). AreFromSources (setup_view w.setup).job c.args.rows.now) (sym c.in_ok-work.ensures.ok)
+    (subst (λ (j : JobView). AreFromSources j c.args.rows.now) (sym c.in_ok-setup.ensures.job_is) c.requires.sources))
 
 pub returns-clause-run : goal.returns-clause-run
 returns-clause-run g c =
-    let flown = rw c.in_ok-work.ensures.ok at (rw c.in_ok-flown.was at c.run_beside-flown.ensures.flown) in
+    let flown = rw c.all-fed.ensures at (rw c.in_ok-work.ensures.ok at (rw c.in_ok-flown.was at c.run_beside-flown.ensures.flown)) in
     let laws : HasLaws c.in_ok-ran.ran.setup c.args.rows.now = record {
-      consistent = c.runs_are_consistent.ensures;
+      consistent = λ ran. c.runs_are_consistent.ensures c.args.rows.now ran c.are_numbered.ensures;
       prefix = c.ordered_runs_are_serial.ensures.prefix;
       serial = c.ordered_runs_are_serial.ensures.landings;
     } in
@@ -53,6 +54,6 @@ returns-clause-run g c =
 
 pub returns-clause-workers : goal.returns-clause-workers
 returns-clause-workers g c =
-    let flown = rw c.in_ok-work.ensures.ok at (rw c.in_ok-flown.was at c.run_beside-flown.ensures.flown) in
+    let flown = rw c.all-fed.ensures at (rw c.in_ok-work.ensures.ok at (rw c.in_ok-flown.was at c.run_beside-flown.ensures.flown)) in
     workers_of _ c.in_ok-flown.flown.setup c.args.requests.now c.args.rows.now c.in_ok-ran.ran c.in_ok-done.done
     (run_so c.in_ok-flown.flown.setup c.in_ok-flown.flown.setup c.args.rows.now c.in_ok-flown.flown.feeds c.in_ok-flown.flown.crew.items c.in_ok-ran.ran refl flown.run c.in_ok-ran.ensures) c.in_ok-done.ensures

@@ -1,4 +1,4 @@
-use Rattle.std.proofs.Common.{List, false, map, subst, sym}
+use Rattle.std.proofs.Common.{List, ap, false, map, subst, sym}
 use Rattle.control_box.specs.Endpoints.{PosterIs, ShareBoxes}
 use Rattle.flow_model.specs.Begin.{Begin}
 use Rattle.flow_worker.specs.Worker.{WorkerIs}
@@ -13,7 +13,8 @@ run_over-requires-clause-matched g c κs within =
 
 pub run_over-requires-clause-feeder : goal.run_over-requires-clause-feeder
 run_over-requires-clause-feeder g c κs within =
-    subst (λ (b : Begin). IsFeederOf false c.args.flow.now b c.in_ok-feeder.feeder) (sym c.requires.begin) (c.in_ok-feeder.ensures.law c.args.flow.now.rows.now)
+    subst (λ (b : Begin). IsFeederOf false c.args.flow.now b c.in_ok-feeder.feeder) (sym c.requires.begin)
+    (c.in_ok-feeder.ensures.law c.args.start c.args.flow.now.rows.now (ap (λ (b : Begin). b.row) (sym c.start.view_is)) (ap (λ (b : Begin). b.turned) (sym c.start.view_is)))
 
 pub run_over-requires-clause-boxes : goal.run_over-requires-clause-boxes
 run_over-requires-clause-boxes g c κs within =

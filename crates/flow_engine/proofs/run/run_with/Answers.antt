@@ -9,4 +9,4 @@ returns-clause-waits g c =
 
 pub returns-clause-consistent : goal.returns-clause-consistent
 returns-clause-consistent g c =
-    consistent_recorded g.F.Feeding.LIVE c.args.rows.now c.in_ok-ended.ended.feeds c.in_ok-ended.ended.workers.items c.args.setup c.in_ok-setup.setup c.in_ok-ended.ensures.run c.in_ok-setup.ensures c.requires.rows c.runs_are_consistent.ensures
+    consistent_recorded g.F.Feeding.LIVE c.args.rows.now c.in_ok-ended.ended.feeds c.in_ok-ended.ended.workers.items c.args.setup c.in_ok-setup.setup c.in_ok-ended.ensures.run c.in_ok-setup.ensures c.requires.rows (λ ran. c.runs_are_consistent.ensures c.args.rows.now ran c.are_numbered.ensures)

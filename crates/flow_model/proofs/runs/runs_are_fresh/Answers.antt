@@ -1,17 +1,9 @@
-use Rattle.std.proofs.Common.{subst}
-use Rattle.tuple_trace.specs.Rows.{AreRows}
 use Rattle.flow_model.proofs.FreshLemmas.{is_fresh, is_fresh_before}
 use Rattle.flow_model.proofs.SetupLemmas.{running}
 use Rattle.flow_model.proofs.runs.runs_are_fresh.Goals as goal
 
 pub returns-clause-due : goal.returns-clause-due
-returns-clause-due c ran is =
-    let rows = c.args.rows.now in
-    let are : AreRows rows = subst AreRows c.as_slice-numbered.ensures.value c.as_slice-numbered.ensures.rows in
-    is_fresh rows ran (running c.args.setup.now rows ran are is)
+returns-clause-due c rows ran are is = is_fresh rows ran (running c.args.setup.now rows ran are is)
 
 pub returns-clause-before : goal.returns-clause-before
-returns-clause-before c ran is =
-    let rows = c.args.rows.now in
-    let are : AreRows rows = subst AreRows c.as_slice-numbered.ensures.value c.as_slice-numbered.ensures.rows in
-    is_fresh_before rows ran (running c.args.setup.now rows ran are is)
+returns-clause-before c rows ran are is = is_fresh_before rows ran (running c.args.setup.now rows ran are is)

@@ -1,6 +1,5 @@
 use Rattle.std.proofs.Common.{subst, sym}
 use Rattle.jobs.specs.Nodes.{AreFromSources}
-use Rattle.tuple_trace.specs.Rows.{AreRows}
 use Rattle.flow_model.specs.OneTable.{HasNoCounts}
 use Rattle.flow_model.specs.SetupView.{SetupView}
 use Rattle.flow_model.proofs.OneTableLemmas.{one_table}
@@ -8,8 +7,6 @@ use Rattle.flow_model.proofs.SetupLemmas.{running}
 use Rattle.flow_model.proofs.runs.runs_are_one_table.Goals as goal
 
 pub returns : goal.returns
-returns c ran is none sources =
-    let rows = c.args.rows.now in
-    let are : AreRows rows = subst AreRows c.as_slice-numbered.ensures.value c.as_slice-numbered.ensures.rows in
+returns c rows ran are is none sources =
     one_table rows ran (running c.args.setup.now rows ran are is) (subst (λ (s : SetupView). HasNoCounts s.job) (sym is.setup_is) none)
     (subst (λ (s : SetupView). AreFromSources s.job rows) (sym is.setup_is) sources)

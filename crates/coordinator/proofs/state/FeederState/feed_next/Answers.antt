@@ -12,45 +12,33 @@ use Rattle.coordinator.proofs.state.FeederState.feed_next.Goals as goal
 pub take_tuple-requires : goal.take_tuple-requires
 take_tuple-requires g c = λ t h.
     let setup = setup_view c.args.setup.now in
-    let row = c.index-as_slice-self.result in
-    let same : c.self.inside.row ≡ c.args.self.now.row = ap (λ f. f.row) c.self.view_is in
-    let lt : c.self.inside.row < length c.as_slice.result.now = omega (arith, same, c.requires.left, ap (λ (l : List Row). length l) c.as_slice.ensures.value) in
-    let at : slice_get c.args.rows.now c.self.inside.row ≡ Some row =
-    ap (λ (l : List Row). slice_get l c.self.inside.row) (sym c.as_slice.ensures.value) ∙ slice_get-get_or c.as_slice.result.now c.self.inside.row c.index-as_slice-self.result lt ∙ ap Some (sym c.index-as_slice-self.is) in
+    let row = c.in-Some.row.now in
+    let at : slice_get c.args.rows.now c.self.inside.row ≡ Some row = c.in-Some.ensures.there in
     let law = subst (IsFeeding setup c.requires.law.0 c.requires.law.1 c.args.rows.now) (sym c.self.view_is) c.requires.law.2 in
     law.held t row h at
 
 pub feed-requires-clause-steady : goal.feed-requires-clause-steady
 feed-requires-clause-steady g c = λ o h.
     let setup = setup_view c.args.setup.now in
-    let row = c.index-as_slice-self.result in
-    let same : c.self.inside.row ≡ c.args.self.now.row = ap (λ f. f.row) c.self.view_is in
-    let lt : c.self.inside.row < length c.as_slice.result.now = omega (arith, same, c.requires.left, ap (λ (l : List Row). length l) c.as_slice.ensures.value) in
-    let at : slice_get c.as_slice.result.now c.self.inside.row ≡ Some row = slice_get-get_or c.as_slice.result.now c.self.inside.row c.index-as_slice-self.result lt ∙ ap Some (sym c.index-as_slice-self.is) in
+    let row = c.in-Some.row.now in
     let law = subst (IsFeeding setup c.requires.law.0 c.requires.law.1 c.args.rows.now) (sym c.self.view_is) c.requires.law.2 in
     let (lane, found, there) = c.place_of-place.ensures in
     may_feed setup c.requires.law.0 c.args.rows.now law.graph c.self.inside.feeds.items c.self.inside.ended c.place_of-place.result lane o _ c.args.setup.now.job.lawful law.graph_is there
     (law.outs c.place_of-place.result lane o there h)
-    (ap (λ (t : Tuple). t.trace) c.in-Ok.ensures.tuple.0 ∙ (c.as_slice.ensures.rows c.self.inside.row row at).unmoved)
+    (ap (λ (t : Tuple). t.trace) c.in-Ok.ensures.tuple.0 ∙ c.in-Some.ensures.row.unmoved)
 
 pub returns-in-Err : goal.returns-in-Err
 returns-in-Err g c =
     let setup = setup_view c.args.setup.now in
-    let row = c.index-as_slice-self.result in
-    let same : c.self.inside.row ≡ c.args.self.now.row = ap (λ f. f.row) c.self.view_is in
-    let lt : c.self.inside.row < length c.as_slice.result.now = omega (arith, same, c.requires.left, ap (λ (l : List Row). length l) c.as_slice.ensures.value) in
-    let at : slice_get c.args.rows.now c.self.inside.row ≡ Some row =
-    ap (λ (l : List Row). slice_get l c.self.inside.row) (sym c.as_slice.ensures.value) ∙ slice_get-get_or c.as_slice.result.now c.self.inside.row c.index-as_slice-self.result lt ∙ ap Some (sym c.index-as_slice-self.is) in
+    let row = c.in-Some.row.now in
+    let at : slice_get c.args.rows.now c.self.inside.row ≡ Some row = c.in-Some.ensures.there in
     feed_idle setup.job c.args.rows.now _ _ row c.place_of-place.result c.in-Ok.tuple c.in-Err.back c.feed.new.self c.reserve.new.self.items c.self.view_is c.reserve.ensures.items at c.place_of-place.ensures
     c.in-Ok.ensures.tuple.0 c.in-Err.ensures.full.0 c.in-Err.ensures.full.1
 
 pub returns-in-Ok-feed : goal.returns-in-Ok-feed
 returns-in-Ok-feed g c =
     let setup = setup_view c.args.setup.now in
-    let row = c.index-as_slice-self.result in
-    let same : c.self.inside.row ≡ c.args.self.now.row = ap (λ f. f.row) c.self.view_is in
-    let lt : c.self.inside.row < length c.as_slice.result.now = omega (arith, same, c.requires.left, ap (λ (l : List Row). length l) c.as_slice.ensures.value) in
-    let at : slice_get c.args.rows.now c.self.inside.row ≡ Some row =
-    ap (λ (l : List Row). slice_get l c.self.inside.row) (sym c.as_slice.ensures.value) ∙ slice_get-get_or c.as_slice.result.now c.self.inside.row c.index-as_slice-self.result lt ∙ ap Some (sym c.index-as_slice-self.is) in
+    let row = c.in-Some.row.now in
+    let at : slice_get c.args.rows.now c.self.inside.row ≡ Some row = c.in-Some.ensures.there in
     feed_moved setup.job c.args.rows.now _ _ row c.place_of-place.result c.in-Ok.tuple c.feed.new.self c.push_reserved.new.self.items c.take_tuple.new.held c.self.view_is
     (c.push_reserved.ensures.items ∙ ap (λ (fs : List Feed). fs ++ Fed (c.self.inside.row + 1) ∷ []) c.reserve.ensures.items) at c.place_of-place.ensures c.in-Ok.ensures.tuple.0 c.in-Ok.ensures.tuple.1 c.in-Ok-feed.ensures.put

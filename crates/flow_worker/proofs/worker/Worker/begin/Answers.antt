@@ -25,7 +25,7 @@ new_ins-ins-requires-clause-numbers g c κs up =
 pub new_ins-ins-requires-clause-there : goal.new_ins-ins-requires-clause-there
 new_ins-ins-requires-clause-there g c κs up =
     let job = (setup_view c.args.setup.now).job in
-    subst (Each (λ (n : ℕ). n < length (lanes job))) (sym c.lanes_in.ensures) (lanes_there (λ (lane : Lane). lane.receiver == c.args.number) job)
+    subst (Each (λ (n : ℕ). n < length (lanes job))) (sym c.lanes_in.ensures) (lanes_there (λ (lane : Lane). lane.receiver == c.args.beginning.number) job)
 
 pub new_outs-outs-requires-clause-numbers : goal.new_outs-outs-requires-clause-numbers
 new_outs-outs-requires-clause-numbers g c κs up =
@@ -35,7 +35,7 @@ new_outs-outs-requires-clause-numbers g c κs up =
 pub new_outs-outs-requires-clause-there : goal.new_outs-outs-requires-clause-there
 new_outs-outs-requires-clause-there g c κs up =
     let job = (setup_view c.args.setup.now).job in
-    subst (Each (λ (n : ℕ). n < length (lanes job))) (sym c.lanes_out.ensures) (lanes_there (λ (lane : Lane). is_sender c.args.number lane.sender) job)
+    subst (Each (λ (n : ℕ). n < length (lanes job))) (sym c.lanes_out.ensures) (lanes_there (λ (lane : Lane). is_sender c.args.beginning.number lane.sender) job)
 
 pub new-requires-2-clause-few : goal.new-requires-2-clause-few
 new-requires-2-clause-few g c κs up =
@@ -46,7 +46,7 @@ new-requires-2-clause-few g c κs up =
     let all = ap (λ (xs : List ℕ). length xs) c.requires.ends.ins_are in
     let each = length_mapped (λ (end : EndpointIs). end.number) (map F c.args.ins.items) in
     let ends = length_mapped F c.args.ins.items in
-    let few = few_lanes job c.args.number (nth_worker job c.args.number) c.args.setup.now.job.lawful (get-nth_worker job c.args.number c.requires.there) in
+    let few = few_lanes job c.args.beginning.number (nth_worker job c.args.beginning.number) c.args.setup.now.job.lawful (get-nth_worker job c.args.beginning.number c.requires.there) in
     omega (arith, long, all, each, ends, few)
 
 pub new-requires-2-clause-hands : goal.new-requires-2-clause-hands
@@ -56,7 +56,7 @@ pub returns-clause-law : goal.returns-clause-law
 returns-clause-law g c begin s =
     let setup = setup_view c.args.setup.now in
     let job = setup.job in
-    let who = nth_worker job c.args.number in
+    let who = nth_worker job c.args.beginning.number in
     let at = c.worker_at-at.ensures.at in
     let F : g.row.L-Rx.Denot → EndpointIs = g.L.Rx.Rx.state in
     let G : g.row.L-Tx.Denot → EndpointIs = g.L.Tx.Tx.state in
@@ -68,7 +68,7 @@ returns-clause-law g c begin s =
     rw (c.new-2.ensures, c.new-3.ensures) (begins_from setup begin who _
     (stands setup who _ (map F c.args.ins.items) (map G c.args.outs.items) c.args.setup.now.job.lawful
     (record {
-      who_is = get-nth_worker job c.args.number c.requires.there;
+      who_is = get-nth_worker job c.args.beginning.number c.requires.there;
       node_is = node;
       place_is = ap (λ (at : WorkerAt). at.index) at;
       on_lanes = c.new_ins-ins.ensures.edges;
@@ -85,8 +85,8 @@ returns-clause-law g c begin s =
       func = ap (λ (n : ℕ). func_in setup n c.args.beginning.state.func) node ∙ s.func_is;
       counts = refl;
       last = s.last_is;
-      due = subst (λ (n : ℕ). IsDueAfter setup n (edges_in job c.args.number) begin.turned c.due_after-due.result) (sym node)
-          (subst (λ (r : ℕ). IsDueAfter setup who.node (edges_in job c.args.number) r c.due_after-due.result) s.turned_is c.due_after-due.ensures);
+      due = subst (λ (n : ℕ). IsDueAfter setup n (edges_in job c.args.beginning.number) begin.turned c.due_after-due.result) (sym node)
+          (subst (λ (r : ℕ). IsDueAfter setup who.node (edges_in job c.args.beginning.number) r c.due_after-due.result) s.turned_is c.due_after-due.ensures);
       turned = c.requires.owner;
       closed = refl;
       taken = new_hands job c.requires.ends.graph ins (subst (Each (IsNewEndpoint job c.requires.ends.graph)) (sym c.new_ins-ins.ensures.ends) c.requires.ends.new_in) c.new_ins-ins.ensures.hands;

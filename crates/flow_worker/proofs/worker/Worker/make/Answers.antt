@@ -15,6 +15,6 @@ returns-clause-law g c =
     let begun = first_state setup c.args.number empty c.requires.there refl in
     let state =
     subst (λ (s : WorkerState).
-    IsStateAt setup begin c.args.number (record { turned = 0; state = s })) (sym c.new-state.ensures)
+    IsStateAt setup begin (record { number = c.args.number; turned = 0; state = s })) (sym c.new-state.ensures)
     begun in
     IfOk-weaker c.begin.result _ _ (λ w law. law begin state) c.begin.ensures.law
