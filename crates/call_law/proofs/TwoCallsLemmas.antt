@@ -42,7 +42,7 @@ use Rattle.call_steps.specs.OneRun.{AreOneRun, GoesOn}
 use Rattle.call_steps.specs.Outcomes.{EndsAfterRun, EndsStoring, Stops, stopped}
 use Rattle.call_steps.specs.Parts.{IsFirstPart, IsRunFromStart}
 use Rattle.call_steps.specs.Reading.{AreRequestsOf, AreRowsOf, HasRead, IsJobOf, IsStartOf, Tells}
-use Rattle.call_steps.specs.Running.{Runs, alerts_file, alerts_of, audit_of, files_of, run_lines, saved_of}
+use Rattle.call_steps.specs.Running.{Runs, alerts_of, audit_of, files_of, run_lines, saved_of}
 use Rattle.call_steps.specs.SetupFor.{AreSame, IsSetupFor}
 use Rattle.call_steps.specs.declared.answer.Answer.{Answer}
 use Rattle.call_steps.specs.declared.running.Done.{Done}
@@ -98,7 +98,7 @@ save_stored : (alerts audit save lines : List ℕ) (done : Done) (old new : Worl
     → told_bytes new.shelf.files save ≡ Some (saved_of done)
 save_stored alerts audit save lines done old new m told (inl stops) = absurd (cc stops.answer_is)
 save_stored alerts audit save lines done old new m told (inr storing) =
-    last_stored (alerts_file alerts (alerts_of done) ∷ record { is = file.Audit; name = audit; text = audit_of done } ∷ [])
+    last_stored (record { is = file.Alerts; name = alerts; text = alerts_of done } ∷ record { is = file.Audit; name = audit; text = audit_of done } ∷ [])
     (record { is = file.Save; name = save; text = saved_of done }) lines old new m told storing
 
 -- what `save` ran, and that its text stands there

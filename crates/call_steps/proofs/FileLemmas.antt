@@ -18,7 +18,7 @@ use Rattle.call_steps.specs.Outcomes.{EndsAfterRun, EndsStoring, StopsStoring}
 use Rattle.payments.specs.World.{ShelfState, SinkState, World, world}
 use Rattle.call_steps.specs.Effects.{FileText, IsExcused, Prints, PrintsFault}
 use Rattle.report.specs.Faults.{limit_of}
-use Rattle.call_steps.specs.Reading.{AreRequestsOf, AreRowsOf, FollowsFile, FollowsStart, HasRead, IsJobOf, IsRead, IsUnread, RefusesJob, RefusesRequests, RefusesRows, RefusesSave, Tells, TellsJob, TellsRequests, TellsRows, TellsStart}
+use Rattle.call_steps.specs.Reading.{AreRequestsOf, AreRowsOf, FollowsFile, HasRead, IsJobOf, IsRead, IsUnread, RefusesJob, RefusesRequests, RefusesRows, RefusesSave, Tells, TellsJob, TellsRequests, TellsRows, TellsStart}
 use Rattle.report.specs.declared.fault.Fault.{Fault}
 use Rattle.report.specs.declared.fault.Fault.TheVariants as fault
 use Rattle.report.specs.declared.fault.FileIs.{FileIs}
@@ -169,7 +169,7 @@ refuses_same s t rows same (fault.Save code) bytes refused = (refused.0, same by
 refuses_same s t rows same _ bytes refused = absurd refused
 
 pub start_follows_same : (s t : SetupView) (rows : ℕ) (name : List ℕ) (old new : World) (answer : Option Fault) → ReadSame s t rows →
-    FollowsStart s rows name old new answer → FollowsStart t rows name old new answer
+    FollowsFile file.Save (RefusesSave s rows) name old new answer → FollowsFile file.Save (RefusesSave t rows) name old new answer
 start_follows_same s t rows name old new answer same follows = record {
   long = follows.long;
   refused = λ why tells. follows.refused why (record { bytes = tells.bytes; told = tells.told; short = tells.short; are_so = refuses_same s t rows same why tells.bytes tells.are_so });

@@ -95,11 +95,6 @@ HoldsNoAlerts files (Some name) text old new why =
 
 -- ---- seen from a file that is told
 
--- the answer, seen from the audit's file of the setup and these rows
-abbrev pub FollowsAudit : Setup → List Row → List ℕ → World → World → Option Fault → Type 0
-FollowsAudit setup rows name old new answer =
-    FollowsFile file.Audit (RefusesAudit setup rows) name old new answer
-
 -- the file, if one is named, is told, and holds just this text
 abbrev pub TellsAlerts : Option Files → Option (List ℕ) → List ℕ → Type 0
 TellsAlerts files None text = ⊤

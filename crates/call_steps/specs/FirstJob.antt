@@ -2,7 +2,6 @@
 use Rattle.std.specs.Prelude.{ℕ, ℤ, List, [], ◌∷◌, false, codes}
 use Rattle.keyed_state.specs.declared.carry.Carry.TheVariants as carry
 use Rattle.versions.specs.declared.request.Request.{Request}
-use Rattle.flow_dag.specs.declared.edge.Edge.{Edge}
 use Rattle.jobs.specs.JobView.{JobView}
 use Rattle.jobs.specs.declared.column.Column.{Column}
 use Rattle.jobs.specs.declared.column.ColumnKind.{ColumnKind}
@@ -31,17 +30,14 @@ first_columns =
     column_of (codes "account") kind.Text ∷ column_of (codes "merchant") kind.Text
     ∷ column_of (codes "amount") kind.Cents ∷ column_of (codes "tags") kind.Text ∷ []
 
--- the edges of the job of `first`: from the source to the filter, and from there to the sink
-abbrev pub first_edges : List Edge
-first_edges = (record { from = 0; port = 0; to = 1 }) ∷ (record { from = 1; port = 0; to = 2 }) ∷ []
-
--- a source, a filter of large amounts, and a sink that shows every column
+-- a source, a filter of large amounts, and a sink that shows every column; the source sends to the
+-- filter, and the filter to the sink
 abbrev pub first_job : ℤ → JobView
 first_job least = record {
   columns = first_columns;
   nodes = node_of (codes "card") func.Source ∷ node_of (codes "big") (at_least least) ∷ node_of
       (codes "alerts") (func.Sink (0 ∷ 1 ∷ 2 ∷ 3 ∷ [])) ∷ [];
-  edges = first_edges;
+  edges = record { from = 0; port = 0; to = 1 } ∷ record { from = 1; port = 0; to = 2 } ∷ [];
   tables = [];
 }
 

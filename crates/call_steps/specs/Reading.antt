@@ -149,22 +149,3 @@ pub record FollowsFile (is : FileIs) (Refuses : Fault → List ℕ → Type 0) (
       (answer ≡ Some (fault.Long is)) ⊎ IsExcused old new answer
   pub refused : (why : Fault) → Tells is (Refuses why) old.shelf.files name
       → (answer ≡ Some why) ⊎ IsExcused old new answer
-
--- the answer, seen from the job file
-abbrev pub FollowsJob : List ℕ → World → World → Option Fault → Type 0
-FollowsJob name old new answer = FollowsFile file.Job RefusesJob name old new answer
-
--- the answer, seen from the request file of the job
-abbrev pub FollowsRequests : JobView → List ℕ → World → World → Option Fault → Type 0
-FollowsRequests job name old new answer = FollowsFile file.Requests
-    (RefusesRequests job) name old new answer
-
--- the answer, seen from the payments file of the job
-abbrev pub FollowsRows : JobView → List ℕ → World → World → Option Fault → Type 0
-FollowsRows job name old new answer = FollowsFile file.Payments
-    (RefusesRows job) name old new answer
-
--- the answer, seen from the savepoint's file of the setup and this number of rows
-abbrev pub FollowsStart : SetupView → ℕ → List ℕ → World → World → Option Fault → Type 0
-FollowsStart setup rows name old new answer = FollowsFile file.Save
-    (RefusesSave setup rows) name old new answer

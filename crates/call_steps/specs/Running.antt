@@ -76,10 +76,6 @@ audit_of done =
 abbrev pub saved_of : Done → List ℕ
 saved_of done = save_text (job_view done.ran.setup.job) (start_of done.row (record_view done.ran))
 
--- an alerts file
-abbrev pub alerts_file : List ℕ → List ℕ → FileText
-alerts_file name text = record { is = file.Alerts; name = name; text = text }
-
 -- a savepoint's file, if there is a name for one
 abbrev pub save_files : Option (List ℕ) → List ℕ → List FileText
 save_files None text = []
@@ -93,7 +89,8 @@ audit_files (Some name) save done = record { is = file.Audit; name = name; text 
 
 -- the files that are written of it, in their order
 abbrev pub files_of : List ℕ → Option (List ℕ) → Option (List ℕ) → Done → List FileText
-files_of alerts audit save done = alerts_file alerts (alerts_of done) ∷ audit_files audit save done
+files_of alerts audit save done =
+    record { is = file.Alerts; name = alerts; text = alerts_of done } ∷ audit_files audit save done
 
 -- what is counted of a run: its rows, the tuples that came to sinks, and the requests, all and
 -- refused

@@ -8,12 +8,14 @@
 //! let job = job_in(alloc, &name, &mut shelf)?;
 //! let requests = requests_in(alloc, &job, &other, &mut shelf)?;
 //! let rows = rows_in(alloc, &job, &third, &mut shelf)?;
-//! let done = run_on_threads(&rt, alloc, &OpenGate, size, job, &requests, &rows, false)?;
+//! let host = Host { rt: &rt, alloc, gate: &OpenGate };
+//! let done = run_on_threads(&host, size, job, &requests, &rows, false)?;
 //! ```
 #![tactic(auto)]
 
 mod answer;
 mod audits;
+mod host;
 mod job;
 mod laws;
 mod live;
@@ -26,6 +28,7 @@ mod writing;
 
 pub use answer::Answer;
 pub use audits::{audited_run, check_alerts, verified_lines};
+pub use host::Host;
 pub use job::{first_job, first_requests};
 pub use laws::{files_end_whole, same_requests_have_one_setup, saved_runs_go_on};
 pub use live::{LiveDone, leave_live, run_live};

@@ -18,6 +18,7 @@ ghost use Rattle.call_steps.specs.inner.Beside.{IsFlownLive};
 ghost use Rattle.report.specs.declared.fault.Fault.{Fault as FaultIs};
 
 use crate::answer::Answer;
+use crate::host::Host;
 use crate::running::{Done, Outputs, done_of, files_in, run_lines};
 use crate::setup::setup_of;
 use crate::writing::{Texts, write_texts};
@@ -49,9 +50,7 @@ pub struct LiveDone {
 /// all that it takes before the first row. The one error is out of memory; the reader has taken
 /// what it takes then too, or nothing.
 pub fn run_live<R, G, Q>(
-    rt: &R,
-    alloc: Global,
-    gate: &G,
+    host: &Host<'_, R, G>,
     size: EngineSize,
     job: Job,
     requests: &Requests,
@@ -69,13 +68,21 @@ where
         (Q.state asks.new)) }
     ensures workers { IfOk result (λ live. HasWorkers live.done) }
 {
+    let alloc = host.alloc;
     let (mut teller, inbox) = line(alloc)?;
     let setup = setup_of(alloc, job, requests, false)?;
     let most = setup.request_count() as u32;
     let work = Box::new(alloc, Work { setup, inbox })?;
     let mut work = Some(work);
     let lanes = RingLanes;
-    let engine = Engine::new(rt, alloc, &lanes, gate, size.threads, size.capacity);
+    let engine = Engine::new(
+        host.rt,
+        alloc,
+        &lanes,
+        host.gate,
+        size.threads,
+        size.capacity,
+    );
     let fed = FeedRows::all(rows);
     let (flown, heard) = run_beside(&engine, &mut work, &fed, asks, &mut teller, most);
     let (flown, inbox) = flown?;

@@ -12,6 +12,7 @@ ghost use Rattle.flow_model.specs.Workers.{workers_in};
 ghost use Rattle.command_line.specs.Asked.{IsSize};
 ghost use Rattle.call_steps.specs.Parts.{HasWorkers, IsFirstPart, IsRunFromStart};
 
+use crate::host::Host;
 use crate::running::{Done, done_of};
 use crate::setup::setup_of;
 use begin_law::later_rows_are_whole;
@@ -35,9 +36,7 @@ use versions::Requests;
 ///
 /// The one error is out of memory.
 pub fn run_first_part<R, G>(
-    rt: &R,
-    alloc: Global,
-    gate: &G,
+    host: &Host<'_, R, G>,
     size: EngineSize,
     job: Job,
     requests: &Requests,
@@ -56,6 +55,7 @@ where
         (job_view job) requests.now rows.now) }
     ensures workers { IfOk result HasWorkers }
 {
+    let alloc = host.alloc;
     let count = count_of(rows)?;
     let row = most.min(count);
     let first = first_rows(alloc, rows, row)?;
@@ -66,7 +66,14 @@ where
     first.are_numbered();
     runs_are_consistent(&part);
     let lanes = RingLanes;
-    let engine = Engine::new(rt, alloc, &lanes, gate, size.threads, size.capacity);
+    let engine = Engine::new(
+        host.rt,
+        alloc,
+        &lanes,
+        host.gate,
+        size.threads,
+        size.capacity,
+    );
     let fed = FeedRows::all(&first);
     let flown = run_flow(&engine, part, &fed)?;
     let ran = flown.record(alloc)?;
@@ -118,9 +125,7 @@ fn copy_of(row: &Row) -> Result<Row, NoMemory>
 /// `rows` are all rows, and the start has turned no more requests than the setup has. Its counts are
 /// moved into the run. The one error is out of memory; it gives the start up.
 pub fn run_later_part<R, G>(
-    rt: &R,
-    alloc: Global,
-    gate: &G,
+    host: &Host<'_, R, G>,
     size: EngineSize,
     setup: Setup,
     requests: &Requests,
@@ -137,9 +142,17 @@ where
     ensures run { IfOk result (IsRunFromStart start setup requests.now rows.now) }
     ensures workers { IfOk result HasWorkers }
 {
+    let alloc = host.alloc;
     later_rows_are_whole(&setup, rows);
     let lanes = RingLanes;
-    let engine = Engine::new(rt, alloc, &lanes, gate, size.threads, size.capacity);
+    let engine = Engine::new(
+        host.rt,
+        alloc,
+        &lanes,
+        host.gate,
+        size.threads,
+        size.capacity,
+    );
     let fed = FeedRows::all(rows);
     let flown = run_from(&engine, setup, &fed, start)?;
     let ran = flown.record(alloc)?;

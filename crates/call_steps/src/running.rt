@@ -17,6 +17,7 @@ ghost use Rattle.call_steps.specs.Running.{summary_of as summary_of_done, IsDone
 ghost use Rattle.serial_order.specs.Serials.{serials};
 
 use crate::answer::Answer;
+use crate::host::Host;
 use crate::setup::setup_of;
 use crate::writing::{FileText, Texts, write_texts};
 use command_line::EngineSize;
@@ -77,9 +78,7 @@ pub fn run_in_order(
 
 /// Judges the requests, and runs the rows and those that are accepted by an engine of this size.
 pub fn run_on_threads<R, G>(
-    rt: &R,
-    alloc: Global,
-    gate: &G,
+    host: &Host<'_, R, G>,
     size: EngineSize,
     job: Job,
     requests: &Requests,
@@ -98,12 +97,20 @@ where
     ensures states { IfOk result (λ done. length done.ran.states
         ≡ worker_count done.ran.setup.job.nodes) }
 {
+    let alloc = host.alloc;
     let setup = setup_of(alloc, job, requests, ordered)?;
     rows.are_numbered();
     runs_are_consistent(&setup);
     ordered_runs_are_serial(&setup, rows);
     let lanes = RingLanes;
-    let engine = Engine::new(rt, alloc, &lanes, gate, size.threads, size.capacity);
+    let engine = Engine::new(
+        host.rt,
+        alloc,
+        &lanes,
+        host.gate,
+        size.threads,
+        size.capacity,
+    );
     let fed = FeedRows::all(rows);
     let flown = run_flow(&engine, setup, &fed)?;
     let ran = flown.record(alloc)?;

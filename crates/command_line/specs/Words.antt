@@ -31,49 +31,35 @@ capacity_option = record {
 abbrev pub ordered_flag : Flag
 ordered_flag = record { id = codes "ordered"; word = codes "--ordered" }
 
--- what may follow the word `first`
-abbrev pub first_form : Form
-first_form = record {
+-- the full form of the words after a command: what may follow it
+abbrev pub form_of : Topic → Form
+form_of topic.Program = record { names = []; extra = []; options = []; flags = [] }
+form_of topic.First = record {
   names = codes "payments" ∷ codes "alerts" ∷ codes "min" ∷ codes "after" ∷ codes "min2" ∷ [];
   extra = [];
   options = [];
   flags = [];
 }
-
--- what may follow the word `check`
-abbrev pub check_form : Form
-check_form = record { names = codes "job" ∷ []; extra = []; options = []; flags = [] }
-
--- what may follow the word `plan`
-abbrev pub plan_form : Form
-plan_form = record {
+form_of topic.Check = record { names = codes "job" ∷ []; extra = []; options = []; flags = [] }
+form_of topic.Plan = record {
   names = codes "job" ∷ codes "requests" ∷ [];
   extra = [];
   options = [];
   flags = ordered_flag ∷ [];
 }
-
--- what may follow the word `run`
-abbrev pub run_form : Form
-run_form = record {
+form_of topic.Run = record {
   names = codes "job" ∷ codes "requests" ∷ codes "payments" ∷ codes "alerts" ∷ codes "audit" ∷ [];
   extra = [];
   options = threads_option ∷ capacity_option ∷ [];
   flags = ordered_flag ∷ [];
 }
-
--- what may follow the word `make`
-abbrev pub make_form : Form
-make_form = record {
+form_of topic.Make = record {
   names = codes "job" ∷ codes "seed" ∷ codes "rows" ∷ [];
   extra = [];
   options = threads_option ∷ [];
   flags = ordered_flag ∷ [];
 }
-
--- what may follow the word `save`
-abbrev pub save_form : Form
-save_form = record {
+form_of topic.Save = record {
   names =
       codes "job" ∷ codes "requests" ∷ codes "payments" ∷ codes "alerts" ∷ codes "audit"
       ∷ codes "save" ∷ codes "rows" ∷ [];
@@ -81,10 +67,7 @@ save_form = record {
   options = threads_option ∷ capacity_option ∷ [];
   flags = [];
 }
-
--- what may follow the word `resume`
-abbrev pub resume_form : Form
-resume_form = record {
+form_of topic.Resume = record {
   names =
       codes "job" ∷ codes "requests" ∷ codes "payments" ∷ codes "save" ∷ codes "alerts"
       ∷ codes "audit" ∷ [];
@@ -92,37 +75,18 @@ resume_form = record {
   options = threads_option ∷ capacity_option ∷ [];
   flags = [];
 }
-
--- what may follow the word `live`
-abbrev pub live_form : Form
-live_form = record {
+form_of topic.Live = record {
   names = codes "job" ∷ codes "requests" ∷ codes "payments" ∷ codes "alerts" ∷ codes "audit" ∷ [];
   extra = [];
   options = threads_option ∷ capacity_option ∷ [];
   flags = [];
 }
-
--- what may follow the word `verify`
-abbrev pub verify_form : Form
-verify_form = record {
+form_of topic.Verify = record {
   names = codes "job" ∷ codes "requests" ∷ codes "payments" ∷ codes "audit" ∷ [];
   extra = codes "alerts" ∷ [];
   options = [];
   flags = ordered_flag ∷ [];
 }
-
--- the full form of the words after a command
-abbrev pub form_of : Topic → Form
-form_of topic.Program = record { names = []; extra = []; options = []; flags = [] }
-form_of topic.First = first_form
-form_of topic.Check = check_form
-form_of topic.Plan = plan_form
-form_of topic.Run = run_form
-form_of topic.Make = make_form
-form_of topic.Save = save_form
-form_of topic.Resume = resume_form
-form_of topic.Live = live_form
-form_of topic.Verify = verify_form
 
 -- ---- values
 
@@ -228,10 +192,6 @@ run_with plan values =
     (name_in values (codes "alerts")) (name_in values (codes "audit")))
     (engine_in values)
 
--- what the values of `run` ask for
-abbrev pub run_of : Values → Option RunAsked
-run_of values = run_with (plan_of values) values
-
 -- the files of a run, its audit, and the file of its alerts if that is named
 abbrev pub verify_of : Values → VerifyAsked
 verify_of values = record {
@@ -240,10 +200,6 @@ verify_of values = record {
   audit = name_in values (codes "audit");
   alerts = values (codes "alerts");
 }
-
--- a run that isn't in ordered mode
-abbrev pub live_of : Values → Option RunAsked
-live_of values = run_with (unordered_of values) values
 
 -- the run writes a file with this name
 abbrev pub writes : RunAsked → Text → Bool
@@ -259,14 +215,11 @@ resume_of values =
     option_and_then (resume_with (name_in values (codes "save")))
     (run_with (unordered_of values) values)
 
--- the run and the savepoint, with the number of rows that are to be run
-abbrev pub save_after : ℕ → ResumeAsked → SaveAsked
-save_after rows files = record { run = files.run; save = files.save; rows = rows }
-
 -- the run and the savepoint with the number of rows, if that is in range
 abbrev pub save_with : Option ResumeAsked → Option ℕ → Option SaveAsked
 save_with files None = None
-save_with files (Some rows) = option_map (save_after rows) files
+save_with files (Some rows) =
+    option_map (λ (of : ResumeAsked). record { run = of.run; save = of.save; rows = rows }) files
 
 -- what the values of `save` ask for
 abbrev pub save_of : Values → Option SaveAsked
@@ -319,11 +272,11 @@ asked_with topic.Program values = None
 asked_with topic.First values = option_map First (first_of values)
 asked_with topic.Check values = Some (Check (name_in values (codes "job")))
 asked_with topic.Plan values = Some (Plan (plan_of values))
-asked_with topic.Run values = option_map Run (run_of values)
+asked_with topic.Run values = option_map Run (run_with (plan_of values) values)
 asked_with topic.Make values = option_map Make (make_of values)
 asked_with topic.Save values = option_map Save (save_of values)
 asked_with topic.Resume values = option_map Resume (resume_of values)
-asked_with topic.Live values = option_map Live (live_of values)
+asked_with topic.Live values = option_map Live (run_with (unordered_of values) values)
 asked_with topic.Verify values = Some (Verify (verify_of values))
 
 -- what the words after a command ask for, if they have its full form
@@ -344,10 +297,6 @@ asks_help [] = false
 asks_help (word ∷ []) = is_help word
 asks_help (word ∷ more ∷ words) = false
 
--- what the words after a command ask for
-abbrev pub asked_on : Topic → List Text → Option Asked
-asked_on about words = if asks_help words then Some (Help about) else asked_after about words
-
 -- what a first word that names no command asks for, alone
 abbrev pub asked_first : Text → List Text → Option Asked
 asked_first word [] = asked_alone word
@@ -355,7 +304,8 @@ asked_first word (next ∷ words) = None
 
 -- what words ask for that begin with this one
 abbrev pub asked_by_word : Option Topic → Text → List Text → Option Asked
-asked_by_word (Some about) word words = asked_on about words
+asked_by_word (Some about) word words =
+    if asks_help words then Some (Help about) else asked_after about words
 asked_by_word None word words = asked_first word words
 
 -- What words ask for: a command in its full form, help, or the version. None if they do neither.

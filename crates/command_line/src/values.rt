@@ -8,10 +8,10 @@ ghost use Rattle.command_line.specs.Asked.{first_asked, make_asked, plan_asked, 
 ghost use Rattle.command_line.specs.Asked.{run_asked, save_asked, verify_asked};
 ghost use Rattle.command_line.specs.Words.{amount_in as amount_of, asked_with};
 ghost use Rattle.command_line.specs.Words.{engine_in as engine_of, first_of as first_of_values};
-ghost use Rattle.command_line.specs.Words.{is_true as is_true_text, live_of as live_of_values};
+ghost use Rattle.command_line.specs.Words.{is_true as is_true_text};
 ghost use Rattle.command_line.specs.Words.{make_of as make_of_values, name_in as name_of};
 ghost use Rattle.command_line.specs.Words.{number_in as number_of, plan_of as plan_of_values};
-ghost use Rattle.command_line.specs.Words.{resume_of as resume_of_values, run_of as run_of_values};
+ghost use Rattle.command_line.specs.Words.{resume_of as resume_of_values};
 ghost use Rattle.command_line.specs.Words.{run_over, run_with as run_with_values};
 ghost use Rattle.command_line.specs.Words.{save_of as save_of_values, size_in as size_of};
 ghost use Rattle.command_line.specs.Words.{unordered_of as unordered_of_values};
@@ -98,11 +98,13 @@ fn plan_with(alloc: Global, ordered: bool, values: &ArgMatches<'_>) -> Result<Pl
 }
 
 fn run_of(alloc: Global, values: &ArgMatches<'_>) -> Result<RunFiles, WordsFault>
-    ensures asked { IfOk result (λ files. run_of_values (first_value (found_of values.now))
-        ≡ Some (run_asked files)) }
+    ensures asked { IfOk result (λ files.
+        run_with_values (plan_of_values (first_value (found_of values.now)))
+        (first_value (found_of values.now)) ≡ Some (run_asked files)) }
     ensures sized { IfOk result (λ files. IsSize files.size) }
     ensures usage { IfErr result (λ fault. fault ≢ WordsFault.NoMemory →
-        run_of_values (first_value (found_of values.now)) ≡ None) }
+        run_with_values (plan_of_values (first_value (found_of values.now)))
+        (first_value (found_of values.now)) ≡ None) }
 {
     let Some(size) = run_size(values) else {
         return Err(WordsFault::Usage);
@@ -173,11 +175,13 @@ fn save_of(alloc: Global, values: &ArgMatches<'_>) -> Result<SaveFiles, WordsFau
 }
 
 fn live_of(alloc: Global, values: &ArgMatches<'_>) -> Result<RunFiles, WordsFault>
-    ensures asked { IfOk result (λ files. live_of_values (first_value (found_of values.now))
-        ≡ Some (run_asked files)) }
+    ensures asked { IfOk result (λ files.
+        run_with_values (unordered_of_values (first_value (found_of values.now)))
+        (first_value (found_of values.now)) ≡ Some (run_asked files)) }
     ensures sized { IfOk result (λ files. IsSize files.size) }
     ensures usage { IfErr result (λ fault. fault ≢ WordsFault.NoMemory →
-        live_of_values (first_value (found_of values.now)) ≡ None) }
+        run_with_values (unordered_of_values (first_value (found_of values.now)))
+        (first_value (found_of values.now)) ≡ None) }
 {
     let Some(size) = run_size(values) else {
         return Err(WordsFault::Usage);

@@ -20,7 +20,7 @@ use std::mem::ManuallyDrop;
 use std::process::ExitCode;
 use std::rt::Files;
 use std::{env, io};
-use top_call::{Outcome, fries};
+use top_call::{Host, Outcome, fries};
 use tuple_trace::{Gate, Word};
 
 fn main(rt: HostRuntime) -> ExitCode {
@@ -42,15 +42,12 @@ fn main(rt: HostRuntime) -> ExitCode {
         rt,
         tells: is_live(&words.list) && rt.stderr().is_terminal(),
     };
-    let outcome = fries(
-        &rt,
+    let host = Host {
+        rt: &rt,
         alloc,
-        &words.list,
-        &mut shelf,
-        &mut out,
-        &mut asks,
-        &gate,
-    );
+        gate: &gate,
+    };
+    let outcome = fries(&host, &words.list, &mut shelf, &mut out, &mut asks);
     tell(&rt, alloc, &words, &outcome);
     tell_why(&rt, outcome.fault, shelf.why());
     let status = outcome.status;

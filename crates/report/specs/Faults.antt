@@ -55,14 +55,11 @@ status_of (fault.Save code) = 10
 status_of (fault.Audit code) = 11
 status_of (fault.Alerts line) = 11
 
--- the status of a call that was done: 8 where a request was refused
-abbrev pub status_of_done : List Refused → ℕ
-status_of_done [] = 0
-status_of_done (first ∷ later) = 8
-
--- the status of a call: that of its fault, where it has one
+-- the status of a call: that of its fault, where it has one; else 0, or 8 where a request was
+-- refused
 abbrev pub status_for : Option Fault → List Refused → ℕ
-status_for None refused = status_of_done refused
+status_for None [] = 0
+status_for None (first ∷ later) = 8
 status_for (Some fault) refused = status_of fault
 
 -- how many bytes of a file are read at most: none of one that is only written

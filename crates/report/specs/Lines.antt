@@ -1,5 +1,5 @@
 -- The lines that the program prints.
-use Rattle.std.specs.Prelude.{◌==◌, ◌+◌, ℕ, Bool, true, false, List, [], ◌∷◌, ◌++◌, Option, Some, None, codes, count_by, decimal, drop, filter, is_some, length, map, slice_get, sum_by, take}
+use Rattle.std.specs.Prelude.{◌==◌, ◌+◌, ℕ, Bool, true, false, List, [], ◌∷◌, ◌++◌, codes, count_by, decimal, drop, filter, is_some, length, map, slice_get, sum_by, take}
 use Rattle.std.specs.List.{enumerate_from, flat_map, join_with_byte, list_any, range_with_len}
 use Rattle.cover_planner.specs.declared.cover.Plan.{Plan}
 use Rattle.flow_dag.specs.Masks.{has}
@@ -15,6 +15,7 @@ use Rattle.sink_journal.specs.declared.journal.Feed.{Feed}
 use Rattle.sink_journal.specs.declared.journal.Feed.TheVariants as feed
 use Rattle.sink_journal.specs.Alerts.{met}
 use Rattle.sink_journal.specs.Audit.{code_word}
+use Rattle.savepoint.specs.SaveText.{name_of}
 use Rattle.sink_journal.specs.declared.audit.Noted.{Noted}
 use Rattle.versions.specs.declared.fault.QFault.{QFault}
 use Rattle.versions.specs.declared.fault.QFault.TheVariants as refusal
@@ -98,11 +99,6 @@ names_from name mask number items =
 -- the names of the nodes of a mask
 abbrev pub node_names : List NodeDef → ℕ → List (List ℕ)
 node_names nodes mask = names_from (λ node. node.name) mask 0 nodes
-
--- the name of a node: empty if there is none
-abbrev pub name_of : Option NodeDef → List ℕ
-name_of None = []
-name_of (Some node) = node.name
 
 -- the names of the ends of an edge
 unfoldable pub edge_name : List NodeDef → Edge → List ℕ

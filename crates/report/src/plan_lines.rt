@@ -4,9 +4,10 @@ ghost use Rattle.std.specs.Prelude.{length, slice_get};
 ghost use Rattle.flow_dag.specs.Masks.{has};
 ghost use Rattle.jobs.specs.Job.{job_view};
 ghost use Rattle.report.specs.Lines.{edge_name as edge_name_of, edge_names as edge_names_of};
-ghost use Rattle.report.specs.Lines.{is_part as is_part_of, listed as listed_of, name_of};
+ghost use Rattle.report.specs.Lines.{is_part as is_part_of, listed as listed_of};
 ghost use Rattle.report.specs.Lines.{node_names as node_names_of, part_count as part_count_of};
 ghost use Rattle.report.specs.Lines.{plan_line, plan_lines};
+ghost use Rattle.savepoint.specs.SaveText.{name_of};
 
 use cover_planner::Plan;
 use flow_dag::{Edge, MAX_EDGES, MAX_NODES, has_bit, has_wide_bit};

@@ -21,7 +21,7 @@ use Rattle.call_steps.specs.Running.{files_of, made_lines, run_lines}
 use Rattle.call_steps.specs.declared.answer.Answer.{Answer}
 use Rattle.call_steps.proofs.FileLemmas.{done_or_excused, ran_or_excused}
 use Rattle.top_call.specs.Check.{EndsCheck}
-use Rattle.top_call.specs.First.{EndsFirst, asked_job}
+use Rattle.top_call.specs.First.{EndsFirst}
 use Rattle.top_call.specs.Follows.{FollowsInputsThen, FollowsJobThen, FollowsPlanThen, FollowsRowsThen, IsDoneOrExcused}
 use Rattle.top_call.specs.Inputs.{AreNoInputs}
 use Rattle.top_call.specs.Live.{EndsLive, FailsAsking}
@@ -43,9 +43,9 @@ follows_check excludes have name old between new answer ends prints =
     ]
 
 pub follows_first : (asked : FirstAsked) (old between new : World) (answer : Answer) → EndsFirst asked old between answer → PrintsFault answer.fault between new →
-    FollowsRowsThen (asked_job asked) asked.payments (λ rows. IsDoneOrExcused old new answer.fault) old new answer.fault
+    FollowsRowsThen (first_job asked.least) asked.payments (λ rows. IsDoneOrExcused old new answer.fault) old new answer.fault
 follows_first asked old between new answer ends prints =
-    let job = asked_job asked in
+    let job = first_job asked.least in
     elim ends [
       | inl s ↦ subst (λ (x : Answer). FollowsRowsThen job asked.payments (λ rows. IsDoneOrExcused old new x.fault) old new x.fault) (sym s.answer_is)
           (no_rows_then job asked.payments (λ rows. IsDoneOrExcused old new (Some s.why)) old between new s.why prints.shelf s.cause (λ rows excused. inr excused))

@@ -40,7 +40,7 @@ use Rattle.payments.specs.Files.{Files}
 use Rattle.versions.specs.declared.in_order.Judged.{Judged}
 use Rattle.versions.specs.declared.request.Request.{Request}
 use Rattle.command_line.specs.Asked.{FirstAsked}
-use Rattle.top_call.specs.First.{IsFirstRun, TurnsAfterRow, asked_job}
+use Rattle.top_call.specs.First.{IsFirstRun, TurnsAfterRow}
 use Rattle.call_steps.specs.FirstJob.{at_least, first_job, first_request}
 use Rattle.call_steps.specs.SetupFor.{AreSame}
 use Rattle.call_steps.specs.Reading.{AreRowsOf}
@@ -218,8 +218,8 @@ turns least after next rows are sources plans splits ordered feeds journals stat
           record { before = none; after = or_second (meets_row row (before_turn 1 journal)) (meets_row row (after_turn 1 journal)) (met row (omega arith) within) none };
     }
 
-pub first_runs : (asked : FirstAsked) (files : Option Files) (rows : List Row) (done : Done) → AreRowsOf files asked.payments (asked_job asked) rows →
-    AreRows rows → AreFromSources (asked_job asked) rows → IsRunOf AreSame false (asked_job asked) (first_request asked.after asked.least_after ∷ []) rows done →
+pub first_runs : (asked : FirstAsked) (files : Option Files) (rows : List Row) (done : Done) → AreRowsOf files asked.payments (first_job asked.least) rows →
+    AreRows rows → AreFromSources (first_job asked.least) rows → IsRunOf AreSame false (first_job asked.least) (first_request asked.after asked.least_after ∷ []) rows done →
     IsInOrder (length rows) (record_view done.ran) → IsFirstRun asked files done
 first_runs asked files rows done of are sources run in_order =
     let least = asked.least in

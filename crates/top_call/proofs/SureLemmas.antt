@@ -16,7 +16,7 @@ use Rattle.tuple_trace.specs.Counts.{Rose}
 use Rattle.versions.specs.declared.in_order.Refused.{Refused}
 use Rattle.top_call.specs.Answers.{Ends, IsNothingAsked}
 use Rattle.call_steps.specs.Outcomes.{EndsAfterRun, EndsStoring, Stops, StopsStoring}
-use Rattle.top_call.specs.First.{asked_job}
+use Rattle.call_steps.specs.FirstJob.{first_job}
 use Rattle.top_call.specs.Make.{IsNotMade, MakesNoRows}
 use Rattle.payments.specs.World.{ShelfState, SinkState, World}
 use Rattle.call_steps.specs.Effects.{FileText, Prints, PrintsFault, PrintsReport}
@@ -246,7 +246,7 @@ live_own false None answer is own sure = subst IsOwn (sym is) tt
 ends_own : (asked : Asked) (was now : AsksIs) (old new : World) (answer : Answer) → Ends asked was now old new answer → IsSure old → IsSure new → was.faults ≡ 0 → now.faults ≡ 0 → IsOwn answer.fault
 ends_own (First asked) was now old new answer ends sure later first last =
     elim ends [
-      | inl s ↦ stopped_own _ old new answer s (unread_own file.Payments (RefusesRows (asked_job asked)) old.shelf.files asked.payments old new s.why (of_rows (asked_job asked)) sure later s.cause)
+      | inl s ↦ stopped_own _ old new answer s (unread_own file.Payments (RefusesRows (first_job asked.least)) old.shelf.files asked.payments old new s.why (of_rows (first_job asked.least)) sure later s.cause)
       | inr r ↦ run_own (files_of asked.alerts None None r.done) (run_lines r.done) old new answer.fault sure later r.outcome
     ]
 ends_own (Check name) was now old new answer ends sure later first last =

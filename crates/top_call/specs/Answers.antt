@@ -9,9 +9,10 @@ use Rattle.payments.specs.World.{World}
 use Rattle.report.specs.declared.fault.Fault.{Fault}
 use Rattle.report.specs.declared.fault.Fault.TheVariants as fault
 use Rattle.call_steps.specs.Effects.{IsExcused, PrintsFault}
+use Rattle.call_steps.specs.FirstJob.{first_job}
 use Rattle.call_steps.specs.declared.answer.Answer.{Answer}
 use Rattle.top_call.specs.Check.{EndsCheck}
-use Rattle.top_call.specs.First.{EndsFirst, asked_job}
+use Rattle.top_call.specs.First.{EndsFirst}
 use Rattle.top_call.specs.Follows.{FollowsInputsThen, FollowsJobThen, FollowsPlanThen}
 use Rattle.top_call.specs.Follows.{FollowsRowsThen, IsDoneOrExcused}
 use Rattle.top_call.specs.Live.{EndsLive, FailsAsking}
@@ -68,7 +69,7 @@ LeavesAsks _ was now = now ≡ was
 -- what a call answers that was asked this, seen from the files that it reads
 abbrev pub Follows : Asked → AsksIs → AsksIs → World → World → Option Fault → Type 0
 Follows (First asked) was now old new answer =
-    FollowsRowsThen (asked_job asked) asked.payments
+    FollowsRowsThen (first_job asked.least) asked.payments
     (λ rows. IsDoneOrExcused old new answer) old new answer
 Follows (Check name) was now old new answer =
     FollowsJobThen name (λ job. IsDoneOrExcused old new answer) old new answer

@@ -1,7 +1,6 @@
 -- What a call of `first` runs, and how it ends.
 use Rattle.std.specs.Prelude.{◌≡◌, ◌⊎◌, ◌<◌, ◌≤◌, ℕ, true, false, List, [], ◌∷◌, Option, None, Some}
 use Rattle.std.specs.Prelude.{length, slice_get}
-use Rattle.jobs.specs.JobView.{JobView}
 use Rattle.payments.specs.Files.{Files}
 use Rattle.sink_journal.specs.declared.journal.Entry.{Entry}
 use Rattle.tuple_trace.specs.declared.row.Row.{Row}
@@ -19,10 +18,6 @@ use Rattle.call_steps.specs.declared.answer.Answer.{Answer}
 use Rattle.call_steps.specs.declared.running.Done.{Done}
 
 -- ---- the run
-
--- the job that was asked for
-abbrev pub asked_job : FirstAsked → JobView
-asked_job asked = first_job asked.least
 
 -- the journal met the row before the turn of the request and not after
 pub record IsMetBefore (journal : List Entry) (request row : ℕ) : Type 0 where
@@ -45,8 +40,8 @@ pub record TurnsAfterRow (journal : List Entry) (request last rows : ℕ) : Type
 -- is worker 0, met the rows up to `after` before the turn, and all others after it.
 pub record IsFirstRun (asked : FirstAsked) (files : Option Files) (done : Done) : Type 0 where
   pub rows : List Row
-  pub of_rows : AreRowsOf files asked.payments (asked_job asked) rows
-  pub run : IsRunOf AreSame false (asked_job asked)
+  pub of_rows : AreRowsOf files asked.payments (first_job asked.least) rows
+  pub run : IsRunOf AreSame false (first_job asked.least)
       (first_request asked.after asked.least_after ∷ []) rows done
   pub accepted : done.refused ≡ []
   pub order : IsInOrder (length rows) (record_view done.ran)
@@ -58,5 +53,5 @@ pub record IsFirstRun (asked : FirstAsked) (files : Option Files) (done : Done) 
 -- how a call of `first` ends, before the line of its fault is printed
 abbrev pub EndsFirst : FirstAsked → World → World → Answer → Type 0
 EndsFirst asked old new answer =
-    Stops (AreNoRows old.shelf.files asked.payments (asked_job asked)) old new answer
+    Stops (AreNoRows old.shelf.files asked.payments (first_job asked.least)) old new answer
     ⊎ Runs (IsFirstRun asked old.shelf.files) asked.alerts None None None old new answer

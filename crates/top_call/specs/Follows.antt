@@ -8,8 +8,9 @@ use Rattle.versions.specs.declared.request.Request.{Request}
 use Rattle.command_line.specs.Asked.{PlanAsked}
 use Rattle.command_line.specs.Form.{Text}
 use Rattle.report.specs.declared.fault.Fault.{Fault}
+use Rattle.report.specs.declared.fault.FileIs.TheVariants as file_is
 use Rattle.call_steps.specs.Effects.{IsExcused}
-use Rattle.call_steps.specs.Reading.{FollowsJob, FollowsRequests, FollowsRows}
+use Rattle.call_steps.specs.Reading.{FollowsFile, RefusesJob, RefusesRequests, RefusesRows}
 use Rattle.call_steps.specs.Reading.{TellsJob, TellsRequests, TellsRows}
 
 -- the call is done, unless it is excused
@@ -19,20 +20,20 @@ IsDoneOrExcused old new answer = (answer ≡ None) ⊎ IsExcused old new answer
 -- the answer, seen from the job file; if it tells a job, `Then` is so of that
 pub record FollowsJobThen (name : Text) (Then : JobView → Type 0) (old new : World)
     (answer : Option Fault) : Type 0 where
-  pub file : FollowsJob name old new answer
+  pub file : FollowsFile file_is.Job RefusesJob name old new answer
   pub later : (job : JobView) → TellsJob old.shelf.files name job → Then job
 
 -- the answer, seen from the request file of the job; if it tells requests, `Then` is so of them
 pub record FollowsRequestsThen (job : JobView) (name : Text) (Then : List Request → Type 0)
     (old new : World) (answer : Option Fault) : Type 0 where
-  pub file : FollowsRequests job name old new answer
+  pub file : FollowsFile file_is.Requests (RefusesRequests job) name old new answer
   pub later :
       (requests : List Request) → TellsRequests old.shelf.files name job requests → Then requests
 
 -- the answer, seen from the payments file of the job; if it tells rows, `Then` is so of them
 pub record FollowsRowsThen (job : JobView) (name : Text) (Then : List Row → Type 0)
     (old new : World) (answer : Option Fault) : Type 0 where
-  pub file : FollowsRows job name old new answer
+  pub file : FollowsFile file_is.Payments (RefusesRows job) name old new answer
   pub later : (rows : List Row) → TellsRows old.shelf.files name job rows → Then rows
 
 -- the answer, seen from the files of a plan; if they tell a job and its requests, `Then` is so of

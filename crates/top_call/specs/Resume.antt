@@ -11,9 +11,10 @@ use Rattle.flow_model.specs.Setup.{setup_view}
 use Rattle.flow_model.specs.declared.setup.Setup.{Setup}
 use Rattle.command_line.specs.Asked.{ResumeAsked}
 use Rattle.report.specs.declared.fault.Fault.{Fault}
+use Rattle.report.specs.declared.fault.FileIs.TheVariants as file_is
 use Rattle.call_steps.specs.Outcomes.{Stops}
 use Rattle.call_steps.specs.Parts.{IsRunFromStart}
-use Rattle.call_steps.specs.Reading.{FollowsStart, IsNoStart, IsStartOf, TellsStart}
+use Rattle.call_steps.specs.Reading.{FollowsFile, IsNoStart, IsStartOf, RefusesSave, TellsStart}
 use Rattle.call_steps.specs.Running.{Runs}
 use Rattle.call_steps.specs.SetupFor.{AreSame, IsSetupFor}
 use Rattle.call_steps.specs.declared.answer.Answer.{Answer}
@@ -63,7 +64,8 @@ pub record FollowsSavepoint (asked : ResumeAsked) (job : JobView) (requests : Li
     (rows : List Row) (old new : World) (answer : Option Fault) : Type 0 where
   pub file :
       (setup : Setup) → IsSetupFor AreSame false job requests setup →
-      FollowsStart (setup_view setup) (length rows) asked.save old new answer
+      FollowsFile file_is.Save (RefusesSave (setup_view setup) (length rows)) asked.save
+      old new answer
   pub later :
       (setup : Setup) (start : Begin) → IsSetupFor AreSame false job requests setup →
       TellsStart old.shelf.files asked.save (setup_view setup) (length rows) start →

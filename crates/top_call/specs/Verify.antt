@@ -11,11 +11,13 @@ use Rattle.flow_model.specs.Run.{Ran}
 use Rattle.flow_model.specs.declared.setup.Setup.{Setup}
 use Rattle.command_line.specs.Asked.{VerifyAsked}
 use Rattle.report.specs.declared.fault.Fault.{Fault}
+use Rattle.report.specs.declared.fault.FileIs.TheVariants as file
 use Rattle.sink_journal.specs.Alerts.{alerts}
-use Rattle.call_steps.specs.Audits.{FollowsAlerts, FollowsAudit, HaveOneVerdict, HoldsAlerts}
-use Rattle.call_steps.specs.Audits.{HoldsNoAlerts, IsAuditOf, IsNoAudit, TellsAlerts, TellsAudit}
+use Rattle.call_steps.specs.Audits.{FollowsAlerts, HaveOneVerdict, HoldsAlerts, HoldsNoAlerts}
+use Rattle.call_steps.specs.Audits.{IsAuditOf, IsNoAudit, RefusesAudit, TellsAlerts, TellsAudit}
 use Rattle.call_steps.specs.Audits.{verified_lines}
 use Rattle.call_steps.specs.Outcomes.{Stops}
+use Rattle.call_steps.specs.Reading.{FollowsFile}
 use Rattle.call_steps.specs.Running.{IsRunOf, alerts_of}
 use Rattle.call_steps.specs.SetupFor.{AreSame, IsSetupFor}
 use Rattle.call_steps.specs.declared.answer.Answer.{Answer}
@@ -90,7 +92,7 @@ pub record FollowsVerdict (asked : VerifyAsked) (job : JobView) (requests : List
     (rows : List Row) (old new : World) (answer : Option Fault) : Type 0 where
   pub setup : Setup
   pub setup_is : IsSetupFor AreSame asked.plan.ordered job requests setup
-  pub audit : FollowsAudit setup rows asked.audit old new answer
+  pub audit : FollowsFile file.Audit (RefusesAudit setup rows) asked.audit old new answer
   pub of_alerts :
       (ran : Ran) → TellsAudit old.shelf.files asked.audit setup rows ran →
       FollowsAlerts asked.alerts (alerts ran.setup.job ran.journals) old new answer

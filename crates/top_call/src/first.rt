@@ -1,8 +1,9 @@
 ghost use Rattle.std.specs.Prelude.{◌≡◌, IfOk, IfErr, OnOk, length};
 ghost use Rattle.jobs.specs.Nodes.{worker_count};
 ghost use Rattle.command_line.specs.Asked.{first_asked};
-ghost use Rattle.top_call.specs.First.{asked_job, EndsFirst, IsFirstRun};
+ghost use Rattle.top_call.specs.First.{EndsFirst, IsFirstRun};
 ghost use Rattle.payments.specs.World.{world};
+ghost use Rattle.call_steps.specs.FirstJob.{first_job as first_job_of};
 ghost use Rattle.call_steps.specs.Reading.{AreNoRows};
 
 use call_steps::{
@@ -48,7 +49,7 @@ fn run_first<S: Shelf>(alloc: Global, first: &First, shelf: &mut S) -> Result<Do
     ensures files { (S.state shelf.new).files ≡ (S.state shelf.old).files }
     ensures draft { (S.state shelf.new).draft ≡ (S.state shelf.old).draft }
     ensures cause { IfErr result (AreNoRows (S.state shelf.old).files first.now.payments
-        (asked_job (first_asked first.now))
+        (first_job_of first.now.least)
         (S.state shelf.old).faults (S.state shelf.new).faults) }
 {
     let job = first_job(alloc, first.least)?;

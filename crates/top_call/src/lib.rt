@@ -4,7 +4,8 @@
 //! change. [`fries`] is the call that `main` makes; its contract is what the program promises.
 //!
 //! ```text
-//! let outcome = fries(&rt, rt.alloc(), &words, &mut shelf, &mut out, &mut asks, &OpenGate);
+//! let host = Host { rt: &rt, alloc: rt.alloc(), gate: &OpenGate };
+//! let outcome = fries(&host, &words, &mut shelf, &mut out, &mut asks);
 //! ExitCode::from(outcome.status)
 //! ```
 #![tactic(auto)]
@@ -23,6 +24,7 @@ mod save;
 mod top;
 mod verify;
 
+pub use call_steps::Host;
 pub use laws::sure_calls_end_well;
 pub use outcome::Outcome;
 pub use top::fries;

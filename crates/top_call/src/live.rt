@@ -7,12 +7,11 @@ ghost use Rattle.top_call.specs.Inputs.{AreNoInputs};
 ghost use Rattle.top_call.specs.Live.{EndsLive, IsLiveRunOfFiles};
 
 use crate::inputs::{RunInputs, inputs_in};
-use call_steps::{Answer, LiveDone, Outputs, leave_live, run_live};
+use call_steps::{Answer, Host, LiveDone, Outputs, leave_live, run_live};
 use command_line::RunFiles;
 use live_control::Asks;
 use payments::{Shelf, Sink};
 use report::Fault;
-use std::alloc::Global;
 use std::sync::Wait;
 use std::thread::Threads;
 use tuple_trace::Gate;
@@ -21,13 +20,11 @@ use tuple_trace::Gate;
 /// input releases the requests. Stores the alerts and then the audit, and prints the refused
 /// requests and the summary. The first fault ends it; a fault of the input comes last.
 pub fn live_command<R, S, O, G, Q>(
-    rt: &R,
-    alloc: Global,
+    host: &Host<'_, R, G>,
     files: &RunFiles,
     shelf: &mut S,
     out: &mut O,
     asks: &mut Q,
-    gate: &G,
 ) -> Answer
 where
     R: Threads + Wait + Copy + Send + Sync + 'static,
@@ -46,7 +43,8 @@ where
         audit: Some(&files.audit),
         save: None,
     };
-    match run_files(rt, alloc, files, shelf, asks, gate) {
+    let alloc = host.alloc;
+    match run_files(host, files, shelf, asks) {
         Ok(live) => leave_live(alloc, live, names, shelf, out),
         Err(fault) => Answer::stopped(alloc, fault),
     }
@@ -54,12 +52,10 @@ where
 
 // Reads the files and runs what they hold.
 fn run_files<R, S, G, Q>(
-    rt: &R,
-    alloc: Global,
+    host: &Host<'_, R, G>,
     files: &RunFiles,
     shelf: &mut S,
     asks: &mut Q,
-    gate: &G,
 ) -> Result<LiveDone, Fault>
 where
     R: Threads + Wait + Copy + Send + Sync + 'static,
@@ -79,11 +75,11 @@ where
         (run_asked files.now).plan files.now.payments
         (S.state shelf.old).faults (S.state shelf.new).faults) }
 {
-    let inputs = inputs_in(alloc, &files.plan, &files.payments, shelf)?;
+    let inputs = inputs_in(host.alloc, &files.plan, &files.payments, shelf)?;
     let RunInputs {
         job,
         requests,
         rows,
     } = inputs;
-    Ok(run_live(rt, alloc, gate, files.size, job, &requests, &rows, asks)?)
+    Ok(run_live(host, files.size, job, &requests, &rows, asks)?)
 }

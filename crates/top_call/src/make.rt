@@ -9,7 +9,7 @@ ghost use Rattle.payments.specs.World.{world};
 ghost use Rattle.call_steps.specs.Effects.{Prints};
 ghost use Rattle.call_steps.specs.Running.{made_lines as made_lines_of};
 
-use call_steps::{Answer, Done, job_in, made_lines, print, run_on_threads};
+use call_steps::{Answer, Done, Host, job_in, made_lines, print, run_on_threads};
 use command_line::{EngineSize, Make};
 use jobs::Job;
 use payments::{Shelf, Sink, make_rows};
@@ -23,12 +23,10 @@ use versions::Requests;
 /// Reads a job, makes rows for it, runs them without requests, and prints the summary. It changes
 /// no file. The first fault ends it.
 pub fn make_command<R, S, O, G>(
-    rt: &R,
-    alloc: Global,
+    host: &Host<'_, R, G>,
     make: &Make,
     shelf: &mut S,
     out: &mut O,
-    gate: &G,
 ) -> Answer
 where
     R: Threads + Wait + Copy + Send + Sync + 'static,
@@ -41,7 +39,8 @@ where
         (world (S.state shelf.new) (O.state out.new))
         result }
 {
-    match run_made(rt, alloc, make, shelf, gate) {
+    let alloc = host.alloc;
+    match run_made(host, make, shelf) {
         Ok(done) => {
             let fault = print_run(alloc, &done, out).err();
             Answer::of_run(done, fault)
@@ -51,13 +50,7 @@ where
 }
 
 // Reads the job and runs the rows that are made for it.
-fn run_made<R, S, G>(
-    rt: &R,
-    alloc: Global,
-    make: &Make,
-    shelf: &mut S,
-    gate: &G,
-) -> Result<Done, Fault>
+fn run_made<R, S, G>(host: &Host<'_, R, G>, make: &Make, shelf: &mut S) -> Result<Done, Fault>
 where
     R: Threads + Wait + Copy + Send + Sync + 'static,
     S: Shelf,
@@ -72,6 +65,7 @@ where
     ensures cause { IfErr result (IsNotMade (make_asked make.now) (S.state shelf.old).files
         (S.state shelf.old).faults (S.state shelf.new).faults) }
 {
+    let alloc = host.alloc;
     let job = job_in(alloc, &make.job, shelf)?;
     let rows = rows_made(alloc, &job, make)?;
     let requests = Requests::new(alloc);
@@ -79,7 +73,7 @@ where
         threads: make.threads,
         capacity: USUAL_CAPACITY,
     };
-    Ok(run_on_threads(rt, alloc, gate, size, job, &requests, &rows, make.ordered)?)
+    Ok(run_on_threads(host, size, job, &requests, &rows, make.ordered)?)
 }
 
 #[tactic(auto, using(crate::proofs::MakeLemmas::makes_no_rows))]

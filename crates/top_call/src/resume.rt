@@ -6,11 +6,10 @@ ghost use Rattle.call_steps.specs.Parts.{HasWorkers};
 ghost use Rattle.top_call.specs.Resume.{EndsResume, IsNoResume, IsResumedRun};
 
 use crate::inputs::{RunInputs, inputs_in};
-use call_steps::{Answer, Done, Outputs, leave_run, run_later_part, setup_of, start_in};
+use call_steps::{Answer, Done, Host, Outputs, leave_run, run_later_part, setup_of, start_in};
 use command_line::ResumeFiles;
 use payments::{Shelf, Sink};
 use report::Fault;
-use std::alloc::Global;
 use std::sync::Wait;
 use std::thread::Threads;
 use tuple_trace::Gate;
@@ -26,12 +25,10 @@ struct Resumed {
 /// Runs the later payments from there, stores the alerts and then the audit, and prints the refused
 /// requests and the summary. The first fault ends it.
 pub fn resume_command<R, S, O, G>(
-    rt: &R,
-    alloc: Global,
+    host: &Host<'_, R, G>,
     files: &ResumeFiles,
     shelf: &mut S,
     out: &mut O,
-    gate: &G,
 ) -> Answer
 where
     R: Threads + Wait + Copy + Send + Sync + 'static,
@@ -49,7 +46,8 @@ where
         audit: Some(&files.run.audit),
         save: None,
     };
-    match run_later(rt, alloc, files, shelf, gate) {
+    let alloc = host.alloc;
+    match run_later(host, files, shelf) {
         Ok(Resumed { done, row }) => {
             let mut answer = leave_run(alloc, done, names, shelf, out);
             answer.start = Some(row);
@@ -61,11 +59,9 @@ where
 
 // Reads the files and runs what they hold from the savepoint on.
 fn run_later<R, S, G>(
-    rt: &R,
-    alloc: Global,
+    host: &Host<'_, R, G>,
     files: &ResumeFiles,
     shelf: &mut S,
-    gate: &G,
 ) -> Result<Resumed, Fault>
 where
     R: Threads + Wait + Copy + Send + Sync + 'static,
@@ -81,6 +77,7 @@ where
     ensures cause { IfErr result (IsNoResume (resume_asked files.now) (S.state shelf.old).files
         (S.state shelf.old).faults (S.state shelf.new).faults) }
 {
+    let alloc = host.alloc;
     let run = &files.run;
     let inputs = inputs_in(alloc, &run.plan, &run.payments, shelf)?;
     let RunInputs {
@@ -91,6 +88,6 @@ where
     let setup = setup_of(alloc, job, &requests, false)?;
     let start = start_in(alloc, &setup, rows.len() as u64, &files.save, shelf)?;
     let row = start.row;
-    let done = run_later_part(rt, alloc, gate, run.size, setup, &requests, &rows, start)?;
+    let done = run_later_part(host, run.size, setup, &requests, &rows, start)?;
     Ok(Resumed { done, row })
 }

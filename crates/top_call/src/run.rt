@@ -6,11 +6,10 @@ ghost use Rattle.top_call.specs.Inputs.{AreNoInputs};
 ghost use Rattle.top_call.specs.Run.{EndsRun, IsRunOfFiles};
 
 use crate::inputs::{RunInputs, inputs_in};
-use call_steps::{Answer, Done, Outputs, leave_run, run_on_threads};
+use call_steps::{Answer, Done, Host, Outputs, leave_run, run_on_threads};
 use command_line::RunFiles;
 use payments::{Shelf, Sink};
 use report::Fault;
-use std::alloc::Global;
 use std::sync::Wait;
 use std::thread::Threads;
 use tuple_trace::Gate;
@@ -19,12 +18,10 @@ use tuple_trace::Gate;
 /// the alerts and then the audit, and prints the refused requests and the summary. The first fault
 /// ends it.
 pub fn run_command<R, S, O, G>(
-    rt: &R,
-    alloc: Global,
+    host: &Host<'_, R, G>,
     files: &RunFiles,
     shelf: &mut S,
     out: &mut O,
-    gate: &G,
 ) -> Answer
 where
     R: Threads + Wait + Copy + Send + Sync + 'static,
@@ -42,20 +39,15 @@ where
         audit: Some(&files.audit),
         save: None,
     };
-    match run_files(rt, alloc, files, shelf, gate) {
+    let alloc = host.alloc;
+    match run_files(host, files, shelf) {
         Ok(done) => leave_run(alloc, done, names, shelf, out),
         Err(fault) => Answer::stopped(alloc, fault),
     }
 }
 
 // Reads the files and runs what they hold.
-fn run_files<R, S, G>(
-    rt: &R,
-    alloc: Global,
-    files: &RunFiles,
-    shelf: &mut S,
-    gate: &G,
-) -> Result<Done, Fault>
+fn run_files<R, S, G>(host: &Host<'_, R, G>, files: &RunFiles, shelf: &mut S) -> Result<Done, Fault>
 where
     R: Threads + Wait + Copy + Send + Sync + 'static,
     S: Shelf,
@@ -73,20 +65,11 @@ where
         (run_asked files.now).plan files.now.payments
         (S.state shelf.old).faults (S.state shelf.new).faults) }
 {
-    let inputs = inputs_in(alloc, &files.plan, &files.payments, shelf)?;
+    let inputs = inputs_in(host.alloc, &files.plan, &files.payments, shelf)?;
     let RunInputs {
         job,
         requests,
         rows,
     } = inputs;
-    Ok(run_on_threads(
-        rt,
-        alloc,
-        gate,
-        files.size,
-        job,
-        &requests,
-        &rows,
-        files.plan.ordered,
-    )?)
+    Ok(run_on_threads(host, files.size, job, &requests, &rows, files.plan.ordered)?)
 }

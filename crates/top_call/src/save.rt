@@ -6,11 +6,10 @@ ghost use Rattle.top_call.specs.Inputs.{AreNoInputs};
 ghost use Rattle.top_call.specs.Save.{EndsSave, IsSavedRun};
 
 use crate::inputs::{RunInputs, inputs_in};
-use call_steps::{Answer, Done, Outputs, leave_run, run_first_part};
+use call_steps::{Answer, Done, Host, Outputs, leave_run, run_first_part};
 use command_line::SaveFiles;
 use payments::{Shelf, Sink};
 use report::Fault;
-use std::alloc::Global;
 use std::sync::Wait;
 use std::thread::Threads;
 use tuple_trace::Gate;
@@ -19,12 +18,10 @@ use tuple_trace::Gate;
 /// audit and then the savepoint, and prints the refused requests and the summary. The first fault
 /// ends it.
 pub fn save_command<R, S, O, G>(
-    rt: &R,
-    alloc: Global,
+    host: &Host<'_, R, G>,
     files: &SaveFiles,
     shelf: &mut S,
     out: &mut O,
-    gate: &G,
 ) -> Answer
 where
     R: Threads + Wait + Copy + Send + Sync + 'static,
@@ -42,7 +39,8 @@ where
         audit: Some(&files.run.audit),
         save: Some(&files.save),
     };
-    match run_first(rt, alloc, files, shelf, gate) {
+    let alloc = host.alloc;
+    match run_first(host, files, shelf) {
         Ok(done) => leave_run(alloc, done, names, shelf, out),
         Err(fault) => Answer::stopped(alloc, fault),
     }
@@ -50,11 +48,9 @@ where
 
 // Reads the files and runs the first part of what they hold.
 fn run_first<R, S, G>(
-    rt: &R,
-    alloc: Global,
+    host: &Host<'_, R, G>,
     files: &SaveFiles,
     shelf: &mut S,
-    gate: &G,
 ) -> Result<Done, Fault>
 where
     R: Threads + Wait + Copy + Send + Sync + 'static,
@@ -71,11 +67,11 @@ where
         (S.state shelf.old).faults (S.state shelf.new).faults) }
 {
     let run = &files.run;
-    let inputs = inputs_in(alloc, &run.plan, &run.payments, shelf)?;
+    let inputs = inputs_in(host.alloc, &run.plan, &run.payments, shelf)?;
     let RunInputs {
         job,
         requests,
         rows,
     } = inputs;
-    Ok(run_first_part(rt, alloc, gate, run.size, job, &requests, &rows, files.rows)?)
+    Ok(run_first_part(host, run.size, job, &requests, &rows, files.rows)?)
 }

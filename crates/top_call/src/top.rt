@@ -21,7 +21,7 @@ use crate::resume::resume_command;
 use crate::run::run_command;
 use crate::save::save_command;
 use crate::verify::verify_command;
-use call_steps::{Answer, print, print_made};
+use call_steps::{Answer, Host, print, print_made};
 use command_line::{Command, WordsFault, command_of, help_text, version_text};
 use job_file::{faulty_is_no_job, files_have_one_fault};
 use live_control::Asks;
@@ -41,13 +41,11 @@ use versions::Refusals;
 /// `make` start as many threads as their words ask for, and their workers call the gate. `live`
 /// reads releases from `asks`, and no other command reads from it.
 pub fn fries<R, S, O, G, Q>(
-    rt: &R,
-    alloc: Global,
+    host: &Host<'_, R, G>,
     words: &[Word],
     shelf: &mut S,
     out: &mut O,
     asks: &mut Q,
-    gate: &G,
 ) -> Outcome
 where
     R: Threads + Wait + Copy + Send + Sync + 'static,
@@ -76,8 +74,8 @@ where
 {
     faulty_is_no_job();
     files_have_one_fault();
-    let answer = answer_words(rt, alloc, words, shelf, out, asks, gate);
-    report(alloc, answer.fault, out);
+    let answer = answer_words(host, words, shelf, out, asks);
+    report(host.alloc, answer.fault, out);
     let status = status_of(&answer);
     let Answer {
         fault,
@@ -96,13 +94,11 @@ where
 
 // Does what the words ask for, and prints no fault.
 fn answer_words<R, S, O, G, Q>(
-    rt: &R,
-    alloc: Global,
+    host: &Host<'_, R, G>,
     words: &[Word],
     shelf: &mut S,
     out: &mut O,
     asks: &mut Q,
-    gate: &G,
 ) -> Answer
 where
     R: Threads + Wait + Copy + Send + Sync + 'static,
@@ -123,21 +119,20 @@ where
         (Q.state asks.new)) }
     ensures unasked { IfNone (asked_of words.now) (Q.state asks.new ≡ Q.state asks.old) }
 {
+    let alloc = host.alloc;
     match command_of(alloc, words) {
-        Ok(command) => answer_command(rt, alloc, command, shelf, out, asks, gate),
+        Ok(command) => answer_command(host, command, shelf, out, asks),
         Err(WordsFault::Usage) => Answer::stopped(alloc, Fault::Usage),
         Err(WordsFault::NoMemory) => Answer::stopped(alloc, Fault::NoMemory),
     }
 }
 
 fn answer_command<R, S, O, G, Q>(
-    rt: &R,
-    alloc: Global,
+    host: &Host<'_, R, G>,
     command: Command,
     shelf: &mut S,
     out: &mut O,
     asks: &mut Q,
-    gate: &G,
 ) -> Answer
 where
     R: Threads + Wait + Copy + Send + Sync + 'static,
@@ -152,15 +147,16 @@ where
         result }
     ensures asks { LeavesAsks (asked_by command) (Q.state asks.old) (Q.state asks.new) }
 {
+    let alloc = host.alloc;
     match command {
         Command::First(first) => first_command(alloc, &first, shelf, out),
         Command::Check(job) => check_command(alloc, &job, shelf, out),
         Command::Plan(files) => plan_command(alloc, &files, shelf, out),
-        Command::Run(files) => run_command(rt, alloc, &files, shelf, out, gate),
-        Command::Make(make) => make_command(rt, alloc, &make, shelf, out, gate),
-        Command::Save(files) => save_command(rt, alloc, &files, shelf, out, gate),
-        Command::Resume(files) => resume_command(rt, alloc, &files, shelf, out, gate),
-        Command::Live(files) => live_command(rt, alloc, &files, shelf, out, asks, gate),
+        Command::Run(files) => run_command(host, &files, shelf, out),
+        Command::Make(make) => make_command(host, &make, shelf, out),
+        Command::Save(files) => save_command(host, &files, shelf, out),
+        Command::Resume(files) => resume_command(host, &files, shelf, out),
+        Command::Live(files) => live_command(host, &files, shelf, out, asks),
         Command::Verify(files) => verify_command(alloc, &files, shelf, out),
         Command::Help(topic) => text_command(alloc, help_text(topic), shelf, out),
         Command::Version => text_command(alloc, version_text(), shelf, out),

@@ -17,7 +17,7 @@ use payments::{Calls, MemoryShelf, MemorySink, SureShelf, SureSink};
 use std::alloc::Global;
 use std::sync::Wait;
 use std::thread::Threads;
-use top_call::{Outcome, fries};
+use top_call::{Host, Outcome, fries};
 use tuple_trace::{Bytes, Gate, NoMemory, OpenGate, Word};
 
 /// Calls `fries` with these words. The input that releases live requests is empty.
@@ -37,27 +37,25 @@ where
     G: Gate + Sync,
 {
     let mut asks = MemoryAsks::new(Bytes::new(alloc), Calls::new(alloc));
-    call_asking(rt, alloc, words, shelf, out, &mut asks, gate)
+    call_asking(&Host { rt, alloc, gate }, words, shelf, out, &mut asks)
 }
 
 /// Calls `fries` with these words, as [`call`] does. `asks` is the input that releases live
 /// requests.
 pub fn call_asking<R, G, Q>(
-    rt: &R,
-    alloc: Global,
+    host: &Host<'_, R, G>,
     words: &[Word],
     shelf: &mut MemoryShelf,
     out: &mut MemorySink,
     asks: &mut Q,
-    gate: &G,
 ) -> Result<Box<Outcome>, NoMemory>
 where
     R: Threads + Wait + Copy + Send + Sync + 'static,
     G: Gate + Sync,
     Q: Asks,
 {
-    let outcome = fries(rt, alloc, words, shelf, out, asks, gate);
-    Ok(Box::new(alloc, outcome)?)
+    let outcome = fries(host, words, shelf, out, asks);
+    Ok(Box::new(host.alloc, outcome)?)
 }
 
 /// Calls `fries` with these words over files and an output that never refuse. The input that
@@ -73,7 +71,12 @@ where
     R: Threads + Wait + Copy + Send + Sync + 'static,
 {
     let mut asks = MemoryAsks::new(Bytes::new(alloc), Calls::new(alloc));
-    let outcome = fries(rt, alloc, words, shelf, out, &mut asks, &OpenGate);
+    let host = Host {
+        rt,
+        alloc,
+        gate: &OpenGate,
+    };
+    let outcome = fries(&host, words, shelf, out, &mut asks);
     Ok(Box::new(alloc, outcome)?)
 }
 

@@ -159,21 +159,9 @@ fn push_rows(
 ) -> Result<(), NoMemory> {
     let job = job_of(alloc, job).ok_or(NoMemory)?;
     let all = rows_of(alloc, &job, rows.payments).ok_or(NoMemory)?;
-    push_flagged(alloc, &job, rows.sink, all.as_slice(), olds, old, lines)
-}
-
-fn push_flagged(
-    alloc: Global,
-    job: &Job,
-    sink: &str,
-    rows: &[Row],
-    olds: &[bool],
-    old: bool,
-    lines: &mut Bytes,
-) -> Result<(), NoMemory> {
-    for (row, is_old) in rows.iter().zip(olds) {
+    for (row, is_old) in all.as_slice().iter().zip(olds) {
         if *is_old == old {
-            push_alone(alloc, job, sink, row, lines)?;
+            push_alone(alloc, &job, rows.sink, row, lines)?;
         }
     }
     Ok(())

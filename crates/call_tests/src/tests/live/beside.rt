@@ -7,7 +7,7 @@ use std::sync::Wait;
 use std::sync::atomic::{AtomicBool, Ordering};
 use std::thread;
 use std::thread::Threads;
-use top_call::Outcome;
+use top_call::{Host, Outcome};
 use tuple_trace::{Bytes, Gate, NoMemory};
 use whole_calls::call_asking;
 
@@ -157,7 +157,8 @@ where
     let words = live_words(alloc, threads, "1")?;
     let mut shelf = shelf_of(alloc, AFTER_2_AND_12, TWELVE_PAYMENTS)?;
     let mut out = MemorySink::new(alloc, Calls::new(alloc));
-    let outcome = call_asking(rt, alloc, &words, &mut shelf, &mut out, asks, gate)?;
+    let host = Host { rt, alloc, gate };
+    let outcome = call_asking(&host, &words, &mut shelf, &mut out, asks)?;
     Ok(outcome.status == 0 && is_before_last(&outcome))
 }
 

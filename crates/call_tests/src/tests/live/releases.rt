@@ -6,7 +6,7 @@ use std::alloc::Global;
 use std::str;
 use std::sync::Wait;
 use std::thread::Threads;
-use top_call::Outcome;
+use top_call::{Host, Outcome};
 use tuple_trace::{Bytes, NoMemory, OpenGate, Word};
 use whole_calls::{call_asking, file, put_text};
 
@@ -67,7 +67,12 @@ where
         put_text(alloc, name, text, &mut shelf)?;
     }
     let mut out = MemorySink::new(alloc, Calls::new(alloc));
-    let outcome = call_asking(rt, alloc, words, &mut shelf, &mut out, asks, &OpenGate)?;
+    let host = Host {
+        rt,
+        alloc,
+        gate: &OpenGate,
+    };
+    let outcome = call_asking(&host, words, &mut shelf, &mut out, asks)?;
     Ok(is_told(&outcome, out.written(), case) && are_files(alloc, &shelf, case))
 }
 

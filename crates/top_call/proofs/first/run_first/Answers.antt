@@ -4,8 +4,7 @@ use Rattle.jobs.specs.JobView.{JobView}
 use Rattle.jobs.specs.Nodes.{AreFromSources}
 use Rattle.tuple_trace.specs.Rows.{AreRows}
 use Rattle.command_line.specs.Asked.{first_asked}
-use Rattle.top_call.specs.First.{asked_job}
-use Rattle.call_steps.specs.FirstJob.{first_request}
+use Rattle.call_steps.specs.FirstJob.{first_job, first_request}
 use Rattle.call_steps.specs.Reading.{AreRowsOf}
 use Rattle.call_steps.specs.Running.{IsRunOf}
 use Rattle.call_steps.specs.SetupFor.{AreSame}
@@ -18,9 +17,9 @@ returns-clause-run g c =
     let files = (g.S.Shelf.state c.args.shelf.now).files in
     let rows = c.in_ok-rows.rows in
     let done = c.in_ok-run_in_order.field-0 in
-    let job : job_view c.in_ok-job.job ≡ asked_job asked = search rules in
+    let job : job_view c.in_ok-job.job ≡ first_job asked.least = search rules in
     let requests : c.in_ok-requests.requests ≡ first_request asked.after asked.least_after ∷ [] = search rules in
-    let run : IsRunOf AreSame false (asked_job asked) (first_request asked.after asked.least_after ∷ []) rows done = rw (← job, ← requests) c.in_ok-run_in_order.ensures.run in
+    let run : IsRunOf AreSame false (first_job asked.least) (first_request asked.after asked.least_after ∷ []) rows done = rw (← job, ← requests) c.in_ok-run_in_order.ensures.run in
     first_runs asked files rows done
     (subst (λ (w : JobView). AreRowsOf files asked.payments w rows) job c.in_ok-rows.ensures.rows)
     (subst AreRows c.rows.view_is c.rows.invariant)
