@@ -1,5 +1,5 @@
 -- What `save` and then `resume` run over the same files is one run.
-use Rattle.std.proofs.Common.{◌≡◌, ◌⊎◌, ◌∙◌, ◌++◌, ◌∷◌, ℕ, List, [], Option, None, Some, Ok, cond, false, inl, inr, length, min, ap, subst, sym}
+use Rattle.std.proofs.Common.{◌≡◌, ◌⊎◌, ◌∙◌, ◌++◌, ◌∷◌, ℕ, List, [], Option, None, Some, Ok, cond, false, inl, inr, length, min, ap, subst, sym, map}
 use Rattle.std.specs.Prelude.{IfSome, unwrap_or}
 use Rattle.std.specs.Ordering.{is_eq}
 use Rattle.std.specs.Cmp.{tied_itself}
@@ -151,11 +151,11 @@ record HasResumed (asked : ResumeAsked) (later : World) (rest : RunRecord) : Typ
   ran_is : done.ran ≡ rest
 
 resumed_there : (asked : ResumeAsked) (later between : World) (start : Begin) (answer : Answer) (rest : RunRecord)
-    → Runs (IsResumedRun asked later.shelf.files start) asked.run.alerts (Some asked.run.audit) None (Some start.row) later between answer → answer.ran ≡ Some rest → HasResumed asked later rest
+    → Runs (IsResumedRun asked later.shelf.files start) asked.run.alerts (Some asked.run.audit) None (Some start) later between answer → answer.ran ≡ Some rest → HasResumed asked later rest
 resumed_there asked later between start answer rest r ran = record { start = start; done = r.done; is_so = r.is_so; ran_is = one_record answer r.done rest r.ran ran }
 
 resumed_from : (asked : ResumeAsked) (later between : World) (answer : Answer) (rest : RunRecord)
-    → ((start : Begin) × Runs (IsResumedRun asked later.shelf.files start) asked.run.alerts (Some asked.run.audit) None (Some start.row) later between answer) → answer.ran ≡ Some rest
+    → ((start : Begin) × Runs (IsResumedRun asked later.shelf.files start) asked.run.alerts (Some asked.run.audit) None (Some start) later between answer) → answer.ran ≡ Some rest
     → HasResumed asked later rest
 resumed_from asked later between answer rest r ran = resumed_there asked later between r.0 answer rest r.1 ran
 

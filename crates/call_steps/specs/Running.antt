@@ -7,6 +7,7 @@ use Rattle.sink_journal.specs.Alerts.{alerts}
 use Rattle.sink_journal.specs.Audit.{audit}
 use Rattle.tuple_trace.specs.declared.row.Row.{Row}
 use Rattle.versions.specs.declared.request.Request.{Request}
+use Rattle.flow_model.specs.Begin.{Begin}
 use Rattle.flow_model.specs.Consistent.{IsConsistent}
 use Rattle.flow_model.specs.OneTable.{HasNoCounts}
 use Rattle.flow_model.specs.Record.{record_view}
@@ -118,7 +119,7 @@ made_lines done = summary_line (summary_of done)
 
 -- the call ran something that is so, and came to storing its files and printing the lines of that
 pub record Runs (IsSo : Done → Type 0) (alerts : List ℕ) (audit save : Option (List ℕ))
-    (from : Option ℕ) (old new : World) (answer : Answer) : Type 0 where
+    (from : Option Begin) (old new : World) (answer : Answer) : Type 0 where
   pub done : Done
   pub is_so : IsSo done
   pub outcome : EndsAfterRun (files_of alerts audit save done) (run_lines done) old new answer.fault

@@ -2,7 +2,7 @@ ghost use Rattle.std.specs.Prelude.{◌≡◌, None, Some};
 ghost use Rattle.call_steps.specs.Outcomes.{stopped as stopped_for};
 
 use crate::running::Done;
-use flow_model::RunRecord;
+use flow_model::{RunRecord, Start};
 use report::Fault;
 use std::alloc::Global;
 use versions::Refusals;
@@ -16,8 +16,8 @@ pub struct Answer {
     pub refused: Refusals,
     /// What the run did, where one was completed.
     pub ran: Option<RunRecord>,
-    /// After how many rows the run began, if it began at a savepoint that was read.
-    pub start: Option<u64>,
+    /// Where the run began, if it began with a savepoint that was read.
+    pub start: Option<Start>,
 }
 
 impl Answer {

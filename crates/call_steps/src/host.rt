@@ -1,3 +1,7 @@
+ghost use Rattle.command_line.specs.Asked.{IsSize};
+
+use command_line::EngineSize;
+use flow_engine::Engine;
 use std::alloc::Global;
 
 /// What a call runs on: the runtime, by which it starts threads and waits for them, the allocator,
@@ -7,4 +11,20 @@ pub struct Host<'a, R, G> {
     pub rt: &'a R,
     pub alloc: Global,
     pub gate: &'a G,
+}
+
+impl<'a, R, G> Host<'a, R, G> {
+    /// The engine of one run on this host, over lanes of this form.
+    pub fn engine<'b, L>(&'b self, form: &'b L, size: EngineSize) -> Engine<'b, R, L, G>
+        requires { IsSize size }
+    {
+        Engine::new(
+            self.rt,
+            self.alloc,
+            form,
+            self.gate,
+            size.threads,
+            size.capacity,
+        )
+    }
 }

@@ -75,14 +75,7 @@ where
     let work = Box::new(alloc, Work { setup, inbox })?;
     let mut work = Some(work);
     let lanes = RingLanes;
-    let engine = Engine::new(
-        host.rt,
-        alloc,
-        &lanes,
-        host.gate,
-        size.threads,
-        size.capacity,
-    );
+    let engine = host.engine(&lanes, size);
     let fed = FeedRows::all(rows);
     let (flown, heard) = run_beside(&engine, &mut work, &fed, asks, &mut teller, most);
     let (flown, inbox) = flown?;

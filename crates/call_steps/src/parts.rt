@@ -17,11 +17,11 @@ use crate::running::{Done, done_of};
 use crate::setup::setup_of;
 use begin_law::later_rows_are_whole;
 use command_line::EngineSize;
-use flow_engine::{Engine, run_flow, run_from};
+use flow_engine::{run_flow, run_from};
 use flow_model::{Setup, Start, runs_are_consistent};
 use jobs::Job;
 use lane_ring::RingLanes;
-use save_file::issued_up_to;
+use save_file::{copy_of_start, issued_up_to};
 use savepoint::{first_of, first_parts_can_be_saved};
 use std::alloc::Global;
 use std::sync::Wait;
@@ -66,14 +66,7 @@ where
     first.are_numbered();
     runs_are_consistent(&part);
     let lanes = RingLanes;
-    let engine = Engine::new(
-        host.rt,
-        alloc,
-        &lanes,
-        host.gate,
-        size.threads,
-        size.capacity,
-    );
+    let engine = host.engine(&lanes, size);
     let fed = FeedRows::all(&first);
     let flown = run_flow(&engine, part, &fed)?;
     let ran = flown.record(alloc)?;
@@ -122,39 +115,33 @@ fn copy_of(row: &Row) -> Result<Row, NoMemory>
 
 /// Runs the rows after a start and the requests that it hasn't turned, by a setup that was judged.
 ///
-/// `rows` are all rows, and the start has turned no more requests than the setup has. Its counts are
-/// moved into the run. The one error is out of memory; it gives the start up.
+/// `rows` are all rows, and the start has turned no more requests than the setup has. It is copied,
+/// since the call that read it answers it too. The one error is out of memory.
 pub fn run_later_part<R, G>(
     host: &Host<'_, R, G>,
     size: EngineSize,
     setup: Setup,
     requests: &Requests,
     rows: &Rows,
-    start: Start,
+    start: &Start,
 ) -> Result<Done, NoMemory>
 where
     R: Threads + Wait + Copy + Send + Sync + 'static,
     G: Gate + Sync,
     requires size { IsSize size }
     requires sources { AreFromSources (setup_view setup).job rows.now }
-    requires turned { start.turned ≤ length (setup_view setup).requests }
-    requires states { length start.states ≡ length (workers_in (setup_view setup).job) }
-    ensures run { IfOk result (IsRunFromStart start setup requests.now rows.now) }
+    requires turned { start.now.turned ≤ length (setup_view setup).requests }
+    requires states { length start.now.states ≡ length (workers_in (setup_view setup).job) }
+    ensures run { IfOk result (IsRunFromStart start.now setup requests.now rows.now) }
     ensures workers { IfOk result HasWorkers }
 {
     let alloc = host.alloc;
+    let begun = copy_of_start(alloc, start)?;
     later_rows_are_whole(&setup, rows);
     let lanes = RingLanes;
-    let engine = Engine::new(
-        host.rt,
-        alloc,
-        &lanes,
-        host.gate,
-        size.threads,
-        size.capacity,
-    );
+    let engine = host.engine(&lanes, size);
     let fed = FeedRows::all(rows);
-    let flown = run_from(&engine, setup, &fed, start)?;
+    let flown = run_from(&engine, setup, &fed, begun)?;
     let ran = flown.record(alloc)?;
     done_of(alloc, ran, requests, rows)
 }

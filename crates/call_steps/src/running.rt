@@ -21,7 +21,7 @@ use crate::host::Host;
 use crate::setup::setup_of;
 use crate::writing::{FileText, Texts, write_texts};
 use command_line::EngineSize;
-use flow_engine::{Engine, run_flow};
+use flow_engine::run_flow;
 use flow_model::{RunRecord, ordered_runs_are_serial, runs_are_consistent};
 use flow_replay::plain_run;
 use jobs::Job;
@@ -103,14 +103,7 @@ where
     runs_are_consistent(&setup);
     ordered_runs_are_serial(&setup, rows);
     let lanes = RingLanes;
-    let engine = Engine::new(
-        host.rt,
-        alloc,
-        &lanes,
-        host.gate,
-        size.threads,
-        size.capacity,
-    );
+    let engine = host.engine(&lanes, size);
     let fed = FeedRows::all(rows);
     let flown = run_flow(&engine, setup, &fed)?;
     let ran = flown.record(alloc)?;

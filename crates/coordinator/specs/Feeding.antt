@@ -97,8 +97,8 @@ pub record IsFeeding (setup : SetupView) (begin : Begin) (afters : List ℕ) (ro
   pub places_are : f.places ≡ places_of setup.job
   pub outs_are : length f.outs ≡ length (fed_lanes setup.job)
   pub outs :
-      (place : ℕ) (lane : Lane) (out : EndpointIs) → slice_get (fed_lanes setup.job) place ≡ Some lane
-      → slice_get f.outs place ≡ Some out
+      (place : ℕ) (lane : Lane) (out : EndpointIs)
+      → slice_get (fed_lanes setup.job) place ≡ Some lane → slice_get f.outs place ≡ Some out
       → IsOut setup begin rows graph f.feeds f.ended place lane out
   -- a lane is ended only if all rows are fed and all requests issued, and each is once it stopped
   pub ended_within : f.ended ≤ length f.outs

@@ -14,7 +14,7 @@ use Rattle.coordinator.specs.declared.feeding.FeedTurn.TheVariants as turn
 use Rattle.coordinator.specs.Boxes.{AreBoxes, AsIssued, SameBoxes, SamePosts, SomeBelow}
 use Rattle.coordinator.specs.Turning.{IsLaneOfRow}
 use Rattle.coordinator.specs.Views.{FeederIs}
-use Rattle.lane_core.specs.Lane.{EndpointIs}
+use Rattle.lane_core.specs.Lane.{EndpointIs, after_item}
 
 -- the row of the next request is fed
 abbrev pub IsReached : List ℕ → ℕ → ℕ → ℕ → Type 0
@@ -57,7 +57,7 @@ Feeds job rows old new turn.Moved =
     × (new ≡ record old {
       feeds = old.feeds ++ feed.Fed (old.row + 1) ∷ [];
       row = old.row + 1;
-      outs = slice_set old.outs k (record o { items = o.items ++ fed_item old.issued row ∷ [] });
+      outs = slice_set old.outs k (after_item (fed_item old.issued row) o);
       held = None;
     })
 Feeds job rows old new turn.Idle =
@@ -75,7 +75,7 @@ abbrev pub Stops : FeederIs → FeederIs → FeedTurn → Type 0
 Stops old new turn.Moved =
     (o : EndpointIs) × (slice_get old.outs old.ended ≡ Some o)
     × (new ≡ record old {
-      outs = slice_set old.outs old.ended (record o { items = o.items ++ item.Last ∷ [] });
+      outs = slice_set old.outs old.ended (after_item item.Last o);
       ended = old.ended + 1;
     })
 Stops old new turn.Idle =

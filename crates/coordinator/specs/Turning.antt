@@ -22,8 +22,8 @@ use Rattle.lane_core.specs.Lane.{EndpointIs, end_of}
 -- the lane at this place was full
 abbrev pub FoundFull : ℕ → List EndpointIs → List EndpointIs → Type 0
 FoundFull place old new =
-    (o : EndpointIs) × (q : EndpointIs) × (slice_get old place ≡ Some o) × (slice_get new place ≡ Some q)
-    × Rose o.stalls q.stalls
+    (o : EndpointIs) × (q : EndpointIs) × (slice_get old place ≡ Some o)
+    × (slice_get new place ≡ Some q) × Rose o.stalls q.stalls
 
 -- a request is due, and a worker hasn't turned all earlier ones that cover it
 abbrev pub RequestWaits : Bool → SetupView → List Row → FeederIs → FeederIs → Type 0
@@ -59,8 +59,8 @@ Waits live setup rows old new =
 abbrev pub Grew : FeederIs → FeederIs → Type 0
 Grew old new =
     ((entry : Feed) × (new.feeds ≡ old.feeds ++ entry ∷ []))
-    ⊎ ((place : ℕ) × (o : EndpointIs) × (q : EndpointIs) × (item : Item) × (slice_get old.outs place ≡ Some o)
-    × (slice_get new.outs place ≡ Some q) × (q.items ≡ o.items ++ item ∷ []))
+    ⊎ ((place : ℕ) × (o : EndpointIs) × (q : EndpointIs) × (item : Item)
+    × (slice_get old.outs place ≡ Some o) × (slice_get new.outs place ≡ Some q) × (q.items ≡ o.items ++ item ∷ []))
 
 -- the list is as before, or has one item more
 abbrev pub AtMostOneMore : {A : Type 0} → List A → List A → Type 0

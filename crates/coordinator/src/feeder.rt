@@ -1,4 +1,4 @@
-ghost use Rattle.std.specs.Prelude.{◌≡◌, ◌≤◌, IfOk, List, false, length, ⊤};
+ghost use Rattle.std.specs.Prelude.{◌≡◌, ◌≤◌, IfOk, List, false, length, ⊤, map};
 ghost use Rattle.tuple_trace.specs.declared.row.Row.{Row as RowIs};
 ghost use Rattle.flow_model.specs.Begin.{Begin, at_first};
 ghost use Rattle.flow_model.specs.Setup.{setup_view};

@@ -1,4 +1,4 @@
-ghost use Rattle.std.specs.Prelude.{◌≡◌, Bool, IfOk, IsTrue, List};
+ghost use Rattle.std.specs.Prelude.{◌≡◌, Bool, IfOk, IsTrue, List, map};
 ghost use Rattle.jobs.specs.Nodes.{AreFromSources};
 ghost use Rattle.sink_journal.specs.declared.journal.Feed.{Feed as FeedIs};
 ghost use Rattle.tuple_trace.specs.declared.row.Row.{Row as RowIs};

@@ -1,9 +1,9 @@
 ghost use Rattle.std.specs.Prelude.{◌≡◌, ◌<◌, ℕ, IfErr, List, OnOk, [], ◌∷◌, ◌++◌, Some, length};
-ghost use Rattle.std.specs.Prelude.{slice_get, slice_set};
+ghost use Rattle.std.specs.Prelude.{slice_get, slice_set, map};
 ghost use Rattle.tuple_trace.specs.Counts.{Rose};
 ghost use Rattle.tuple_trace.specs.declared.tuple.Item.TheVariants.{Carry};
 ghost use Rattle.lane_core.specs.Steady.{MayFollow};
-ghost use Rattle.lane_core.specs.Lane.{EndpointIs};
+ghost use Rattle.lane_core.specs.Lane.{EndpointIs, after_item};
 
 use lane_core::Tx;
 use std::marker::{Model, PhantomData};
@@ -17,13 +17,12 @@ pub struct Outs<N, T: Tx<N>> {
 }
 
 impl<N, T: Tx<N>> Model for Outs<N, T> {
-    ghost use Rattle.std.specs.Prelude.{List};
+    ghost use Rattle.std.specs.Prelude.{List, map};
     ghost use Rattle.lane_core.specs.Lane.{EndpointIs};
 
     ghost Value = { List EndpointIs };
 
-    ghost view = { λ o. map T.state
-        o.endpoints.items };
+    ghost view = { λ o. map T.state o.endpoints.items };
 }
 
 impl<N, T: Tx<N>> Outs<N, T> {

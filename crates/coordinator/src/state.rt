@@ -1,5 +1,5 @@
 ghost use Rattle.std.specs.Prelude.{◌≡◌, ◌<◌, ◌≤◌, ℕ, IfOk, IsTrue, List, None, [], OnErr, Some};
-ghost use Rattle.std.specs.Prelude.{false, length, slice_get, true};
+ghost use Rattle.std.specs.Prelude.{false, length, slice_get, true, map};
 ghost use Rattle.std.specs.Option.{ForSome};
 ghost use Rattle.jobs.specs.Nodes.{AreFromSources};
 ghost use Rattle.tuple_trace.specs.declared.row.Row.{Row as RowIs};
@@ -158,8 +158,7 @@ impl<N, T: Tx<N> + Drop> FeederState<N, T> {
     /// The feed and the endpoints.
     pub fn open(self) -> (Feeds, Vec<T>)
         ensures feeds { result.0 ≡ self.feeds }
-        ensures outs { self.outs ≡ map T.state
-            result.1.items }
+        ensures outs { self.outs ≡ map T.state result.1.items }
     {
         let FeederState { feeds, outs, .. } = self;
         (Feeds::from_vec(feeds), outs.open())

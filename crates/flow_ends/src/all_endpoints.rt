@@ -1,6 +1,6 @@
 // The endpoints of all lanes of a job, made one lane after another.
 ghost use Rattle.std.specs.Prelude.{◌≡◌, ℕ, ◌<◌, ◌≤◌, ◌∷◌, [], IfOk, IfSome, OnOk, Some, length};
-ghost use Rattle.std.specs.Prelude.{All, replicate, slice_get};
+ghost use Rattle.std.specs.Prelude.{All, replicate, slice_get, map};
 ghost use Rattle.flow_model.specs.Lanes.{lanes};
 ghost use Rattle.flow_model.specs.Setup.{setup_view};
 ghost use Rattle.flow_model.specs.Workers.{workers_in};
@@ -42,8 +42,7 @@ impl<L: Lanes> AllEndpoints<L> {
             → slice_get made.workers.items w ≡ Some side
             → AreNewEndpoints (setup_view setup.now).job w side.ins side.outs) }
         ensures feeder { IfOk result (λ made. AreNewOuts (setup_view setup.now).job
-            (map L.Tx.state
-            made.feeder.items)) }
+            (map L.Tx.state made.feeder.items)) }
         ensures capacity { IfOk result (λ made. All (λ end. (L.Tx.state end).lane.capacity ≡ cap)
             made.feeder.items) }
         ensures hold { IfOk result (λ made. HoldAtMost cap made.workers.items) }
@@ -83,7 +82,8 @@ fn make_lane<L: Lanes>(
     ensures holds { IfOk result (λ (tx, rx). (L.Tx.state tx).lane.capacity ≡ cap) }
     ensures lane { IfOk result (λ (tx, rx). (L.Tx.state tx).lane ≡ (L.Rx.state rx).lane) }
 {
-    let from = setup.job.dag.edge(setup.lane(number).edge).from;
+    let lane = setup.lane(number);
+    let from = setup.job.dag.edge(lane.edge).from;
     form.make(alloc, number, cap, Origin { graph, from })
 }
 
@@ -96,12 +96,10 @@ fn add_out<L: Lanes>(
     tx: L::Tx,
 ) -> Result<(), NoMemory>
     requires { IfSome sender (λ worker. worker < length workers.old) }
-    ensures workers { OnOk result (workers.new ≡ with_out sender
-        (L.Tx.state tx ∷ []) workers.old) }
-    ensures feeder { OnOk result
-        (map L.Tx.state feeder.new.items
-        ≡ with_fed sender (L.Tx.state tx ∷ [])
-        (map L.Tx.state feeder.old.items)) }
+    ensures workers { OnOk result (workers.new
+        ≡ with_out sender (L.Tx.state tx ∷ []) workers.old) }
+    ensures feeder { OnOk result (map L.Tx.state feeder.new.items
+        ≡ with_fed sender (L.Tx.state tx ∷ []) (map L.Tx.state feeder.old.items)) }
     ensures capacity { OnOk result ((n : ℕ) → (L.Tx.state tx).lane.capacity ≡ n
         → All (λ end. (L.Tx.state end).lane.capacity ≡ n) feeder.old.items
         → All (λ end. (L.Tx.state end).lane.capacity ≡ n) feeder.new.items) }
@@ -117,16 +115,16 @@ fn add_out<L: Lanes>(
 
 fn add_out_at<L: Lanes>(workers: &mut [Side<L>], worker: u32, tx: L::Tx) -> Result<(), NoMemory>
     requires { worker < length workers.old }
-    ensures { OnOk result (workers.new ≡ changed (more_out
-        (L.Tx.state tx ∷ [])) worker workers.old) }
+    ensures { OnOk result (workers.new
+        ≡ changed (more_out (L.Tx.state tx ∷ [])) worker workers.old) }
 {
     workers[worker as usize].push_out(tx)
 }
 
 fn add_in<L: Lanes>(workers: &mut [Side<L>], worker: u32, rx: L::Rx) -> Result<(), NoMemory>
     requires { worker < length workers.old }
-    ensures { OnOk result (workers.new ≡ changed (more_in
-        (L.Rx.state rx ∷ [])) worker workers.old) }
+    ensures { OnOk result (workers.new
+        ≡ changed (more_in (L.Rx.state rx ∷ [])) worker workers.old) }
 {
     workers[worker as usize].push_in(rx)
 }

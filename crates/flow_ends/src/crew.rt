@@ -1,5 +1,6 @@
 // The workers of a setup, each over its endpoints and with its box.
-ghost use Rattle.std.specs.Prelude.{◌≡◌, ℕ, ◌<◌, ◌≤◌, All, IfOk, Some, length, map, slice_get};
+ghost use Rattle.std.specs.Prelude.{◌≡◌, ℕ, ◌<◌, ◌≤◌, ◌+◌, ◌∷◌, All, IfOk, Some, length, map, slice_get};
+ghost use Rattle.std.specs.Vec.Iter.{into_iter_items, into_iter_len};
 ghost use Rattle.control_box.specs.Endpoints.{ShareBoxes};
 ghost use Rattle.flow_model.specs.Begin.{at_first};
 ghost use Rattle.flow_model.specs.Setup.{setup_view};
@@ -14,8 +15,10 @@ use crate::{AllEndpoints, Side};
 use control_box::{Poster, make_box};
 use flow_model::{Setup, Start};
 use flow_worker::{Worker, WorkerStart};
+use keyed_state::Keyed;
 use lane_core::Lanes;
 use std::alloc::Global;
+use std::vec::IntoIter;
 use tuple_trace::{MAX_CAPACITY, NoMemory};
 
 /// The workers of a setup, and what its feeder is made of.
@@ -42,8 +45,7 @@ impl<L: Lanes> Crew<L> {
         ensures boxes { IfOk result (λ crew. ShareBoxes crew.posters.items
             (map (λ (w : WorkerIs). w.owner) crew.workers.items)) }
         ensures outs { IfOk result (λ crew. AreNewOuts (setup_view setup.now).job
-            (map L.Tx.state
-            crew.outs.items)) }
+            (map L.Tx.state crew.outs.items)) }
         ensures capacity { IfOk result (λ crew. All (λ end. (L.Tx.state end).lane.capacity ≡ cap)
             crew.outs.items) }
         ensures hold { IfOk result (λ crew. HoldAtMost cap
@@ -77,8 +79,7 @@ impl<L: Lanes> Crew<L> {
         ensures boxes { IfOk result (λ crew. ShareBoxes crew.posters.items
             (map (λ (w : WorkerIs). w.owner) crew.workers.items)) }
         ensures outs { IfOk result (λ crew. AreNewOuts (setup_view setup.now).job
-            (map L.Tx.state
-            crew.outs.items)) }
+            (map L.Tx.state crew.outs.items)) }
         ensures capacity { IfOk result (λ crew. All (λ end. (L.Tx.state end).lane.capacity ≡ cap)
             crew.outs.items) }
         ensures hold { IfOk result (λ crew. HoldAtMost cap
@@ -98,6 +99,18 @@ impl<L: Lanes> Crew<L> {
 
 type Made<L> = (Vec<Worker<L>>, Vec<Poster>);
 
+// Takes the counts of the next worker.
+fn take_counts(left: &mut IntoIter<Keyed, Global>) -> Keyed
+    requires { 0 < into_iter_len left.old }
+    ensures items { into_iter_items left.old ≡ result ∷ into_iter_items left.new }
+    ensures fewer { into_iter_len left.new + 1 ≡ into_iter_len left.old }
+{
+    match left.next() {
+        Some(counts) => counts,
+        None => unreachable!(),
+    }
+}
+
 fn make_workers<L: Lanes>(
     alloc: Global,
     setup: &Setup,
@@ -116,16 +129,14 @@ fn make_workers<L: Lanes>(
     ensures sides { IfOk result (λ made. map worker_side made.0.items ≡ sides.items) }
 {
     let Start { turned, states, .. } = start;
-    let mut states = states.into_iter();
+    let mut left = states.into_iter();
     let mut workers = Vec::new(alloc);
     let mut posters = Vec::new(alloc);
     for side in sides {
         let (poster, owner) = make_box(alloc)?;
         let (ins, outs) = side.open();
         let number = workers.len() as u32;
-        let Some(counts) = states.next() else {
-            unreachable!()
-        };
+        let counts = take_counts(&mut left);
         let from = WorkerStart {
             number,
             turned,

@@ -1,5 +1,5 @@
 // The settling of all lanes, one after another, from the last to the first.
-ghost use Rattle.std.specs.Prelude.{◌≡◌, ◌<◌, ◌∷◌, [], IfNone, IfSome, OnOk, Some, length};
+ghost use Rattle.std.specs.Prelude.{◌≡◌, ◌<◌, ◌∷◌, [], IfNone, IfSome, OnOk, Some, length, map};
 ghost use Rattle.flow_model.specs.Setup.{setup_view};
 ghost use Rattle.flow_ends.specs.Sides.{AreMatched, AreSettled, HaveAllLanes, ins_at, outs_at};
 ghost use Rattle.flow_ends.specs.Sorted.{changed, more_in, more_out, with_fed, with_out};
@@ -24,8 +24,7 @@ pub fn settle_all<L: Lanes>(
 ) -> Result<(), NoMemory>
     requires lanes { HaveAllLanes (setup_view setup.now).job sides.items
         (map L.Tx.state feeder.items) }
-    requires matched { AreMatched sides.items
-        (map L.Tx.state feeder.items) }
+    requires matched { AreMatched sides.items (map L.Tx.state feeder.items) }
     ensures { OnOk result (AreSettled (setup_view setup.now).job sides.items
         (map L.Tx.state feeder.items)) }
 {
@@ -53,12 +52,10 @@ fn take_out<L: Lanes>(
     sender: Option<u32>,
 ) -> Option<L::Tx>
     requires { IfSome sender (λ worker. worker < length sides.old) }
-    ensures sides { IfSome result (λ tx. sides.old ≡ with_out sender
-        (L.Tx.state tx ∷ []) sides.new) }
-    ensures feeder { IfSome result (λ tx.
-        map L.Tx.state feeder.old.items
-        ≡ with_fed sender (L.Tx.state tx ∷ [])
-        (map L.Tx.state feeder.new.items)) }
+    ensures sides { IfSome result (λ tx. sides.old
+        ≡ with_out sender (L.Tx.state tx ∷ []) sides.new) }
+    ensures feeder { IfSome result (λ tx. map L.Tx.state feeder.old.items
+        ≡ with_fed sender (L.Tx.state tx ∷ []) (map L.Tx.state feeder.new.items)) }
     ensures none { IfNone result (outs_at sender sides.old
         (map L.Tx.state feeder.old.items) ≡ []) }
 {
@@ -70,8 +67,8 @@ fn take_out<L: Lanes>(
 
 fn take_out_at<L: Lanes>(sides: &mut [Side<L>], worker: u32) -> Option<L::Tx>
     requires { worker < length sides.old }
-    ensures some { IfSome result (λ tx. sides.old ≡ changed (more_out
-        (L.Tx.state tx ∷ [])) worker sides.new) }
+    ensures some { IfSome result (λ tx. sides.old
+        ≡ changed (more_out (L.Tx.state tx ∷ [])) worker sides.new) }
     ensures none { IfNone result (outs_at (Some worker) sides.old [] ≡ []) }
 {
     sides[worker as usize].pop_out()
@@ -80,8 +77,8 @@ fn take_out_at<L: Lanes>(sides: &mut [Side<L>], worker: u32) -> Option<L::Tx>
 // Removes the last receiving endpoint of a worker.
 fn take_in<L: Lanes>(sides: &mut [Side<L>], worker: u32) -> Option<L::Rx>
     requires { worker < length sides.old }
-    ensures some { IfSome result (λ rx. sides.old ≡ changed (more_in
-        (L.Rx.state rx ∷ [])) worker sides.new) }
+    ensures some { IfSome result (λ rx. sides.old
+        ≡ changed (more_in (L.Rx.state rx ∷ [])) worker sides.new) }
     ensures none { IfNone result (ins_at worker sides.old ≡ []) }
 {
     sides[worker as usize].pop_in()

@@ -1,4 +1,4 @@
-ghost use Rattle.std.specs.Prelude.{◌≡◌, [], ◌∷◌, ◌++◌, IfNone, IfSome, OnErr, OnOk};
+ghost use Rattle.std.specs.Prelude.{◌≡◌, [], ◌∷◌, ◌++◌, IfNone, IfSome, OnErr, OnOk, map};
 ghost use Rattle.flow_ends.specs.Sides.{empty_side};
 ghost use Rattle.flow_ends.specs.Sorted.{more_in, more_out};
 
@@ -16,6 +16,7 @@ pub struct Side<L: Lanes> {
 }
 
 impl<L: Lanes> Model for Side<L> {
+    ghost use Rattle.std.specs.Prelude.{map};
     ghost use Rattle.flow_ends.specs.Sides.{SideIs};
 
     ghost Value = { SideIs };
@@ -51,8 +52,7 @@ impl<L: Lanes> Side<L> {
     /// gives the endpoint up.
     pub fn push_in(&mut self, end: L::Rx) -> Result<(), NoMemory>
         ensures ok { OnOk result (self.new ≡ record self.old {
-          ins = self.old.ins
-              ++ L.Rx.state end ∷ [];
+          ins = self.old.ins ++ L.Rx.state end ∷ [];
         }) }
         ensures err { OnErr result (self.new ≡ self.old) }
     {
@@ -64,8 +64,7 @@ impl<L: Lanes> Side<L> {
     /// gives the endpoint up.
     pub fn push_out(&mut self, end: L::Tx) -> Result<(), NoMemory>
         ensures ok { OnOk result (self.new ≡ record self.old {
-          outs = self.old.outs
-              ++ L.Tx.state end ∷ [];
+          outs = self.old.outs ++ L.Tx.state end ∷ [];
         }) }
         ensures err { OnErr result (self.new ≡ self.old) }
     {
@@ -75,8 +74,8 @@ impl<L: Lanes> Side<L> {
 
     /// Removes the receiving endpoint of the last lane in, if there is one. Takes no memory.
     pub fn pop_in(&mut self) -> Option<L::Rx>
-        ensures some { IfSome result (λ end. self.old ≡ more_in
-            (L.Rx.state end ∷ []) self.new) }
+        ensures some { IfSome result (λ end. self.old
+            ≡ more_in (L.Rx.state end ∷ []) self.new) }
         ensures none { IfNone result (self.old.ins ≡ []) }
     {
         self.ins.pop()
@@ -84,8 +83,8 @@ impl<L: Lanes> Side<L> {
 
     /// Removes the sending endpoint of the last lane out, if there is one. Takes no memory.
     pub fn pop_out(&mut self) -> Option<L::Tx>
-        ensures some { IfSome result (λ end. self.old ≡ more_out
-            (L.Tx.state end ∷ []) self.new) }
+        ensures some { IfSome result (λ end. self.old
+            ≡ more_out (L.Tx.state end ∷ []) self.new) }
         ensures none { IfNone result (self.old.outs ≡ []) }
     {
         self.outs.pop()
@@ -93,10 +92,8 @@ impl<L: Lanes> Side<L> {
 
     /// Returns the receiving and the sending endpoints. Takes no memory.
     pub fn open(self) -> (Vec<L::Rx>, Vec<L::Tx>)
-        ensures ins { map L.Rx.state result.0.items
-            ≡ self.ins }
-        ensures outs { map L.Tx.state result.1.items
-            ≡ self.outs }
+        ensures ins { map L.Rx.state result.0.items ≡ self.ins }
+        ensures outs { map L.Tx.state result.1.items ≡ self.outs }
     {
         let Side { ins, outs } = self;
         (ins, outs)

@@ -85,8 +85,7 @@ pub struct Parts<L: Lanes> {
 pub fn part_ins<L: Lanes>(ins: Vec<LaneIn<L>>, spare: Vec<L::Rx>) -> Vec<L::Rx>
     requires empty { spare.items ≡ [] }
     requires room { length ins.items ≤ vec_capacity spare }
-    ensures { map L.Rx.state result.items
-        ≡ map endpoint_in ins.items }
+    ensures { map L.Rx.state result.items ≡ map endpoint_in ins.items }
 {
     let mut ends = spare;
     for lane in ins {
@@ -101,8 +100,7 @@ pub fn part_outs<L: Lanes>(outs: Vec<LaneOut<L>>, spare: Vec<L::Tx>) -> Vec<L::T
     requires empty { spare.items ≡ [] }
     requires room { length outs.items ≤ vec_capacity spare }
     requires done { Each (λ (out : LaneOutIs). out.waiting ≡ []) outs.items }
-    ensures { map L.Tx.state result.items
-        ≡ map endpoint_out outs.items }
+    ensures { map L.Tx.state result.items ≡ map endpoint_out outs.items }
 {
     let mut ends = spare;
     for lane in outs {
@@ -123,8 +121,7 @@ pub fn new_ins<L: Lanes>(
     requires room { length ends.items ≤ vec_capacity room }
     requires numbers { map (λ x. (L.Rx.state x).number) ends.items ≡ numbers.now }
     requires there { Each (λ n. n < length (lanes (setup_view setup.now).job)) numbers.now }
-    ensures ends { map endpoint_in result.items
-        ≡ map L.Rx.state ends.items }
+    ensures ends { map endpoint_in result.items ≡ map L.Rx.state ends.items }
     ensures edges { Each (λ (a : LaneInIs). IsOnLane (setup_view setup.now).job a.number a.edge)
         result.items }
     ensures hands { Each (λ (a : LaneInIs). a.hand ≡ Empty) result.items }
@@ -151,8 +148,7 @@ pub fn new_outs<L: Lanes>(
     requires room { length ends.items ≤ vec_capacity room }
     requires numbers { map (λ x. (L.Tx.state x).number) ends.items ≡ numbers.now }
     requires there { Each (λ n. n < length (lanes (setup_view setup.now).job)) numbers.now }
-    ensures ends { map endpoint_out result.items
-        ≡ map L.Tx.state ends.items }
+    ensures ends { map endpoint_out result.items ≡ map L.Tx.state ends.items }
     ensures edges { Each (λ (out : LaneOutIs). IsOnLane (setup_view setup.now).job out.number
         out.edge)
         result.items }

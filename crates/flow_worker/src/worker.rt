@@ -142,15 +142,12 @@ impl<L: Lanes> Worker<L> {
     ) -> Result<Worker<L>, NoMemory>
         requires there { number < length (workers_in (setup_view setup.now).job) }
         requires ends { AreNewEndpoints (setup_view setup.now).job number
-            (map L.Rx.state ins.items)
-            (map L.Tx.state outs.items) }
+            (map L.Rx.state ins.items) (map L.Tx.state outs.items) }
         requires owner { owner.turned ≡ 0 }
         ensures law { IfOk result (IsWorker (setup_view setup.now)
             (at_first (setup_view setup.now))) }
-        ensures ins { IfOk result (λ w. map endpoint_in w.ins
-            ≡ map L.Rx.state ins.items) }
-        ensures outs { IfOk result (λ w. map endpoint_out w.outs
-            ≡ map L.Tx.state outs.items) }
+        ensures ins { IfOk result (λ w. map endpoint_in w.ins ≡ map L.Rx.state ins.items) }
+        ensures outs { IfOk result (λ w. map endpoint_out w.outs ≡ map L.Tx.state outs.items) }
         ensures owner { IfOk result (λ w. w.owner ≡ owner) }
     {
         let state = WorkerState::new(alloc);
@@ -178,16 +175,13 @@ impl<L: Lanes> Worker<L> {
     ) -> Result<Worker<L>, NoMemory>
         requires there { start.number < length (workers_in (setup_view setup.now).job) }
         requires ends { AreNewEndpoints (setup_view setup.now).job start.number
-            (map L.Rx.state ins.items)
-            (map L.Tx.state outs.items) }
+            (map L.Rx.state ins.items) (map L.Tx.state outs.items) }
         requires owner { owner.turned ≡ 0 }
         requires turned { start.turned ≤ length (setup_view setup.now).requests }
         ensures law { IfOk result (λ w. (begin : Begin) → IsStartOf begin start
             → IsWorker (setup_view setup.now) begin w) }
-        ensures ins { IfOk result (λ w. map endpoint_in w.ins
-            ≡ map L.Rx.state ins.items) }
-        ensures outs { IfOk result (λ w. map endpoint_out w.outs
-            ≡ map L.Tx.state outs.items) }
+        ensures ins { IfOk result (λ w. map endpoint_in w.ins ≡ map L.Rx.state ins.items) }
+        ensures outs { IfOk result (λ w. map endpoint_out w.outs ≡ map L.Tx.state outs.items) }
         ensures owner { IfOk result (λ w. w.owner ≡ owner) }
     {
         let WorkerStart {
@@ -220,17 +214,14 @@ impl<L: Lanes> Worker<L> {
     ) -> Result<Worker<L>, NoMemory>
         requires there { beginning.number < length (workers_in (setup_view setup.now).job) }
         requires ends { AreNewEndpoints (setup_view setup.now).job beginning.number
-            (map L.Rx.state ins.items)
-            (map L.Tx.state outs.items) }
+            (map L.Rx.state ins.items) (map L.Tx.state outs.items) }
         requires owner { owner.turned ≡ 0 }
         requires unended { beginning.state.ended ≡ 0 }
         ensures law { IfOk result (λ w. (begin : Begin)
             → IsStateAt (setup_view setup.now) begin beginning
             → IsWorker (setup_view setup.now) begin w) }
-        ensures ins { IfOk result (λ w. map endpoint_in w.ins
-            ≡ map L.Rx.state ins.items) }
-        ensures outs { IfOk result (λ w. map endpoint_out w.outs
-            ≡ map L.Tx.state outs.items) }
+        ensures ins { IfOk result (λ w. map endpoint_in w.ins ≡ map L.Rx.state ins.items) }
+        ensures outs { IfOk result (λ w. map endpoint_out w.outs ≡ map L.Tx.state outs.items) }
         ensures owner { IfOk result (λ w. w.owner ≡ owner) }
     {
         let Beginning {
@@ -274,10 +265,8 @@ impl<L: Lanes> Worker<L> {
         requires room_out { length self.outs ≤ self.spare_out }
         ensures worked { result.worked
             ≡ record { number = self.number; journal = self.journal; state = self.counts } }
-        ensures ins { map L.Rx.state result.ins.items
-            ≡ map endpoint_in self.ins }
-        ensures outs { map L.Tx.state result.outs.items
-            ≡ map endpoint_out self.outs }
+        ensures ins { map L.Rx.state result.ins.items ≡ map endpoint_in self.ins }
+        ensures outs { map L.Tx.state result.outs.items ≡ map endpoint_out self.outs }
     {
         let Worker {
             number,

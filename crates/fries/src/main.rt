@@ -84,8 +84,8 @@ fn is_live(words: &[Word]) -> bool {
 // Tells on the standard error how many payments a later part left out, and then what ended the call
 // or why requests were refused. What comes of that changes nothing.
 fn tell(rt: &HostRuntime, alloc: Global, words: &Words, outcome: &Outcome) {
-    if let Some(row) = outcome.start {
-        if let Ok(text) = skipped_rows(alloc, row) {
+    if let Some(start) = &outcome.start {
+        if let Ok(text) = skipped_rows(alloc, start.row) {
             let _ = eprint!(rt; "{text}");
         }
     }

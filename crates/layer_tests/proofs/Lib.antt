@@ -1,2 +1,3 @@
+mod LaneLemmas
 mod MarkLemmas
 mod RowLemmas

@@ -1,4 +1,4 @@
-ghost use Rattle.std.specs.Prelude.{◌≡◌, IfOk, List, true};
+ghost use Rattle.std.specs.Prelude.{◌≡◌, IfOk, List, true, map};
 ghost use Rattle.tuple_trace.specs.declared.row.Row.{Row as RowIs};
 ghost use Rattle.flow_model.specs.Begin.{at_first};
 ghost use Rattle.flow_model.specs.Setup.{setup_view};

@@ -41,10 +41,10 @@ fn number_all_nodes(plans: &[Plan])
     ensures { All NumbersAllNodes plans.now }
 {
     for plan in plans {
-        numbers_all_nodes(&plan.part);
+        has_all_numbers(&plan.part);
     }
 }
 
-fn numbers_all_nodes(part: &[u8; MAX_NODES])
+fn has_all_numbers(part: &[u8; MAX_NODES])
     ensures { length part.now ≡ MAX_NODES }
 {}

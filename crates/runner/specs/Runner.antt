@@ -1,19 +1,13 @@
 -- What contracts see of a runner, and what is true of each.
 use Rattle.std.specs.Prelude.{◌≡◌, ℕ, Bool, true, List, map}
-use Rattle.lane_core.specs.Lane.{LaneId}
-use Rattle.lane_core.specs.declared.form.Origin.{Origin}
+use Rattle.lane_core.specs.Lane.{EndIs}
 use Rattle.flow_model.specs.Begin.{Begin}
 use Rattle.flow_model.specs.SetupView.{SetupView}
 use Rattle.flow_worker.specs.Endpoints.{LaneInIs, LaneOutIs}
 use Rattle.flow_worker.specs.Turning.{IsDone}
 use Rattle.flow_worker.specs.Worker.{IsWorker, WorkerIs}
 
--- What no turn changes of an endpoint: its lane, and that lane's number and origin.
-pub record EndIs : Type 0 where
-  pub lane : LaneId
-  pub number : ℕ
-  pub origin : Origin
-
+-- what no turn changes of the endpoint of a lane in, or of a lane out
 abbrev pub end_in : LaneInIs → EndIs
 end_in a = record { lane = a.lane; number = a.number; origin = a.origin }
 

@@ -19,5 +19,5 @@ mod text;
 
 pub use issued::issued_up_to;
 pub use read::read_save;
-pub use start::start_of;
+pub use start::{copy_of_start, start_of};
 pub use text::save_text;

@@ -21,6 +21,17 @@ pub fn start_of(alloc: Global, ran: &RunRecord, rows: u64) -> Result<Start, NoMe
     })
 }
 
+/// The same place to go on from, with counts of its own. The only error is out of memory.
+pub fn copy_of_start(alloc: Global, start: &Start) -> Result<Start, NoMemory>
+    ensures { IfOk result (λ copy. copy ≡ start.now) }
+{
+    Ok(Start {
+        row: start.row,
+        turned: start.turned,
+        states: copies(alloc, start.states.as_slice())?,
+    })
+}
+
 fn copies(alloc: Global, states: &[Keyed]) -> Result<States, NoMemory>
     ensures { IfOk result (λ copies. copies ≡ states.now) }
 {

@@ -15,6 +15,7 @@ use Rattle.report.specs.Lines.{sizes_line}
 use Rattle.report.specs.declared.fault.Fault.{Fault}
 use Rattle.report.specs.declared.fault.Fault.TheVariants as fault
 use Rattle.call_steps.specs.Effects.{FileText, IsExcused, PrintsFault}
+use Rattle.call_steps.specs.FirstJob.{first_job}
 use Rattle.call_steps.specs.Live.{live_fault, live_lines}
 use Rattle.call_steps.specs.Outcomes.{EndsAfterRun, Stops}
 use Rattle.call_steps.specs.Running.{files_of, made_lines, run_lines}

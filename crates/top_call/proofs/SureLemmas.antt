@@ -1,5 +1,5 @@
 -- What calls answer if the outside counts no fault.
-use Rattle.std.proofs.Common.{◌≡◌, ◌⊎◌, ◌≤◌, ◌∙◌, ◌∷◌, [], inl, inr, ℕ, Bool, true, false, List, Option, None, Some, length, refl, sym, ap, subst, arith}
+use Rattle.std.proofs.Common.{◌≡◌, ◌≤◌, ◌∙◌, ◌∷◌, [], inl, inr, ℕ, Bool, true, false, List, Option, None, Some, length, refl, sym, ap, subst, arith}
 use Rattle.std.specs.Prelude.{⊤}
 use Rattle.command_line.specs.Asked.{Asked, Check, First, Help, Live, Make, MakeAsked, Plan, PlanAsked, Resume, ResumeAsked, Run, Save, Verify, VerifyAsked, Version}
 use Rattle.command_line.specs.Help.{help_of, version_line}

@@ -19,7 +19,7 @@ use Rattle.call_steps.specs.declared.running.Done.{Done}
 use Rattle.call_steps.proofs.AlertLemmas.{alerts_apart, alerts_sole}
 use Rattle.call_steps.proofs.FileLemmas.{done_or_excused, follows_excused, follows_read, follows_unread, unread_excused}
 use Rattle.top_call.specs.Follows.{FollowsInputsThen, IsDoneOrExcused}
-use Rattle.top_call.specs.Verify.{EndsVerify, FollowsVerdict, HasNoAudit, HasOtherAlerts, IsRestoredRun}
+use Rattle.top_call.specs.Verify.{EndsVerify, FollowsVerdict, HasNoAudit, IsRestoredRun}
 use Rattle.top_call.proofs.FollowLemmas.{inputs_then, no_inputs_then}
 
 -- ---- the alerts' file, if one is named

@@ -57,7 +57,7 @@ abbrev pub EndsResume : ResumeAsked → World → World → Answer → Type 0
 EndsResume asked old new answer =
     Stops (IsNoResume asked old.shelf.files) old new answer
     ⊎ ((start : Begin) × Runs (IsResumedRun asked old.shelf.files start) asked.run.alerts
-    (Some asked.run.audit) None (Some start.row) old new answer)
+    (Some asked.run.audit) None (Some start) old new answer)
 
 -- the answer, seen from the savepoint's file, if the other files tell a job, requests and rows
 pub record FollowsSavepoint (asked : ResumeAsked) (job : JobView) (requests : List Request)

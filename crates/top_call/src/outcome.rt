@@ -1,4 +1,4 @@
-use flow_model::RunRecord;
+use flow_model::{RunRecord, Start};
 use report::Fault;
 use versions::Refusals;
 
@@ -15,7 +15,6 @@ pub struct Outcome {
     pub refused: Refusals,
     /// What the run did, if one was completed.
     pub ran: Option<RunRecord>,
-    /// After how many rows the run began, if the call read a savepoint and completed a run from
-    /// there.
-    pub start: Option<u64>,
+    /// Where the run began, if the call read a savepoint and completed a run from there.
+    pub start: Option<Start>,
 }

@@ -1,6 +1,5 @@
 ghost use Rattle.std.specs.Prelude.{◌≡◌, IfOk, IfErr, OnOk};
 ghost use Rattle.command_line.specs.Asked.{IsSize, resume_asked};
-ghost use Rattle.flow_model.specs.Begin.{Begin};
 ghost use Rattle.payments.specs.World.{world};
 ghost use Rattle.call_steps.specs.Parts.{HasWorkers};
 ghost use Rattle.top_call.specs.Resume.{EndsResume, IsNoResume, IsResumedRun};
@@ -8,17 +7,18 @@ ghost use Rattle.top_call.specs.Resume.{EndsResume, IsNoResume, IsResumedRun};
 use crate::inputs::{RunInputs, inputs_in};
 use call_steps::{Answer, Done, Host, Outputs, leave_run, run_later_part, setup_of, start_in};
 use command_line::ResumeFiles;
+use flow_model::Start;
 use payments::{Shelf, Sink};
 use report::Fault;
 use std::sync::Wait;
 use std::thread::Threads;
 use tuple_trace::Gate;
 
-// A run from a savepoint on, and after how many rows it began.
+// A run from a savepoint on, and where it began.
 #[derive(Drop)]
 struct Resumed {
     done: Done,
-    row: u64,
+    start: Start,
 }
 
 /// Reads a job, its requests and its payments, judges the requests, and then reads a savepoint.
@@ -48,9 +48,9 @@ where
     };
     let alloc = host.alloc;
     match run_later(host, files, shelf) {
-        Ok(Resumed { done, row }) => {
+        Ok(Resumed { done, start }) => {
             let mut answer = leave_run(alloc, done, names, shelf, out);
-            answer.start = Some(row);
+            answer.start = Some(start);
             answer
         }
         Err(fault) => Answer::stopped(alloc, fault),
@@ -68,8 +68,9 @@ where
     S: Shelf,
     G: Gate + Sync,
     requires { IsSize files.now.run.size }
-    ensures run { IfOk result (λ resumed. (start : Begin) × (start.row ≡ resumed.row)
-        × IsResumedRun (resume_asked files.now) (S.state shelf.old).files start resumed.done) }
+    ensures run { IfOk result (λ resumed.
+        IsResumedRun (resume_asked files.now)
+        (S.state shelf.old).files resumed.start resumed.done) }
     ensures workers { IfOk result (λ resumed. HasWorkers resumed.done) }
     ensures kept { OnOk result (S.state shelf.new ≡ S.state shelf.old) }
     ensures files { (S.state shelf.new).files ≡ (S.state shelf.old).files }
@@ -87,7 +88,6 @@ where
     } = inputs;
     let setup = setup_of(alloc, job, &requests, false)?;
     let start = start_in(alloc, &setup, rows.len() as u64, &files.save, shelf)?;
-    let row = start.row;
-    let done = run_later_part(host, run.size, setup, &requests, &rows, start)?;
-    Ok(Resumed { done, row })
+    let done = run_later_part(host, run.size, setup, &requests, &rows, &start)?;
+    Ok(Resumed { done, start })
 }

@@ -1,4 +1,4 @@
-ghost use Rattle.std.specs.Prelude.{◌≡◌, ℕ, []};
+ghost use Rattle.std.specs.Prelude.{◌≡◌, ℕ, [], map};
 ghost use Rattle.flow_dag.specs.Graph.{IsEdge};
 ghost use Rattle.jobs.specs.Job.{job_view};
 ghost use Rattle.coordinator.specs.Starts.{AreNewOuts};
@@ -12,7 +12,7 @@ use tuple_trace::{Item, Tuple};
 #[derive(Drop)]
 pub struct FedLane<L: Lanes> {
     end: L::Tx,
-    ghost unled: { IsUnled ((L.Tx.state end).origin) },
+    ghost unled: { IsUnled (L.Tx.state end).origin },
 }
 
 impl<L: Lanes> FedLane<L> {

@@ -26,22 +26,22 @@ pub fn origin() -> Origin {
 
 // The request that comes back if the lane is full.
 fn put<N, T: Tx<N>>(need: &mut N, tx: &mut T, request: u64) -> Option<u64>
-    ensures { T.lane tx.new ≡ T.lane tx.old }
+    ensures { (T.state tx.new).lane ≡ (T.state tx.old).lane }
 {
     let back = tx.put(need, Item::Mark { request, cover: 0 }).err();
     request_of(back.as_ref())
 }
 
 fn take<N, T: Rx<N>>(need: &mut N, rx: &mut T) -> Option<u64>
-    ensures { T.lane rx.new ≡ T.lane rx.old }
+    ensures { (T.state rx.new).lane ≡ (T.state rx.old).lane }
 {
     request_of(rx.take(need).as_ref())
 }
 
 // Whether `cap` items go, the next comes back, they are taken in order, and then there is none.
 fn fill_and_empty<N, T: Tx<N>, U: Rx<N>>(need: &mut N, tx: &mut T, rx: &mut U, cap: u32) -> bool
-    ensures tx { T.lane tx.new ≡ T.lane tx.old }
-    ensures rx { U.lane rx.new ≡ U.lane rx.old }
+    ensures tx { (T.state tx.new).lane ≡ (T.state tx.old).lane }
+    ensures rx { (U.state rx.new).lane ≡ (U.state rx.old).lane }
 {
     let mut well = true;
     for request in 0..u64::from(cap) {
@@ -90,7 +90,7 @@ pub fn go_in_turn<L: Lanes>(alloc: Global, lanes: &L) -> Result<bool, NoMemory> 
 }
 
 fn send<R: Wait, N: Drop, T: Tx<N>>(rt: &R, mut need: N, mut tx: T, count: u64) -> T
-    ensures { T.lane result ≡ T.lane tx }
+    ensures { (T.state result).lane ≡ (T.state tx).lane }
 {
     for request in 0..count {
         send_one(rt, &mut need, &mut tx, request);
@@ -99,7 +99,7 @@ fn send<R: Wait, N: Drop, T: Tx<N>>(rt: &R, mut need: N, mut tx: T, count: u64) 
 }
 
 fn send_one<R: Wait, N, T: Tx<N>>(rt: &R, need: &mut N, tx: &mut T, request: u64)
-    ensures { T.lane tx.new ≡ T.lane tx.old }
+    ensures { (T.state tx.new).lane ≡ (T.state tx.old).lane }
 {
     for _ in rt.forever() {
         if put(need, tx, request).is_none() {
@@ -111,7 +111,7 @@ fn send_one<R: Wait, N, T: Tx<N>>(rt: &R, need: &mut N, tx: &mut T, request: u64
 
 // The end, and whether the items came in order.
 fn receive<R: Wait, N: Drop, T: Rx<N>>(rt: &R, mut need: N, mut rx: T, count: u64) -> (T, bool)
-    ensures { T.lane result.0 ≡ T.lane rx }
+    ensures { (T.state result.0).lane ≡ (T.state rx).lane }
 {
     let mut in_order = true;
     for request in 0..count {
@@ -121,7 +121,7 @@ fn receive<R: Wait, N: Drop, T: Rx<N>>(rt: &R, mut need: N, mut rx: T, count: u6
 }
 
 fn receive_one<R: Wait, N, T: Rx<N>>(rt: &R, need: &mut N, rx: &mut T) -> Option<u64>
-    ensures { T.lane rx.new ≡ T.lane rx.old }
+    ensures { (T.state rx.new).lane ≡ (T.state rx.old).lane }
 {
     for _ in rt.forever() {
         let request = take(need, rx);

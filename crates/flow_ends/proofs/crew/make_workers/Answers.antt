@@ -1,13 +1,15 @@
-use Rattle.std.proofs.Common.{◌≡◌, ◌∙◌, ◌++◌, ◌∷◌, [], ℕ, List, ap, arith, length, length-append, subst, sym}
+use Rattle.std.proofs.Common.{◌≡◌, ◌∙◌, ◌+◌, ◌++◌, ◌∷◌, [], ℕ, List, Some, ap, arith, drop, length, length-append, rules, slice_get, subst, sym, map}
 use Rattle.std.specs.Vec.Iter.{into_iter_items}
 use Rattle.control_box.specs.Endpoints.{OwnerIs, PosterIs}
+use Rattle.keyed_state.specs.Counts.{Counts}
+use Rattle.flow_model.specs.Begin.{Begin}
 use Rattle.flow_model.specs.Setup.{setup_view}
 use Rattle.flow_model.proofs.SizeLemmas.{workers-few}
 use Rattle.flow_worker.specs.Parts.{AreNewEndpoints}
 use Rattle.lane_core.specs.Lane.{EndpointIs}
 use Rattle.flow_worker.specs.Worker.{IsWorker, WorkerIs}
 use Rattle.flow_ends.specs.Sides.{SideIs, worker_side}
-use Rattle.flow_ends.proofs.Crewing.{all_made, has_number, next_side, placed_more, share_more, side_is, side_made}
+use Rattle.flow_ends.proofs.Crewing.{all_made, has_number, next_counts, next_side, placed_more, share_more, side_is, side_made, some_counts}
 use Rattle.flow_ends.proofs.crew.make_workers.Goals as goal
 
 pub overflow_cast-number : goal.overflow_cast-number
@@ -15,6 +17,14 @@ overflow_cast-number g c =
     let few = workers-few (setup_view c.args.setup.now).job c.args.setup.now.job.lawful in
     let long = next_side c.loop-side.workers.items c.args.sides.items (into_iter_items c.loop-side.side-iterator) (into_iter_items c.next.new.self) c.in-Some.side c.loop-side.invariant.sides c.in-Some.ensures.steps.0 in
     omega (arith, few, c.requires.many, long.0, c.len-number.ensures, c.loop-side.workers.ok.0)
+
+pub take_counts-counts-requires : goal.take_counts-counts-requires
+take_counts-counts-requires g c =
+    let workers = c.loop-side.workers.items in
+    let inv = c.loop-side.invariant in
+    let at = next_side workers c.args.sides.items (into_iter_items c.loop-side.side-iterator) (into_iter_items c.next.new.self) c.in-Some.side inv.sides c.in-Some.ensures.steps.0 in
+    let some = some_counts c.args.start.states (into_iter_items c.loop-side.left) (length workers) inv.left_are (omega (arith, at.0, c.requires.many, c.requires.states)) in
+    omega (arith, some, inv.left_counted)
 
 pub make_from-requires-clause-ends : goal.make_from-requires-clause-ends
 make_from-requires-clause-ends g c κs within =
@@ -28,6 +38,25 @@ make_from-requires-clause-ends g c κs within =
     subst (λ (n : ℕ). AreNewEndpoints job n I O) (sym number)
     (subst (λ (xs : List EndpointIs). AreNewEndpoints job (length workers) xs O) (sym c.open-ins.ensures.ins)
     (subst (λ (xs : List EndpointIs). AreNewEndpoints job (length workers) c.in-Some.side.ins xs) (sym c.open-ins.ensures.outs) new))
+
+pub loop-side-init : goal.loop-side-init
+loop-side-init g c =
+    let gives = c.into_iter-left.ensures.into_iter_gives in
+    record {
+      may = tt;
+      finite = tt;
+      counted = search rules;
+      left_counted = let a = ap (λ (l : List Counts). length l) gives.0 in omega (arith, a, gives.1);
+      left_are =
+          let all : into_iter_items c.into_iter-left.result ≡ c.args.start.states = gives.0 ∙ ap (λ (b : Begin). b.states) c.start.view_is in
+          let none : c.new-workers.result.items ≡ [] = search rules in
+          rw none all;
+      sides = search rules;
+      made = search rules;
+      boxes = search rules;
+      unused = search rules;
+      shared = search rules;
+    }
 
 pub loop-side-preserved : goal.loop-side-preserved
 loop-side-preserved g c =
@@ -45,13 +74,25 @@ loop-side-preserved g c =
     let same : worker_side worker ≡ side = side_is worker side (c.in_ok-worker.ensures.ins ∙ c.open-ins.ensures.ins) (c.in_ok-worker.ensures.outs ∙ c.open-ins.ensures.outs) in
     let at = next_side workers c.args.sides.items its rest side inv.sides next.0 in
     let new = c.requires.sides (length workers) side at.1 in
-    let number : worker.number ≡ length workers = has_number setup c.args.start.now worker side.ins (length workers) c.in_ok-worker.ensures.law (c.in_ok-worker.ensures.ins ∙ c.open-ins.ensures.ins) new.ins_are in
+    let place : c.len-number.result ≡ length workers = c.len-number.ensures ∙ c.loop-side.workers.ok.0 in
+    let counts = c.take_counts-counts.result in
+    let left = c.take_counts-counts.ensures in
+    let here = next_counts c.args.start.states (into_iter_items c.loop-side.left) (into_iter_items c.take_counts-counts.new.left) (length workers) counts inv.left_are left.items in
+    let law : IsWorker setup c.args.start worker =
+    c.in_ok-worker.ensures.law c.args.start (record {
+      turned_is = ap (λ (b : Begin). b.turned) c.start.view_is;
+      counts_are = subst (λ (n : ℕ). slice_get c.args.start.states n ≡ Some counts) (sym place) here.0;
+    }) in
+    let long : length c.push.new.self.items ≡ length workers + 1 = ap (λ (ws : List WorkerIs). length ws) pushed ∙ length-append workers (worker ∷ []) in
+    let number : worker.number ≡ length workers = has_number setup c.args.start worker side.ins (length workers) law (c.in_ok-worker.ensures.ins ∙ c.open-ins.ensures.ins) new.ins_are in
     record {
       may = tt;
       finite = tt;
       counted = let b = ap (λ (xs : List SideIs). length xs) next.0 in omega (arith, next.1, b, inv.counted);
+      left_counted = let b = ap (λ (xs : List Counts). length xs) left.items in omega (arith, left.fewer, b, inv.left_counted);
+      left_are = here.1 ∙ ap (λ (n : ℕ). drop n c.args.start.states) (sym long);
       sides = side_made workers c.push.new.self.items worker c.args.sides.items its rest side inv.sides next.0 pushed same;
-      made = placed_more (λ w v. (v.number ≡ w) × IsWorker setup c.args.start.now v) workers c.push.new.self.items worker pushed inv.made (number, c.in_ok-worker.ensures.law);
+      made = placed_more (λ w v. (v.number ≡ w) × IsWorker setup c.args.start v) workers c.push.new.self.items worker pushed inv.made (number, law);
       boxes =
           let a = ap (λ (ws : List WorkerIs). length ws) pushed in
           let b = ap (λ (ps : List PosterIs). length ps) boxed in

@@ -13,8 +13,8 @@ invariant-loop-side g l = record {
   may : (goal.iterator-loop-side g).can_next l.side-iterator;
   finite : (goal.iterator-loop-side g).is_finite l.side-iterator;
   counted : into_iter_len l.side-iterator ≡ length (into_iter_items l.side-iterator);
-  states_counted : into_iter_len l.states ≡ length (into_iter_items l.states);
-  states_left : into_iter_items l.states ≡ drop (length l.workers.items) l.fn.start.states;
+  left_counted : into_iter_len l.left ≡ length (into_iter_items l.left);
+  left_are : into_iter_items l.left ≡ drop (length l.workers.items) l.fn.start.states;
   sides : map worker_side l.workers.items ++ into_iter_items l.side-iterator ≡ l.fn.sides.items;
   made :
       (w : ℕ) (worker : WorkerIs) → slice_get l.workers.items w ≡ Some worker →

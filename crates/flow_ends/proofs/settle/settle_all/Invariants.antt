@@ -1,3 +1,4 @@
+use Rattle.std.proofs.Common.{map}
 use Rattle.flow_model.specs.Setup.{setup_view}
 use Rattle.flow_ends.proofs.Settling.{IsSettling}
 use Rattle.flow_ends.proofs.settle.settle_all.Given as goal

@@ -7,7 +7,7 @@ use Rattle.plan_law.proofs.laws.number_all_nodes.Goals as goal
 
 pub loop-plan-preserved : goal.loop-plan-preserved
 loop-plan-preserved c =
-    All-more NumbersAllNodes c.args.plans.now c.loop-plan.plan-index _ (let t = c.loop-plan-test.true in omega (arith, t)) c.loop-plan.invariant c.has_64_numbers.ensures
+    All-more NumbersAllNodes c.args.plans.now c.loop-plan.plan-index _ (let t = c.loop-plan-test.true in omega (arith, t)) c.loop-plan.invariant c.has_all_numbers.ensures
 
 pub returns : goal.returns
 returns c =

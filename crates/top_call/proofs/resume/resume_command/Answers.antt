@@ -1,17 +1,17 @@
-use Rattle.std.proofs.Common.{Some, ap, inr, sym}
+use Rattle.std.proofs.Common.{inr, refl}
 use Rattle.top_call.proofs.resume.resume_command.Goals as goal
 
 pub returns-in-Ok : goal.returns-in-Ok
 returns-in-Ok g c =
     let ran = c.leave_run-answer.ensures in
     inr (
-      c.in-Ok.ensures.run.0,
+      c.in-Ok.field-0.start,
       record {
         done = c.in-Ok.field-0.done;
-        is_so = c.in-Ok.ensures.run.2;
+        is_so = c.in-Ok.ensures.run;
         outcome = rw (← c.in-Ok.ensures.kept) ran.outcome;
         refused = ran.refused;
         ran = ran.ran;
-        start = ap Some (sym c.in-Ok.ensures.run.1);
+        start = refl;
       },
     )

@@ -1,4 +1,4 @@
-use Rattle.std.proofs.Common.{inr, rules}
+use Rattle.std.proofs.Common.{inr}
 use Rattle.std.proofs.lemmas.Result.{err_from_is_err_and}
 use Rattle.jobs.specs.Job.{job_view}
 use Rattle.flow_model.specs.Setup.{setup_view}
@@ -28,6 +28,3 @@ pub run_later_part-requires-clause-states : goal.run_later_part-requires-clause-
 run_later_part-requires-clause-states g c κs within =
     let of = c.in_ok-start.ensures.start in
     (save_suits (setup_view c.in_ok-setup.setup) _ of.bytes c.in_ok-start.start of.are_so).states
-
-pub returns-clause-run : goal.returns-clause-run
-returns-clause-run g c = (c.in_ok-start.start, search rules, search rules)

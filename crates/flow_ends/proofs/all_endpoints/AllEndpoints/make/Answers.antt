@@ -1,4 +1,4 @@
-use Rattle.std.proofs.Common.{◌≡◌, ◌≤◌, ◌∙◌, ◌<◌, ◌+◌, ℕ, List, [], ◌∷◌, ap, sym, subst, arith, length}
+use Rattle.std.proofs.Common.{◌≡◌, ◌≤◌, ◌∙◌, ◌<◌, ◌+◌, ℕ, List, [], ◌∷◌, ap, sym, subst, arith, length, map}
 use Rattle.std.proofs.lemmas.List.{with_items_is}
 use Rattle.std.specs.Prelude.{All, IfSome}
 use Rattle.std.proofs.lemmas.List.Elements.{All-nil}
@@ -27,8 +27,8 @@ lane-lane-requires g c =
     let all = ap (λ (t : Topology). length t.lanes) c.args.setup.now.topology_is in
     omega (arith, c.len-count.ensures, all, c.loop-number-test.true)
 
-pub tx-requires-clause-there : goal.tx-requires-clause-there
-tx-requires-clause-there g c κs up =
+pub make_lane-requires-clause-there : goal.make_lane-requires-clause-there
+make_lane-requires-clause-there g c κs up =
     let all = ap (λ (t : Topology). length t.lanes) c.args.setup.now.topology_is in
     omega (arith, c.len-count.ensures, all, c.loop-number-test.true)
 

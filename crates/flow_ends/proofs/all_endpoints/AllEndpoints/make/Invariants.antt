@@ -1,4 +1,4 @@
-use Rattle.std.proofs.Common.{◌≡◌, List}
+use Rattle.std.proofs.Common.{◌≡◌, List, map}
 use Rattle.std.specs.Prelude.{All}
 use Rattle.flow_model.specs.Setup.{setup_view}
 use Rattle.lane_core.specs.Lane.{LaneId}

@@ -11,9 +11,9 @@ invariant-loop-item g l = record {
   edge : l.self-inside.edge ≡ l.fn.self.edge;
   planned : (g.L.Tx.Tx.state l.self-inside.end).items ++ l.self-inside.waiting.items ≡ l.fn.self.sent ++ l.fn.self.waiting;
   full : l.fn.self.full ≤ (g.L.Tx.Tx.state l.self-inside.end).stalls;
-  grew : length l.fn.self.sent ≤ length ((g.L.Tx.Tx.state l.self-inside.end).items);
+  grew : length l.fn.self.sent ≤ length (g.L.Tx.Tx.state l.self-inside.end).items;
   memory : deque_capacity l.self-inside.waiting ≡ l.fn.self.memory;
-  moved : l.moved ≡ true ↔ (length l.fn.self.sent < length ((g.L.Tx.Tx.state l.self-inside.end).items));
+  moved : l.moved ≡ true ↔ (length l.fn.self.sent < length (g.L.Tx.Tx.state l.self-inside.end).items);
 }
 
 abbrev pub decreases-loop-item : goal.decreases-loop-item
