@@ -13,6 +13,7 @@ mod judging;
 mod kinds;
 mod lines;
 mod made;
+mod pieces;
 mod reading;
 mod request_cases;
 mod requesting;

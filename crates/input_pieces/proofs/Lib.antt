@@ -1,0 +1,4 @@
+pub mod CutLemmas
+pub mod ScanLemmas
+pub mod PieceLemmas
+pub mod TapLemmas

@@ -1,0 +1,4 @@
+pub mod Cut
+pub mod Taps
+pub mod Places
+pub mod Gathering

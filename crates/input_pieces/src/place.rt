@@ -1,0 +1,140 @@
+// The machine that reads CSV, as far as it tells where records begin.
+
+ghost use Rattle.std.specs.Prelude.{◌≡◌, if◌then◌else◌};
+ghost use Rattle.csv.specs.Machine as Spec;
+ghost use Rattle.csv.specs.Reading.{default_config};
+ghost use Rattle.input_pieces.specs.Cut.{IsLastCut, is_start, state_after};
+ghost use Rattle.input_pieces.specs.Places.{state_of};
+
+/// Where the machine stands in a record: a state of the machine of `csv`, as it reads by default.
+#[derive(Clone, Copy)]
+pub(crate) enum Place {
+    StartRecord,
+    StartField,
+    InField,
+    InQuoted,
+    AfterQuote,
+    AfterCr,
+}
+
+impl Place {
+    /// Whether a record may begin here.
+    pub(crate) fn is_start(self) -> bool
+        ensures { result ≡ is_start (state_of self) }
+    {
+        match self {
+            Place::StartRecord => true,
+            Place::StartField => false,
+            Place::InField => false,
+            Place::InQuoted => false,
+            Place::AfterQuote => false,
+            Place::AfterCr => false,
+        }
+    }
+
+    /// The place after one byte.
+    pub(crate) fn after(self, byte: u8) -> Place
+        ensures { state_of result ≡ (Spec.step default_config (state_of self) byte).0 }
+    {
+        match self {
+            Place::StartRecord => start_record(byte),
+            Place::StartField => start_field(byte),
+            Place::InField => in_field(byte),
+            Place::InQuoted => {
+                if byte == b'"' {
+                    Place::AfterQuote
+                } else {
+                    Place::InQuoted
+                }
+            }
+            Place::AfterQuote => {
+                if byte == b'"' {
+                    Place::InQuoted
+                } else {
+                    in_field(byte)
+                }
+            }
+            Place::AfterCr => start_record(byte),
+        }
+    }
+}
+
+// Behind the end of a record: line ends in a row make no record.
+fn start_record(byte: u8) -> Place
+    ensures { state_of result ≡ (Spec.start_record default_config byte).0 }
+{
+    if byte == b'\r' || byte == b'\n' {
+        Place::StartRecord
+    } else {
+        start_field(byte)
+    }
+}
+
+fn start_field(byte: u8) -> Place
+    ensures { state_of result ≡ (Spec.start_field default_config byte).0 }
+{
+    if byte == b'"' {
+        Place::InQuoted
+    } else {
+        in_field(byte)
+    }
+}
+
+fn in_field(byte: u8) -> Place
+    ensures { state_of result ≡ (Spec.in_field default_config byte).0 }
+{
+    if byte == b',' {
+        Place::StartField
+    } else if byte == b'\r' {
+        Place::AfterCr
+    } else if byte == b'\n' {
+        Place::StartRecord
+    } else {
+        Place::InField
+    }
+}
+
+/// What bytes leave of the machine.
+pub(crate) struct Scanned {
+    /// The place after the last byte.
+    pub(crate) place: Place,
+    /// How many of the bytes stand before the last place where a record may begin, if there is one
+    /// behind the first byte.
+    pub(crate) cut: Option<usize>,
+}
+
+impl Scanned {
+    // After one byte more, which ends at this place.
+    fn and_byte(self, byte: u8, end: usize) -> Scanned
+        ensures place { state_of result.place
+            ≡ (Spec.step default_config (state_of self.place) byte).0 }
+        ensures cut { result.cut
+            ≡ (if is_start (state_of result.place) then Some end else self.cut) }
+    {
+        let Scanned { place, cut } = self;
+        let place = place.after(byte);
+        if place.is_start() {
+            return Scanned {
+                place,
+                cut: Some(end),
+            };
+        }
+        Scanned { place, cut }
+    }
+}
+
+/// Looks at each of these bytes once, from this place on.
+pub(crate) fn scan(from: Place, bytes: &[u8]) -> Scanned
+    ensures place { state_of result.place
+        ≡ state_after default_config (state_of from) bytes.now }
+    ensures cut { IsLastCut default_config (state_of from) bytes.now result.cut }
+{
+    let mut scan = Scanned {
+        place: from,
+        cut: None,
+    };
+    for i in 0..bytes.len() {
+        scan = scan.and_byte(bytes[i], i + 1);
+    }
+    scan
+}

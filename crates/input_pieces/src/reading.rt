@@ -1,0 +1,58 @@
+// One read of a tap, behind a text.
+
+ghost use Rattle.std.specs.Prelude.{◌≡◌, ◌≢◌, ◌≤◌, ◌<◌, ◌+◌, [], Err, IfOk, OnErr};
+ghost use Rattle.std.specs.Prelude.{drop, length, take};
+ghost use Rattle.std.specs.Io.KnownBytes.{Consumes, IsAtEnd, Keeps};
+ghost use Rattle.input_pieces.specs.Gathering.{Gathers, PieceCause};
+ghost use Rattle.input_pieces.specs.Taps.{TapCause};
+
+use crate::{MAX_RECORD, PieceFault, Tap, TapFailed};
+
+/// Reads once behind a text, at most `most` bytes, and returns how many. After an error the text is
+/// as before.
+pub(crate) fn read_behind<T: Tap>(
+    tap: &mut T,
+    text: &mut Vec<u8>,
+    most: usize,
+) -> Result<usize, PieceFault>
+    requires some { 0 < most }
+    requires room { length text.old.items + most ≤ MAX_RECORD }
+    ensures gathered { Gathers (T.state tap.old).left (T.state tap.new).left
+        text.old.items [] text.new.items }
+    ensures count { IfOk result (λ n. length text.new.items ≡ length text.old.items + n) }
+    ensures most { IfOk result (λ n. n ≤ most) }
+    ensures none { IfOk result (λ n. n ≡ 0 → text.new.items ≡ text.old.items) }
+    ensures end { IfOk result (λ n. n ≡ 0 → IsAtEnd (T.state tap.new).left) }
+    ensures err { OnErr result (text.new.items ≡ text.old.items) }
+    ensures named { result ≢ Err PieceFault.Long }
+    ensures cause { PieceCause result (T.state tap.old).faults (T.state tap.new).faults }
+{
+    let from = text.len();
+    if text.resize(from + most, 0).is_err() {
+        return Err(PieceFault::NoMemory);
+    }
+    match read_from(tap, text.as_mut_slice(), from) {
+        Ok(count) => {
+            text.truncate(from + count);
+            Ok(count)
+        }
+        Err(_) => {
+            text.truncate(from);
+            Err(PieceFault::Failed)
+        }
+    }
+}
+
+// Reads once into the room from a place on.
+fn read_from<T: Tap>(tap: &mut T, room: &mut [u8], from: usize) -> Result<usize, TapFailed>
+    requires { from < length room.old }
+    ensures front { take from room.new ≡ take from room.old }
+    ensures count { IfOk result (λ n. from + n ≤ length room.new) }
+    ensures bytes { IfOk result (λ n. Consumes (T.state tap.old).left (T.state tap.new).left
+        (take n (drop from room.new))) }
+    ensures end { IfOk result (λ n. n ≡ 0 → IsAtEnd (T.state tap.new).left) }
+    ensures err { OnErr result (Keeps (T.state tap.old).left (T.state tap.new).left) }
+    ensures cause { TapCause result (T.state tap.old).faults (T.state tap.new).faults }
+{
+    tap.read(&mut room[from..])
+}
