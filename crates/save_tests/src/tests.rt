@@ -7,6 +7,7 @@ mod joins;
 mod parts;
 mod plain;
 mod stages;
+mod ten_parts;
 mod texts;
 
 use flow_model::RunRecord;
