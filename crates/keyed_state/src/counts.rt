@@ -1,4 +1,4 @@
-ghost use Rattle.std.specs.Prelude.{◌≡◌, pos, IsTrue, ◌≤ℤ◌, int_le, map, filter, IfOk, OnErr};
+ghost use Rattle.std.specs.Prelude.{◌≡◌, pos, IsTrue, ◌≤ℤ◌, int_le, map, filter, IfOk, OnErr, OnOk};
 ghost use Rattle.std.specs.BTreeMap.{IsOrdered};
 ghost use Rattle.std.specs.FinMap as finite;
 ghost use Rattle.keyed_state.specs.Counts.{scaled, raised, scaled_all, from_least};
@@ -25,6 +25,17 @@ impl TextMap<i64> {
         let owned = Vec::from_slice(self.alloc, key)?;
         self.entries.insert(owned, by)?;
         Ok(by)
+    }
+
+    /// Gives a text this count, in place of the one that it may have. After [`NoMemory`] the counts
+    /// are as before.
+    pub(crate) fn set(&mut self, key: &[u8], count: i64) -> Result<(), NoMemory>
+        ensures ok { OnOk result (self.new ≡ finite.insert self.old key.now count) }
+        ensures err { OnErr result (self.new ≡ self.old) }
+    {
+        let owned = Vec::from_slice(self.alloc, key)?;
+        self.entries.insert(owned, count)?;
+        Ok(())
     }
 
     /// Scales each count.

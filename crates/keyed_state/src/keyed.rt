@@ -1,4 +1,4 @@
-ghost use Rattle.std.specs.Prelude.{◌≡◌, IfOk, OnErr};
+ghost use Rattle.std.specs.Prelude.{◌≡◌, IfOk, OnErr, OnOk};
 ghost use Rattle.std.specs.FinMap as finite;
 ghost use Rattle.keyed_state.specs.Counts.{raised, carried, CanCarry};
 
@@ -67,6 +67,16 @@ impl Keyed {
         ensures err { OnErr result (self.new ≡ self.old) }
     {
         self.counts.add(key, by)
+    }
+
+    /// Gives a text this count, in place of the one that it may have.
+    ///
+    /// One look-up. Takes memory in each call. After [`NoMemory`] the counters are as before.
+    pub fn set(&mut self, key: &[u8], count: i64) -> Result<(), NoMemory>
+        ensures ok { OnOk result (self.new ≡ finite.insert self.old key.now count) }
+        ensures err { OnErr result (self.new ≡ self.old) }
+    {
+        self.counts.set(key, count)
     }
 
     /// What [`Keyed::add`] would answer, if there is memory. Nothing changes.
