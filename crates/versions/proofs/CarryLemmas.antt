@@ -37,14 +37,14 @@ free-carry book job request last free =
     let change : Change = get_or request.changes i d in
     good_carry (is_count_at (slice_get job.nodes change.node)) change.carry (none_each code.BadCarry book job [] request.changes none i change (slice_get-get_or request.changes i d lt))
 
-judged-carry : (job : JobView) (book : List Current) (last place : ℕ) (requests : List Request) → (judged_from job book last place requests).refused ≡ [] → CarryWell requests
+judged-carry : (job : JobView) (book : List Current) (last place : ℕ) (requests : List Request) → (judged_from None job book last place requests).refused ≡ [] → CarryWell requests
 unfolding judged_from
 judged-carry job book last place [] e = All-nil CarriesWell
 judged-carry job book last place (r ∷ rest) e = go (fault_of book job r last) refl e (judged-carry job (accepted book r.changes) r.after (place + 1) rest)
   where
     go : (o : Option QFault) → fault_of book job r last ≡ o
-        → (by_fault o (λ fault. refusing place fault (judged_from job book last (place + 1) rest)) (accepting r (judged_from job (accepted book r.changes) r.after (place + 1) rest))).refused ≡ []
-        → ((judged_from job (accepted book r.changes) r.after (place + 1) rest).refused ≡ [] → CarryWell rest)
+        → (by_fault o (λ fault. refusing place fault (judged_from None job book last (place + 1) rest)) (accepting r (judged_from None job (accepted book r.changes) r.after (place + 1) rest))).refused ≡ []
+        → ((judged_from None job (accepted book r.changes) r.after (place + 1) rest).refused ≡ [] → CarryWell rest)
         → CarryWell (r ∷ rest)
     go None is f later = All-cons CarriesWell r rest (free-carry book job r last is) (later f)
     go (Some q) is f later = absurd (cc)

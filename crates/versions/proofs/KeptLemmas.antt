@@ -173,14 +173,14 @@ kept_at_first job = record { long = length-map job.nodes (λ (d : NodeDef). reco
         let is = same_Some (record { version = 0; func = node.func }) current (sym made ∙ at) in
         inl (rw (← is) refl)
 
-judged-kept : (job : JobView) (book : List Current) (last place : ℕ) (requests : List Request) → IsKept job book → (judged_from job book last place requests).refused ≡ [] → KeepKinds job requests
+judged-kept : (job : JobView) (book : List Current) (last place : ℕ) (requests : List Request) → IsKept job book → (judged_from None job book last place requests).refused ≡ [] → KeepKinds job requests
 unfolding judged_from
 judged-kept job book last place [] kept e = λ k d lt. absurd (omega arith)
 judged-kept job book last place (r ∷ rest) kept e = go (fault_of book job r last) refl e (λ later. judged-kept job (accepted book r.changes) r.after (place + 1) rest later)
   where
     go : (o : Option QFault) → fault_of book job r last ≡ o
-        → (by_fault o (λ fault. refusing place fault (judged_from job book last (place + 1) rest)) (accepting r (judged_from job (accepted book r.changes) r.after (place + 1) rest))).refused ≡ []
-        → (IsKept job (accepted book r.changes) → (judged_from job (accepted book r.changes) r.after (place + 1) rest).refused ≡ [] → KeepKinds job rest)
+        → (by_fault o (λ fault. refusing place fault (judged_from None job book last (place + 1) rest)) (accepting r (judged_from None job (accepted book r.changes) r.after (place + 1) rest))).refused ≡ []
+        → (IsKept job (accepted book r.changes) → (judged_from None job (accepted book r.changes) r.after (place + 1) rest).refused ≡ [] → KeepKinds job rest)
         → KeepKinds job (r ∷ rest)
     go None is f later =
         let all = free-kept book job r last kept is in
@@ -205,14 +205,14 @@ free-after book job request last free =
     go false some true is e = absurd (cc)
     go false some false is e = not_below request.after last is
 
-judged-order : (job : JobView) (book : List Current) (last place : ℕ) (requests : List Request) → (judged_from job book last place requests).refused ≡ [] → AreInOrder last requests
+judged-order : (job : JobView) (book : List Current) (last place : ℕ) (requests : List Request) → (judged_from None job book last place requests).refused ≡ [] → AreInOrder last requests
 unfolding judged_from
 judged-order job book last place [] e = tt
 judged-order job book last place (r ∷ rest) e = go (fault_of book job r last) refl e (judged-order job (accepted book r.changes) r.after (place + 1) rest)
   where
     go : (o : Option QFault) → fault_of book job r last ≡ o
-        → (by_fault o (λ fault. refusing place fault (judged_from job book last (place + 1) rest)) (accepting r (judged_from job (accepted book r.changes) r.after (place + 1) rest))).refused ≡ []
-        → ((judged_from job (accepted book r.changes) r.after (place + 1) rest).refused ≡ [] → AreInOrder r.after rest)
+        → (by_fault o (λ fault. refusing place fault (judged_from None job book last (place + 1) rest)) (accepting r (judged_from None job (accepted book r.changes) r.after (place + 1) rest))).refused ≡ []
+        → ((judged_from None job (accepted book r.changes) r.after (place + 1) rest).refused ≡ [] → AreInOrder r.after rest)
         → AreInOrder last (r ∷ rest)
     go None is f later = (free-after book job r last is, later f)
     go (Some q) is f later = absurd (cc)

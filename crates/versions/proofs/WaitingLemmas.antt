@@ -1,5 +1,5 @@
 -- Requests with the same changes are accepted if they wait for rows in their order.
-use Rattle.std.proofs.Common.{◌≡◌, ◌∙◌, ◌+◌, ◌≤◌, ℕ, List, [], ◌∷◌, Bool, true, false, Option, Some, None, cond, nat_lt, refl, sym, subst, ap, arith, map}
+use Rattle.std.proofs.Common.{◌≡◌, ◌∙◌, ◌+◌, ◌≤◌, ℕ, List, [], ◌∷◌, Bool, true, false, Option, Some, None, cond, nat_lt, refl, sym, subst, ap, arith}
 use Rattle.std.specs.Option.{option_or}
 use Rattle.std.proofs.lemmas.Bool.Decides.{nat_tests}
 use Rattle.jobs.specs.JobView.{JobView}
@@ -7,15 +7,13 @@ use Rattle.versions.specs.Book.{accepted}
 use Rattle.versions.specs.Judged.{accepting, by_fault, judged_from, refusing}
 use Rattle.versions.specs.Judging.{fault_of, first_with, is_empty, named, stale, whole_fault}
 use Rattle.versions.specs.Kept.{AreInOrder}
+use Rattle.versions.specs.Waiting.{changes_of}
 use Rattle.versions.specs.declared.book.Current.{Current}
 use Rattle.versions.specs.declared.fault.QFault.{QFault}
 use Rattle.versions.specs.declared.fault.QFault.TheVariants as fault
 use Rattle.versions.specs.declared.judging.Code.TheVariants as code
 use Rattle.versions.specs.declared.request.Change.{Change}
 use Rattle.versions.specs.declared.request.Request.{Request}
-
-abbrev changes_of : List Request → List (List Change)
-changes_of requests = map (λ (request : Request). request.changes) requests
 
 or_swap : (x y z : Option QFault) → option_or x y ≡ None → (y ≡ None → z ≡ None) → option_or x z ≡ None
 or_swap None y z e f = f e
@@ -61,8 +59,8 @@ head_same x y xs ys e = cc
 tail_same : (x y : List Change) (xs ys : List (List Change)) → x ∷ xs ≡ y ∷ ys → xs ≡ ys
 tail_same x y xs ys e = cc
 
-pub accepted_like : (job : JobView) (book : List Current) (last later place : ℕ) (qs rs : List Request) → changes_of rs ≡ changes_of qs → (judged_from job book last place qs).refused ≡ [] → AreInOrder later rs
-    → (judged_from job book later place rs).refused ≡ []
+pub accepted_like : (job : JobView) (book : List Current) (last later place : ℕ) (qs rs : List Request) → changes_of rs ≡ changes_of qs → (judged_from None job book last place qs).refused ≡ [] → AreInOrder later rs
+    → (judged_from None job book later place rs).refused ≡ []
 unfolding judged_from
 accepted_like job book last later place [] [] same e o = refl
 accepted_like job book last later place [] (r ∷ rs) same e o = absurd (cc)
@@ -72,17 +70,17 @@ accepted_like job book last later place (q ∷ qs) (r ∷ rs) same e o =
     let tail : changes_of rs ≡ changes_of qs = tail_same r.changes q.changes (changes_of rs) (changes_of qs) same in
     go (fault_of book job q last) refl e head tail (accepted_like job (accepted book q.changes) q.after r.after (place + 1) qs rs)
   where
-    here : (o : Option QFault) → o ≡ None → (judged_from job (accepted book r.changes) r.after (place + 1) rs).refused ≡ []
-        → (by_fault o (λ fault. refusing place fault (judged_from job book later (place + 1) rs)) (accepting r (judged_from job (accepted book r.changes) r.after (place + 1) rs))).refused ≡ []
+    here : (o : Option QFault) → o ≡ None → (judged_from None job (accepted book r.changes) r.after (place + 1) rs).refused ≡ []
+        → (by_fault o (λ fault. refusing place fault (judged_from None job book later (place + 1) rs)) (accepting r (judged_from None job (accepted book r.changes) r.after (place + 1) rs))).refused ≡ []
     here None is h = h
     here (Some f) is h = absurd (cc)
 
     go : (f : Option QFault) → fault_of book job q last ≡ f
-        → (by_fault f (λ fault. refusing place fault (judged_from job book last (place + 1) qs)) (accepting q (judged_from job (accepted book q.changes) q.after (place + 1) qs))).refused ≡ []
+        → (by_fault f (λ fault. refusing place fault (judged_from None job book last (place + 1) qs)) (accepting q (judged_from None job (accepted book q.changes) q.after (place + 1) qs))).refused ≡ []
         → r.changes ≡ q.changes → changes_of rs ≡ changes_of qs
-        → (changes_of rs ≡ changes_of qs → (judged_from job (accepted book q.changes) q.after (place + 1) qs).refused ≡ [] → AreInOrder r.after rs → (judged_from job (accepted book q.changes) r.after (place + 1) rs).refused ≡ [])
-        → (by_fault (fault_of book job r later) (λ fault. refusing place fault (judged_from job book later (place + 1) rs)) (accepting r (judged_from job (accepted book r.changes) r.after (place + 1) rs))).refused ≡ []
+        → (changes_of rs ≡ changes_of qs → (judged_from None job (accepted book q.changes) q.after (place + 1) qs).refused ≡ [] → AreInOrder r.after rs → (judged_from None job (accepted book q.changes) r.after (place + 1) rs).refused ≡ [])
+        → (by_fault (fault_of book job r later) (λ fault. refusing place fault (judged_from None job book later (place + 1) rs)) (accepting r (judged_from None job (accepted book r.changes) r.after (place + 1) rs))).refused ≡ []
     go None is f head tail rec =
         here (fault_of book job r later) (fault_free book job q r last later head o.0 is)
-        (subst (λ cs. (judged_from job (accepted book cs) r.after (place + 1) rs).refused ≡ []) (sym head) (rec tail f o.1))
+        (subst (λ cs. (judged_from None job (accepted book cs) r.after (place + 1) rs).refused ≡ []) (sym head) (rec tail f o.1))
     go (Some q) is f head tail rec = absurd (cc)

@@ -1,12 +1,13 @@
 -- Which requests are accepted, and why another isn't.
-use Rattle.std.specs.Prelude.{ℕ, pos, ◌+◌, Bool, true, false, not, ◌||◌, ◌&&◌, List, [], ◌∷◌, ◌++◌, length, Option, Some, None, slice_get, nat_lt, nat_le, int_lt, ◌==◌, if◌then◌else◌}
+use Rattle.std.specs.Prelude.{ℕ, pos, ◌+◌, Bool, true, false, not, ◌||◌, ◌&&◌, List, [], ◌∷◌, ◌++◌, length, Option, Some, None, position, slice_get, nat_lt, nat_le, int_lt, ◌==◌, if◌then◌else◌}
 use Rattle.std.specs.Option.{option_or}
+use Rattle.flow_dag.specs.Masks.{has}
 use Rattle.keyed_state.specs.declared.carry.Carry.{Carry}
 use Rattle.keyed_state.specs.declared.carry.Carry.TheVariants as carry
 use Rattle.jobs.specs.Fits.{fits}
 use Rattle.flow_dag.specs.declared.edge.Edge.{Edge}
 use Rattle.jobs.specs.Kinds.{key_of, kind_of}
-use Rattle.jobs.specs.Nodes.{fan_out, is_count, is_fixed, is_free}
+use Rattle.jobs.specs.Nodes.{fan_out, is_count, is_fixed, is_free, is_split}
 use Rattle.jobs.specs.Ports.{out_count}
 use Rattle.jobs.specs.JobView.{JobView}
 use Rattle.jobs.specs.declared.func.Func.{Func}
@@ -151,3 +152,20 @@ fault_of book job request last_after =
     option_or (named fault.KindOrKey (first_with code.KindOrKey book job [] request.changes)) (
     option_or (named fault.BadCarry (first_with code.BadCarry book job [] request.changes)) (
     whole_fault request last_after)))))))
+
+-- ---- a request after the nodes that may be splits are settled
+
+-- the change makes a split of a node that the mask leaves out
+abbrev pub is_late_split : ℕ → Change → Bool
+is_late_split splits change = is_split change.func && not (has splits change.node)
+
+-- the first change that makes a split of a node that the mask leaves out
+abbrev pub late_split : ℕ → List Change → Option QFault
+late_split splits changes = named fault.LateSplit (position (is_late_split splits) changes)
+
+-- the first fault that a request has if only the nodes of the mask may be splits; any node may be
+-- one if there is no mask
+abbrev pub fault_within : Option ℕ → List Current → JobView → Request → ℕ → Option QFault
+fault_within None book job request last_after = fault_of book job request last_after
+fault_within (Some splits) book job request last_after =
+    option_or (fault_of book job request last_after) (late_split splits request.changes)

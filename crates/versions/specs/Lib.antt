@@ -3,3 +3,4 @@ pub mod Judging
 pub mod Judged
 pub mod Kept
 pub mod Young
+pub mod Waiting

@@ -25,4 +25,5 @@ joined accepted refused later =
 -- what the bench has judged, and then the requests that are left
 abbrev pub judged_on : JobView → Bench → ℕ → List Request → Judged
 judged_on job bench place rest =
-    joined bench.accepted bench.refused (judged_from job bench.book bench.last_after place rest)
+    joined bench.accepted bench.refused
+    (judged_from bench.splits job bench.book bench.last_after place rest)

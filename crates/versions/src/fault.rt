@@ -20,4 +20,7 @@ pub enum QFault {
     Empty,
     /// The request is for an earlier row than the latest accepted one, which is for this row.
     Backwards(u64),
+    /// The change makes a split of a node that is left out of the nodes that may be splits. Only a
+    /// list that is judged with such a mask has this fault.
+    LateSplit(u32),
 }

@@ -1,10 +1,15 @@
-ghost use Rattle.std.specs.Prelude.{◌≡◌, ◌≤◌, ◌+◌, ◌*◌, ◌∷◌, List, IfOk, OnOk, All, length};
+ghost use Rattle.std.specs.Prelude.{◌≡◌, ◌≤◌, ◌+◌, ◌*◌, ◌∷◌, None, Some, List, IfErr, IfOk, OnOk};
+ghost use Rattle.std.specs.Prelude.{All, length};
 ghost use Rattle.jobs.specs.Job.{job_view};
-ghost use Rattle.versions.specs.Judged.{judged};
+ghost use Rattle.versions.specs.Judged.{judged, judged_within};
+ghost use Rattle.versions.specs.Judging.{fault_within};
 ghost use Rattle.versions.specs.Young.{judged_on, IsYoung};
 ghost use Rattle.versions.specs.declared.request.Request.{Request as RequestIs};
 
-use crate::{Book, MAX_CHANGES, MAX_REQUESTS, QFault, Request, Requests, accept, judge};
+use crate::judging::late_split;
+use crate::{
+    Book, MAX_CHANGES, MAX_REQUESTS, MAX_STREAM_REQUESTS, QFault, Request, Requests, accept, judge,
+};
 use jobs::Job;
 use std::alloc::Global;
 use tuple_trace::{Items, NoMemory};
@@ -35,7 +40,26 @@ pub fn judge_all(alloc: Global, job: &Job, requests: &Requests) -> Result<Judged
     requires changes { All (λ request. length request.changes ≤ MAX_CHANGES) requests.now }
     ensures { IfOk result (λ done. done ≡ judged (job_view job.now) requests.now) }
 {
+    judge_within(alloc, job, None, requests)
+}
+
+/// The same, where only the nodes of the mask `splits` may be splits, if there is a mask.
+///
+/// A stream settles these nodes when it begins, since plans are made for them. A change that makes
+/// a split of any other node is then a fault of its request.
+pub fn judge_within(
+    alloc: Global,
+    job: &Job,
+    splits: Option<u64>,
+    requests: &Requests,
+) -> Result<Judged, NoMemory>
+    requires count { length requests.now ≤ MAX_STREAM_REQUESTS }
+    requires changes { All (λ request. length request.changes ≤ MAX_CHANGES) requests.now }
+    ensures { IfOk result (λ done.
+        done ≡ judged_within splits (job_view job.now) requests.now) }
+{
     let mut bench = Bench {
+        splits,
         book: Book::of(alloc, job)?,
         last_after: 0,
         accepted: Requests::new(alloc),
@@ -55,6 +79,7 @@ pub fn judge_all(alloc: Global, job: &Job, requests: &Requests) -> Result<Judged
 /// A list of requests in the middle of its judging.
 #[derive(Drop)]
 struct Bench {
+    splits: Option<u64>,
     book: Book,
     last_after: u64,
     accepted: Requests,
@@ -69,14 +94,14 @@ fn next(
     request: &Request,
 ) -> Result<(), NoMemory>
     requires few { length request.now.changes ≤ MAX_CHANGES }
-    requires place { place ≤ MAX_REQUESTS }
+    requires place { place ≤ MAX_STREAM_REQUESTS }
     requires young { IsYoung (job_view job.now) bench.old.book (place * MAX_CHANGES) }
     ensures young { OnOk result (IsYoung (job_view job.now) bench.new.book (place * MAX_CHANGES + MAX_CHANGES)) }
     ensures judged { OnOk result ((rest : List RequestIs)
         → judged_on (job_view job.now) bench.old place (request.now ∷ rest)
         ≡ judged_on (job_view job.now) bench.new (place + 1) rest) }
 {
-    match judge(&bench.book, job, request, bench.last_after) {
+    match judge_at(bench, job, request) {
         Ok(()) => {
             let book = accept(&bench.book, request)?;
             let request = request.copy(alloc)?;
@@ -87,4 +112,19 @@ fn next(
         Err(fault) => bench.refused.push(Refused { place, fault })?,
     }
     Ok(())
+}
+
+// Whether the next request is accepted, and else its first fault.
+fn judge_at(bench: &Bench, job: &Job, request: &Request) -> Result<(), QFault>
+    requires { length request.now.changes ≤ MAX_CHANGES }
+    ensures ok { OnOk result (fault_within bench.now.splits bench.now.book (job_view job.now)
+        request.now bench.now.last_after ≡ None) }
+    ensures err { IfErr result (λ fault. fault_within bench.now.splits bench.now.book
+        (job_view job.now) request.now bench.now.last_after ≡ Some fault) }
+{
+    judge(&bench.book, job, request, bench.last_after)?;
+    match bench.splits {
+        Some(splits) => late_split(splits, request.changes.as_slice()).map_or(Ok(()), Err),
+        None => Ok(()),
+    }
 }

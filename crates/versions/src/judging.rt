@@ -1,5 +1,6 @@
 ghost use Rattle.std.specs.Prelude.{◌≡◌, ◌≤◌, ◌<◌, [], None, Some, IfErr, IfSome, OnOk, length};
-ghost use Rattle.std.specs.Prelude.{slice_get};
+ghost use Rattle.std.specs.Prelude.{position, slice_get};
+ghost use Rattle.flow_dag.specs.Masks.{has as has_in};
 ghost use Rattle.jobs.specs.Job.{job_view};
 ghost use Rattle.versions.specs.Book.{is_named as is_named_in};
 ghost use Rattle.versions.specs.Judging.{fault_of, first_with as first_with_in};
@@ -11,13 +12,17 @@ ghost use Rattle.versions.specs.Judging.{is_stale_at as is_stale_node};
 ghost use Rattle.versions.specs.Judging.{may_replace as may_replace_func};
 ghost use Rattle.versions.specs.Judging.{may_replace_at as may_replace_current};
 ghost use Rattle.versions.specs.Judging.{is_key as is_key_of, is_kind as is_kind_of};
+ghost use Rattle.versions.specs.Judging.{is_late_split as is_late_split_of};
 ghost use Rattle.versions.specs.Judging.{is_like as is_like_func, roof_at as roof_of_node};
+ghost use Rattle.versions.specs.Judging.{late_split as late_split_of};
 ghost use Rattle.versions.specs.Judging.{version_of as version_of_change};
 ghost use Rattle.versions.specs.Judging.{whole_fault as whole_fault_of};
 
 use crate::{Book, Change, Current, MAX_CHANGES, QFault, Request};
+use flow_dag::{MAX_NODES, has_bit};
 use jobs::{
-    Func, Job, Kind, NodeDef, fan_out, fits, is_count, is_fixed, is_free, key_of, out_count,
+    Func, Job, Kind, NodeDef, fan_out, fits, is_count, is_fixed, is_free, is_split, key_of,
+    out_count,
 };
 use keyed_state::Carry;
 
@@ -67,6 +72,38 @@ fn whole_fault(request: &Request, last_after: u64) -> Option<QFault>
     } else {
         None
     }
+}
+
+/// The fault of the first change that makes a split of a node that the mask leaves out. Takes no
+/// memory.
+pub(crate) fn late_split(splits: u64, changes: &[Change]) -> Option<QFault>
+    requires { length changes.now ≤ MAX_CHANGES }
+    ensures { result ≡ late_split_of splits changes.now }
+{
+    let place = first_late_split(splits, changes)?;
+    Some(QFault::LateSplit(place as u32 + 1))
+}
+
+fn first_late_split(splits: u64, changes: &[Change]) -> Option<usize>
+    ensures first { result ≡ position (is_late_split_of splits) changes.now }
+    ensures inside { IfSome result (λ place. place < length changes.now) }
+{
+    changes
+        .iter()
+        .position(|change| is_late_split(splits, change))
+}
+
+fn is_late_split(splits: u64, change: &Change) -> bool
+    ensures { result ≡ is_late_split_of splits change.now }
+{
+    is_split(&change.func) && !has(splits, change.node)
+}
+
+// Whether a mask has a node, of any number.
+fn has(mask: u64, node: u32) -> bool
+    ensures { result ≡ has_in mask node }
+{
+    (node as usize) < MAX_NODES && has_bit(mask, node)
 }
 
 /// A fault that names a change.

@@ -1,6 +1,7 @@
-ghost use Rattle.std.specs.Prelude.{List};
+ghost use Rattle.std.specs.Prelude.{◌≡◌, ℕ, List, Option};
 ghost use Rattle.jobs.specs.JobView.{JobView};
-ghost use Rattle.versions.specs.Judged.{AreAccepted, NameNodes, judged};
+ghost use Rattle.versions.specs.Judged.{AreAccepted, NameNodes, judged_within};
+ghost use Rattle.versions.specs.Waiting.{changes_of};
 ghost use Rattle.versions.specs.Kept.{AreInOrder, CarryWell, KeepKinds};
 ghost use Rattle.versions.specs.declared.request.Request.{Request as RequestIs};
 
@@ -11,10 +12,19 @@ pub fn accepted_requests_name_nodes()
         → NameNodes job requests }
 {}
 
-/// The accepted requests of a judged list, judged by themselves, are all accepted.
+/// The accepted requests of a judged list, judged by themselves, are all accepted. So are those of
+/// a list that was judged with a mask of the nodes that may be splits.
 pub fn accepted_requests_stay_accepted()
-    ensures { (job : JobView) (requests : List RequestIs)
-        → AreAccepted job (judged job requests).accepted }
+    ensures { (splits : Option ℕ) (job : JobView) (requests : List RequestIs)
+        → AreAccepted job (judged_within splits job requests).accepted }
+{}
+
+/// If judging a list of requests refuses none of them, requests with the same changes are accepted
+/// too, whichever rows they wait for in their order.
+pub fn accepted_requests_may_wait()
+    ensures { (job : JobView) (requests others : List RequestIs) → AreAccepted job requests
+        → changes_of others ≡ changes_of requests → AreInOrder 0 others
+        → AreAccepted job others }
 {}
 
 /// If judging a list of requests refuses none of them, each of their functions may replace the one

@@ -21,11 +21,11 @@ mod request;
 
 pub use book::{Book, Current, accept};
 pub use fault::QFault;
-pub use in_order::{Judged, Refusals, Refused, judge_all};
+pub use in_order::{Judged, Refusals, Refused, judge_all, judge_within};
 pub use judging::judge;
 pub use laws::{
     accepted_requests_are_in_order, accepted_requests_carry_well, accepted_requests_keep_kinds,
-    accepted_requests_name_nodes, accepted_requests_stay_accepted,
+    accepted_requests_may_wait, accepted_requests_name_nodes, accepted_requests_stay_accepted,
 };
-pub use limits::{MAX_AFTER, MAX_CHANGES, MAX_REQUESTS};
+pub use limits::{MAX_AFTER, MAX_CHANGES, MAX_REQUESTS, MAX_STREAM_REQUESTS};
 pub use request::{Change, Changes, Request, Requests};

@@ -1,4 +1,4 @@
-use Rattle.std.proofs.Common.{sym, subst}
+use Rattle.std.proofs.Common.{None, sym, subst}
 use Rattle.jobs.specs.Job.{job_view}
 use Rattle.versions.specs.Judged.{AreAccepted}
 use Rattle.versions.specs.declared.in_order.Judged.{Judged}
@@ -8,4 +8,4 @@ pub made-requires : goal.made-requires
 made-requires c =
     let job = job_view c.args.job in
     subst (λ (j : Judged). AreAccepted job j.accepted) (sym c.in-Ok-judge_all.ensures)
-    (c.accepted_requests_stay_accepted.ensures job _)
+    (c.accepted_requests_stay_accepted.ensures None job _)

@@ -1,5 +1,6 @@
 use Rattle.std.proofs.Common.{◌≡◌, ◌++◌, ◌∷◌, [], ◌<◌, ◌^◌, ◌-◌, ◌*◌, rules, arith}
 use Rattle.jobs.specs.Job.{job_view}
+use Rattle.versions.proofs.AcceptedLemmas.{free-anywhere}
 use Rattle.versions.proofs.JudgedLemmas.{judged_on-accepted, judged_on-refused}
 use Rattle.versions.proofs.YoungLemmas.{CanAccept-fault_of, IsYoung-accepted}
 use Rattle.versions.proofs.in_order.next.Goals as goal
@@ -7,7 +8,8 @@ use Rattle.versions.proofs.in_order.next.Goals as goal
 pub accept-requires : goal.accept-requires
 accept-requires c =
     let room : c.args.place * 64 < 2 ^ 64 - 1 = omega (arith, c.requires.place) in
-    CanAccept-fault_of (job_view c.args.job.now) c.args.bench.now.book c.args.request.now c.args.bench.now.last_after (c.args.place * 64) c.requires.young room c.in-Ok.ensures.ok
+    CanAccept-fault_of (job_view c.args.job.now) c.args.bench.now.book c.args.request.now c.args.bench.now.last_after (c.args.place * 64) c.requires.young room
+    (free-anywhere c.args.bench.now.splits c.args.bench.now.book (job_view c.args.job.now) c.args.request.now c.args.bench.now.last_after c.in-Ok.ensures.ok)
 
 pub returns-in_ok-push-in-Ok-clause-young : goal.returns-in_ok-push-in-Ok-clause-young
 returns-in_ok-push-in-Ok-clause-young c =
