@@ -1,5 +1,5 @@
 -- The sizes of a list of requests, and their limits.
-use Rattle.std.specs.Prelude.{List, length, codes, Option, ◌≤◌, All}
+use Rattle.std.specs.Prelude.{ℕ, List, length, codes, Option, ◌≤◌, All}
 use Rattle.std.specs.Option.{option_or}
 use Rattle.toml.specs.Data.{Data, Members}
 use Rattle.jobs.specs.Limits.{Oversize, first_oversize, outside, oversize}
@@ -46,13 +46,17 @@ request_oversize request =
     (option_or (outside which.Changes 0 MAX_CHANGES (length request.changes))
     (first_oversize change_oversize request.changes))
 
--- the first size of a list of requests that is outside of its limits: there are up to 64
-abbrev pub list_oversize : List Request → Option Oversize
-list_oversize requests =
-    option_or (outside which.Requests 0 MAX_REQUESTS (length requests))
+-- the first size of a list of requests that is outside of its limits: there are up to `most`
+abbrev pub list_oversize : ℕ → List Request → Option Oversize
+list_oversize most requests =
+    option_or (outside which.Requests 0 most (length requests))
     (first_oversize request_oversize requests)
 
--- so few requests with so few changes that they can be judged
-pub record AreFew (requests : List Request) : Type 0 where
-  pub count : length requests ≤ MAX_REQUESTS
+-- up to `most` requests, each with so few changes that it can be judged
+pub record AreUpTo (most : ℕ) (requests : List Request) : Type 0 where
+  pub count : length requests ≤ most
   pub changes : All (λ (request : Request). length request.changes ≤ MAX_CHANGES) requests
+
+-- so few requests with so few changes that they can be judged
+abbrev pub AreFew : List Request → Type 0
+AreFew requests = AreUpTo MAX_REQUESTS requests

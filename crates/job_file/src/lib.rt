@@ -33,4 +33,6 @@ mod wide;
 
 pub use fault::{JobFault, Part, ReqFileFault};
 pub use jobs::{Named, Which};
-pub use read::{faulty_is_no_job, files_have_one_fault, read_job, read_requests};
+pub use read::{
+    faulty_is_no_job, files_have_one_fault, read_job, read_requests, read_requests_up_to,
+};

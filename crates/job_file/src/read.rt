@@ -1,8 +1,8 @@
 ghost use Rattle.std.specs.Prelude.{◌≡◌, ◌≢◌, Ok, Err, IfOk, IfErr};
 ghost use Rattle.jobs.specs.Job.{job_view};
 ghost use Rattle.job_file.specs.Job.{Excludes, HaveOneFault, IsFaultIn, IsJobIn};
-ghost use Rattle.job_file.specs.RequestFile.{requests_of};
-ghost use Rattle.job_file.specs.RequestSizes.{AreFew};
+ghost use Rattle.job_file.specs.RequestFile.{requests_of, requests_up_to};
+ghost use Rattle.job_file.specs.RequestSizes.{AreFew, AreUpTo};
 ghost use Rattle.versions.specs.Kept.{HaveLimits};
 
 use crate::document::document;
@@ -13,7 +13,7 @@ use crate::requests::read_list;
 use crate::wide::wide_in;
 use jobs::Job;
 use std::alloc::Global;
-use versions::Requests;
+use versions::{MAX_REQUESTS, Requests};
 
 /// The job that a file writes down.
 ///
@@ -67,12 +67,33 @@ pub fn read_requests(alloc: Global, job: &Job, bytes: &[u8]) -> Result<Requests,
     ensures fault { IfErr result (λ fault. fault ≢ ReqFileFault.NoMemory
         → requests_of (job_view job.now) bytes.now ≡ Err fault) }
 {
+    read_requests_up_to(alloc, job, bytes, MAX_REQUESTS)
+}
+
+/// The same, where a file may have up to `most` requests, as that of a stream has.
+///
+/// # Errors
+///
+/// Those of [`read_requests`], in their order.
+pub fn read_requests_up_to(
+    alloc: Global,
+    job: &Job,
+    bytes: &[u8],
+    most: usize,
+) -> Result<Requests, ReqFileFault>
+    ensures ok { IfOk result (λ requests.
+        requests_up_to most (job_view job.now) bytes.now ≡ Ok requests) }
+    ensures few { IfOk result (AreUpTo most) }
+    ensures limits { IfOk result HaveLimits }
+    ensures fault { IfErr result (λ fault. fault ≢ ReqFileFault.NoMemory
+        → requests_up_to most (job_view job.now) bytes.now ≡ Err fault) }
+{
     let members = document(alloc, bytes)?;
     let requests = read_list(alloc, job, &members)?;
     if let Some((which, number)) = wide_in_requests(&members) {
         return Err(ReqFileFault::Limit(which, number));
     }
-    if let Some((which, number)) = list_fault(requests.as_slice()) {
+    if let Some((which, number)) = list_fault(most, requests.as_slice()) {
         return Err(ReqFileFault::Limit(which, number));
     }
     Ok(requests)

@@ -1,7 +1,7 @@
 ghost use Rattle.std.specs.Prelude.{◌≡◌, IfNone};
 ghost use Rattle.toml.specs.View.{items_view, table_view, view};
 ghost use Rattle.jobs.specs.Limits.{first_oversize, outside};
-ghost use Rattle.job_file.specs.RequestSizes.{AreFew, change_oversize, list_oversize};
+ghost use Rattle.job_file.specs.RequestSizes.{AreUpTo, change_oversize, list_oversize};
 ghost use Rattle.job_file.specs.RequestSizes.{request_oversize, wide_change, wide_in_requests};
 ghost use Rattle.job_file.specs.RequestSizes.{wide_request, wide_request_item};
 ghost use Rattle.job_file.specs.Wide.{first_found};
@@ -12,7 +12,7 @@ use crate::fault::Part;
 use crate::wide::wide_at;
 use jobs::{Which, outside, size_fault};
 use toml::{Table as Members, Value as Toml};
-use versions::{Change, MAX_AFTER, MAX_CHANGES, MAX_REQUESTS, Request};
+use versions::{Change, MAX_AFTER, MAX_CHANGES, Request};
 
 /// The first number of the requests of a document that a request has no room for.
 pub(crate) fn wide_in_requests(members: &Members) -> Option<(Which, i64)>
@@ -76,14 +76,14 @@ fn wide_change(item: &Toml) -> Option<(Which, i64)>
     }
 }
 
-/// The first size of these requests that is outside of its limits.
-pub(crate) fn list_fault(requests: &[Request]) -> Option<(Which, i64)>
-    ensures first { result ≡ list_oversize requests.now }
-    ensures few { IfNone result (AreFew requests.now) }
+/// The first size of these requests that is outside of its limits. There may be up to `most`.
+pub(crate) fn list_fault(most: usize, requests: &[Request]) -> Option<(Which, i64)>
+    ensures first { result ≡ list_oversize most requests.now }
+    ensures few { IfNone result (AreUpTo most requests.now) }
     ensures limits { IfNone result (HaveLimits requests.now) }
 {
     let count = requests.len() as u64;
-    if let Some(fault) = outside(Which::Requests, 0, MAX_REQUESTS as u64, count) {
+    if let Some(fault) = outside(Which::Requests, 0, most as u64, count) {
         return Some(fault);
     }
     requests_fault(requests)
