@@ -1,9 +1,11 @@
 -- Plans, one more at a time.
-use Rattle.std.proofs.Common.{◌≡◌, ◌<◌, ◌+◌, ◌++◌, ◌==◌, ◌≤◌, ◌↔◌, ℕ, zero, suc, inl, inr, true, false, Bool, take, List, [], ◌∷◌, length, Option, Some, None, refl, sym, ap, subst, ◌∙◌, arith}
-use Rattle.std.specs.Prelude.{All, slice_get, IsTrue, if◌then◌else◌}
+use Rattle.std.proofs.Common.{◌≡◌, ◌⊎◌, ◌<◌, ◌^◌, ◌+◌, ◌++◌, ◌==◌, ◌≤◌, ◌↔◌, ℕ, zero, suc, inl, inr, true, false, Bool, take, List, [], ◌∷◌, length, Option, Some, None, refl, sym, ap, subst, ◌∙◌, arith}
+use Rattle.std.specs.Prelude.{◌||◌, All, nat_le, slice_get, IsTrue, if◌then◌else◌}
 use Rattle.std.specs.List.{list_any}
-use Rattle.std.proofs.lemmas.Bool.{and_parts, cases_lt, eqb-true, or_cases}
+use Rattle.std.proofs.lemmas.Bool.{and_parts, cases_lt, eq-eqb, eqb-true, or_cases, or_left, or_right}
 use Rattle.std.proofs.lemmas.List.{length_push, take-append-le, take_all}
+use Rattle.std.proofs.lemmas.List.Elements.{All-cons, All-head, All-nil, All-tail}
+use Rattle.std.proofs.lemmas.List.Folds.{list_any-append}
 use Rattle.std.proofs.lemmas.Option.{slice_get_within}
 use Rattle.cover_planner.specs.declared.cover.Plan.{Plan}
 use Rattle.versions.specs.declared.request.Change.{Change}
@@ -12,19 +14,20 @@ use Rattle.versions.specs.Judging.{leaves_once, may_replace}
 use Rattle.versions.specs.Kept.{KeepKinds, KeepsKind}
 use Rattle.cover_planner.specs.Members.{IsMember}
 use Rattle.flow_dag.specs.Edges.{HasEdge}
-use Rattle.jobs.specs.Nodes.{IsSourceOf, is_replicate, is_source, is_source_node, is_split}
+use Rattle.jobs.specs.Nodes.{IsSourceOf, is_free, is_replicate, is_source, is_source_node, is_split}
 use Rattle.jobs.specs.declared.func.Func.{Func}
 use Rattle.jobs.specs.declared.func.Func.TheVariants as func
 use Rattle.jobs.specs.declared.func.NodeDef.{NodeDef}
-use Rattle.flow_dag.specs.Masks.{Has}
+use Rattle.flow_dag.proofs.MaskLemmas.{Has-none}
+use Rattle.flow_dag.specs.Masks.{Has, has}
 use Rattle.cover_planner.specs.Plan.{IsPlan}
 use Rattle.jobs.specs.JobView.{JobView}
 use Rattle.versions.specs.Book.{is_named}
-use Rattle.flow_model.specs.SetupView.{setup_view_of}
+use Rattle.flow_model.specs.SetupView.{SetupView, setup_view_of, splits_of}
 use Rattle.flow_model.proofs.ElementLemmas.{IsIn, any_in, at_of_all, in_any, in_of_place}
 use Rattle.flow_model.proofs.PlaceLemmas.{append_get, get_left}
 use Rattle.flow_model.proofs.WorkerLemmas.{item_at, source_is}
-use Rattle.flow_model.specs.Planned.{ArePlansOf, IsPlanOf, IsPlanned, copies_at, is_made_split, is_named_by, is_planned, is_replicate_node, is_split_node, makes_split, names_node, splits_at}
+use Rattle.flow_model.specs.Planned.{ArePlansFrom, ArePlansOf, IsExactFor, IsPlanOf, IsPlanned, copies_at, extended, is_made_split, is_named_by, is_planned, is_replicate_node, is_split_node, makes_split, may_become_split, names_node, splits_at}
 
 pushed-before : {A : Type 0} (xs : List A) (x : A) (k : ℕ) → k < length xs → slice_get (xs ++ x ∷ []) k ≡ slice_get xs k
 pushed-before xs x k lt = let r = item_at xs k lt in get_left xs (x ∷ []) k r.0 r.1 ∙ sym r.1
@@ -78,14 +81,14 @@ planned_by false requests r node h = go (slice_get requests r) refl h
 
 -- ---- one more plan
 
-pub ArePlansOf-push : (job : JobView) (splits : ℕ) (ordered : Bool) (requests : List Request) (plans : List Plan) (request : Request) (plan : Plan)
-    → ArePlansOf job splits ordered requests plans → IsPlanOf job splits (is_planned ordered (requests ++ request ∷ []) (length requests)) plan
-    → ArePlansOf job splits ordered (requests ++ request ∷ []) (plans ++ plan ∷ [])
-ArePlansOf-push job splits ordered requests plans request plan are is = record {
+pub ArePlansFrom-push : (first : ℕ) (job : JobView) (splits : ℕ) (ordered : Bool) (requests : List Request) (plans : List Plan) (request : Request) (plan : Plan)
+    → ArePlansFrom first job splits ordered requests plans → IsPlanOf job splits (is_planned ordered (requests ++ request ∷ []) (length requests)) plan
+    → ArePlansFrom first job splits ordered (requests ++ request ∷ []) (plans ++ plan ∷ [])
+ArePlansFrom-push first job splits ordered requests plans request plan are is = record {
   one_each = omega (arith, are.one_each, length_push plans plan, length_push requests request);
-  each = λ r p ep. elim (cases_lt r (length requests)) [
+  each = λ r p from ep. elim (cases_lt r (length requests)) [
     | inl lt ↦
-        let old : IsPlanOf job splits (is_planned ordered requests r) p = are.each r p (sym (pushed-before plans plan r (omega (arith, are.one_each))) ∙ ep) in
+        let old : IsPlanOf job splits (is_planned ordered requests r) p = are.each r p from (sym (pushed-before plans plan r (omega (arith, are.one_each))) ∙ ep) in
         record { by = old.by; asked = λ node. rw (planned-before ordered requests request r node lt) (old.asked node) }
     | inr ge ↦
         let within : r < length (plans ++ plan ∷ []) = slice_get_within (plans ++ plan ∷ []) r p ep in
@@ -96,6 +99,42 @@ ArePlansOf-push job splits ordered requests plans request plan are is = record {
         (subst (λ (x : Plan). IsPlanOf job splits (is_planned ordered (requests ++ request ∷ []) (length requests)) x) e is)
   ];
 }
+
+-- no plan is needed yet
+pub ArePlansFrom-none : (job : JobView) (splits : ℕ) (ordered : Bool) (requests : List Request) (plans : List Plan) → length plans ≡ length requests → ArePlansFrom (length requests) job splits ordered requests plans
+ArePlansFrom-none job splits ordered requests plans e = record {
+  one_each = e;
+  each = λ r p from ep. absurd (let within : r < length plans = slice_get_within plans r p ep in omega (arith, within, e, from));
+}
+
+-- masks that hold the same nodes are exact for the same setup
+pub IsExactFor-like : (p q : ℕ → Bool) (setup : SetupView) → ((node : ℕ) → (IsTrue (p node) → IsTrue (q node)) × (IsTrue (q node) → IsTrue (p node))) → IsExactFor p setup → IsExactFor q setup
+IsExactFor-like p q setup same is = record {
+  splits = λ node. (λ h. (same node).0 ((is.splits node).0 h), λ h. (is.splits node).1 ((same node).1 h));
+  plans = is.plans;
+}
+
+-- no node is spare
+pub no_spare : (a : Bool) (node : ℕ) → (IsTrue (a || has 0 node) → IsTrue a) × (IsTrue a → IsTrue (a || has 0 node))
+no_spare a node = (
+  λ h. elim (or_cases a (has 0 node) h) [ inl own ↦ own | inr spare ↦ absurd (Has-none node (eqb-true _ _ spare)) ],
+  λ own. or_left a (has 0 node) own,
+)
+
+-- the spare nodes are those that pass a test
+pub spare_as : (a b : Bool) (mask node : ℕ) → Has mask node ↔ IsTrue b → (IsTrue (a || has mask node) → IsTrue (a || b)) × (IsTrue (a || b) → IsTrue (a || has mask node))
+spare_as a b mask node is = (
+  λ h. elim (or_cases a (has mask node) h) [ inl own ↦ or_left a b own | inr spare ↦ or_right a b (is.0 (eqb-true _ _ spare)) ],
+  λ h. elim (or_cases a b h) [ inl own ↦ or_left a (has mask node) own | inr spare ↦ or_right a (has mask node) (eq-eqb _ _ (is.1 spare)) ],
+)
+
+-- no source may become a split
+pub no_source_spare : (o : Option NodeDef) → is_source_node o ≡ true → may_become_split o ≡ true → ⊥
+no_source_spare None is may = cc
+no_source_spare (Some def) is may =
+    let free = (and_parts (is_free def.func) (nat_le 2 def.roof) may).0 in
+    let no : is_free func.Source ≡ true = subst (λ (g : Func). is_free g ≡ true) (source_is def.func is) free in
+    absurd (cc)
 
 -- the members of a plan do not depend on how its sets are told
 members_alike : (E : ℕ → ℕ → Type 0) (asked splits copies others : ℕ → Type 0) (a : ℕ) → ((n : ℕ) → copies n → others n) → IsMember E asked splits copies a → IsMember E asked splits others a
@@ -163,28 +202,83 @@ module _ (job : JobView) (requests : List Request) (kept : KeepKinds job request
       let c = any_in (makes_split node) r.0.changes r.2 in
       no_source_changed job c.0 node (eqb-true c.0.node node (and_parts (c.0.node == node) (is_split c.0.func) c.2).0) (kept_in r.0 c.0 r.1 c.1) source
 
-  no_source_planned : (splits : ℕ) (ordered : Bool) (r : ℕ) (plan : Plan) (node : ℕ) → ((n : ℕ) → Has splits n ↔ IsTrue (splits_at job.nodes requests n))
+  -- no source may make pieces of a tuple
+  pub no_source_splits : (node : ℕ) → splits_at job.nodes requests node ≡ true → IsSourceOf job node → ⊥
+  no_source_splits node splits source =
+      elim (or_cases (is_split_node (slice_get job.nodes node)) (is_made_split requests node) splits) [
+        | inl own ↦ no_source_split (slice_get job.nodes node) source own
+        | inr made ↦ no_source_made node made source
+      ]
+
+  no_source_planned : (splits : ℕ) (ordered : Bool) (r : ℕ) (plan : Plan) (node : ℕ) → ((n : ℕ) → IsSourceOf job n → ¬ Has splits n)
       → IsPlanOf job splits (is_planned ordered requests r) plan → IsSourceOf job node → ¬ Has plan.members node
-  no_source_planned splits ordered r plan node has is source member = go ((is.by.members node).0 member)
+  no_source_planned splits ordered r plan node sources is source member = go ((is.by.members node).0 member)
     where
       go : IsMember (HasEdge job.edges) (Has plan.asked) (Has splits) (λ n. IsTrue (copies_at job.nodes n)) node → ⊥
       go (inl asked) =
           let q = planned_by ordered requests r node ((is.asked node).0 asked) in
           no_source_named node q.0 q.1 q.2 source
-      go (inr (inl split)) =
-          elim (or_cases (is_split_node (slice_get job.nodes node)) (is_made_split requests node) ((has node).0 split.0)) [
-            | inl own ↦ no_source_split (slice_get job.nodes node) source own
-            | inr made ↦ no_source_made node made source
-          ]
+      go (inr (inl split)) = sources node source split.0
       go (inr (inr copy)) = no_source_copies (slice_get job.nodes node) source copy.0
 
 pub IsPlanned-exact : (job : JobView) (requests : List Request) (plans : List Plan) (splits : ℕ) (ordered : Bool)
-    → ((node : ℕ) → Has splits node ↔ IsTrue (splits_at job.nodes requests node)) → KeepKinds job requests → ArePlansOf job splits ordered requests plans
+    → ((node : ℕ) → splits_at job.nodes requests node ≡ true → Has splits node) → ((node : ℕ) → IsSourceOf job node → ¬ Has splits node) → splits < 2 ^ length job.nodes
+    → KeepKinds job requests → ArePlansOf job splits ordered requests plans
     → IsPlanned (setup_view_of job requests plans splits ordered)
-IsPlanned-exact job requests plans splits ordered has kept are = record {
-  splits = λ node h. (has node).1 h;
+IsPlanned-exact job requests plans splits ordered cover sources inside kept are = record {
+  splits = cover;
+  sources = sources;
+  inside = inside;
   one_each = are.one_each;
-  plans = λ r request plan eq ep. let is = are.each r plan ep in record { planned = is.by; asked = λ node h. (is.asked node).1 (planned_own ordered requests r node request eq h) };
-  no_source = λ r node plan ep source. no_source_planned job requests kept splits ordered r plan node has (are.each r plan ep) source;
-  ordered = λ o s r request plan le eq ep node h. ((are.each r plan ep).asked node).1 (planned_later ordered o requests s r node request le eq h);
+  plans = λ r request plan eq ep. let is = are.each r plan (omega arith) ep in record { planned = is.by; asked = λ node h. (is.asked node).1 (planned_own ordered requests r node request eq h) };
+  no_source = λ r node plan ep source. no_source_planned job requests kept splits ordered r plan node sources (are.each r plan (omega arith) ep) source;
+  ordered = λ o s r request plan le eq ep node h. ((are.each r plan (omega arith) ep).asked node).1 (planned_later ordered o requests s r node request le eq h);
 }
+
+-- ---- a setup that is followed by later requests
+
+pub All-front : {A : Type 0} (P : A → Type 0) (xs ys : List A) → All P (xs ++ ys) → All P xs
+All-front P [] ys all = All-nil P
+All-front P (x ∷ xs) ys all = All-cons P x xs (All-head P x (xs ++ ys) all) (All-front P xs ys (All-tail P x (xs ++ ys) all))
+
+pub All-back : {A : Type 0} (P : A → Type 0) (xs ys : List A) → All P (xs ++ ys) → All P ys
+All-back P [] ys all = all
+All-back P (x ∷ xs) ys all = All-back P xs ys (All-tail P x (xs ++ ys) all)
+
+get_front : {A : Type 0} (r : ℕ) (xs ys : List A) → r < length xs → slice_get (xs ++ ys) r ≡ slice_get xs r
+get_front r [] ys lt = absurd (omega arith)
+get_front zero (x ∷ xs) ys lt = refl
+get_front (suc r) (x ∷ xs) ys lt = get_front r xs ys (omega arith)
+
+pub IsPlanned-followed : (setup : SetupView) (later : List Request) (plans : List Plan) → IsPlanned setup → KeepKinds setup.job (setup.requests ++ later)
+    → ((node : ℕ) → is_made_split later node ≡ true → Has (splits_of setup) node)
+    → ArePlansFrom (length setup.requests) setup.job (splits_of setup) setup.ordered (setup.requests ++ later) (setup.plans ++ plans)
+    → IsPlanned (extended setup later plans)
+IsPlanned-followed setup later plans is kept made are = record {
+  splits = λ node s. split_cases node (or_cases (is_split_node (slice_get setup.job.nodes node)) (is_made_split (setup.requests ++ later) node) s);
+  sources = is.sources;
+  inside = is.inside;
+  one_each = are.one_each;
+  plans = λ r request plan g h. elim (cases_lt r (length setup.requests)) [
+    | inl lt ↦ is.plans r request plan (sym (get_front r setup.requests later lt) ∙ g) (sym (get_front r setup.plans plans (omega (arith, is.one_each, lt))) ∙ h)
+    | inr ge ↦ let of = are.each r plan ge h in record { planned = of.by; asked = λ node n. (of.asked node).1 (planned_own setup.ordered (setup.requests ++ later) r node request g n) }
+  ];
+  no_source = λ r node plan h source. elim (cases_lt r (length setup.requests)) [
+    | inl lt ↦ is.no_source r node plan (sym (get_front r setup.plans plans (omega (arith, is.one_each, lt))) ∙ h) source
+    | inr ge ↦ no_source_planned setup.job (setup.requests ++ later) kept (splits_of setup) setup.ordered r plan node is.sources (are.each r plan ge h) source
+  ];
+  ordered = λ o s r request plan le g h node n. elim (cases_lt r (length setup.requests)) [
+    | inl lt ↦ is.ordered o s r request plan le (sym (get_front s setup.requests later (omega (arith, lt, le))) ∙ g) (sym (get_front r setup.plans plans (omega (arith, is.one_each, lt))) ∙ h) node n
+    | inr ge ↦ ((are.each r plan ge h).asked node).1 (planned_later setup.ordered o (setup.requests ++ later) s r node request le g n)
+  ];
+}
+  where
+    made_cases : (node : ℕ) → (is_made_split setup.requests node ≡ true) ⊎ (is_made_split later node ≡ true) → Has (splits_of setup) node
+    made_cases node (inl e) = is.splits node (or_right (is_split_node (slice_get setup.job.nodes node)) (is_made_split setup.requests node) e)
+    made_cases node (inr e) = made node e
+
+    split_cases : (node : ℕ) → (is_split_node (slice_get setup.job.nodes node) ≡ true) ⊎ (is_made_split (setup.requests ++ later) node ≡ true) → Has (splits_of setup) node
+    split_cases node (inl e) = is.splits node (or_left (is_split_node (slice_get setup.job.nodes node)) (is_made_split setup.requests node) e)
+    split_cases node (inr e) =
+        made_cases node (or_cases (is_made_split setup.requests node) (is_made_split later node)
+        (sym (list_any-append (λ (request : Request). list_any (makes_split node) request.changes) setup.requests later) ∙ e))

@@ -201,7 +201,7 @@ no_splits (suc (suc zero)) h = absurd (no_made 2 h)
 no_splits (suc (suc (suc node))) h = absurd (no_made (suc (suc (suc node))) h)
 
 pub four-planned : IsPlanned four_setup
-four-planned = record { splits = no_splits; one_each = refl; plans = plans; no_source = no_source; ordered = λ o. absurd (cc) }
+four-planned = record { splits = no_splits; sources = λ node source has. Has-none node has; inside = lit< tt; one_each = refl; plans = plans; no_source = no_source; ordered = λ o. absurd (cc) }
   where
     alone : (b : Bool) → b || false ≡ true → b ≡ true
     alone true e = refl

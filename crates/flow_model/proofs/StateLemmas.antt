@@ -1,6 +1,6 @@
 -- What a worker's state makes of a tuple, in the words of the replay.
 use Rattle.std.proofs.Common.{◌≡◌, ◌∙◌, ◌++◌, ℕ, List, sym, ap}
-use Rattle.std.specs.Prelude.{Some, slice_get}
+use Rattle.std.specs.Prelude.{slice_get}
 use Rattle.jobs.specs.declared.func.Func.{Func}
 use Rattle.keyed_state.specs.Counts.{Counts}
 use Rattle.operators.specs.Meaning.{step}

@@ -14,7 +14,8 @@ use Rattle.versions.specs.declared.request.Request.{Request}
 use Rattle.versions.proofs.WaitingLemmas.{accepted_like}
 use Rattle.flow_model.specs.SetupView.{SetupView}
 use Rattle.flow_model.specs.Planned.{IsPlanned, is_split_node, makes_split, splits_at}
-use Rattle.flow_model.specs.Waiting.{changes_of, waiting_for, with_afters}
+use Rattle.versions.specs.Waiting.{changes_of}
+use Rattle.flow_model.specs.Waiting.{waiting_for, with_afters}
 
 same_some : {A : Type 0} (x y : A) → Some x ≡ Some y → x ≡ y
 same_some x y e = cc
@@ -61,6 +62,8 @@ planned_waiting setup afters h =
     let same : changes_of rs ≡ changes_of setup.requests = changes-with_afters afters setup.requests in
     record {
       splits = λ node s. h.splits node (subst IsTrue (splits_like node same) s);
+      sources = h.sources;
+      inside = h.inside;
       one_each = h.one_each ∙ (sym (length-map setup.requests (λ (q : Request). q.changes)) ∙ (ap (λ (l : List (List Change)). length l) (sym same) ∙ length-map rs (λ (q : Request). q.changes)));
       plans = λ k r plan g p.
           let q = request_like setup.requests rs k r same g in

@@ -1,11 +1,12 @@
 -- What the type of a setup keeps: its requests are accepted, and have the planner's plans.
-use Rattle.std.specs.Prelude.{◌≡◌, ◌↔◌, ◌≤◌, ◌+◌, ◌==◌, ◌&&◌, ◌||◌, ℕ, Bool, false, IsTrue, List}
+use Rattle.std.specs.Prelude.{◌≡◌, ◌↔◌, ◌≤◌, ◌<◌, ◌^◌, ◌+◌, ◌++◌, ◌==◌, ◌&&◌, ◌||◌, ℕ, Bool, false}
+use Rattle.std.specs.Prelude.{IsTrue, List, nat_le}
 use Rattle.std.specs.Prelude.{length, take, Option, Some, None, slice_get, if◌then◌else◌}
 use Rattle.std.specs.List.{list_any}
 use Rattle.cover_planner.specs.declared.cover.Plan.{Plan}
 use Rattle.cover_planner.specs.Plan.{IsPlan}
 use Rattle.flow_dag.specs.Masks.{Has}
-use Rattle.jobs.specs.Nodes.{IsSourceOf, is_replicate, is_split}
+use Rattle.jobs.specs.Nodes.{IsSourceOf, is_free, is_replicate, is_split}
 use Rattle.jobs.specs.JobView.{JobView}
 use Rattle.jobs.specs.declared.func.NodeDef.{NodeDef}
 use Rattle.versions.specs.Book.{is_named}
@@ -42,6 +43,11 @@ is_made_split requests node = list_any (λ (request : Request). list_any
 abbrev pub splits_at : List NodeDef → List Request → ℕ → Bool
 splits_at nodes requests node = is_split_node (slice_get nodes node) || is_made_split requests node
 
+-- a later request may make the node a split: its kind is free, and its roof is 2 or more
+abbrev pub may_become_split : Option NodeDef → Bool
+may_become_split None = false
+may_become_split (Some node) = is_free node.func && nat_le 2 node.roof
+
 -- ---- plans
 
 -- the plan is the planner's for the nodes that it asks
@@ -54,12 +60,14 @@ pub record IsPlanFor (job : JobView) (splits : ℕ) (request : Request) (plan : 
   pub planned : IsPlanBy job splits plan
   pub asked : (node : ℕ) → IsTrue (is_named request.changes node) → Has plan.asked node
 
--- the mask holds every node that may make pieces of a tuple, each request has its plan, and no plan
--- has a source for a member; where rows and requests have one order, a plan asks every node that a
--- request up to its own changes
+-- the mask holds every node that may make pieces of a tuple, but no source and nothing outside of the
+-- job; each request has its plan, and no plan has a source for a member; where rows and requests
+-- have one order, a plan asks every node that a request up to its own changes
 pub record IsPlanned (setup : SetupView) : Type 0 where
   pub splits : (node : ℕ) → IsTrue (splits_at setup.job.nodes setup.requests node)
       → Has (splits_of setup) node
+  pub sources : (node : ℕ) → IsSourceOf setup.job node → ¬ Has (splits_of setup) node
+  pub inside : splits_of setup < 2 ^ length setup.job.nodes
   pub one_each : length setup.plans ≡ length setup.requests
   pub plans :
       (r : ℕ) (request : Request) (plan : Plan) → slice_get setup.requests r ≡ Some request
@@ -96,16 +104,45 @@ pub record IsPlanOf (job : JobView) (splits : ℕ) (planned : ℕ → Bool) (pla
   pub by : IsPlanBy job splits plan
   pub asked : (node : ℕ) → Has plan.asked node ↔ IsTrue (planned node)
 
--- each request has the planner's plan for the set that is planned for it
-pub record ArePlansOf (job : JobView) (splits : ℕ) (ordered : Bool) (requests : List Request)
-    (plans : List Plan) : Type 0 where
+-- the requests from this place on have the planner's plan for the set that is planned for each
+pub record ArePlansFrom (first : ℕ) (job : JobView) (splits : ℕ) (ordered : Bool)
+    (requests : List Request) (plans : List Plan) : Type 0 where
   pub one_each : length plans ≡ length requests
-  pub each : (r : ℕ) (plan : Plan) → slice_get plans r ≡ Some plan
+  pub each : (r : ℕ) (plan : Plan) → first ≤ r → slice_get plans r ≡ Some plan
       → IsPlanOf job splits (is_planned ordered requests r) plan
 
--- the masks hold nothing else: the nodes that may make pieces of a tuple, and for each request the
--- set that is planned
-pub record IsExact (setup : SetupView) : Type 0 where
-  pub splits : (node : ℕ) → Has (splits_of setup) node
-      ↔ IsTrue (splits_at setup.job.nodes setup.requests node)
+-- each request has the planner's plan for the set that is planned for it
+abbrev pub ArePlansOf : JobView → ℕ → Bool → List Request → List Plan → Type 0
+ArePlansOf job splits ordered requests plans = ArePlansFrom 0 job splits ordered requests plans
+
+-- the masks hold nothing else: the nodes that these are, and for each request the set that is
+-- planned
+pub record IsExactFor (held : ℕ → Bool) (setup : SetupView) : Type 0 where
+  pub splits : (node : ℕ) → Has (splits_of setup) node ↔ IsTrue (held node)
   pub plans : ArePlansOf setup.job (splits_of setup) setup.ordered setup.requests setup.plans
+
+-- the mask of splits holds the nodes that the job or a request makes splits
+abbrev pub IsExact : SetupView → Type 0
+IsExact setup = IsExactFor (splits_at setup.job.nodes setup.requests) setup
+
+-- it also holds the nodes that later requests may make splits
+abbrev pub IsExactForStream : SetupView → Type 0
+IsExactForStream setup = IsExactFor
+    (λ node. splits_at setup.job.nodes setup.requests node
+    || may_become_split (slice_get setup.job.nodes node)) setup
+
+-- ---- later requests
+
+-- the setup with these requests and plans after its own; all else stays
+abbrev pub extended : SetupView → List Request → List Plan → SetupView
+extended setup requests plans =
+    record setup { requests = setup.requests ++ requests; plans = setup.plans ++ plans }
+
+-- The setup is followed by these requests. Its own requests and plans stay, and the later ones have
+-- the planner's plans for the mask of splits that it has.
+pub record IsFollowed (setup : SetupView) (requests : List Request) (followed : SetupView)
+    : Type 0 where
+  pub plans : List Plan
+  pub extended_is : followed ≡ extended setup requests plans
+  pub plans_are : ArePlansFrom (length setup.requests) followed.job (splits_of followed)
+      followed.ordered followed.requests followed.plans

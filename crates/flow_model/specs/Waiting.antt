@@ -1,12 +1,7 @@
 -- Requests that wait for other rows.
-use Rattle.std.specs.Prelude.{ℕ, List, [], ◌∷◌, map}
-use Rattle.versions.specs.declared.request.Change.{Change}
+use Rattle.std.specs.Prelude.{ℕ, List, [], ◌∷◌}
 use Rattle.versions.specs.declared.request.Request.{Request}
 use Rattle.flow_model.specs.SetupView.{SetupView}
-
--- the changes of each request
-abbrev pub changes_of : List Request → List (List Change)
-changes_of requests = map (λ (request : Request). request.changes) requests
 
 -- the first requests wait for these rows
 abbrev pub with_afters : List ℕ → List Request → List Request

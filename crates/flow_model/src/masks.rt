@@ -6,9 +6,11 @@ ghost use Rattle.versions.specs.Book.{is_named};
 ghost use Rattle.versions.specs.declared.request.Change.{Change as ChangeIs};
 ghost use Rattle.versions.specs.declared.request.Request.{Request as RequestIs};
 ghost use Rattle.flow_model.specs.Planned.{copies_at, is_split_node, makes_split, splits_at};
+ghost use Rattle.flow_model.specs.Planned.{may_become_split, names_node};
 ghost use Rattle.jobs.specs.Nodes.{is_replicate, is_split};
 
 use flow_dag::{MAX_NODES, with_bit};
+use jobs::is_free;
 use operators::{NodeDef, is_replicate, is_split};
 use versions::{Change, Request};
 
@@ -55,6 +57,37 @@ fn made_splits(count: u32, changes: &[Change]) -> u64
         if is_split(&change.func) {
             mask = with_bit(mask, change.node);
         }
+    }
+    mask
+}
+
+/// The nodes that a request may make splits: those of a free kind with a roof of 2 or more.
+pub fn may_become_splits(nodes: &[NodeDef]) -> u64
+    requires { length nodes.now ≤ MAX_NODES }
+    ensures has { (node : ℕ) → Has result node
+        ↔ IsTrue (may_become_split (slice_get nodes.now node)) }
+    ensures below { result < 2 ^ length nodes.now }
+{
+    let mut mask = 0u64;
+    for (node, def) in nodes.iter().enumerate() {
+        if is_free(&def.func) && def.roof >= 2 {
+            mask = with_bit(mask, node as u32);
+        }
+    }
+    mask
+}
+
+/// The nodes that the requests change, of `count` nodes.
+pub fn changed_by(count: u32, requests: &[Request]) -> u64
+    requires count { count ≤ MAX_NODES }
+    requires inside { All (λ (request : RequestIs). All
+        (λ (change : ChangeIs). change.node < count) request.changes) requests.now }
+    ensures has { (node : ℕ) → Has result node ↔ IsTrue (list_any (names_node node) requests.now) }
+    ensures below { result < 2 ^ count }
+{
+    let mut mask = 0u64;
+    for request in requests {
+        mask |= changed(count, request.changes.as_slice());
     }
     mask
 }

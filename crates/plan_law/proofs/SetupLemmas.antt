@@ -34,7 +34,7 @@ plans_of_requests job splits ordered requests ps qs long also f g = same_lists p
     each k d lt =
         let there : k < length qs = omega (arith, lt, count) in
         plan_of_set job splits (is_planned ordered requests k) (get_or ps k d) (get_or qs k d) (All-get_or NumbersAllNodes ps k d lt long) (All-get_or NumbersAllNodes qs k d there also)
-        (f.each k (get_or ps k d) (slice_get-get_or ps k d lt)) (g.each k (get_or qs k d) (slice_get-get_or qs k d there))
+        (f.each k (get_or ps k d) (omega arith) (slice_get-get_or ps k d lt)) (g.each k (get_or qs k d) (omega arith) (slice_get-get_or qs k d there))
 
 setup_of_fields : (s t : SetupView) → s.job ≡ t.job → s.requests ≡ t.requests → s.plans ≡ t.plans → s.splits ≡ t.splits → s.ordered ≡ t.ordered → s ≡ t
 setup_of_fields s t j r p m o = λ i. record { job = j i; requests = r i; plans = p i; splits = m i; ordered = o i }
