@@ -12,28 +12,28 @@ use Rattle.versions.specs.declared.request.Change.{Change}
 use Rattle.versions.specs.declared.request.Request.{Request}
 use Rattle.flow_model.proofs.ElementLemmas.{IsIn, all_of_at, at_of_all}
 
-from_judged : (job : JobView) (book : List Current) (last place : ℕ) (requests : List Request) (r : Request) → IsIn r (judged_from job book last place requests).accepted → IsIn r requests
+from_judged : (job : JobView) (book : List Current) (last place : ℕ) (requests : List Request) (r : Request) → IsIn r (judged_from None job book last place requests).accepted → IsIn r requests
 unfolding judged_from
 from_judged job book last place [] r i = absurd i
 from_judged job book last place (q ∷ rest) r i =
     go (fault_of book job q last) i (from_judged job (accepted book q.changes) q.after (place + 1) rest r) (from_judged job book last (place + 1) rest r)
   where
     go : (o : Option QFault)
-        → IsIn r (by_fault o (λ fault. refusing place fault (judged_from job book last (place + 1) rest)) (accepting q (judged_from job (accepted book q.changes) q.after (place + 1) rest))).accepted
-        → (IsIn r (judged_from job (accepted book q.changes) q.after (place + 1) rest).accepted → IsIn r rest)
-        → (IsIn r (judged_from job book last (place + 1) rest).accepted → IsIn r rest) → IsIn r (q ∷ rest)
+        → IsIn r (by_fault o (λ fault. refusing place fault (judged_from None job book last (place + 1) rest)) (accepting q (judged_from None job (accepted book q.changes) q.after (place + 1) rest))).accepted
+        → (IsIn r (judged_from None job (accepted book q.changes) q.after (place + 1) rest).accepted → IsIn r rest)
+        → (IsIn r (judged_from None job book last (place + 1) rest).accepted → IsIn r rest) → IsIn r (q ∷ rest)
     go None (inl e) f g = inl e
     go None (inr j) f g = inr (f j)
     go (Some fault) j f g = inr (g j)
 
-few_judged : (job : JobView) (book : List Current) (last place : ℕ) (requests : List Request) → length (judged_from job book last place requests).accepted ≤ length requests
+few_judged : (job : JobView) (book : List Current) (last place : ℕ) (requests : List Request) → length (judged_from None job book last place requests).accepted ≤ length requests
 unfolding judged_from
 few_judged job book last place [] = omega arith
 few_judged job book last place (q ∷ rest) =
     go (fault_of book job q last) (few_judged job (accepted book q.changes) q.after (place + 1) rest) (few_judged job book last (place + 1) rest)
   where
-    go : (o : Option QFault) → length (judged_from job (accepted book q.changes) q.after (place + 1) rest).accepted ≤ length rest → length (judged_from job book last (place + 1) rest).accepted ≤ length rest
-        → length (by_fault o (λ fault. refusing place fault (judged_from job book last (place + 1) rest)) (accepting q (judged_from job (accepted book q.changes) q.after (place + 1) rest))).accepted
+    go : (o : Option QFault) → length (judged_from None job (accepted book q.changes) q.after (place + 1) rest).accepted ≤ length rest → length (judged_from None job book last (place + 1) rest).accepted ≤ length rest
+        → length (by_fault o (λ fault. refusing place fault (judged_from None job book last (place + 1) rest)) (accepting q (judged_from None job (accepted book q.changes) q.after (place + 1) rest))).accepted
         ≤ length (q ∷ rest)
     go None f g = omega (arith, f)
     go (Some fault) f g = omega (arith, g)

@@ -7,11 +7,8 @@ use Rattle.jobs.specs.JobView.{JobView}
 use Rattle.flow_dag.specs.Masks.{Has}
 use Rattle.sink_journal.specs.declared.journal.Feed.{Feed}
 use Rattle.tuple_trace.specs.declared.row.Row.{Row}
-use Rattle.versions.specs.Book.{accepted, first_book, is_named}
-use Rattle.versions.specs.Judged.{accepting, by_fault, judged, judged_from, refusing}
-use Rattle.versions.specs.Judging.{fault_of}
-use Rattle.versions.specs.declared.book.Current.{Current}
-use Rattle.versions.specs.declared.fault.QFault.{QFault}
+use Rattle.versions.specs.Book.{is_named}
+use Rattle.versions.specs.Judged.{judged}
 use Rattle.versions.specs.declared.request.Change.{Change}
 use Rattle.versions.specs.declared.request.Request.{Request}
 use Rattle.flow_model.specs.Least.{ArePlansLeast}
@@ -38,21 +35,6 @@ use Rattle.call_steps.specs.Running.{IsDoneOf, IsRunOf}
 use Rattle.call_steps.specs.SetupFor.{AreSame, IsSetupFor}
 use Rattle.call_steps.specs.declared.running.Done.{Done}
 use Rattle.call_steps.proofs.RunLemmas.{HasLaws, is_run_of, run_so}
-
--- ---- how many requests are accepted
-
-few_from : (job : JobView) (book : List Current) (after place : ℕ) (requests : List Request) → length (judged_from job book after place requests).accepted ≤ length requests
-unfolding judged_from
-few_from job book after place [] = omega arith
-few_from job book after place (q ∷ qs) = go (fault_of book job q after) (few_from job (accepted book q.changes) q.after (place + 1) qs) (few_from job book after (place + 1) qs)
-  where
-    go : (fault : Option QFault) → length (judged_from job (accepted book q.changes) q.after (place + 1) qs).accepted ≤ length qs → length (judged_from job book after (place + 1) qs).accepted ≤ length qs
-        → length (by_fault fault (λ f. refusing place f (judged_from job book after (place + 1) qs)) (accepting q (judged_from job (accepted book q.changes) q.after (place + 1) qs))).accepted ≤ suc (length qs)
-    go None le more = omega (arith, le)
-    go (Some f) le more = omega (arith, more)
-
-pub few_accepted : (job : JobView) (requests : List Request) → length (judged job requests).accepted ≤ length requests
-few_accepted job requests = few_from job (first_book job.nodes) 0 1 requests
 
 -- ---- requests that wait for other rows
 
@@ -85,9 +67,9 @@ exact_waiting v waits is = record {
   splits = λ node. subst (λ b. Has v.splits node ↔ IsTrue b) (sym (splits_waiting v waits node)) (is.splits node);
   plans = record {
     one_each = is.plans.one_each ∙ sym (length_waiting waits v.requests);
-    each = λ r plan g. record {
-      by = (is.plans.each r plan g).by;
-      asked = λ node. subst (λ b. Has plan.asked node ↔ IsTrue b) (sym (planned_waiting v.ordered waits v.requests r node)) ((is.plans.each r plan g).asked node);
+    each = λ r plan from g. record {
+      by = (is.plans.each r plan from g).by;
+      asked = λ node. subst (λ b. Has plan.asked node ↔ IsTrue b) (sym (planned_waiting v.ordered waits v.requests r node)) ((is.plans.each r plan from g).asked node);
     };
   };
 }

@@ -9,7 +9,8 @@ use Rattle.live_control.specs.Hearing.{IsHeard}
 use Rattle.live_control.specs.Line.{TellerIs, last_load}
 use Rattle.versions.specs.declared.request.Request.{Request}
 use Rattle.call_steps.specs.declared.live.Work.{Work}
-use Rattle.call_steps.proofs.LiveLemmas.{few_accepted, live_of}
+use Rattle.call_steps.proofs.AcceptedLemmas.{accepted_few}
+use Rattle.call_steps.proofs.LiveLemmas.{live_of}
 use Rattle.call_steps.proofs.PartLemmas.{workers_of}
 use Rattle.call_steps.proofs.RunLemmas.{HasLaws, run_so}
 use Rattle.call_steps.proofs.live.run_live.Goals as goal
@@ -18,7 +19,7 @@ pub overflow_cast-most : goal.overflow_cast-most
 overflow_cast-most g c =
     let many = c.request_count-most.ensures in
     let same = ap (λ (l : List Request). length l) c.in_ok-setup.ensures.accepted in
-    let few = few_accepted (job_view c.args.job) c.args.requests.now in
+    let few = accepted_few (job_view c.args.job) c.args.requests.now in
     let all = c.requires.few.count in
     omega (arith, many, same, few, all)
 
@@ -26,7 +27,7 @@ pub run_beside-flown-requires-clause-most : goal.run_beside-flown-requires-claus
 run_beside-flown-requires-clause-most g c κs within =
     let many = c.request_count-most.ensures in
     let same = ap (λ (l : List Request). length l) c.in_ok-setup.ensures.accepted in
-    let few = few_accepted (job_view c.args.job) c.args.requests.now in
+    let few = accepted_few (job_view c.args.job) c.args.requests.now in
     let all = c.requires.few.count in
     omega (arith, many, same, few, all)
 
