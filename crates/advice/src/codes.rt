@@ -128,5 +128,6 @@ pub fn help_of_refusal(fault: QFault) -> Help
         QFault::BadCarry(_) => Q7,
         QFault::Empty => Q8,
         QFault::Backwards(_) => Q9,
+        QFault::LateSplit(_) => Q10,
     }
 }

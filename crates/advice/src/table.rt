@@ -261,6 +261,12 @@ pub const Q9: Help = Help {
     cure: "Put the requests in the order of `after`.",
 };
 
+pub const Q10: Help = Help {
+    code: "Q10",
+    cause: "A stream settles at its start which nodes may be splits, and this one may not.",
+    cure: "Make it a split in the job file, or raise its `roof` there, and begin a new stream.",
+};
+
 pub const READ: Help = Help {
     code: "5",
     cause: "The file couldn't be read.",

@@ -9,6 +9,7 @@ ghost use Rattle.audit_check.specs.Cells.{AreEmpty, cells_of};
 
 use crate::records::Six;
 use crate::spelling::{narrow, number_up_to, wide};
+use audit_laws::LAST_REFUSAL_CODE;
 use sink_journal::{Feed, Noted};
 
 /// The refused request that a record tells.
@@ -51,8 +52,10 @@ pub(crate) fn is_blank(text: &[u8]) -> bool
 }
 
 fn code_in(text: &[u8]) -> Option<u8>
-    ensures some { IfSome result (λ code. (1 ≤ code) × (code ≤ 9) × (text.now ≡ code_word code)) }
-    ensures none { IfNone result ((code : ℕ) → 1 ≤ code → code ≤ 9 → text.now ≢ code_word code) }
+    ensures some { IfSome result (λ code. (1 ≤ code) × (code ≤ LAST_REFUSAL_CODE)
+        × (text.now ≡ code_word code)) }
+    ensures none { IfNone result ((code : ℕ) → 1 ≤ code → code ≤ LAST_REFUSAL_CODE
+        → text.now ≢ code_word code) }
 {
     match text.strip_prefix(b"Q") {
         Some(digit) => small(digit),
@@ -61,10 +64,12 @@ fn code_in(text: &[u8]) -> Option<u8>
 }
 
 fn small(text: &[u8]) -> Option<u8>
-    ensures some { IfSome result (λ code. (1 ≤ code) × (code ≤ 9) × (text.now ≡ decimal code)) }
-    ensures none { IfNone result ((code : ℕ) → 1 ≤ code → code ≤ 9 → text.now ≢ decimal code) }
+    ensures some { IfSome result (λ code. (1 ≤ code) × (code ≤ LAST_REFUSAL_CODE)
+        × (text.now ≡ decimal code)) }
+    ensures none { IfNone result ((code : ℕ) → 1 ≤ code → code ≤ LAST_REFUSAL_CODE
+        → text.now ≢ decimal code) }
 {
-    match number_up_to(text, 9) {
+    match number_up_to(text, LAST_REFUSAL_CODE) {
         Some(code) if code > 0 => Some(code as u8),
         _ => None,
     }

@@ -99,7 +99,7 @@ step_apart (kept.Ended l) n is a b c d = d (sym is)
 apart : (e : AuditEntry) (n : ℕ) (name : List ℕ) → entry_name e ≡ name → sum name ≡ n → (n ≡ 326 → ⊥) → (n ≡ 628 → ⊥) → (n ≡ 658 → ⊥) → (n ≡ 512 → ⊥) → ⊥
 apart e n name is total a b c d = step_apart e n (ap sum is ∙ total) a b c d
 
-small_code : (a b : ℕ) → a ≤ 9 → b ≤ 9 → codes "Q" ++ decimal a ≡ codes "Q" ++ decimal b → a ≡ b
+small_code : (a b : ℕ) → a ≤ 10 → b ≤ 10 → codes "Q" ++ decimal a ≡ codes "Q" ++ decimal b → a ≡ b
 small_code a b p q e =
     let tail : decimal a ≡ decimal b = append_cancel_left (codes "Q") (decimal a) (decimal b) e in
     decimal_injective a b (omega arith) (omega arith) tail

@@ -18,6 +18,7 @@ use Rattle.audit_laws.specs.declared.audit.Line.TheVariants as line
 use Rattle.audit_laws.specs.Drafted.{draft}
 use Rattle.audit_laws.specs.Faults.{Listed}
 use Rattle.audit_laws.specs.Names.{Named, named_workers}
+use Rattle.audit_laws.specs.declared.limits.TheConstants.{LAST_REFUSAL_CODE}
 
 -- ---- their fields
 
@@ -64,9 +65,9 @@ IsStep (feed.Fed row) = row < 2 ^ 64
 IsStep (feed.Issued request) = request < 2 ^ 64
 IsStep feed.Stopped = ⊤
 
--- A refused request is noted by its place and by one of nine codes.
+-- A refused request is noted by its place and by one of the codes.
 abbrev pub IsNoted : Noted → Type 0
-IsNoted noted = (noted.place < 2 ^ 32) × (1 ≤ noted.code) × (noted.code ≤ 9)
+IsNoted noted = (noted.place < 2 ^ 32) × (1 ≤ noted.code) × (noted.code ≤ LAST_REFUSAL_CODE)
 
 -- The worker and the lane of a line are those of the job. Its numbers are in the ranges of their
 -- types.

@@ -16,6 +16,7 @@ mod audit;
 mod examples;
 mod fault;
 mod laws;
+mod limits;
 
 pub use audit::{AuditEntry, Line};
 pub use examples::the_audit_of_no_payments;
@@ -25,3 +26,4 @@ pub use laws::{
     journals_are_restored, journals_tell_the_run, lines_of_runs_have_form, runs_fit_their_lines,
     texts_have_one_fault, texts_of_runs_have_no_fault, texts_tell_the_run, written_audits_fit,
 };
+pub use limits::LAST_REFUSAL_CODE;

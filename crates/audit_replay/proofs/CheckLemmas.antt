@@ -191,7 +191,7 @@ only_memory fault.NoMemory h = refl
 
 -- ---- refused requests
 
-few_codes : (f : QFault) → (1 ≤ code_of f) × (code_of f ≤ 9)
+few_codes : (f : QFault) → (1 ≤ code_of f) × (code_of f ≤ 10)
 few_codes (why.NoNode c) = (omega arith, omega arith)
 few_codes (why.Fixed c) = (omega arith, omega arith)
 few_codes (why.NodeTwice c) = (omega arith, omega arith)
@@ -201,6 +201,7 @@ few_codes (why.KindOrKey c) = (omega arith, omega arith)
 few_codes (why.BadCarry c) = (omega arith, omega arith)
 few_codes why.Empty = (omega arith, omega arith)
 few_codes (why.Backwards n) = (omega arith, omega arith)
+few_codes (why.LateSplit c) = (omega arith, omega arith)
 
 pub all_noted : (refused : List Refused) → All (λ (n : Noted). n.place < 2 ^ 32) (map noted refused) → All IsNoted (map noted refused)
 all_noted refused narrow =

@@ -145,6 +145,7 @@ code_of (refusal.KindOrKey change) = 6
 code_of (refusal.BadCarry change) = 7
 code_of refusal.Empty = 8
 code_of (refusal.Backwards last) = 9
+code_of (refusal.LateSplit change) = 10
 
 -- what stands behind the code: what the fault names
 abbrev pub named_by : QFault → List ℕ
@@ -158,6 +159,7 @@ named_by (refusal.KindOrKey change) = codes " change " ++ decimal change
 named_by (refusal.BadCarry change) = codes " change " ++ decimal change
 named_by refusal.Empty = []
 named_by (refusal.Backwards last) = codes " last " ++ decimal last
+named_by (refusal.LateSplit change) = codes " change " ++ decimal change
 
 -- why a request is refused: a code, and what it names
 abbrev pub refusal_words : QFault → List ℕ

@@ -25,7 +25,8 @@ impl fmt::Display for RefusalWords {
             | QFault::NodeTwice(change)
             | QFault::IllTyped(change)
             | QFault::KindOrKey(change)
-            | QFault::BadCarry(change) => write!(f, "{code} change {change}"),
+            | QFault::BadCarry(change)
+            | QFault::LateSplit(change) => write!(f, "{code} change {change}"),
             QFault::Stale(change, current) => {
                 write!(f, "{code} change {change} current {current}")
             }
@@ -35,7 +36,7 @@ impl fmt::Display for RefusalWords {
     }
 }
 
-// The number of the code by which a request is refused, 1 to 9.
+// The number of the code by which a request is refused, 1 to 10.
 fn code_of(fault: QFault) -> u8
     ensures { result ≡ code_of_fault fault }
 {
@@ -49,6 +50,7 @@ fn code_of(fault: QFault) -> u8
         QFault::BadCarry(_) => 7,
         QFault::Empty => 8,
         QFault::Backwards(_) => 9,
+        QFault::LateSplit(_) => 10,
     }
 }
 
@@ -60,7 +62,7 @@ pub fn noted(alloc: Global, refused: &[Refused]) -> Result<Vec<Noted>, NoMemory>
     Ok(noted)
 }
 
-/// Each refused request is noted by its place, below 2^32, and by one of nine codes. The function
+/// Each refused request is noted by its place, below 2^32, and by one of ten codes. The function
 /// proves its clause, and does nothing else.
 pub fn refused_are_noted(refused: &[Refused])
     ensures { All (λ refused. IsNoted (noted_as refused)) refused.now }

@@ -117,7 +117,8 @@ pub fn push_reason<'a>(
         | QFault::NodeTwice(_)
         | QFault::KindOrKey(_)
         | QFault::BadCarry(_)
-        | QFault::Empty => Ok(()),
+        | QFault::Empty
+        | QFault::LateSplit(_) => Ok(()),
     }
 }
 
@@ -136,7 +137,8 @@ fn change_of(fault: QFault) -> Option<u32> {
         | QFault::Stale(change, _)
         | QFault::IllTyped(change)
         | QFault::KindOrKey(change)
-        | QFault::BadCarry(change) => Some(change),
+        | QFault::BadCarry(change)
+        | QFault::LateSplit(change) => Some(change),
         QFault::Empty | QFault::Backwards(_) => None,
     }
 }
