@@ -3,8 +3,8 @@ ghost use Rattle.std.specs.List.{list_any};
 ghost use Rattle.csv.specs.Writing.{default_writer, field_text, fields_text};
 ghost use Rattle.jobs.specs.Job.{job_view};
 ghost use Rattle.jobs.specs.Nodes.{worker_count};
-ghost use Rattle.sink_journal.specs.Alerts.{alert, alerts, cells, header, layout as layout_of};
-ghost use Rattle.sink_journal.specs.Alerts.{node_alerts, sink_alerts};
+ghost use Rattle.sink_journal.specs.Alerts.{alert, alerts, all_alerts, cells, header};
+ghost use Rattle.sink_journal.specs.Alerts.{layout as layout_of, node_alerts, sink_alerts};
 ghost use Rattle.sink_journal.specs.Printed.{cell};
 ghost use Rattle.sink_journal.specs.Records.{record_text, records_text};
 
@@ -24,16 +24,55 @@ pub fn alerts_text(alloc: Global, job: &Job, journals: &Journals) -> Result<Byte
     requires { length journals.now ≡ worker_count job.now.nodes }
     ensures { IfOk result (λ text. text ≡ alerts (job_view job.now) journals.now) }
 {
-    let columns = job.columns.as_slice();
     let mut lines = Lines::with_room(alloc, 0);
-    write_header(&mut lines, columns)?;
+    write_header(&mut lines, job.columns.as_slice())?;
+    write_alerts(alloc, &mut lines, job, journals)?;
+    Ok(lines.into_text())
+}
+
+/// The text of the alerts' header, as [`alerts_text`] begins with it.
+pub fn alerts_header_text(alloc: Global, job: &Job) -> Result<Bytes, NoMemory>
+    ensures { IfOk result (λ text. text ≡ record_text (header job.now.columns)) }
+{
+    let mut lines = Lines::with_room(alloc, 0);
+    write_header(&mut lines, job.columns.as_slice())?;
+    Ok(lines.into_text())
+}
+
+/// The text of what reached the sinks in one part of a stream: the records of [`alerts_text`]
+/// without its header.
+///
+/// The texts of all parts, one after another, follow the header of [`alerts_header_text`]. The
+/// records then stand part by part, and sink by sink in each part.
+pub fn alerts_part_text(alloc: Global, job: &Job, journals: &Journals) -> Result<Bytes, NoMemory>
+    requires { length journals.now ≡ worker_count job.now.nodes }
+    ensures { IfOk result (λ text. text ≡
+        records_text (all_alerts job.now.columns job.now.nodes journals.now)) }
+{
+    let mut part = Lines::with_room(alloc, 0);
+    write_alerts(alloc, &mut part, job, journals)?;
+    Ok(part.into_text())
+}
+
+// Appends the records after the header.
+fn write_alerts(
+    alloc: Global,
+    lines: &mut Lines,
+    job: &Job,
+    journals: &Journals,
+) -> Result<(), NoMemory>
+    requires { length journals.now ≡ worker_count job.now.nodes }
+    ensures { OnOk result (lines.new ≡
+        lines.old ++ records_text (all_alerts job.now.columns job.now.nodes journals.now)) }
+{
+    let columns = job.columns.as_slice();
     let mut rest = journals.as_slice();
     for node in job.nodes.as_slice() {
         let (own, later) = rest.split_at(node.journal_count() as usize);
-        write_node(alloc, &mut lines, columns, node, own)?;
+        write_node(alloc, lines, columns, node, own)?;
         rest = later;
     }
-    Ok(lines.into_text())
+    Ok(())
 }
 
 fn write_header(lines: &mut Lines, columns: &[Column]) -> Result<(), NoMemory>

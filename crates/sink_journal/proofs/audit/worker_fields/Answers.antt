@@ -1,6 +1,0 @@
-use Rattle.std.proofs.Common.{rules, ◌∷◌, [], decimal}
-use Rattle.sink_journal.proofs.FieldLemmas.{fields-cons}
-use Rattle.sink_journal.proofs.audit.worker_fields.Goals as goal
-
-pub returns : goal.returns
-returns c = rw (fields-cons c.args.node.now (decimal c.args.place ∷ [])) (search rules)

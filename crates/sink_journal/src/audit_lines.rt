@@ -1,0 +1,307 @@
+ghost use Rattle.std.specs.Prelude.{◌≡◌, ◌++◌, ◌∷◌, [], false, IfOk, OnOk};
+ghost use Rattle.std.specs.Prelude.{codes, decimal, length, map};
+ghost use Rattle.std.specs.FinMap as finite;
+ghost use Rattle.csv.specs.Writing.{default_writer, fields_text, needs_quotes};
+ghost use Rattle.sink_journal.specs.Audit.{audit_header, dotted, shown};
+ghost use Rattle.sink_journal.specs.Audit.{entry_fields, feed_fields, refused_fields, state_fields};
+ghost use Rattle.sink_journal.specs.Audit.{worker_records, workers_records};
+ghost use Rattle.sink_journal.specs.Records.{record_text, records_text};
+
+use crate::audit::Noted;
+use crate::lines::Lines;
+use crate::{Entry, Feed, Journal};
+use keyed_state::Keyed;
+use std::alloc::Global;
+use std::marker::Model;
+use tuple_trace::{Bytes, NoMemory};
+
+// About how many bytes a record takes.
+const RECORD_BYTES: usize = 24;
+
+/// An audit that grows record by record. Contracts see its text.
+#[derive(Drop)]
+pub(crate) struct AuditLines {
+    alloc: Global,
+    lines: Lines,
+}
+
+impl Model for AuditLines {
+    ghost use Rattle.std.specs.Prelude.{List, ℕ};
+
+    ghost Value = { List ℕ };
+
+    ghost view = { λ a. a.lines };
+}
+
+impl AuditLines {
+    /// No records. Room is made for about `records` of them, if there is memory.
+    pub(crate) fn new(alloc: Global, records: usize) -> Self
+        ensures { result ≡ [] }
+    {
+        AuditLines {
+            alloc,
+            lines: Lines::with_room(alloc, records.saturating_mul(RECORD_BYTES)),
+        }
+    }
+
+    /// The text.
+    pub(crate) fn into_text(self) -> Bytes
+        ensures { result ≡ self }
+    {
+        self.lines.into_text()
+    }
+
+    /// Appends the header.
+    pub(crate) fn write_header(&mut self) -> Result<(), NoMemory>
+        ensures { OnOk result (self.new ≡ self.old ++ record_text audit_header) }
+    {
+        self.lines.add(b"entry,node,worker,lane,number,extra\n")
+    }
+
+    /// Appends a record for each refused request.
+    pub(crate) fn write_refused(&mut self, refused: &[Noted]) -> Result<(), NoMemory>
+        ensures { OnOk result (self.new ≡
+            self.old ++ records_text (map refused_fields refused.now)) }
+    {
+        for noted in refused {
+            self.write_noted(*noted)?;
+        }
+        Ok(())
+    }
+
+    fn write_noted(&mut self, noted: Noted) -> Result<(), NoMemory>
+        ensures { OnOk result (self.new ≡ self.old ++ record_text (refused_fields noted)) }
+    {
+        self.lines.add(b"refused,,,")?;
+        self.lines.add_number(noted.place.into())?;
+        self.lines.add_code(noted.code)?;
+        self.lines.end()
+    }
+
+    /// Appends a record for each step of the feeder.
+    pub(crate) fn write_feeds(&mut self, feeds: &[Feed]) -> Result<(), NoMemory>
+        ensures { OnOk result (self.new ≡ self.old ++ records_text (map feed_fields feeds.now)) }
+    {
+        for feed in feeds {
+            self.write_feed(*feed)?;
+        }
+        Ok(())
+    }
+
+    fn write_feed(&mut self, feed: Feed) -> Result<(), NoMemory>
+        ensures { OnOk result (self.new ≡ self.old ++ record_text (feed_fields feed)) }
+    {
+        match feed {
+            Feed::Fed(row) => self.write_fed(b"fed,,,", row),
+            Feed::Issued(request) => self.write_fed(b"issued,,,", request),
+            Feed::Stopped => self.lines.add(b"stopped,,,,,\n"),
+        }
+    }
+
+    // The rest of a step of the feeder, after its first four fields.
+    fn write_fed(&mut self, front: &[u8], number: u64) -> Result<(), NoMemory>
+        ensures { OnOk result (self.new ≡ self.old ++ (front.now
+            ++ (fields_text default_writer (decimal number ∷ []) ++ 44 ∷ 10 ∷ []))) }
+    {
+        self.lines.end_numbered(front, number)
+    }
+
+    /// Appends the records of the workers of a node, given what each of them leaves.
+    pub(crate) fn write_node(
+        &mut self,
+        node: &[u8],
+        journals: &[Journal],
+        states: &[Keyed],
+    ) -> Result<(), NoMemory>
+        requires { length states.now ≡ length journals.now }
+        ensures { OnOk result (self.new ≡
+            self.old ++ records_text (workers_records node.now 0 journals.now states.now)) }
+    {
+        for (place, journal) in journals.iter().enumerate() {
+            self.write_worker(node, place, journal, &states[place])?;
+        }
+        Ok(())
+    }
+
+    fn write_worker(
+        &mut self,
+        node: &[u8],
+        place: usize,
+        journal: &Journal,
+        state: &Keyed,
+    ) -> Result<(), NoMemory>
+        ensures { OnOk result (self.new ≡
+            self.old ++ records_text (worker_records node.now place journal.now state.now)) }
+    {
+        let worker = worker_fields(self.alloc, node, place)?;
+        let met = met_fields(self.alloc, worker.as_slice())?;
+        let journal = journal.as_slice();
+        self.write_journal(node, place, worker.as_slice(), met.as_slice(), journal)?;
+        self.write_state(node, place, worker.as_slice(), state)
+    }
+
+    // `worker` has the fields of the node and of the place, as each record of the worker has them,
+    // and `met` the first three fields of a tuple that it met.
+    fn write_journal(
+        &mut self,
+        node: &[u8],
+        place: usize,
+        worker: &[u8],
+        met: &[u8],
+        journal: &[Entry],
+    ) -> Result<(), NoMemory>
+        requires fields { worker.now ≡ fields_text default_writer (node.now ∷ decimal place ∷ []) }
+        requires front { met.now ≡ codes "met" ++ worker.now }
+        ensures { OnOk result (self.new ≡
+            self.old ++ records_text (map (entry_fields node.now place) journal.now)) }
+    {
+        for entry in journal {
+            self.write_entry(node, place, worker, met, entry)?;
+        }
+        Ok(())
+    }
+
+    fn write_entry(
+        &mut self,
+        node: &[u8],
+        place: usize,
+        worker: &[u8],
+        met: &[u8],
+        entry: &Entry,
+    ) -> Result<(), NoMemory>
+        requires fields { worker.now ≡ fields_text default_writer (node.now ∷ decimal place ∷ []) }
+        requires front { met.now ≡ codes "met" ++ worker.now }
+        ensures { OnOk result (self.new ≡
+            self.old ++ record_text (entry_fields node.now place entry.now)) }
+    {
+        match entry {
+            Entry::Met { lane, tuple } => {
+                let (lane, birth) = (u64::from(*lane), tuple.birth.as_slice());
+                self.write_met(node, place, worker, met, lane, tuple.row, birth)
+            }
+            Entry::Marked { lane, request } => {
+                let lane = Some(u64::from(*lane));
+                self.write_step(node, place, worker, b"marked", lane, Some(*request), &[])
+            }
+            Entry::Turned { request } => {
+                self.write_step(node, place, worker, b"turned", None, Some(*request), &[])
+            }
+            Entry::Ended { lane } => {
+                let lane = Some(u64::from(*lane));
+                self.write_step(node, place, worker, b"ended", lane, None, &[])
+            }
+        }
+    }
+
+    // A tuple that the worker met. One without a birth is appended as one text.
+    #[inline]
+    fn write_met(
+        &mut self,
+        node: &[u8],
+        place: usize,
+        worker: &[u8],
+        met: &[u8],
+        lane: u64,
+        row: u64,
+        birth: &[u32],
+    ) -> Result<(), NoMemory>
+        requires fields { worker.now ≡ fields_text default_writer (node.now ∷ decimal place ∷ []) }
+        requires front { met.now ≡ codes "met" ++ worker.now }
+        ensures { OnOk result (self.new ≡ self.old ++ record_text (codes "met" ∷ node.now
+            ∷ decimal place ∷ decimal lane ∷ decimal row ∷ dotted birth.now ∷ [])) }
+    {
+        if birth.is_empty() {
+            return self.lines.end_laned(met, lane, row);
+        }
+        self.write_step(node, place, worker, b"met", Some(lane), Some(row), birth)
+    }
+
+    // A step of the worker, with what there is of a lane, a number and a birth.
+    #[inline]
+    fn write_step(
+        &mut self,
+        node: &[u8],
+        place: usize,
+        worker: &[u8],
+        entry: &[u8],
+        lane: Option<u64>,
+        number: Option<u64>,
+        birth: &[u32],
+    ) -> Result<(), NoMemory>
+        requires fields { worker.now ≡ fields_text default_writer (node.now ∷ decimal place ∷ []) }
+        requires plain { needs_quotes default_writer entry.now ≡ false }
+        ensures { OnOk result (self.new ≡ self.old ++ record_text (entry.now ∷ node.now
+            ∷ decimal place ∷ shown lane ∷ shown number ∷ dotted birth.now ∷ [])) }
+    {
+        self.begin(entry, worker)?;
+        self.lines.add_shown(lane)?;
+        self.lines.add_shown(number)?;
+        self.lines.add_dotted(birth)?;
+        self.lines.end()
+    }
+
+    // The first three fields of a record of the worker.
+    fn begin(&mut self, entry: &[u8], worker: &[u8]) -> Result<(), NoMemory>
+        ensures { OnOk result (self.new ≡ self.old ++ (entry.now ++ worker.now)) }
+    {
+        self.lines.add(entry)?;
+        self.lines.add(worker)
+    }
+
+    fn write_state(
+        &mut self,
+        node: &[u8],
+        place: usize,
+        worker: &[u8],
+        state: &Keyed,
+    ) -> Result<(), NoMemory>
+        requires { worker.now ≡ fields_text default_writer (node.now ∷ decimal place ∷ []) }
+        ensures { OnOk result (self.new ≡ self.old
+            ++ records_text (map (state_fields node.now place) (finite.entries state.now))) }
+    {
+        for (key, count) in state.iter() {
+            self.write_count(node, place, worker, key, *count)?;
+        }
+        Ok(())
+    }
+
+    fn write_count(
+        &mut self,
+        node: &[u8],
+        place: usize,
+        worker: &[u8],
+        key: &[u8],
+        count: i64,
+    ) -> Result<(), NoMemory>
+        requires { worker.now ≡ fields_text default_writer (node.now ∷ decimal place ∷ []) }
+        ensures { OnOk result (self.new ≡
+            self.old ++ record_text (state_fields node.now place (key.now, count))) }
+    {
+        self.begin(b"state", worker)?;
+        self.lines.add(b",")?;
+        self.lines.add_signed(count)?;
+        self.lines.add_text(key)?;
+        self.lines.end()
+    }
+}
+
+// The fields that name a worker: its node and its place.
+fn worker_fields(alloc: Global, node: &[u8], place: usize) -> Result<Bytes, NoMemory>
+    ensures { IfOk result (λ fields. fields ≡
+        fields_text default_writer (node.now ∷ decimal place ∷ [])) }
+{
+    let mut lines = Lines::with_room(alloc, 0);
+    lines.add_text(node)?;
+    lines.add_number(place as u64)?;
+    Ok(lines.into_text())
+}
+
+// The first three fields of a tuple that a worker met, given the fields that name the worker.
+fn met_fields(alloc: Global, worker: &[u8]) -> Result<Bytes, NoMemory>
+    ensures { IfOk result (λ front. front ≡ codes "met" ++ worker.now) }
+{
+    let mut lines = Lines::with_room(alloc, 0);
+    lines.add(b"met")?;
+    lines.add(worker)?;
+    Ok(lines.into_text())
+}
