@@ -1,4 +1,5 @@
 pub mod FileLemmas
+pub mod GrowingLemmas
 pub mod CellLemmas
 pub mod RecordLemmas
 pub mod Rest

@@ -1,6 +1,7 @@
 pub mod Causes
 pub mod FaultWords
 pub mod Files
+pub mod Growing
 pub mod Host
 pub mod Made
 pub mod Memory

@@ -3,7 +3,7 @@ use Rattle.std.specs.Prelude.{◌+◌, ◌-◌, ◌^◌, min, max, nat_eq, nat_l
 use Rattle.std.specs.List.{list_any}
 use Rattle.std.specs.FinMap as map
 use Rattle.payments.specs.Causes.{Faults}
-use Rattle.payments.specs.Files.{Draft, Files, draft_with}
+use Rattle.payments.specs.Files.{Draft, Files, bytes_of, draft_with}
 use Rattle.payments.specs.World.{ShelfState, SinkState}
 use Rattle.payments.specs.declared.memory.File.{File}
 use Rattle.payments.specs.declared.memory.MemoryShelf.{MemoryShelf}
@@ -103,6 +103,11 @@ create_of shelf = unless_due (plan_of shelf) shelf_fault.Failed (Ok tt)
 abbrev pub append_of : MemoryShelf → ℕ → Result ℕ ShelfFault
 append_of shelf size =
     unless_due (plan_of shelf) shelf_fault.Failed (Ok (min (max (step_of shelf) 1) size))
+
+-- what it returns for a cut of a file to this size, if there is memory
+abbrev pub cut_of : MemoryShelf → List ℕ → ℕ → Result Bool ShelfFault
+cut_of shelf name size = unless_due (plan_of shelf) shelf_fault.Failed
+    (Ok (nat_le size (length (bytes_of (files_of shelf) name))))
 
 -- what a sink in memory answers to a piece of this length, where there is memory
 abbrev pub write_of : MemorySink → ℕ → Result ℕ SinkFault

@@ -1,6 +1,8 @@
 ghost use Rattle.std.specs.Prelude.{◌≡◌, None, Some};
 ghost use Rattle.payments.specs.Causes.{WriteFailed};
 
+mod growing;
+
 use crate::host_draft::{HostDraft, begin};
 use crate::host_fault::HostFault;
 use crate::{Shelf, ShelfFault, Sink, SinkFault};

@@ -101,7 +101,7 @@ pub(crate) fn begin<R: Files>(rt: &R, alloc: Global, name: &str) -> io::Result<W
 }
 
 // The standard output is written as it stands, so that lines that are printed later follow.
-fn is_standard_output(name: &str) -> bool {
+pub(crate) fn is_standard_output(name: &str) -> bool {
     name == "/dev/stdout" || name == "/dev/fd/1" || name == "/proc/self/fd/1"
 }
 

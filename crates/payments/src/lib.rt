@@ -13,6 +13,7 @@
 
 mod cells;
 mod fault_words;
+mod growing;
 mod host;
 mod host_draft;
 mod host_fault;
@@ -26,6 +27,7 @@ mod spelling;
 mod storing;
 mod sure;
 
+pub use growing::{GrowingShelf, extend_all};
 pub use host::{HostShelf, StdOut};
 pub use host_fault::HostFault;
 pub use make::make_rows;

@@ -4,6 +4,8 @@ ghost use Rattle.std.specs.Prelude.{option_map, take, IfErr, IfOk, IfSome, IsSom
 ghost use Rattle.std.specs.FinMap as map;
 ghost use Rattle.payments.specs.Memory.{Plan, after_call, is_due, stored_files};
 
+mod growing;
+
 use crate::{Shelf, ShelfFault, Sink, SinkFault};
 use std::alloc::Global;
 use tuple_trace::{Bytes, Items, Word};
@@ -13,8 +15,8 @@ pub type Calls = Items<u64>;
 
 /// Files in memory. It tells what they hold, and fails at the calls that it was told to.
 ///
-/// Calls are numbered from 0 over all calls of [`Shelf`] alike. A read of a name without a file
-/// fails as well.
+/// Calls are numbered from 0 over all calls of [`Shelf`] and [`crate::GrowingShelf`] alike. A
+/// read of a name without a file fails as well.
 #[derive(Debug, Drop)]
 pub struct MemoryShelf {
     alloc: Global,
@@ -39,8 +41,8 @@ impl MemoryShelf {
     ghost use Rattle.payments.specs.Causes.{Faults};
     ghost use Rattle.payments.specs.Memory.{draft_of, faults_of, files_of, plan_of, step_of};
 
-    /// An empty shelf. An append takes at most `step` bytes, but at least one, and the calls with
-    /// these numbers fail. Takes no memory.
+    /// An empty shelf. A call that appends takes at most `step` bytes, but at least one, and the
+    /// calls with these numbers fail. Takes no memory.
     pub fn new(alloc: Global, step: u64, failing: Calls) -> Self
         ensures files { files_of result ≡ stored_files [] }
         ensures draft { draft_of result ≡ None }
@@ -75,7 +77,8 @@ impl MemoryShelf {
         self.read_faults
     }
 
-    /// How many writes have failed: calls that begin a draft, append to it or keep it.
+    /// How many writes have failed: calls that begin a draft, append to it or keep it, and calls
+    /// that extend a file or cut it.
     pub fn write_faults(&self) -> u64
         ensures { result ≡ (faults_of self.now).writes }
     {

@@ -2,7 +2,7 @@ ghost use Rattle.std.specs.Prelude.{◌≡◌, [], Some, IfErr, OnOk, option_cop
 ghost use Rattle.std.specs.FinMap as map;
 ghost use Rattle.payments.specs.Memory.{plan_of, sink_plan_of};
 
-use crate::{Calls, MemoryShelf, MemorySink, Shelf, ShelfFault, Sink, SinkFault};
+use crate::{Calls, GrowingShelf, MemoryShelf, MemorySink, Shelf, ShelfFault, Sink, SinkFault};
 use std::alloc::Global;
 use tuple_trace::{Bytes, Word};
 
@@ -71,6 +71,16 @@ impl Shelf for SureShelf {
 
     fn keep(&mut self) -> Result<(), ShelfFault> {
         self.shelf.keep()
+    }
+}
+
+impl GrowingShelf for SureShelf {
+    fn extend(&mut self, name: &Word, piece: &[u8]) -> Result<u64, ShelfFault> {
+        self.shelf.extend(name, piece)
+    }
+
+    fn cut(&mut self, name: &Word, size: u64) -> Result<bool, ShelfFault> {
+        self.shelf.cut(name, size)
     }
 }
 
