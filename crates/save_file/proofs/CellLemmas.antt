@@ -1,5 +1,5 @@
 -- The four cells of a record.
-use Rattle.std.proofs.Common.{◌≡◌, ℕ, zero, suc, ◌+◌, List, [], ◌∷◌, None, Some, Option, refl, sym, ap, arith, get_or, length, option_map}
+use Rattle.std.proofs.Common.{◌≡◌, ℕ, zero, suc, List, [], ◌∷◌, None, Some, refl, arith, get_or, length}
 use Rattle.csv.specs.Records.{field_at}
 
 pub four_cells : (cells : List (List ℕ)) → length cells ≡ 4 → cells ≡ get_or cells 0 [] ∷ get_or cells 1 [] ∷ get_or cells 2 [] ∷ get_or cells 3 [] ∷ []

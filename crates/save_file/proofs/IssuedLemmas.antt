@@ -1,5 +1,5 @@
 -- How many requests are issued up to a row.
-use Rattle.std.proofs.Common.{◌≡◌, ◌+◌, ℕ, suc, Bool, true, false, List, [], ◌∷◌, refl, ap, filter, length, map, min, nat_le}
+use Rattle.std.proofs.Common.{◌≡◌, ℕ, suc, Bool, true, false, List, [], ◌∷◌, refl, ap, filter, length, min, nat_le}
 use Rattle.flow_model.specs.Requests.{afters}
 use Rattle.versions.specs.declared.request.Request.{Request}
 use Rattle.savepoint.specs.Parts.{issued_up_to}

@@ -5,3 +5,4 @@ pub mod OrderLemmas
 pub mod NamedLemmas
 pub mod SpellingLemmas
 pub mod IssuedLemmas
+pub mod SheetLemmas

@@ -104,9 +104,6 @@ pub named-within : (job : JobView) (counts : List (Option Placed)) → ((spelled
 named-within job counts (spelled, is) i p lt at =
     each-within job spelled i p (subst (λ l. i < length l) is lt) (subst (λ l. get_or l i (Some p) ≡ Some p) is at)
 
-pub worker-there : (job : JobView) (w : ℕ) → w < length (workers_in job) → slice_get (workers_in job) w ≡ Some (nth_worker job w)
-worker-there job w lt = slice_get-get_or (workers_in job) w nobody lt
-
 -- no worker is named
 pub none_placed : (job : JobView) (name key : List ℕ) (place count : ℤ) → length key ≤ 48 → position (takes_key job name place key) (workers_in job) ≡ None → placed_of job (spelled_with name place key count) ≡ None
 none_placed job name key place count le none = rw (le-leb (length key) 48 le) (ap (option_map (placed_by (spelled_with name place key count))) none)

@@ -7,13 +7,11 @@ use Rattle.jobs.specs.JobView.{JobView}
 use Rattle.jobs.specs.declared.func.Func.{Func}
 use Rattle.jobs.specs.declared.func.NodeDef.{NodeDef}
 use Rattle.keyed_state.specs.Counts.{Counts}
-use Rattle.sink_journal.specs.Records.{records_text}
-use Rattle.flow_model.specs.Begin.{Begin}
 use Rattle.flow_model.specs.SetupView.{Worker}
 use Rattle.flow_model.specs.Workers.{node_workers, workers_from}
 use Rattle.flow_model.proofs.WorkerListLemmas.{length-node_workers}
-use Rattle.savepoint.specs.SaveText.{count_record, head_record, name_of, save_text, worker_records}
-use Rattle.save_file.specs.ByNode.{node_records, nodes_records, nodes_text}
+use Rattle.savepoint.specs.SaveText.{count_record, count_records, name_of, worker_records}
+use Rattle.save_file.specs.ByNode.{node_records, nodes_records}
 
 abbrev Record : Type 0
 Record = List (List ℕ)
@@ -54,7 +52,6 @@ from_node job number node (def ∷ more) states h =
     ∙ ap (λ (l : List Record). node_records def.name 0 (take (workers_of def) states) ++ l)
     (ap (λ (k : ℕ). flat_map (worker_records job) (zip others (drop k states))) n ∙ from_node job (number + workers_of def) (node + 1) more (drop (workers_of def) states) tail)))
 
--- the text that is written node by node is the text of the savepoint
-pub save_by_node : (job : JobView) (begin : Begin) → nodes_text job.nodes begin ≡ save_text job begin
-save_by_node job begin =
-    ap (λ (l : List Record). records_text (head_record begin.row begin.turned ∷ l)) (sym (from_node job 0 0 job.nodes begin.states (λ i. ap (slice_get job.nodes) (let e : i ≡ 0 + i = omega arith in e))))
+-- the records that are written node by node are those of the savepoint
+pub counts_by_node : (job : JobView) (states : List Counts) → nodes_records job.nodes states ≡ count_records job states
+counts_by_node job states = sym (from_node job 0 0 job.nodes states (λ i. ap (slice_get job.nodes) (let e : i ≡ 0 + i = omega arith in e)))

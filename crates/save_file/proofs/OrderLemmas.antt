@@ -1,18 +1,14 @@
 -- Counts in their order: each is new to its worker, and changes its counts alone.
-use Rattle.std.proofs.Common.{FitsSigned, w64, ◌≡◌, ◌≢◌, ◌∙◌, ◌⊎◌, ◌<◌, ◌≤◌, ◌+◌, ◌++◌, ◌==◌, ◌&&◌, ◌||◌, ◌+ℤ◌, Less, Equal, Greater, Ordering, ◌-◌, ◌^◌, ℕ, ℤ, pos, negsuc, zero, suc, Bool, true, false, List, [], ◌∷◌, Option, Some, None, Result, Ok, Err, inl, inr, refl, sym, subst, ap, arith, filter, get_or, length, map, nat_lt, slice_get, slice_set, take, if◌then◌else◌}
+use Rattle.std.proofs.Common.{◌≡◌, ◌∙◌, ◌⊎◌, ◌<◌, ◌+◌, ◌++◌, ◌==◌, ◌&&◌, ◌||◌, Less, Equal, Greater, Ordering, ℕ, ℤ, zero, suc, Bool, true, false, List, [], ◌∷◌, Option, Some, None, Result, Ok, Err, inl, inr, refl, sym, subst, ap, arith, filter, get_or, length, map, nat_lt, slice_get, slice_set, take, if◌then◌else◌}
 use Rattle.std.specs.Cmp.Lexicographic.{nat_list_cmp_total, slice_cmp}
-use Rattle.std.specs.FinMap.{find, from_entries, from_entries_push, get, get-from_entries, insert, nat_cmp-IsAntisymmetric, slice_cmp-IsAntisymmetric}
+use Rattle.std.specs.FinMap.{find, from_entries, from_entries_push, insert, nat_cmp-IsAntisymmetric, slice_cmp-IsAntisymmetric}
 use Rattle.std.specs.Ordering.{is_eq, is_lt, nat_cmp, ordering_reverse}
 use Rattle.std.proofs.lemmas.Bool.{and_parts, eqb-true, eq-eqb, ltb-true, ne_eqb}
 use Rattle.std.proofs.lemmas.List.{append-nil, map-append}
 use Rattle.std.proofs.lemmas.List.Elements.{filter-append}
-use Rattle.std.specs.Prelude.{unwrap_or}
-use Rattle.std.specs.Int.{saturate_signed}
-use Rattle.std.proofs.Math.IntN.{+ℤ_idl}
-use Rattle.std.proofs.Math.Nat.{min-eq_left}
-use Rattle.keyed_state.specs.Counts.{Counts, clamp, raised}
+use Rattle.keyed_state.specs.Counts.{Counts}
 use Rattle.flow_model.specs.SetupView.{Worker}
-use Rattle.savepoint.specs.SaveReading.{Placed, counts_at, one_more, one_placed, stands_behind}
+use Rattle.savepoint.specs.SaveReading.{Placed, counts_at, one_more, stands_behind}
 use Rattle.savepoint.specs.declared.fault.SaveFault.{SaveFault}
 use Rattle.savepoint.specs.declared.fault.SaveFault.TheVariants as fault
 use Rattle.save_file.specs.Steps.{placed_in, there}
@@ -99,18 +95,6 @@ none_found p w (q ∷ qs) e h = go (q.worker == w) refl (none_found p w qs e h.1
     go true is none = rw (is, key_other (eqb-true q.worker w is) h.0) none
     go false is none = rw is none
 
-new_key : (p : Placed) (done : List Placed) (who : Worker) → p.worker ≡ who.number → AllBefore p done → get (counts_at done who) p.key ≡ None
-new_key p done who e h = get-from_entries nat_list_cmp_total (map pair (filter (is_of who.number) done)) p.key ∙ none_found p who.number done e h
-
-get_or_map : {A B : Type 0} (f : A → B) (xs : List A) (i : ℕ) (x : A) (d : B) → slice_get xs i ≡ Some x → get_or (map f xs) i d ≡ f x
-get_or_map f [] i x d at = absurd (cc at)
-get_or_map f (y ∷ xs) zero x d at = let same : y ≡ x = cc at in ap f same
-get_or_map f (y ∷ xs) (suc i) x d at = get_or_map f xs i x d at
-
-pub key-new : (p : Placed) (done : List Placed) (workers_in : List Worker) (who : Worker) (d : Counts) → slice_get workers_in p.worker ≡ Some who → who.number ≡ p.worker → AllBefore p done
-    → get (get_or (map (counts_at done) workers_in) p.worker d) p.key ≡ None
-key-new p done workers_in who d at e h = ap (λ (c : Counts). get c p.key) (get_or_map (counts_at done) workers_in p.worker who d at) ∙ new_key p done who (sym e) h
-
 -- ---- what it changes
 
 others_stay : (done : List Placed) (p : Placed) (who : Worker) → (p.worker == who.number) ≡ false → counts_at (done ++ p ∷ []) who ≡ counts_at done who
@@ -153,13 +137,3 @@ one-grows done p k (suc w) (who ∷ workers_in) d h n is lt =
     let other : (p.worker == who.number) ≡ false = ne_eqb p.worker who.number (omega (arith, is, e)) in
     ap (λ (c : Counts). c ∷ slice_set (map (counts_at done) workers_in) w (insert (get_or (map (counts_at done) workers_in) w d) p.key p.count)) (sym (others_stay done p who other))
     ∙ ap (λ (l : List Counts). counts_at (done ++ p ∷ []) who ∷ l) (one-grows done p (k + 1) w workers_in d h (numbered_tail k who workers_in n) (omega (arith, is)) (omega (arith, lt)))
-
--- ---- its count
-
-fits_whole : (c : ℤ) → FitsSigned w64 c → saturate_signed w64 c ≡ c
-fits_whole (pos n) fits = ap pos (let less : n < 2 ^ 63 = fits.sfits in min-eq_left {n = n} {m = 2 ^ 63 - 1} (omega (arith, less)))
-fits_whole (negsuc n) fits = ap negsuc (let less : n < 2 ^ 63 = fits.sfits in min-eq_left {n = n} {m = 2 ^ 63 - 1} (omega (arith, less)))
-
--- a count that is added to a new key is the count
-pub raised-new : (counts : Counts) (key : List ℕ) (c : ℤ) → get counts key ≡ None → FitsSigned w64 c → raised counts key c ≡ c
-raised-new counts key c none fits = ap (λ o. clamp (unwrap_or o (pos 0) +ℤ c)) none ∙ (ap clamp (+ℤ_idl c) ∙ fits_whole c fits)

@@ -1,5 +1,5 @@
 -- What a text tells is what is read of it step by step.
-use Rattle.std.proofs.Common.{◌≡◌, ◌≢◌, ◌∙◌, ◌<◌, ◌≤◌, ◌+◌, ◌++◌, ◌==◌, ℕ, zero, suc, Bool, true, false, List, [], ◌∷◌, Option, Some, None, Result, Ok, Err, refl, sym, subst, ap, arith, add-one, append_assoc, drop, get_or, length, map, nat_lt, option_map, take, if◌then◌else◌}
+use Rattle.std.proofs.Common.{◌≡◌, ◌≢◌, ◌∙◌, ◌<◌, ◌≤◌, ◌+◌, ◌++◌, ℕ, zero, suc, Bool, true, false, List, [], ◌∷◌, Option, Some, None, Result, Ok, Err, refl, sym, subst, ap, arith, add-one, append_assoc, drop, get_or, length, map, nat_lt, option_map, take, if◌then◌else◌}
 use Rattle.std.proofs.lemmas.Bool.{eq-eqb, le-ltb, lt-ltb, ne_eqb}
 use Rattle.std.proofs.lemmas.List.{append-nil, drop_more}
 use Rattle.jobs.specs.JobView.{JobView}
@@ -132,16 +132,18 @@ pub there-none : {A : Type 0} (xs : List (Option A)) (i : ℕ) → i < length xs
 there-none xs i less is = ap there (take-more xs i None less is) ∙ (there-append (take i xs) (None ∷ []) ∙ append-nil (there (take i xs)))
 
 -- one count more comes in order
-pub order-more : (counts : List (Option Placed)) (i : ℕ) (before : Option Placed) (p : Placed) (x : Option Placed) → i < length counts → x ≡ get_or counts i x → x ≡ Some p → stands_behind before p ≡ true
-    → after (there (take (i + 1) counts)) (placed_in ((i + 1) + 1) (Some p) (drop (i + 1) counts)) ≡ after (there (take i counts)) (placed_in (i + 1) before (drop i counts))
-order-more counts i before p x lt is some behind =
+pub order-more : (counts : List (Option Placed)) (first i : ℕ) (before : Option Placed) (p : Placed) (x : Option Placed) → i < length counts → x ≡ get_or counts i x → x ≡ Some p → stands_behind before p ≡ true
+    → after (there (take (i + 1) counts)) (placed_in (first + (i + 1)) (Some p) (drop (i + 1) counts)) ≡ after (there (take i counts)) (placed_in (first + i) before (drop i counts))
+order-more counts first i before p x lt is some behind =
     let at : get_or counts i (Some p) ≡ Some p = sym (subst (λ z. z ≡ get_or counts i z) some is) in
-    let rest : Result (List Placed) SaveFault = placed_in ((i + 1) + 1) (Some p) (drop (i + 1) counts) in
-    let yes : one_placed (i + 1) before (Some p) (λ placed. placed_in ((i + 1) + 1) (Some placed) (drop (i + 1) counts)) ≡ one_more p rest = rw behind refl in
-    let here : placed_in (i + 1) before (drop i counts) ≡ one_more p rest =
-    ap (placed_in (i + 1) before) (drop_more counts i (Some p) lt ∙ ap (λ z. z ∷ drop (i + 1) counts) at) ∙ yes in
-    ap (λ l. after l rest) (there-some counts i p lt at)
-    ∙ (sym (after-more (there (take i counts)) p rest) ∙ ap (after (there (take i counts))) (sym here))
+    let number : first + (i + 1) ≡ (first + i) + 1 = omega arith in
+    let rest : Result (List Placed) SaveFault = placed_in ((first + i) + 1) (Some p) (drop (i + 1) counts) in
+    let yes : one_placed (first + i) before (Some p) (λ placed. placed_in ((first + i) + 1) (Some placed) (drop (i + 1) counts)) ≡ one_more p rest = rw behind refl in
+    let here : placed_in (first + i) before (drop i counts) ≡ one_more p rest =
+    ap (placed_in (first + i) before) (drop_more counts i (Some p) lt ∙ ap (λ z. z ∷ drop (i + 1) counts) at) ∙ yes in
+    ap (λ n. after (there (take (i + 1) counts)) (placed_in n (Some p) (drop (i + 1) counts))) number
+    ∙ (ap (λ l. after l rest) (there-some counts i p lt at)
+    ∙ (sym (after-more (there (take i counts)) p rest) ∙ ap (after (there (take i counts))) (sym here)))
 
 -- ---- the whole text
 
@@ -168,8 +170,8 @@ begin-read setup rows cells all later head counts answer is at made h =
     by_head setup rows cells all later head (Ok r.spelled) is at r.is ∙ h r.spelled r.counts_are
 
 -- the counts that were read were spelled
-pub named-read : (job : JobView) (later : List (List (List ℕ))) (counts : List (Option Placed)) → read_from job 1 later ≡ Ok counts → (spelled : List Spelled) × (counts ≡ map (placed_of job) spelled)
-named-read job later counts made = let r = read-spelled job 1 later counts made in (r.spelled, r.counts_are)
+pub named-read : (job : JobView) (first : ℕ) (later : List (List (List ℕ))) (counts : List (Option Placed)) → read_from job first later ≡ Ok counts → (spelled : List Spelled) × (counts ≡ map (placed_of job) spelled)
+named-read job first later counts made = let r = read-spelled job first later counts made in (r.spelled, r.counts_are)
 
 -- ---- the beginning
 
@@ -186,19 +188,21 @@ pub at-count : (setup : SetupView) (rows row turned : ℕ) (spelled : List Spell
     → begin_at setup rows (row, turned) spelled ≡ Err (fault.Count (issued_in setup rows row))
 at-count setup rows row turned spelled le other = rw (not_less rows row le, ne_eqb turned (issued_in setup rows row) other) refl
 
-at_order : (setup : SetupView) (rows row turned : ℕ) (counts : List (Option Placed)) (spelled : List Spelled) (made : Result (List Placed) SaveFault) → row ≤ rows → turned ≡ issued_in setup rows row
-    → counts ≡ map (placed_of setup.job) spelled → placed_in 1 None counts ≡ made → begin_at setup rows (row, turned) spelled ≡ begin_with setup.job row turned made
-at_order setup rows row turned counts spelled made le same is order =
-    let here : begin_at setup rows (row, turned) spelled ≡ begin_with setup.job row turned (placed_from setup.job 1 None spelled) = rw (not_less rows row le, eq-eqb turned (issued_in setup rows row) same) refl in
-    here ∙ ap (begin_with setup.job row turned) (placed-steps setup.job 1 None spelled ∙ (ap (placed_in 1 None) (sym is) ∙ order))
+pub at-order : (setup : SetupView) (rows row turned : ℕ) (spelled : List Spelled) → row ≤ rows → turned ≡ issued_in setup rows row
+    → begin_at setup rows (row, turned) spelled ≡ begin_with setup.job row turned (placed_from setup.job 1 None spelled)
+at-order setup rows row turned spelled le same = rw (not_less rows row le, eq-eqb turned (issued_in setup rows row) same) refl
 
-pub at-misplaced : (setup : SetupView) (rows row turned : ℕ) (counts : List (Option Placed)) (spelled : List Spelled) (f : SaveFault) → row ≤ rows → turned ≡ issued_in setup rows row
-    → counts ≡ map (placed_of setup.job) spelled → placed_in 1 None counts ≡ Err f → begin_at setup rows (row, turned) spelled ≡ Err f
-at-misplaced setup rows row turned counts spelled f le same is order = at_order setup rows row turned counts spelled (Err f) le same is order
+with_order : (job : JobView) (row turned first : ℕ) (counts : List (Option Placed)) (spelled : List Spelled) (made : Result (List Placed) SaveFault)
+    → counts ≡ map (placed_of job) spelled → placed_in first None counts ≡ made → begin_with job row turned (placed_from job first None spelled) ≡ begin_with job row turned made
+with_order job row turned first counts spelled made is order = ap (begin_with job row turned) (placed-steps job first None spelled ∙ (ap (placed_in first None) (sym is) ∙ order))
 
-pub at-placed : (setup : SetupView) (rows row turned : ℕ) (counts : List (Option Placed)) (spelled : List Spelled) (states : List Counts) → row ≤ rows → turned ≡ issued_in setup rows row
-    → counts ≡ map (placed_of setup.job) spelled → placed_in 1 None counts ≡ Ok (there counts) → states ≡ map (counts_at (there counts)) (workers_in setup.job)
-    → begin_at setup rows (row, turned) spelled ≡ Ok (record { row = row; turned = turned; states = states })
-at-placed setup rows row turned counts spelled states le same is order made =
-    at_order setup rows row turned counts spelled (Ok (there counts)) le same is order
+pub with-misplaced : (job : JobView) (row turned first : ℕ) (counts : List (Option Placed)) (spelled : List Spelled) (f : SaveFault)
+    → counts ≡ map (placed_of job) spelled → placed_in first None counts ≡ Err f → begin_with job row turned (placed_from job first None spelled) ≡ Err f
+with-misplaced job row turned first counts spelled f is order = with_order job row turned first counts spelled (Err f) is order
+
+pub with-placed : (job : JobView) (row turned first : ℕ) (counts : List (Option Placed)) (spelled : List Spelled) (states : List Counts)
+    → counts ≡ map (placed_of job) spelled → placed_in first None counts ≡ Ok (there counts) → states ≡ map (counts_at (there counts)) (workers_in job)
+    → begin_with job row turned (placed_from job first None spelled) ≡ Ok (record { row = row; turned = turned; states = states })
+with-placed job row turned first counts spelled states is order made =
+    with_order job row turned first counts spelled (Ok (there counts)) is order
     ∙ ap (λ (s : List Counts). Ok (record { row = row; turned = turned; states = s })) (sym made)

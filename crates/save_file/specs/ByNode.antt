@@ -1,12 +1,10 @@
--- The text of a savepoint, written node by node.
+-- The records of counts, written node by node.
 use Rattle.std.specs.Prelude.{ℕ, ◌+◌, List, [], ◌∷◌, ◌++◌, map, take, drop}
 use Rattle.std.specs.FinMap.{entries}
 use Rattle.jobs.specs.Nodes.{workers_of}
 use Rattle.jobs.specs.declared.func.NodeDef.{NodeDef}
 use Rattle.keyed_state.specs.Counts.{Counts}
-use Rattle.sink_journal.specs.Records.{records_text}
-use Rattle.flow_model.specs.Begin.{Begin}
-use Rattle.savepoint.specs.SaveText.{count_record, head_record}
+use Rattle.savepoint.specs.SaveText.{count_record}
 
 -- the counts of a node's workers, from this place on
 abbrev pub node_records : List ℕ → ℕ → List Counts → List (List (List ℕ))
@@ -20,8 +18,3 @@ nodes_records [] states = []
 nodes_records (node ∷ nodes) states =
     node_records node.name 0 (take (workers_of node) states)
     ++ nodes_records nodes (drop (workers_of node) states)
-
--- the whole text
-abbrev pub nodes_text : List NodeDef → Begin → List ℕ
-nodes_text nodes begin =
-    records_text (head_record begin.row begin.turned ∷ nodes_records nodes begin.states)

@@ -11,7 +11,7 @@ use tuple_trace::NoMemory;
 ///
 /// What a refused push leaves is open: [`Cells::clear`] makes a new start.
 #[derive(Drop)]
-pub(crate) struct Cells {
+pub struct Cells {
     raw: ByteRecord,
     digits: String,
 }
@@ -29,7 +29,7 @@ impl Model for Cells {
 
 impl Cells {
     /// No cells. Takes no memory.
-    pub(crate) fn new(alloc: Global) -> Self
+    pub fn new(alloc: Global) -> Self
         ensures { result ≡ [] }
     {
         Cells {
@@ -38,7 +38,8 @@ impl Cells {
         }
     }
 
-    pub(crate) fn clear(&mut self)
+    /// Drops all cells. Their memory is kept for the next ones.
+    pub fn clear(&mut self)
         ensures { self.new ≡ [] }
     {
         self.raw.clear();
@@ -51,7 +52,11 @@ impl Cells {
     }
 
     /// Appends a cell with this text.
-    pub(crate) fn push(&mut self, text: &[u8]) -> Result<(), NoMemory>
+    ///
+    /// # Errors
+    ///
+    /// Only out of memory.
+    pub fn push(&mut self, text: &[u8]) -> Result<(), NoMemory>
         ensures { OnOk result (self.new ≡ self.old ++ text.now ∷ []) }
     {
         if self.raw.push_field(text).is_err() {
@@ -62,7 +67,11 @@ impl Cells {
     }
 
     /// Appends a cell with what `{}` prints of a value.
-    pub(crate) fn push_printed<D: Display + Copy>(&mut self, value: D) -> Result<(), NoMemory>
+    ///
+    /// # Errors
+    ///
+    /// Only out of memory.
+    pub fn push_printed<D: Display + Copy>(&mut self, value: D) -> Result<(), NoMemory>
         ensures { OnOk result (IfSome (D.output value) (λ text. self.new ≡ self.old ++ text ∷ [])) }
     {
         self.digits.clear();

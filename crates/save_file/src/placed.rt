@@ -21,10 +21,10 @@ use tuple_trace::{Bytes, MAX_NODE_WORKERS, NoMemory, spread};
 
 /// A count in its place: the worker's number, the key and the number.
 #[derive(Drop)]
-pub(crate) struct Placed {
-    pub(crate) worker: u32,
-    pub(crate) key: Bytes,
-    pub(crate) count: i64,
+pub struct Placed {
+    pub worker: u32,
+    pub key: Bytes,
+    pub count: i64,
 }
 
 impl Model for Placed {

@@ -1,12 +1,12 @@
-ghost use Rattle.std.specs.Prelude.{◌≡◌, ◌≢◌, ◌<◌, Ok, Err, Some, None, IfErr, IfOk, OnOk, List};
-ghost use Rattle.std.specs.Prelude.{get_or, length, map, option_map, slice_set};
-ghost use Rattle.std.specs.FinMap.{get, insert};
+ghost use Rattle.std.specs.Prelude.{◌≡◌, ◌≢◌, ◌<◌, ◌≤◌, ◌^◌, Ok, Err, Some, None, IfErr, IfOk};
+ghost use Rattle.std.specs.Prelude.{List, OnOk, get_or, length, map, option_map, slice_set};
+ghost use Rattle.std.specs.FinMap.{insert};
 ghost use Rattle.keyed_state.specs.Counts.{Counts as CountsIs};
 ghost use Rattle.csv.specs.Records.{fields_of};
 ghost use Rattle.flow_model.specs.Setup.{setup_view};
 ghost use Rattle.flow_model.specs.Workers.{workers_in};
 ghost use Rattle.savepoint.specs.SaveReading.{Spelled as SpelledIs, begin_at as begin_at_of};
-ghost use Rattle.savepoint.specs.SaveReading.{begin_in};
+ghost use Rattle.savepoint.specs.SaveReading.{begin_in, begin_with, placed_from};
 ghost use Rattle.savepoint.specs.SaveReading.{counts_at, head_of as head_of_record};
 ghost use Rattle.savepoint.specs.SaveReading.{placed_of as placed_of_spelled, save_of, spelled_of};
 ghost use Rattle.savepoint.specs.declared.fault.SaveFault.TheVariants.{Shape as ShapeOf};
@@ -26,7 +26,7 @@ use std::alloc::Global;
 use tuple_trace::{Items, NoMemory};
 
 /// Counts as they are read: `None` stands for one that has no place.
-type Counts = Items<Option<Placed>>;
+pub type PlacedCounts = Items<Option<Placed>>;
 
 /// Where a run goes on by the text of a savepoint, or the text's first fault.
 ///
@@ -65,7 +65,7 @@ fn read_records(
     let Some((row, turned)) = head_of(cells) else {
         return Err(SaveFault::Shape(0));
     };
-    let counts = counts_in(alloc, setup, records, cells)?;
+    let counts = read_counts(alloc, setup, 1, records, cells)?;
     begin_at(alloc, setup, rows, row, turned, counts.as_slice())
 }
 
@@ -82,20 +82,26 @@ fn head_of(cells: &ByteRecord) -> Option<(u64, u64)>
     }
 }
 
-// The counts of the records that are left. `cells` holds each record in turn.
-fn counts_in(
+/// The counts of the records that are left, each in its place. The first record has the number
+/// `first`, and `cells` holds each record in turn.
+///
+/// # Errors
+///
+/// [`SaveFault::Shape`] for the first record that isn't of the form of a count, or out of memory.
+pub fn read_counts(
     alloc: Global,
     setup: &Setup,
+    first: u64,
     records: &mut TextRecords<'_>,
     cells: &mut ByteRecord,
-) -> Result<Counts, SaveFault>
+) -> Result<PlacedCounts, SaveFault>
     ensures ok { IfOk result (λ counts.
-        read_from (setup_view setup.now).job 1 records.old ≡ Ok counts) }
+        read_from (setup_view setup.now).job first records.old ≡ Ok counts) }
     ensures fault { IfErr result (λ fault. fault ≢ SaveFault.NoMemory →
-        read_from (setup_view setup.now).job 1 records.old ≡ Err fault) }
+        read_from (setup_view setup.now).job first records.old ≡ Err fault) }
 {
-    let mut counts = Counts::new(alloc);
-    for number in 1..u64::MAX {
+    let mut counts = PlacedCounts::new(alloc);
+    for number in first..u64::MAX {
         if !records.next(cells)? {
             return Ok(counts);
         }
@@ -161,22 +167,53 @@ fn begin_at(
     if turned != issued {
         return Err(SaveFault::Count(issued));
     }
-    check_order(counts)?;
+    start_with(alloc, setup, row, turned, 1, counts)
+}
+
+/// Where a run goes on after `row` rows and `turned` requests with these counts. The record of the
+/// first count has the number `first`.
+///
+/// # Errors
+///
+/// [`SaveFault::State`] for the first count that has no place or comes too early, or out of memory.
+pub fn start_with(
+    alloc: Global,
+    setup: &Setup,
+    row: u64,
+    turned: u64,
+    first: u64,
+    counts: &[Option<Placed>],
+) -> Result<Start, SaveFault>
+    requires few { first ≤ 2 ^ 63 }
+    requires named { (spelled : List SpelledIs) ×
+        (counts.now ≡ map (placed_of_spelled (setup_view setup.now).job) spelled) }
+    ensures ok { IfOk result (λ start. (spelled : List SpelledIs) →
+        counts.now ≡ map (placed_of_spelled (setup_view setup.now).job) spelled →
+        begin_with (setup_view setup.now).job row turned
+        (placed_from (setup_view setup.now).job first None spelled) ≡ Ok start) }
+    ensures fault { IfErr result (λ fault. fault ≢ SaveFault.NoMemory → (spelled : List SpelledIs) →
+        counts.now ≡ map (placed_of_spelled (setup_view setup.now).job) spelled →
+        begin_with (setup_view setup.now).job row turned
+        (placed_from (setup_view setup.now).job first None spelled) ≡ Err fault) }
+{
+    check_order(first, counts)?;
     Ok(Start {
         row,
         turned,
-        states: states_of(alloc, setup, counts)?,
+        states: states_of(alloc, setup, first, counts)?,
     })
 }
 
-// Whether each count has a place, and comes after the one before it.
-fn check_order(counts: &[Option<Placed>]) -> Result<(), SaveFault>
-    ensures ok { OnOk result (placed_in 1 None counts.now ≡ Ok (there counts.now)) }
-    ensures fault { IfErr result (λ fault. placed_in 1 None counts.now ≡ Err fault) }
+// Whether each count has a place, and comes after the one before it. The record of the first one
+// has the number `first`.
+fn check_order(first: u64, counts: &[Option<Placed>]) -> Result<(), SaveFault>
+    requires { first ≤ 2 ^ 63 }
+    ensures ok { OnOk result (placed_in first None counts.now ≡ Ok (there counts.now)) }
+    ensures fault { IfErr result (λ fault. placed_in first None counts.now ≡ Err fault) }
 {
     let mut before = None;
     for (place, count) in counts.iter().enumerate() {
-        let number = place as u64 + 1;
+        let number = first + place as u64;
         let Some(placed) = count else {
             return Err(SaveFault::State(number));
         };
@@ -189,10 +226,15 @@ fn check_order(counts: &[Option<Placed>]) -> Result<(), SaveFault>
 }
 
 // The counts of each worker. All counts have a place, and come in order.
-fn states_of(alloc: Global, setup: &Setup, counts: &[Option<Placed>]) -> Result<States, NoMemory>
+fn states_of(
+    alloc: Global,
+    setup: &Setup,
+    first: u64,
+    counts: &[Option<Placed>],
+) -> Result<States, NoMemory>
     requires named { (spelled : List SpelledIs) ×
         (counts.now ≡ map (placed_of_spelled (setup_view setup.now).job) spelled) }
-    requires order { placed_in 1 None counts.now ≡ Ok (there counts.now) }
+    requires order { placed_in first None counts.now ≡ Ok (there counts.now) }
     ensures { IfOk result (λ states. states ≡
         map (counts_at (there counts.now)) (workers_in (setup_view setup.now).job)) }
 {
@@ -200,22 +242,19 @@ fn states_of(alloc: Global, setup: &Setup, counts: &[Option<Placed>]) -> Result<
     let mut states = states.into_vec();
     for count in counts {
         match count {
-            Some(placed) => add(&mut states, placed)?,
+            Some(placed) => set(&mut states, placed)?,
             None => {}
         }
     }
     Ok(States::from_vec(states))
 }
 
-// Gives the worker of a count this count, whose key is new to it.
-fn add(states: &mut Vec<Keyed>, placed: &Placed) -> Result<(), NoMemory>
-    requires within { placed.now.worker < length states.old.items }
-    requires new { (d : CountsIs) → get (get_or states.old.items placed.now.worker d) placed.now.key
-        ≡ None }
+// Gives the worker of a count this count.
+fn set(states: &mut Vec<Keyed>, placed: &Placed) -> Result<(), NoMemory>
+    requires { placed.now.worker < length states.old.items }
     ensures { OnOk result ((d : CountsIs) → states.new.items
         ≡ slice_set states.old.items placed.now.worker
         (insert (get_or states.old.items placed.now.worker d) placed.now.key placed.now.count)) }
 {
-    states[placed.worker as usize].add(placed.key.as_slice(), placed.count)?;
-    Ok(())
+    states[placed.worker as usize].set(placed.key.as_slice(), placed.count)
 }

@@ -11,7 +11,7 @@ use tuple_trace::NoMemory;
 
 /// The records of a text that are still to be read. A record may have any number of fields.
 #[derive(Drop)]
-pub(crate) struct TextRecords<'a> {
+pub struct TextRecords<'a> {
     reader: Reader<&'a [u8]>,
 }
 
@@ -28,7 +28,7 @@ impl<'a> Model for TextRecords<'a> {
 
 impl<'a> TextRecords<'a> {
     /// All records of a text. A byte order mark at its start is no part of them.
-    pub(crate) fn of(alloc: Global, text: &'a [u8]) -> Self
+    pub fn of(alloc: Global, text: &'a [u8]) -> Self
         ensures { result ≡ records default_config (strip_bom text.now) }
     {
         TextRecords {
@@ -40,7 +40,11 @@ impl<'a> TextRecords<'a> {
     }
 
     /// Reads the next record into `cells`, and says whether there was one.
-    pub(crate) fn next(&mut self, cells: &mut ByteRecord) -> Result<bool, NoMemory>
+    ///
+    /// # Errors
+    ///
+    /// Only out of memory.
+    pub fn next(&mut self, cells: &mut ByteRecord) -> Result<bool, NoMemory>
         ensures { IfOk result (λ found.
             MatchBool found (self.old ≡ fields_of cells.new ∷ self.new) (self.old ≡ [])) }
     {
@@ -75,7 +79,8 @@ pub(crate) fn four_of(cells: &ByteRecord) -> Option<Four<'_>>
     })
 }
 
-fn cell(cells: &ByteRecord, place: usize) -> &[u8]
+/// The cell at this place, from 0. It is empty if there are fewer.
+pub fn cell(cells: &ByteRecord, place: usize) -> &[u8]
     ensures { result.now ≡ get_or (fields_of cells.now) place [] }
 {
     match cells.get(place) {

@@ -7,7 +7,7 @@ use std::alloc::Global;
 use std::marker::Model;
 use tuple_trace::{Bytes, NoMemory};
 
-/// A text of CSV records. Contracts see the bytes of the records that were written.
+/// A text of CSV records of any lengths. Contracts see the bytes of the records that were written.
 #[derive(Drop)]
 pub(crate) struct Sheet {
     alloc: Global,
@@ -15,15 +15,15 @@ pub(crate) struct Sheet {
 }
 
 impl Model for Sheet {
-    ghost use Rattle.std.specs.Prelude.{◌≡◌, ◌++◌, false, List, ℕ};
+    ghost use Rattle.std.specs.Prelude.{◌≡◌, ◌++◌, false, true, List, ℕ};
     ghost use Rattle.csv.specs.Writing.{default_writer, writer_under, writer_pending, writer_setup};
-    ghost use Rattle.csv.specs.Writing.{fields_written, has_written};
+    ghost use Rattle.csv.specs.Writing.{fields_written, has_written, with_flexible};
 
     ghost Value = { List ℕ };
 
     ghost view = { λ a. (writer_under a.writer).items ++ writer_pending a.writer };
 
-    ghost invariant = { λ a. (writer_setup a.writer ≡ default_writer)
+    ghost invariant = { λ a. (writer_setup a.writer ≡ with_flexible default_writer true)
         × (fields_written a.writer ≡ 0) × (has_written a.writer ≡ false) };
 }
 
@@ -34,11 +34,14 @@ impl Sheet {
     {
         Sheet {
             alloc,
-            writer: WriterBuilder::new().from_writer(Vec::new(alloc)),
+            writer: WriterBuilder::new()
+                .flexible(true)
+                .from_writer(Vec::new(alloc)),
         }
     }
 
     /// Appends a record of these cells. After [`NoMemory`] the sheet has no records.
+    #[tactic(auto, using(crate::proofs::SheetLemmas::row_same))]
     pub(crate) fn write(&mut self, cells: &Cells) -> Result<(), NoMemory>
         ensures ok { OnOk result (self.new ≡ self.old ++ row_text default_writer cells.now) }
         ensures err { OnErr result (self.new ≡ []) }

@@ -31,8 +31,8 @@ fn in_range(negative: bool, size: u64) -> Option<i64>
     i64::try_from(if negative { -size } else { size }).ok()
 }
 
-/// A number of the first record: digits, below 2^63.
-pub(crate) fn head_number(text: &[u8]) -> Option<u64>
+/// A number of the first record: digits, below 2^63. `None` if the text is no such number.
+pub fn head_number(text: &[u8]) -> Option<u64>
     ensures { result ≡ head_number_of text.now }
 {
     digits_up_to(text, i64::MAX as u64)

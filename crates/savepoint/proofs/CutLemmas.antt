@@ -67,23 +67,25 @@ splits_take nodes m requests node =
 pub IsPlanned-first_of : (setup : SetupView) (m : ℕ) → IsPlanned setup → IsPlanned (first_of setup m)
 IsPlanned-first_of setup m is = record {
   splits = λ node splits. is.splits node (splits_take setup.job.nodes m setup.requests node splits);
+  sources = is.sources;
+  inside = is.inside;
   one_each = length-take m setup.plans ∙ (ap (min m) is.one_each ∙ sym (length-take m setup.requests));
   plans = λ r request plan g h. is.plans r request plan (take_get m r setup.requests request g) (take_get m r setup.plans plan h);
   no_source = λ r node plan g. is.no_source r node plan (take_get m r setup.plans plan g);
   ordered = λ ordered s r request plan le g h. is.ordered ordered s r request plan le (take_get m s setup.requests request g) (take_get m r setup.plans plan h);
 }
 
-judged_first : (job : JobView) (book : List Current) (last place m : ℕ) (requests : List Request) → (judged_from job book last place requests).refused ≡ []
-    → (judged_from job book last place (take m requests)).refused ≡ []
+judged_first : (job : JobView) (book : List Current) (last place m : ℕ) (requests : List Request) → (judged_from None job book last place requests).refused ≡ []
+    → (judged_from None job book last place (take m requests)).refused ≡ []
 unfolding judged_from
 judged_first job book last place zero requests e = refl
 judged_first job book last place (suc m) [] e = refl
 judged_first job book last place (suc m) (r ∷ rest) e = go (fault_of book job r last) e (judged_first job (accepted book r.changes) r.after (place + 1) m rest)
   where
     go : (o : Option QFault)
-        → (by_fault o (λ fault. refusing place fault (judged_from job book last (place + 1) rest)) (accepting r (judged_from job (accepted book r.changes) r.after (place + 1) rest))).refused ≡ []
-        → ((judged_from job (accepted book r.changes) r.after (place + 1) rest).refused ≡ [] → (judged_from job (accepted book r.changes) r.after (place + 1) (take m rest)).refused ≡ [])
-        → (by_fault o (λ fault. refusing place fault (judged_from job book last (place + 1) (take m rest))) (accepting r (judged_from job (accepted book r.changes) r.after (place + 1) (take m rest)))).refused ≡ []
+        → (by_fault o (λ fault. refusing place fault (judged_from None job book last (place + 1) rest)) (accepting r (judged_from None job (accepted book r.changes) r.after (place + 1) rest))).refused ≡ []
+        → ((judged_from None job (accepted book r.changes) r.after (place + 1) rest).refused ≡ [] → (judged_from None job (accepted book r.changes) r.after (place + 1) (take m rest)).refused ≡ [])
+        → (by_fault o (λ fault. refusing place fault (judged_from None job book last (place + 1) (take m rest))) (accepting r (judged_from None job (accepted book r.changes) r.after (place + 1) (take m rest)))).refused ≡ []
     go None f later = later f
     go (Some q) f later = absurd (cc)
 

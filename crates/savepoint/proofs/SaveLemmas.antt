@@ -20,7 +20,7 @@ use Rattle.flow_model.specs.Workers.{workers_in}
 use Rattle.flow_model.proofs.ElementLemmas.{IsIn, at_of_all, in_any, in_flat_map, in_map, in_of_place, place_of_in}
 use Rattle.flow_model.proofs.WorkerLemmas.{IsWorker, all_workers, worker_with}
 use Rattle.savepoint.specs.Parts.{issued_up_to}
-use Rattle.savepoint.specs.SaveReading.{CanSave, begin_by, begin_in, counts_at, head_of, is_led_to, placed_from, save_of, spelled_from}
+use Rattle.savepoint.specs.SaveReading.{CanSave, CanSaveCounts, begin_by, begin_in, begin_with, counts_at, head_of, is_led_to, placed_from, save_of, spelled_from}
 use Rattle.savepoint.specs.SaveText.{head_record, save_text}
 use Rattle.savepoint.proofs.CutLemmas.{get_take, get_zip}
 use Rattle.savepoint.proofs.NumberLemmas.{head-decimal}
@@ -79,56 +79,67 @@ mapped_back f (x ∷ xs) [] l h = absurd (omega (arith, l))
 mapped_back {A} {B} f (x ∷ xs) (y ∷ ys) l h =
     ap (λ (z : B). z ∷ map f xs) (h 0 x y refl refl) ∙ ap (λ (l : List B). y ∷ l) (mapped_back f xs ys (omega (arith, l)) (λ k a b g i. h (suc k) a b g i))
 
--- ---- the savepoint
+-- ---- the counts
 
-module _ (setup : SetupView) (rows : ℕ) (begin : Begin) (lawful : IsLawful setup.job) (can : CanSave setup rows begin) where
+-- the counts of a lawful job are read again, whatever number the first record has
+module _ (job : JobView) (states : List Counts) (number : ℕ) (lawful : IsLawful job) (can : CanSaveCounts job states) where
   abbrev workers : List (Worker × Counts)
-  workers = zip (workers_in setup.job) begin.states
+  workers = zip (workers_in job) states
 
   numbered : AreNumbered 0 workers
   numbered k p g =
-      let z = zip_get (workers_in setup.job) begin.states k p g in
-      let n = (worker_with setup.job k p.0 z.0).0 in
+      let z = zip_get (workers_in job) states k p g in
+      let n = (worker_with job k p.0 z.0).0 in
       omega (arith, n)
 
   -- a count is of a worker that counts and to which its text is led, with a short text and a small number
-  of_worker : (q : Count) → IsIn q (all_counts workers) → IsWorker setup.job q.0 × (is_count q.0.func ≡ true) × (length q.1.0 ≤ 48) × FitsSigned w64 q.1.1 × (is_led_to setup.job q.1.0 q.0 ≡ true)
+  of_worker : (q : Count) → IsIn q (all_counts workers) → IsWorker job q.0 × (is_count q.0.func ≡ true) × (length q.1.0 ≤ 48) × FitsSigned w64 q.1.1 × (is_led_to job q.1.0 q.0 ≡ true)
   of_worker q i =
       let p = in_flat_map counts_of q workers i in
       let e = in_map (λ (e : List ℕ × ℤ). (p.0.0, e)) q (entries p.0.1) p.2 in
       let k = place_of_in p.0 workers p.1 in
-      let z = zip_get (workers_in setup.job) begin.states k.0 p.0 k.1 in
+      let z = zip_get (workers_in job) states k.0 p.0 k.1 in
       let who : q.0 ≡ p.0.0 = ap (λ (r : Count). r.0) e.2 in
       let entry : q.1 ≡ e.0 = ap (λ (r : Count). r.1) e.2 in
-      let each = at_of_all (λ (counts : Counts). All (λ (e : List ℕ × ℤ). (length e.0 ≤ 48) × FitsSigned w64 e.1) (entries counts)) p.0.1 begin.states can.short (in_of_place p.0.1 begin.states k.0 z.1) in
+      let each = at_of_all (λ (counts : Counts). All (λ (e : List ℕ × ℤ). (length e.0 ≤ 48) × FitsSigned w64 e.1) (entries counts)) p.0.1 states can.short (in_of_place p.0.1 states k.0 z.1) in
       let one = at_of_all (λ (e : List ℕ × ℤ). (length e.0 ≤ 48) × FitsSigned w64 e.1) e.0 (entries p.0.1) each e.1 in
-      let led : is_led_to setup.job e.0.0 p.0.0 ≡ true =
-      at_of_all (λ (e : List ℕ × ℤ). IsTrue (is_led_to setup.job e.0 p.0.0)) e.0 (entries p.0.1) (can.led k.0 p.0.0 p.0.1 z.0 z.1) e.1 in (
-        subst (IsWorker setup.job) (sym who) (worker_with setup.job k.0 p.0.0 z.0).1,
+      let led : is_led_to job e.0.0 p.0.0 ≡ true =
+      at_of_all (λ (e : List ℕ × ℤ). IsTrue (is_led_to job e.0 p.0.0)) e.0 (entries p.0.1) (can.led k.0 p.0.0 p.0.1 z.0 z.1) e.1 in (
+        subst (IsWorker job) (sym who) (worker_with job k.0 p.0.0 z.0).1,
         ap (λ (r : Worker). is_count r.func) who ∙ counts_here p.0 k.0 z.0 z.1 e.0 e.1 (is_count p.0.0.func) refl,
         subst (λ (e : List ℕ × ℤ). length e.0 ≤ 48) (sym entry) one.0,
         subst (λ (e : List ℕ × ℤ). FitsSigned w64 e.1) (sym entry) one.1,
-        subst (λ (r : Worker). is_led_to setup.job q.1.0 r ≡ true) (sym who) (subst (λ (e : List ℕ × ℤ). is_led_to setup.job e.0 p.0.0 ≡ true) (sym entry) led),
+        subst (λ (r : Worker). is_led_to job q.1.0 r ≡ true) (sym who) (subst (λ (e : List ℕ × ℤ). is_led_to job e.0 p.0.0 ≡ true) (sym entry) led),
       )
     where
-      counts_here : (p : Worker × Counts) (k : ℕ) → slice_get (workers_in setup.job) k ≡ Some p.0 → slice_get begin.states k ≡ Some p.1 → (e : List ℕ × ℤ) → IsIn e (entries p.1)
+      counts_here : (p : Worker × Counts) (k : ℕ) → slice_get (workers_in job) k ≡ Some p.0 → slice_get states k ≡ Some p.1 → (e : List ℕ × ℤ) → IsIn e (entries p.1)
           → (b : Bool) → is_count p.0.func ≡ b → is_count p.0.func ≡ true
       counts_here p k g h e i true is = is
       counts_here p k g h e i false is = let none : entries p.1 ≡ [] = can.counts k p.0 p.1 g h is in absurd (rw none at i)
 
-  spelled : spelled_from 1 (map (record_by setup.job) (all_counts workers)) ≡ Ok (map (spelled_as setup.job) (all_counts workers))
-  spelled = all-spelled setup.job 1 (all_counts workers) (λ q i. let w = of_worker q i in (small_place setup.job lawful q.0 w.0, w.3))
+  pub counts-spelled : spelled_from number (map (record_by job) (all_counts workers)) ≡ Ok (map (spelled_as job) (all_counts workers))
+  counts-spelled = all-spelled job number (all_counts workers) (λ q i. let w = of_worker q i in (small_place job lawful q.0 w.0, w.3))
 
-  placed : placed_from setup.job 1 None (map (spelled_as setup.job) (all_counts workers)) ≡ Ok (map placed_as (all_counts workers))
+  placed : placed_from job number None (map (spelled_as job) (all_counts workers)) ≡ Ok (map placed_as (all_counts workers))
   placed =
-      all-placed setup.job 1 None (all_counts workers) (λ q i. let w = of_worker q i in placed-count setup.job (distinct_names setup.job lawful) q w.0 w.1 w.2 w.4)
+      all-placed job number None (all_counts workers) (λ q i. let w = of_worker q i in placed-count job (distinct_names job lawful) q w.0 w.1 w.2 w.4)
       (all_behind 0 workers None tt numbered)
 
-  states : map (counts_at (map placed_as (all_counts workers))) (workers_in setup.job) ≡ begin.states
-  states =
-      mapped_back (counts_at (map placed_as (all_counts workers))) (workers_in setup.job) begin.states can.one_each (λ k who counts g h.
-      let n : who.number ≡ k = (worker_with setup.job k who g).0 in
-      counts-back workers who counts numbered (subst (λ j. slice_get workers j ≡ Some (who, counts)) (sym n) (get_zip (workers_in setup.job) begin.states k who counts g h)))
+  back : map (counts_at (map placed_as (all_counts workers))) (workers_in job) ≡ states
+  back =
+      mapped_back (counts_at (map placed_as (all_counts workers))) (workers_in job) states can.one_each (λ k who counts g h.
+      let n : who.number ≡ k = (worker_with job k who g).0 in
+      counts-back workers who counts numbered (subst (λ j. slice_get workers j ≡ Some (who, counts)) (sym n) (get_zip (workers_in job) states k who counts g h)))
+
+  -- where a run goes on with these counts
+  pub counts-begin : (row turned : ℕ) → begin_with job row turned (placed_from job number None (map (spelled_as job) (all_counts workers))) ≡ Ok (record { row = row; turned = turned; states = states })
+  counts-begin row turned = rw (placed, back) refl
+
+-- ---- the savepoint
+
+module _ (setup : SetupView) (rows : ℕ) (begin : Begin) (lawful : IsLawful setup.job) (can : CanSave setup rows begin) where
+  abbrev counted : List Count
+  counted = all_counts (zip (workers_in setup.job) begin.states)
 
   head : head_of (head_record begin.row begin.turned) ≡ Some (begin.row, begin.turned)
   head = rw (head-decimal begin.row can.row, head-decimal begin.turned can.turned) refl
@@ -139,6 +150,6 @@ module _ (setup : SetupView) (rows : ℕ) (begin : Begin) (lawful : IsLawful set
   pub save-reads : save_of setup rows (save_text setup.job begin) ≡ Ok begin
   save-reads =
       ap (begin_in setup rows) (reads-save setup.job begin)
-      ∙ (ap (λ o. begin_by setup rows o (spelled_from 1 (map (record_by setup.job) (all_counts workers)))) head
-      ∙ (ap (begin_by setup rows (Some (begin.row, begin.turned))) spelled
-      ∙ rw (not_past, eq-eqb begin.turned (issued_up_to begin.row rows (afters setup.requests)) can.issued, placed, states) refl))
+      ∙ (ap (λ o. begin_by setup rows o (spelled_from 1 (map (record_by setup.job) counted))) head
+      ∙ (ap (begin_by setup rows (Some (begin.row, begin.turned))) (counts-spelled setup.job begin.states 1 lawful can.states)
+      ∙ rw (not_past, eq-eqb begin.turned (issued_up_to begin.row rows (afters setup.requests)) can.issued) (counts-begin setup.job begin.states 1 lawful can.states begin.row begin.turned)))

@@ -74,8 +74,8 @@ one_more first (Err fault) = Err fault
 one_more first (Ok later) = Ok (first ∷ later)
 
 -- what a record spells, followed by the later ones; or the first that isn't of the form
-abbrev pub one_spelled :
-    ℕ → Option Spelled → Result (List Spelled) SaveFault → Result (List Spelled) SaveFault
+abbrev pub one_spelled : {A : Type 0} →
+    ℕ → Option A → Result (List A) SaveFault → Result (List A) SaveFault
 one_spelled number None later = Err (fault.Shape number)
 one_spelled number (Some spelled) later = one_more spelled later
 
@@ -187,23 +187,27 @@ begin_in setup rows (head ∷ later) = begin_by setup rows (head_of head) (spell
 abbrev pub save_of : SetupView → ℕ → List ℕ → Result Begin SaveFault
 save_of setup rows bytes = begin_in setup rows (records default_config (strip_bom bytes))
 
+-- Counts that can be saved and read again. Each worker has counts of short keys that are led to it,
+-- and the counts fit 64 bits. A worker that doesn't count has none.
+pub record CanSaveCounts (job : JobView) (states : List Counts) : Type 0 where
+  pub one_each : length states ≡ length (workers_in job)
+  pub counts :
+      (w : ℕ) (who : Worker) (counts : Counts) → slice_get (workers_in job) w ≡ Some who →
+      slice_get states w ≡ Some counts → is_count who.func ≡ false → entries counts ≡ []
+  pub led :
+      (w : ℕ) (who : Worker) (counts : Counts) → slice_get (workers_in job) w ≡ Some who →
+      slice_get states w ≡ Some counts →
+      All (λ (e : List ℕ × ℤ). IsTrue (is_led_to job e.0 who)) (entries counts)
+  pub short :
+      All (λ (counts : Counts).
+      All (λ (e : List ℕ × ℤ). (length e.0 ≤ TEXT_MAX) × FitsSigned w64 e.1) (entries counts))
+      states
+
 -- What can be saved and read again: the row is one of the rows, and the requests are those that
--- are issued up to it. Each worker has counts of short keys that are led to it, and the counts fit
--- 64 bits. A worker that doesn't count has none.
+-- are issued up to it. The counts can be saved.
 pub record CanSave (setup : SetupView) (rows : ℕ) (begin : Begin) : Type 0 where
   pub within : begin.row ≤ rows
   pub row : begin.row < 2 ^ 63
   pub turned : begin.turned < 2 ^ 63
   pub issued : begin.turned ≡ issued_up_to begin.row rows (afters setup.requests)
-  pub one_each : length begin.states ≡ length (workers_in setup.job)
-  pub counts :
-      (w : ℕ) (who : Worker) (counts : Counts) → slice_get (workers_in setup.job) w ≡ Some who →
-      slice_get begin.states w ≡ Some counts → is_count who.func ≡ false → entries counts ≡ []
-  pub led :
-      (w : ℕ) (who : Worker) (counts : Counts) → slice_get (workers_in setup.job) w ≡ Some who →
-      slice_get begin.states w ≡ Some counts →
-      All (λ (e : List ℕ × ℤ). IsTrue (is_led_to setup.job e.0 who)) (entries counts)
-  pub short :
-      All (λ (counts : Counts).
-      All (λ (e : List ℕ × ℤ). (length e.0 ≤ TEXT_MAX) × FitsSigned w64 e.1) (entries counts))
-      begin.states
+  pub states : CanSaveCounts setup.job begin.states

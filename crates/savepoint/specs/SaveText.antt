@@ -30,11 +30,14 @@ abbrev pub worker_records : JobView → Worker × Counts → List (List (List �
 worker_records job (who, counts) =
     map (count_record (name_of (slice_get job.nodes who.node)) who.place) (entries counts)
 
--- all records: the workers come in the order of their numbers
+-- the records of all counts: the workers come in the order of their numbers
+abbrev pub count_records : JobView → List Counts → List (List (List ℕ))
+count_records job states = flat_map (worker_records job) (zip (workers_in job) states)
+
+-- all records
 abbrev pub save_records : JobView → Begin → List (List (List ℕ))
 save_records job begin =
-    head_record begin.row begin.turned
-    ∷ flat_map (worker_records job) (zip (workers_in job) begin.states)
+    head_record begin.row begin.turned ∷ count_records job begin.states
 
 -- the text of a savepoint: all its records
 abbrev pub save_text : JobView → Begin → List ℕ

@@ -5,5 +5,5 @@ use Rattle.save_file.proofs.read.check_order.Given as goal
 
 abbrev pub invariant-loop-place : goal.invariant-loop-place
 invariant-loop-place l =
-    after (there (take l.place l.counts)) (placed_in (l.place + 1) (option_copied l.before) (drop l.place l.counts))
-    ≡ placed_in 1 None l.counts
+    after (there (take l.place l.counts)) (placed_in (l.first + l.place) (option_copied l.before) (drop l.place l.counts))
+    ≡ placed_in l.first None l.counts

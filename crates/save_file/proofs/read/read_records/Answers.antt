@@ -14,7 +14,7 @@ returns-in_err-counts-clause-fault c =
 
 pub begin_at-requires : goal.begin_at-requires
 begin_at-requires c =
-    let named = named-read (setup_view c.args.setup.now).job c.next.new.self c.in_ok-counts.counts c.in_ok-counts.ensures.ok in
+    let named = named-read (setup_view c.args.setup.now).job 1 c.next.new.self c.in_ok-counts.counts c.in_ok-counts.ensures.ok in
     (named.0, c.as_slice.ensures ∙ named.1)
 
 pub returns-clause-ok : goal.returns-clause-ok

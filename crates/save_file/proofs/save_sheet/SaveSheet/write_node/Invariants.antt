@@ -1,7 +1,7 @@
 use Rattle.std.proofs.Common.{◌≡◌, ◌++◌, drop}
 use Rattle.sink_journal.specs.Records.{records_text}
 use Rattle.save_file.specs.ByNode.{node_records}
-use Rattle.save_file.proofs.text.Save.write_node.Given as goal
+use Rattle.save_file.proofs.save_sheet.SaveSheet.write_node.Given as goal
 
 abbrev pub invariant-loop-place : goal.invariant-loop-place
 invariant-loop-place l =

@@ -3,7 +3,7 @@ use Rattle.std.proofs.lemmas.Result.{err_from_is_err_and}
 use Rattle.csv.specs.Records.{fields_of}
 use Rattle.flow_model.specs.Setup.{setup_view}
 use Rattle.save_file.proofs.ReadLemmas.{read-end, read-fault, read-more}
-use Rattle.save_file.proofs.read.counts_in.Goals as goal
+use Rattle.save_file.proofs.read.read_counts.Goals as goal
 
 pub returns-then-not-branch-clause-ok : goal.returns-then-not-branch-clause-ok
 returns-then-not-branch-clause-ok c =

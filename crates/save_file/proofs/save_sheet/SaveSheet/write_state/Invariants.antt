@@ -2,7 +2,7 @@ use Rattle.std.proofs.Common.{◌≡◌, ◌++◌, map}
 use Rattle.std.specs.FinMap.{entries}
 use Rattle.savepoint.specs.SaveText.{count_record}
 use Rattle.sink_journal.specs.Records.{records_text}
-use Rattle.save_file.proofs.text.Save.write_state.Given as goal
+use Rattle.save_file.proofs.save_sheet.SaveSheet.write_state.Given as goal
 
 abbrev pub invariant-loop-key : goal.invariant-loop-key
 invariant-loop-key l =
