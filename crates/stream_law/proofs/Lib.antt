@@ -5,5 +5,6 @@ pub mod JudgedLemmas
 pub mod NextLemmas
 pub mod PartRunLemmas
 pub mod ShownLemmas
+pub mod SplitLemmas
 pub mod WholeLemmas
 pub mod LateLemmas

@@ -4,11 +4,11 @@ use Rattle.cover_planner.specs.declared.cover.Plan.{Plan}
 use Rattle.tuple_trace.specs.Rows.{AreRows}
 use Rattle.tuple_trace.specs.declared.row.Row.{Row}
 use Rattle.versions.specs.declared.request.Request.{Request}
+use Rattle.flow_model.specs.Planned.{extended}
 use Rattle.flow_model.specs.Requests.{afters}
 use Rattle.flow_model.specs.Run.{IsRunSince}
 use Rattle.flow_model.specs.Setup.{setup_view}
 use Rattle.savepoint.specs.Parts.{start_of}
-use Rattle.stream_law.specs.Later.{extended}
 use Rattle.stream_law.specs.Stream.{RunPart, SoFar}
 
 -- New rows were run, with new requests and their plans after those so far. The run had other rows

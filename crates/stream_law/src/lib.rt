@@ -15,7 +15,10 @@ mod parts;
 mod rows;
 
 pub use examples::{late_requests_go_first, unlifted_requests_are_no_part};
-pub use later::{later_requests_are_judged_later, later_requests_extend_a_setup};
+pub use later::{
+    accepted_requests_split_within, first_readings_are_judged_alike,
+    later_requests_are_judged_later, later_requests_extend_a_setup,
+};
 pub use parts::{
     a_part_more_is_a_run, part_runs_are_next_parts, parts_in_a_row_are_a_run, parts_keep_the_laws,
     parts_show_what_the_run_shows,
