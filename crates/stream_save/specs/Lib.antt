@@ -1,0 +1,5 @@
+pub mod StreamText
+pub mod StreamReading
+pub mod FaultWords
+pub mod SavedStream
+pub mod Steps
