@@ -1,0 +1,2 @@
+mod PendingLemmas
+mod PartLemmas

@@ -1,0 +1,70 @@
+-- What a stream has run, and what a part of it is.
+use Rattle.std.specs.Prelude.{◌≡◌, ◌≤◌, All, List, drop, length, take}
+use Rattle.cover_planner.specs.declared.cover.Plan.{Plan}
+use Rattle.jobs.specs.Nodes.{AreFromSources}
+use Rattle.tuple_trace.specs.Rows.{AreRows}
+use Rattle.tuple_trace.specs.declared.row.Row.{Row}
+use Rattle.versions.specs.declared.request.Request.{Request}
+use Rattle.flow_model.specs.Planned.{IsFollowed}
+use Rattle.flow_model.specs.Requests.{afters}
+use Rattle.flow_model.specs.Run.{IsRunSince, Ran}
+use Rattle.flow_model.specs.Setup.{setup_view}
+use Rattle.flow_model.specs.declared.setup.Setup.{Setup}
+use Rattle.savepoint.specs.Parts.{start_of}
+use Rattle.stream_law.specs.PartRun.{IsPartRun}
+use Rattle.stream_law.specs.Stream.{IsRunSoFar, RunPart, SoFar, with_part}
+use Rattle.stream_step.specs.declared.stream.Stream.{Stream}
+
+-- ---- what was run so far
+
+-- The stream goes on from where this has ended: one run of numbered rows from sources of the job,
+-- under the stream's setup.
+pub record HasRun (stream : Stream) (so_far : SoFar) : Type 0 where
+  pub run : IsRunSoFar so_far
+  pub numbered : AreRows so_far.rows
+  pub sources : AreFromSources so_far.setup.job so_far.rows
+  pub setup_is : so_far.setup ≡ setup_view stream.setup
+  pub start_is : stream.start ≡ start_of (length so_far.rows) so_far.ran
+
+-- ---- a part
+
+-- A part was run from where the stream goes on, with these requests after those of the stream. Of
+-- `rows`, it fed those that the stream hadn't fed.
+pub record IsRunOn (stream : Stream) (requests : List Request) (rows : List Row) (setup : Setup)
+    (left : Ran) : Type 0 where
+  pub within : stream.start.row ≤ length rows
+  pub numbered : AreRows rows
+  pub sources : AreFromSources (setup_view stream.setup).job rows
+  pub wait : All (λ after. stream.start.row ≤ after) (afters requests)
+  pub followed : IsFollowed (setup_view stream.setup) requests (setup_view setup)
+  pub run : IsRunSince stream.start (setup_view setup) rows left
+
+-- The part goes on from all so far, with the rows after those so far. All so far and the part are
+-- one run of numbered rows from sources of the job.
+pub record IsPartAfter (so_far : SoFar) (requests : List Request) (rows : List Row)
+    (setup : Setup) (left : Ran) (part : RunPart) : Type 0 where
+  pub setup_is : part.setup ≡ setup
+  pub left_is : part.left ≡ left
+  pub plans : List Plan
+  pub is_run : IsPartRun so_far (take (length so_far.rows) rows) (drop (length so_far.rows) rows)
+      requests plans part
+  pub one_run : IsRunSoFar (with_part so_far part)
+  pub numbered : AreRows (with_part so_far part).rows
+  pub sources : AreFromSources (with_part so_far part).setup.job (with_part so_far part).rows
+
+-- the first part, as all so far
+abbrev pub first_part : Setup → List Row → Ran → SoFar
+first_part setup rows left = record { setup = setup_view setup; rows = rows; ran = left }
+
+-- the first part is one run of numbered rows from sources of the job
+pub record IsFirstRun (setup : Setup) (rows : List Row) (left : Ran) : Type 0 where
+  pub run : IsRunSoFar (first_part setup rows left)
+  pub numbered : AreRows rows
+  pub sources : AreFromSources (setup_view setup).job rows
+
+-- A part after all so far, from whose end the stream goes on.
+pub record IsNext (so_far : SoFar) (requests : List Request) (rows : List Row) (next : Stream)
+    (left : Ran) : Type 0 where
+  pub part : RunPart
+  pub after : IsPartAfter so_far requests rows next.setup left part
+  pub has_run : HasRun next (with_part so_far part)

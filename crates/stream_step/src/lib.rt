@@ -1,0 +1,14 @@
+//! A stream of rows, run in parts for ever. After each part, the parts so far are one run so far.
+#![tactic(auto)]
+
+mod ended;
+mod files;
+mod laws;
+mod parts;
+mod pending;
+mod stream;
+
+pub use files::{PartFiles, write_alerts, write_audit, write_part};
+pub use laws::parts_go_on;
+pub use parts::{LastPart, NextPart, PartLeft};
+pub use stream::Stream;

@@ -1,0 +1,128 @@
+ghost use Rattle.std.specs.Prelude.{◌≡◌, ◌↔◌, ◌++◌, ◌||◌, ℕ, [], IfOk, IsTrue, List, length, map};
+ghost use Rattle.std.specs.Prelude.{nat_le, slice_get};
+ghost use Rattle.std.specs.List.{list_all};
+ghost use Rattle.flow_dag.specs.Masks.{Has};
+ghost use Rattle.jobs.specs.Job.{job_view};
+ghost use Rattle.versions.specs.Judged.{AreAccepted};
+ghost use Rattle.versions.specs.declared.request.Request.{Request as RequestIs};
+ghost use Rattle.flow_model.specs.Begin.{at_first};
+ghost use Rattle.flow_model.specs.Planned.{may_become_split, splits_at};
+ghost use Rattle.flow_model.specs.Setup.{setup_view};
+ghost use Rattle.flow_model.specs.Workers.{workers_in};
+ghost use Rattle.stream_step.specs.Pending.{AreAsked, SplitWithin, lifted};
+
+use flow_model::{Setup, Start};
+use operators::Job;
+use savepoint::first_of;
+use std::alloc::Global;
+use tuple_trace::NoMemory;
+use versions::{
+    Judged, Request, Requests, accepted_requests_are_in_order, accepted_requests_may_wait,
+};
+
+/// What a stream has between two parts.
+///
+/// Its type keeps that each request of the setup was issued: it waits for no later row than the
+/// last that was fed, and the start has turned it. The start has counts for each worker. The
+/// pending requests are accepted after those of the setup, also if each waits for the last row that
+/// was fed or a later one. They make splits only of nodes that the setup's mask holds.
+#[derive(Drop)]
+pub struct Stream {
+    /// The setup, with the accepted requests that were issued so far.
+    pub setup: Setup,
+    /// Where the run goes on. Its row is the number of rows that were fed so far.
+    pub start: Start,
+    /// The accepted requests that weren't issued yet, as they were asked.
+    pub pending: Requests,
+    ghost turned: { start.turned ≡ length setup.judged.accepted },
+    ghost states: { length start.states ≡ length (workers_in (job_view setup.job)) },
+    ghost due: { IsTrue (list_all (λ (request : RequestIs). nat_le request.after start.row)
+        setup.judged.accepted) },
+    ghost accepted: { AreAccepted (job_view setup.job)
+        (setup.judged.accepted ++ map (lifted start.row) pending) },
+    ghost within: { SplitWithin setup.splits pending },
+}
+
+impl Stream {
+    /// A stream of which no row was fed, with the requests of its first reading. All of them are
+    /// pending. The one error is out of memory; it gives up the job and its requests.
+    ///
+    /// The mask of splits is that of a stream: it holds the splits of the job and of these requests,
+    /// and the nodes that later requests may make splits.
+    pub fn begin(alloc: Global, job: Job, judged: Judged, ordered: bool) -> Result<Stream, NoMemory>
+        requires { AreAccepted (job_view job) judged.accepted }
+        ensures job { IfOk result (λ stream. stream.setup.job ≡ job) }
+        ensures ordered { IfOk result (λ stream. stream.setup.ordered ≡ ordered) }
+        ensures refused { IfOk result (λ stream.
+            stream.setup.judged.refused ≡ judged.refused) }
+        ensures none { IfOk result (λ stream. stream.setup.judged.accepted ≡ []) }
+        ensures first { IfOk result (λ stream.
+            stream.start ≡ at_first (setup_view stream.setup)) }
+        ensures pending { IfOk result (λ stream. stream.pending ≡ judged.accepted) }
+        ensures splits { IfOk result (λ stream. (node : ℕ) → Has stream.setup.splits node
+            ↔ IsTrue (splits_at job.nodes judged.accepted node
+            || may_become_split (slice_get job.nodes node))) }
+    {
+        let setup = Setup::make_for_stream(alloc, job, judged, ordered)?;
+        let pending = copies(alloc, setup.judged.accepted.as_slice())?;
+        let start = Start::first(alloc, &setup)?;
+        Ok(Stream {
+            setup: first_of(setup, 0),
+            start,
+            pending,
+        })
+    }
+
+    /// The stream with more accepted requests, which come after all that it was given before. They
+    /// are pending. The one error is out of memory; it gives up the stream.
+    ///
+    /// They are accepted after the others as all of them were asked.
+    pub fn add(self, later: Requests) -> Result<Stream, NoMemory>
+        requires accepted { (all : List RequestIs) × AreAsked (job_view self.setup.job)
+            self.setup.judged.accepted self.pending all
+            × AreAccepted (job_view self.setup.job) (all ++ later) }
+        requires splits { SplitWithin self.setup.splits later }
+        ensures setup { IfOk result (λ stream. stream.setup ≡ self.setup) }
+        ensures start { IfOk result (λ stream. stream.start ≡ self.start) }
+        ensures pending { IfOk result (λ stream. stream.pending ≡ self.pending ++ later) }
+        ensures asked { IfOk result (λ stream. (all : List RequestIs)
+            → AreAsked (job_view self.setup.job) self.setup.judged.accepted self.pending all
+            → AreAccepted (job_view self.setup.job) (all ++ later)
+            → AreAsked (job_view stream.setup.job) stream.setup.judged.accepted stream.pending
+            (all ++ later)) }
+    {
+        accepted_requests_are_in_order();
+        accepted_requests_may_wait();
+        let Stream {
+            setup,
+            start,
+            pending,
+        } = self;
+        let pending = appended(pending, later)?;
+        Ok(Stream {
+            setup,
+            start,
+            pending,
+        })
+    }
+}
+
+// The requests of both lists, one after the other.
+fn appended(first: Requests, second: Requests) -> Result<Requests, NoMemory>
+    ensures { IfOk result (λ both. both ≡ first ++ second) }
+{
+    let mut both = first.into_vec();
+    both.append(&mut second.into_vec())?;
+    Ok(Requests::from_vec(both))
+}
+
+// Equal requests.
+fn copies(alloc: Global, requests: &[Request]) -> Result<Requests, NoMemory>
+    ensures { IfOk result (λ copies. copies ≡ requests.now) }
+{
+    let mut copies = Requests::new(alloc);
+    for request in requests {
+        copies.push(request.copy(alloc)?)?;
+    }
+    Ok(copies)
+}
