@@ -1,0 +1,5 @@
+//! Tests of a stream between its parts.
+#![tactic(auto)]
+
+#[cfg(test)]
+mod tests;
