@@ -8,6 +8,7 @@ mod edge_cases;
 mod files;
 mod fixtures;
 mod func_cases;
+mod growing;
 mod job_cases;
 mod judging;
 mod kinds;

@@ -2,7 +2,7 @@
 use super::fixtures::{are, job_in};
 use jobs::{Job, worker_count};
 use payments::read_rows;
-use sink_journal::{Entry, Journal, Journals, alerts_text};
+use sink_journal::{Entry, Journal, Journals, alerts_header_text, alerts_part_text, alerts_text};
 use std::alloc::Global;
 use tuple_trace::{Bytes, NoMemory, Row};
 
@@ -150,11 +150,72 @@ fn alerts_of(alloc: Global, job: &str, payments: &[u8], workers: &[&[usize]]) ->
     }
 }
 
+fn part_of(alloc: Global, job: &Job, journals: &Journals) -> Result<Bytes, NoMemory> {
+    if journals.len() as u64 == worker_count(job) {
+        alerts_part_text(alloc, job, journals)
+    } else {
+        Err(NoMemory)
+    }
+}
+
+fn add_part(
+    alloc: Global,
+    text: &mut Bytes,
+    job: &Job,
+    rows: &[Row],
+    workers: &[&[usize]],
+) -> Result<(), NoMemory> {
+    let journals = journals_of(alloc, rows, workers)?;
+    let part = part_of(alloc, job, &journals)?;
+    text.extend_from_slice(part.as_slice())
+}
+
+// The header's text, followed by the text of each part.
+fn parts_with(
+    alloc: Global,
+    job: &Job,
+    rows: &[Row],
+    parts: &[&[&[usize]]],
+) -> Result<Bytes, NoMemory> {
+    let mut text = alerts_header_text(alloc, job)?;
+    for workers in parts {
+        add_part(alloc, &mut text, job, rows, workers)?;
+    }
+    Ok(text)
+}
+
+fn parts_in(
+    alloc: Global,
+    job: &Job,
+    payments: &[u8],
+    parts: &[&[&[usize]]],
+) -> Result<Bytes, NoMemory> {
+    match read_rows(alloc, job, payments) {
+        Ok(rows) => parts_with(alloc, job, rows.as_slice(), parts),
+        Err(_) => Err(NoMemory),
+    }
+}
+
+// The alerts of a stream in parts. In each part the workers met these of the payments, by their
+// places. None if a text isn't read.
+fn parts_of(alloc: Global, job: &str, payments: &[u8], parts: &[&[&[usize]]]) -> Option<Bytes> {
+    match job_in(alloc, &[job]) {
+        Ok(job) => parts_in(alloc, &job, payments, parts).ok(),
+        Err(_) => None,
+    }
+}
+
 const FOUR_PAYMENTS: &[u8] = b"source,account,merchant,amount,tags
 card,a,m,99.99,
 card,b,m,100.00,
 card,c,m,50.00,
 card,d,m,120.00,
+";
+
+const FOUR_ALERTS: &str = "sink,row,account,merchant,amount,tags
+alerts,2,b,m,100.00,
+alerts,3,c,m,50.00,
+alerts,4,d,m,120.00,
 ";
 
 #[test]
@@ -171,12 +232,21 @@ fn four_payments(rt: HostRuntime) {
         FOUR_PAYMENTS,
         &[&[0, 1, 2, 3], &[1, 2, 3]],
     );
-    let want = "sink,row,account,merchant,amount,tags
-alerts,2,b,m,100.00,
-alerts,3,c,m,50.00,
-alerts,4,d,m,120.00,
-";
-    assert!(rt; are(text, want));
+    assert!(rt; are(text, FOUR_ALERTS));
+}
+
+// One sink worker, so the records of two parts are those of the whole.
+#[test]
+fn four_payments_in_two_parts(rt: HostRuntime) {
+    let parts: [&[&[usize]]; 2] = [&[&[0, 1], &[1]], &[&[2, 3], &[2, 3]]];
+    let text = parts_of(rt.alloc(), CHAIN, FOUR_PAYMENTS, &parts);
+    assert!(rt; are(text, FOUR_ALERTS));
+}
+
+#[test]
+fn header_before_any_part(rt: HostRuntime) {
+    let text = parts_of(rt.alloc(), CHAIN, FOUR_PAYMENTS, &[]);
+    assert!(rt; are(text, "sink,row,account,merchant,amount,tags\n"));
 }
 
 const LARGEST: &[u8] = b"source,account,merchant,amount,tags
@@ -219,6 +289,22 @@ fn payments_job(rt: HostRuntime) {
 review,2,bob,casino,250.00,3,
 review,6,fay,casino,75.00,3,
 watch,9,ann,\"A, \"\"B\"\" Ltd\",,,2
+watch,10,gus,grocer,,,2
+";
+    assert!(rt; are(text, want));
+}
+
+// Each part has its own records of both sinks.
+#[test]
+fn payments_job_in_two_parts(rt: HostRuntime) {
+    let first: [&[usize]; 5] = [&[], &[], &[1, 5], &[], &[8]];
+    let later: [&[usize]; 5] = [&[], &[8], &[2], &[], &[9]];
+    let text = parts_of(rt.alloc(), TWO_SINKS, TEN_PAYMENTS, &[&first, &later]);
+    let want = "sink,row,account,merchant,amount,risk,seen
+review,2,bob,casino,250.00,3,
+review,6,fay,casino,75.00,3,
+watch,9,ann,\"A, \"\"B\"\" Ltd\",,,2
+review,3,a,m,0.00,0,
 watch,10,gus,grocer,,,2
 ";
     assert!(rt; are(text, want));

@@ -3,9 +3,8 @@ use versions::QFault;
 /// The changes of a request, and the fault for which it is refused.
 pub type Case = (&'static str, Option<QFault>);
 
-/// Four requests of a change each. The third is a second change of version 0, and the fourth is for
-/// an earlier row than the second.
-pub const FOUR: &str = r#"[[request]]
+/// Two requests of a change each. The second is a second change of version 0.
+pub const EARLIER: &str = r#"[[request]]
 after = 5
 [[request.change]]
 node = "big"
@@ -19,7 +18,10 @@ node = "big"
 from = 0
 kind = "filter"
 when = [["sum", ">=", 10]]
-[[request]]
+"#;
+
+/// Two requests more. The second is for an earlier row than the first.
+pub const LATER: &str = r#"[[request]]
 after = 7
 [[request.change]]
 node = "big"
@@ -36,6 +38,27 @@ key = "who"
 add = 1
 into = "sum"
 carry = "reset"
+"#;
+
+/// Two requests that make splits: of node 1, and of node 2.
+pub const TWO_SPLITS: &str = r#"[[request]]
+after = 0
+[[request.change]]
+node = "u"
+from = 0
+kind = "split"
+on = "tags"
+by = ";"
+most = 3
+[[request]]
+after = 0
+[[request.change]]
+node = "m"
+from = 0
+kind = "split"
+on = "tags"
+by = ";"
+most = 1
 "#;
 
 /// Changes of the chain.

@@ -1,15 +1,15 @@
 // Jobs, requests and rows that are read from texts in pieces, and rows and outputs written down as
 // lines.
 ghost use Rattle.std.specs.Prelude.{IfOk};
-ghost use Rattle.job_file.specs.RequestSizes.{AreFew};
+ghost use Rattle.job_file.specs.RequestSizes.{AreFew, AreUpTo};
 
-use job_file::{JobFault, ReqFileFault, read_job, read_requests};
+use job_file::{JobFault, ReqFileFault, read_job, read_requests, read_requests_up_to};
 use jobs::Job;
 use operators::Output;
 use payments::read_rows;
 use std::alloc::{AllocError, Global};
 use tuple_trace::{Bytes, Row, Rows, Tuple, Value, Visit};
-use versions::Requests;
+use versions::{MAX_STREAM_REQUESTS, Requests};
 
 /// The pieces, one after another.
 pub fn joined(alloc: Global, pieces: &[&str]) -> Result<String, AllocError> {
@@ -44,6 +44,20 @@ pub fn requests_in(alloc: Global, job: &Job, pieces: &[&str]) -> Result<Requests
 {
     match joined(alloc, pieces) {
         Ok(text) => read_requests(alloc, job, text.as_bytes()),
+        Err(_) => Err(ReqFileFault::NoMemory),
+    }
+}
+
+/// The requests of a text in pieces, of which there may be as many as a stream has.
+pub fn stream_requests_in(
+    alloc: Global,
+    job: &Job,
+    pieces: &[&str],
+) -> Result<Requests, ReqFileFault>
+    ensures few { IfOk result (AreUpTo MAX_STREAM_REQUESTS) }
+{
+    match joined(alloc, pieces) {
+        Ok(text) => read_requests_up_to(alloc, job, text.as_bytes(), MAX_STREAM_REQUESTS),
         Err(_) => Err(ReqFileFault::NoMemory),
     }
 }

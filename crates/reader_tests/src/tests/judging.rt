@@ -1,11 +1,11 @@
 // Which requests are accepted, and why others aren't.
-use super::change_cases::{self, Case, FOUR};
+use super::change_cases::{self, Case, EARLIER, LATER, TWO_SPLITS};
 use super::files::{CHAIN, KINDS, PAYMENTS, REQUESTS, ROOF};
-use super::fixtures::{job_in, requests_in};
+use super::fixtures::{job_in, requests_in, stream_requests_in};
 use jobs::{Func, Job};
 use std::alloc::Global;
 use tuple_trace::NoMemory;
-use versions::{Book, Judged, QFault, Refused, Request, judge, judge_all};
+use versions::{Book, Judged, QFault, Refused, Request, judge, judge_all, judge_within};
 
 /// How many requests are accepted, and the first two that aren't.
 type Fate = (usize, [Option<Refused>; 2]);
@@ -27,6 +27,19 @@ fn fate_in(alloc: Global, job: &Job, requests: &[&str]) -> Option<Fate> {
         return None;
     };
     match judge_all(alloc, job, &requests) {
+        Ok(judged) => Some(fate_of(&judged)),
+        Err(_) => None,
+    }
+}
+
+/// The fate of the requests of a file if only these nodes may be splits. There may be as many as a
+/// stream has.
+fn fate_within(alloc: Global, job: &str, splits: Option<u64>, requests: &[&str]) -> Option<Fate> {
+    let job = job_in(alloc, &[job]).ok()?;
+    let Ok(requests) = stream_requests_in(alloc, &job, requests) else {
+        return None;
+    };
+    match judge_within(alloc, &job, splits, &requests) {
         Ok(judged) => Some(fate_of(&judged)),
         Err(_) => None,
     }
@@ -59,7 +72,42 @@ fn stale_request(rt: HostRuntime) {
         fault: QFault::Backwards(7),
     };
     let want = (2, [Some(stale), Some(backwards)]);
-    assert!(rt; fate(rt.alloc(), KINDS, &[FOUR]) == Some(want));
+    assert!(rt; fate(rt.alloc(), KINDS, &[EARLIER, LATER]) == Some(want));
+}
+
+fn late(place: u32) -> Option<Refused> {
+    Some(Refused {
+        place,
+        fault: QFault::LateSplit(1),
+    })
+}
+
+/// The first request makes node 1 a split, and the second node 2.
+#[test]
+fn splits_outside_the_mask(rt: HostRuntime) {
+    let alloc = rt.alloc();
+    let requests = &[TWO_SPLITS];
+    assert!(rt; fate_within(alloc, ROOF, None, requests) == Some((2, [None, None])));
+    assert!(rt; fate_within(alloc, ROOF, Some(0b0110), requests) == Some((2, [None, None])));
+    assert!(rt; fate_within(alloc, ROOF, Some(0b0010), requests) == Some((1, [late(2), None])));
+    assert!(rt; fate_within(alloc, ROOF, Some(0), requests) == Some((0, [late(1), late(2)])));
+}
+
+/// The first reading has two of the four requests, and knows no mask.
+#[test]
+fn judging_in_two_readings(rt: HostRuntime) {
+    let stale = Some(Refused {
+        place: 2,
+        fault: QFault::Stale(1, 1),
+    });
+    let backwards = Some(Refused {
+        place: 4,
+        fault: QFault::Backwards(7),
+    });
+    let first = fate(rt.alloc(), KINDS, &[EARLIER]);
+    assert!(rt; first == Some((1, [stale, None])));
+    let both = fate_within(rt.alloc(), KINDS, Some(0), &[EARLIER, LATER]);
+    assert!(rt; both == Some((2, [stale, backwards])));
 }
 
 #[test]

@@ -1,4 +1,6 @@
 // Shelves and sinks in memory and of the system.
+ghost use Rattle.std.specs.Prelude.{◌≡◌};
+
 use payments::{
     Calls, HostFault, HostShelf, MemoryShelf, MemorySink, Shelf, ShelfFault, Sink, SinkFault,
     StdOut, store, write_all,
@@ -12,7 +14,7 @@ pub fn word(alloc: Global, name: &str) -> Option<Word> {
     Some(Word::from_string(name.to_string(alloc).ok()?))
 }
 
-fn holds(shelf: &MemoryShelf, name: &Word, text: &[u8]) -> bool {
+pub fn holds(shelf: &MemoryShelf, name: &Word, text: &[u8]) -> bool {
     match shelf.get(name) {
         Some(bytes) => bytes.as_slice() == text,
         None => false,
@@ -20,7 +22,9 @@ fn holds(shelf: &MemoryShelf, name: &Word, text: &[u8]) -> bool {
 }
 
 // Whether a read of at most `limit` bytes answers this text.
-pub fn reads<S: Shelf>(shelf: &mut S, alloc: Global, name: &Word, limit: u64, text: &[u8]) -> bool {
+pub fn reads<S: Shelf>(shelf: &mut S, alloc: Global, name: &Word, limit: u64, text: &[u8]) -> bool
+    ensures draft { (S.state shelf.new).draft ≡ (S.state shelf.old).draft }
+{
     match shelf.read_all(alloc, name, limit) {
         Ok(bytes) => bytes.as_slice() == text,
         Err(_) => false,
@@ -41,7 +45,7 @@ pub fn refuses<S: Shelf>(
     }
 }
 
-fn has_failed(shelf: &MemoryShelf, faults: (u64, u64), name: &str) -> bool {
+pub fn has_failed(shelf: &MemoryShelf, faults: (u64, u64), name: &str) -> bool {
     (shelf.read_faults(), shelf.write_faults()) == faults
         && matches!(shelf.failed(), Some(failed) if failed.as_str() == name)
 }

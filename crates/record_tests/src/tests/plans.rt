@@ -38,7 +38,7 @@ fn filters_in_a_row(rt: HostRuntime) {
     assert!(rt; are_covered(rt.alloc()));
 }
 
-fn asks(plan: Option<&Plan>, asked: u64, heads: u64, edges: u128) -> bool {
+pub fn asks(plan: Option<&Plan>, asked: u64, heads: u64, edges: u128) -> bool {
     match plan {
         Some(plan) => plan.asked == asked && plan.heads == heads && plan.edges == edges,
         None => false,
