@@ -7,8 +7,8 @@ use Rattle.advice.specs.declared.table.TheConstants.{USAGE, J1, J2, J3, J4, J5, 
 use Rattle.advice.specs.declared.table.TheConstants.{J10, F1, F2, F3, P1, P2, P3, P4, P5, P6, P7}
 use Rattle.advice.specs.declared.table.TheConstants.{S1, S2, S3, S4, V1, V2, V3, V4, V5, V6, V7}
 use Rattle.advice.specs.declared.table.TheConstants.{Q1, Q2, Q3, Q4, Q5, Q6, Q7, Q8, Q9, Q10}
-use Rattle.advice.specs.declared.table.TheConstants.{READ, READ_ASKS, WRITE, OUT, MEMORY, REFUSED, LONG}
-use Rattle.advice.specs.declared.table.TheConstants.{LONG_PAYMENTS, LONG_SAVE, LONG_AUDIT}
+use Rattle.advice.specs.declared.table.TheConstants.{READ, READ_ASKS, WRITE, OUT, MEMORY, REFUSED}
+use Rattle.advice.specs.declared.table.TheConstants.{LONG, LONG_PAYMENTS, LONG_SAVE, LONG_AUDIT}
 use Rattle.advice.specs.declared.table.TheConstants.{LONG_ALERTS}
 
 -- a row with the bytes of its texts

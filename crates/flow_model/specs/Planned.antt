@@ -60,9 +60,9 @@ pub record IsPlanFor (job : JobView) (splits : ℕ) (request : Request) (plan : 
   pub planned : IsPlanBy job splits plan
   pub asked : (node : ℕ) → IsTrue (is_named request.changes node) → Has plan.asked node
 
--- the mask holds every node that may make pieces of a tuple, but no source and nothing outside of the
--- job; each request has its plan, and no plan has a source for a member; where rows and requests
--- have one order, a plan asks every node that a request up to its own changes
+-- the mask holds every node that may make pieces of a tuple, but no source and nothing outside of
+-- the job; each request has its plan, and no plan has a source for a member; where rows and
+-- requests have one order, a plan asks every node that a request up to its own changes
 pub record IsPlanned (setup : SetupView) : Type 0 where
   pub splits : (node : ℕ) → IsTrue (splits_at setup.job.nodes setup.requests node)
       → Has (splits_of setup) node

@@ -125,8 +125,8 @@ impl Setup {
         })
     }
 
-    /// The setup, followed by later requests: the accepted ones, each with its plan, and the refused
-    /// ones. Its own requests and their plans stay as they are. Out of memory gives all up.
+    /// The setup, followed by later requests: the accepted ones, each with its plan, and the
+    /// refused ones. Its own requests and their plans stay as they are. Out of memory gives all up.
     ///
     /// The later requests make splits only of nodes that the mask of splits holds.
     pub fn follow(self, alloc: Global, later: Judged) -> Result<Setup, NoMemory>
@@ -170,8 +170,9 @@ impl Setup {
         requires { AreAccepted (setup_view self.now).job
             ((setup_view self.now).requests ++ later.now) }
         ensures { IfOk result (λ plans. ArePlansFrom (length (setup_view self.now).requests)
-            (setup_view self.now).job (splits_of (setup_view self.now)) (setup_view self.now).ordered
-            ((setup_view self.now).requests ++ later.now) ((setup_view self.now).plans ++ plans)) }
+            (setup_view self.now).job (splits_of (setup_view self.now))
+            (setup_view self.now).ordered ((setup_view self.now).requests ++ later.now)
+            ((setup_view self.now).plans ++ plans)) }
     {
         accepted_requests_name_nodes();
         let earlier = self.judged.accepted.as_slice();

@@ -61,10 +61,3 @@ pub record IsFirstRun (setup : Setup) (rows : List Row) (left : Ran) : Type 0 wh
   pub run : IsRunSoFar (first_part setup rows left)
   pub numbered : AreRows rows
   pub sources : AreFromSources (setup_view setup).job rows
-
--- A part after all so far, from whose end the stream goes on.
-pub record IsNext (so_far : SoFar) (requests : List Request) (rows : List Row) (next : Stream)
-    (left : Ran) : Type 0 where
-  pub part : RunPart
-  pub after : IsPartAfter so_far requests rows next.setup left part
-  pub has_run : HasRun next (with_part so_far part)
