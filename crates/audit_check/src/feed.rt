@@ -12,10 +12,11 @@ ghost use Rattle.audit_laws.specs.Lines.{IsStep, feeds_in, refusals_in};
 ghost use Rattle.audit_laws.specs.Verdict.{AreInShape, IsFaultOf};
 
 use crate::feeds::step_in;
-use crate::records::{TextRecords, six_of};
+use crate::records::six_of;
 use audit_laws::AuditFault;
 use csv::ByteRecord;
 use flow_model::Setup;
+use payments::TextRecords;
 use sink_journal::{Feed, Noted};
 use std::alloc::Global;
 use tuple_trace::{NoMemory, Rows};

@@ -14,11 +14,12 @@ ghost use Rattle.audit_check.specs.Cells.{cells_of};
 ghost use Rattle.audit_check.specs.Telling.{Tells};
 
 use crate::lines::line_of;
-use crate::records::{Six, TextRecords, six_of};
+use crate::records::{Six, six_of};
 use crate::told::Told;
 use audit_laws::{AuditFault, Line};
 use csv::ByteRecord;
 use flow_model::Setup;
+use payments::TextRecords;
 use std::alloc::Global;
 
 /// What a text tells of the workers, if its records are in shape.

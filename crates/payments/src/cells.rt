@@ -17,7 +17,7 @@ use tuple_trace::{Fields, NoMemory, Txt, Value};
 const SOURCE: &[u8] = b"source";
 
 /// Whether these cells are the header of a payments file with these columns.
-pub(crate) fn is_header(columns: &[Column], cells: &ByteRecord) -> bool
+pub fn is_header(columns: &[Column], cells: &ByteRecord) -> bool
     ensures { result ≡ pointwise (pointwise nat_eq) (cells_of cells.now) (codes "source"
         ∷ given_names columns.now) }
 {

@@ -27,12 +27,15 @@ mod spelling;
 mod storing;
 mod sure;
 
+pub use cells::is_header;
 pub use growing::{GrowingShelf, extend_all};
 pub use host::{HostShelf, StdOut};
 pub use host_fault::HostFault;
 pub use make::make_rows;
 pub use memory::{Calls, MemoryShelf, MemorySink};
 pub use read::{PFault, read_rows};
+pub use records::TextRecords;
+pub use row::row_from;
 pub use shelf::{Shelf, ShelfFault, Sink, SinkFault};
 pub use storing::{store, write_all};
 pub use sure::{SureShelf, SureSink};

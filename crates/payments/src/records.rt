@@ -1,15 +1,15 @@
-ghost use Rattle.std.specs.Prelude.{◌≡◌, ◌∷◌, [], IfOk, IfErr, MatchBool};
+ghost use Rattle.std.specs.Prelude.{◌≡◌, ◌∷◌, [], IfOk, MatchBool};
 ghost use Rattle.csv.specs.Reading.{default_config, records, strip_bom};
 ghost use Rattle.csv.specs.Records.{fields_of};
 
-use crate::PFault;
 use csv::{ByteRecord, Reader, ReaderBuilder};
 use std::alloc::Global;
 use std::marker::Model;
+use tuple_trace::NoMemory;
 
 /// The records of a text of CSV that are still to be read. A record may have any number of fields.
 #[derive(Drop)]
-pub(crate) struct TextRecords<'a> {
+pub struct TextRecords<'a> {
     reader: Reader<&'a [u8]>,
 }
 
@@ -26,7 +26,7 @@ impl<'a> Model for TextRecords<'a> {
 
 impl<'a> TextRecords<'a> {
     /// All records of a text. A byte order mark at its start is no part of them.
-    pub(crate) fn of(alloc: Global, text: &'a [u8]) -> Self
+    pub fn of(alloc: Global, text: &'a [u8]) -> Self
         ensures { result ≡ records default_config (strip_bom text.now) }
     {
         TextRecords {
@@ -37,15 +37,15 @@ impl<'a> TextRecords<'a> {
         }
     }
 
-    /// Reads the next record into `cells`, and says whether there was one. Any error is want of
-    /// memory.
-    pub(crate) fn next(&mut self, cells: &mut ByteRecord) -> Result<bool, PFault>
-        ensures ok { IfOk result (λ found. MatchBool found (self.old
-            ≡ fields_of cells.new ∷ self.new) (self.old ≡ [])) }
-        ensures err { IfErr result (λ fault. fault ≡ PFault.NoMemory) }
+    /// Reads the next record into `cells`, and says whether there was one.
+    ///
+    /// # Errors
+    ///
+    /// Only out of memory.
+    pub fn next(&mut self, cells: &mut ByteRecord) -> Result<bool, NoMemory>
+        ensures { IfOk result (λ found.
+            MatchBool found (self.old ≡ fields_of cells.new ∷ self.new) (self.old ≡ [])) }
     {
-        self.reader
-            .read_byte_record(cells)
-            .map_err(|_| PFault::NoMemory)
+        self.reader.read_byte_record(cells).map_err(|_| NoMemory)
     }
 }

@@ -49,7 +49,13 @@ pub(crate) fn row_of(
     row_from(alloc, job, row, cells)
 }
 
-fn row_from(alloc: Global, job: &Job, row: u64, cells: &ByteRecord) -> Result<Row, PFault>
+/// The row of a record that has as many cells as the header, whatever its number; or the first
+/// thing that is wrong with it: its source, and then its columns from left to right.
+///
+/// # Errors
+///
+/// [`PFault::Source`], [`PFault::Value`] and [`PFault::TextLong`] of this row, or out of memory.
+pub fn row_from(alloc: Global, job: &Job, row: u64, cells: &ByteRecord) -> Result<Row, PFault>
     ensures ok { IfOk result (λ made. row_from_record (job_view job.now) row (cells_of cells.now)
         ≡ Ok made) }
     ensures fault { IfErr result (λ fault. fault ≢ PFault.NoMemory

@@ -22,7 +22,7 @@ pub use cells::Cells;
 pub use issued::issued_up_to;
 pub use placed::Placed;
 pub use read::{PlacedCounts, read_counts, read_save, start_with};
-pub use records::{TextRecords, cell};
+pub use records::cell;
 pub use save_sheet::SaveSheet;
 pub use spelling::head_number;
 pub use start::{copy_of_start, start_of};

@@ -15,11 +15,12 @@ ghost use Rattle.save_file.specs.Views.{spelled_view};
 
 use crate::issued_up_to;
 use crate::placed::{Placed, Spelled, placed_of, stands_behind};
-use crate::records::{TextRecords, four_of};
+use crate::records::four_of;
 use crate::spelling::{head_number, number};
 use csv::ByteRecord;
 use flow_model::{Setup, Start};
 use keyed_state::Keyed;
+use payments::TextRecords;
 use savepoint::SaveFault;
 use sink_journal::States;
 use std::alloc::Global;

@@ -9,7 +9,8 @@ use crate::waits::{misplaced, read_waits};
 use crate::{StreamSave, StreamSaveFault};
 use csv::ByteRecord;
 use flow_model::{Setup, Start};
-use save_file::{Placed, TextRecords, read_counts, start_with};
+use payments::TextRecords;
+use save_file::{Placed, read_counts, start_with};
 use std::alloc::Global;
 
 /// The savepoint of a stream that a text tells, or the text's first fault.

@@ -6,7 +6,8 @@ ghost use Rattle.stream_save.specs.StreamReading.{misplaced as misplaced_of};
 ghost use Rattle.stream_save.specs.StreamReading.{wait_of as wait_of_record, waits_from};
 
 use csv::ByteRecord;
-use save_file::{TextRecords, cell, head_number};
+use payments::TextRecords;
+use save_file::{cell, head_number};
 use savepoint::SaveFault;
 use std::alloc::Global;
 use tuple_trace::Items;

@@ -9,7 +9,7 @@ use Rattle.payments.proofs.read.later_rows.Goals as goal
 
 pub returns-then-not-branch-clause-ok : goal.returns-then-not-branch-clause-ok
 returns-then-not-branch-clause-ok c =
-    let none = rw c.if-not-branch.true at c.in_ok-next.ensures.ok in
+    let none = rw c.if-not-branch.true at c.in_ok-next.ensures in
     sym c.loop-number.invariant.left ∙ rows_from-end (job_view c.args.job.now) c.loop-number.number c.loop-number.records c.loop-number.rows none
 
 pub returns-then-not-branch-clause-sources : goal.returns-then-not-branch-clause-sources
@@ -24,7 +24,7 @@ returns-then-not-branch-clause-texts c = HaveShortTexts-rows_from (job_view c.ar
 pub returns-in_err-row_of-clause-fault : goal.returns-in_err-row_of-clause-fault
 returns-in_err-row_of-clause-fault c =
     let p = err_from_is_err_and c.from_residual-in_err-row_of.result c.from_residual-in_err-row_of.ensures.1 in
-    let first = rw c.if-not-branch.false at c.in_ok-next.ensures.ok in
+    let first = rw c.if-not-branch.false at c.in_ok-next.ensures in
     rw (p.1, p.2) (λ other.
     sym c.loop-number.invariant.left
     ∙ rows_from-fault (job_view c.args.job.now) c.loop-number.number c.loop-number.records c.next.new.self (fields_of c.next.new.cells) c.loop-number.rows _ first (c.in_err-row_of.ensures.fault other))
@@ -32,6 +32,6 @@ returns-in_err-row_of-clause-fault c =
 pub loop-number-preserved : goal.loop-number-preserved
 loop-number-preserved c =
     let inv = c.loop-number.invariant in
-    let first = rw c.if-not-branch.false at c.in_ok-next.ensures.ok in
+    let first = rw c.if-not-branch.false at c.in_ok-next.ensures in
     let step = rows_from-ok (job_view c.args.job.now) c.loop-number.number c.loop-number.records c.next.new.self (fields_of c.next.new.cells) c.loop-number.rows c.in_ok-row_of.field-0 first c.in_ok-row_of.ensures.ok in
     rw c.in_ok-push.ensures.ok (record { number = simp length-append (omega (arith, inv.number)); left = step ∙ inv.left })
