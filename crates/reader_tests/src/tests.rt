@@ -18,6 +18,7 @@ mod pieces;
 mod reading;
 mod request_cases;
 mod requesting;
+mod row_pieces;
 mod rows;
 mod shelves;
 mod sure;

@@ -6,7 +6,7 @@ use tuple_trace::{Bytes, Items, NoMemory};
 
 /// Ten payments: quoted commas, quotes and line ends, both line ends, an empty line, and no line
 /// feed at the end.
-const PAYMENTS: &str = "source,account,merchant,amount\r
+pub const PAYMENTS: &str = "source,account,merchant,amount\r
 card,ann,\"bakery, mill\",12.50\r
 card,bob,\"the \"\"inn\"\"\",7.00
 wire,cid,\"two
