@@ -17,7 +17,8 @@ pub enum StreamSaveFault {
     Shape(u64),
     /// The savepoint is after this row, and the input has fewer rows.
     Past(u64),
-    /// The wait of this record is before the one before it, or above the savepoint's row.
+    /// The wait of this record is before the one before it, above the savepoint's row, or of a
+    /// request that isn't accepted.
     Count(u64),
     /// The record names no worker that counts, has a key that is too long or that the job leads to
     /// another worker, or comes too early.
