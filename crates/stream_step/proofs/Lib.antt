@@ -1,2 +1,3 @@
 mod PendingLemmas
 mod PartLemmas
+mod ResumeLemmas

@@ -1,5 +1,5 @@
 -- A part of a stream goes on from all so far.
-use Rattle.std.proofs.Common.{◌≡◌, ◌∙◌, ◌≤◌, ◌<◌, ◌+◌, ◌-◌, ◌++◌, ℕ, zero, suc, List, [], ◌∷◌, All, drop, length, map, take, refl, sym, subst, ap, arith, Some, slice_get}
+use Rattle.std.proofs.Common.{◌≡◌, ◌∙◌, ◌≤◌, ◌+◌, ◌++◌, ℕ, zero, suc, List, [], ◌∷◌, All, drop, length, take, refl, sym, subst, ap, arith, Some, slice_get}
 use Rattle.std.proofs.lemmas.List.{length-append, length-drop, length-map, length-take-le, take-append-drop}
 use Rattle.std.proofs.lemmas.List.Elements.{All-append, All-drop}
 use Rattle.cover_planner.specs.declared.cover.Plan.{Plan}
@@ -21,7 +21,7 @@ use Rattle.flow_model.proofs.PlannedLemmas.{has_covers}
 use Rattle.savepoint.specs.Parts.{start_of}
 use Rattle.stream_law.specs.PartRun.{IsPartRun}
 use Rattle.stream_law.specs.Stream.{IsNextPart, IsRunSoFar, RunPart, SoFar, with_part}
-use Rattle.stream_step.specs.Parts.{HasRun, IsFirstRun, IsPartAfter, IsRunOn, first_part}
+use Rattle.stream_step.specs.Parts.{HasRun, IsFirstRun, IsPartAfter, IsRunOn}
 use Rattle.stream_step.specs.declared.stream.Stream.{Stream}
 use Rattle.stream_step.proofs.PendingLemmas.{fed_due}
 

@@ -1,6 +1,5 @@
 -- Requests that wait for a later part.
-use Rattle.std.proofs.Common.{◌≡◌, ◌∙◌, ◌⊎◌, inl, inr, if◌then◌else◌, ◌≤◌, ◌<◌, ◌++◌, ◌&&◌, ◌||◌, ℕ, List, [], ◌∷◌, All, Bool, true, false, filter, length, map, max, nat_le, not, None, Option, refl, sym, subst, ap, arith, append_assoc}
-use Rattle.std.specs.Prelude.{IsTrue}
+use Rattle.std.proofs.Common.{◌≡◌, ◌∙◌, ◌⊎◌, inl, inr, if◌then◌else◌, ◌≤◌, ◌<◌, ◌++◌, ◌&&◌, ◌||◌, ℕ, List, [], ◌∷◌, All, Bool, true, false, filter, map, max, nat_le, not, None, Option, refl, sym, subst, ap, arith, append_assoc}
 use Rattle.std.specs.List.{list_all, list_any}
 use Rattle.std.proofs.Math.Nat.{le-max_left, le-max_right, max-eq_left, max-le}
 use Rattle.std.proofs.lemmas.Bool.Decides.{nat_tests}
@@ -110,11 +109,11 @@ pub order_weaker : (low high : ℕ) (xs : List Request) → low ≤ high → Are
 order_weaker low high [] le o = tt
 order_weaker low high (x ∷ xs) le o = (let h : high ≤ x.after = o.0 in omega arith, o.1)
 
-order_back : (low : ℕ) (xs ys : List Request) → AreInOrder low (xs ++ ys) → AreInOrder low ys
+pub order_back : (low : ℕ) (xs ys : List Request) → AreInOrder low (xs ++ ys) → AreInOrder low ys
 order_back low [] ys o = o
 order_back low (x ∷ xs) ys o = order_weaker low x.after ys o.0 (order_back x.after xs ys o.1)
 
-order_lifted : (fed low high : ℕ) (xs : List Request) → high ≤ max low fed → AreInOrder low xs → AreInOrder high (map (lifted fed) xs)
+pub order_lifted : (fed low high : ℕ) (xs : List Request) → high ≤ max low fed → AreInOrder low xs → AreInOrder high (map (lifted fed) xs)
 order_lifted fed low high [] le o = tt
 order_lifted fed low high (x ∷ xs) le o =
     let h : low ≤ x.after = o.0 in
@@ -122,7 +121,7 @@ order_lifted fed low high (x ∷ xs) le o =
     let m : max low fed ≤ max x.after fed = max-le k (le-max_right x.after fed) in
     (omega arith, order_lifted fed x.after (max x.after fed) xs (omega arith) o.1)
 
-order_both : (low fed : ℕ) (xs ys : List Request) → low ≤ fed → AreInOrder low xs → are_fed fed xs ≡ true → AreInOrder fed ys → AreInOrder low (xs ++ ys)
+pub order_both : (low fed : ℕ) (xs ys : List Request) → low ≤ fed → AreInOrder low xs → are_fed fed xs ≡ true → AreInOrder fed ys → AreInOrder low (xs ++ ys)
 order_both low fed [] ys le o e p = order_weaker low fed ys le p
 order_both low fed (x ∷ xs) ys le o e p =
     let both = and_both (nat_le x.after fed) (are_fed fed xs) e in

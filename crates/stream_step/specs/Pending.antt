@@ -1,5 +1,5 @@
 -- Accepted requests that wait for a later part of a stream.
-use Rattle.std.specs.Prelude.{◌≡◌, ◌++◌, ℕ, Bool, IsTrue, List, filter, map, max, nat_le, not}
+use Rattle.std.specs.Prelude.{◌≡◌, ◌++◌, ℕ, Bool, IsTrue, List, filter, max, nat_le, not}
 use Rattle.flow_dag.specs.Masks.{Has}
 use Rattle.jobs.specs.JobView.{JobView}
 use Rattle.versions.specs.Judged.{AreAccepted}

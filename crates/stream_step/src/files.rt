@@ -1,5 +1,5 @@
 // What is written of a part.
-ghost use Rattle.std.specs.Prelude.{◌≡◌, ◌⊎◌, None, Some, OnErr, OnOk, length};
+ghost use Rattle.std.specs.Prelude.{◌≡◌, ◌⊎◌, None, Some, IfOk, OnErr, OnOk, length};
 ghost use Rattle.jobs.specs.Nodes.{worker_count};
 ghost use Rattle.payments.specs.Causes.{WriteCause};
 ghost use Rattle.payments.specs.Growing.{with_text};
@@ -20,7 +20,15 @@ pub struct PartFiles<'a> {
     pub audit: &'a Word,
 }
 
-/// Appends the texts of a part to both files: first its alerts, and then its audit.
+/// How many bytes the texts of a part have.
+#[derive(Clone, Copy)]
+pub struct Written {
+    pub alerts: u64,
+    pub audit: u64,
+}
+
+/// Appends the texts of a part to both files: first its alerts, and then its audit. Returns how many
+/// bytes each of them has.
 ///
 /// `refused` are the requests that were refused since the part before. The stream is that after the
 /// part. After an error the first file has gained a prefix of its text, or all of it, and then the
@@ -32,9 +40,13 @@ pub fn write_part<S: GrowingShelf>(
     stream: &Stream,
     left: &PartLeft,
     refused: &[Noted],
-) -> Result<(), ShelfFault>
+) -> Result<Written, ShelfFault>
     requires closed { (S.state shelf.old).draft ≡ None }
     requires journals { length left.now.journals ≡ worker_count stream.now.setup.job.nodes }
+    ensures alerts { IfOk result (λ written.
+        written.alerts ≡ length (alerts_text (part_ran stream.now left.now))) }
+    ensures audit { IfOk result (λ written.
+        written.audit ≡ length (audit_text refused.now (part_ran stream.now left.now))) }
     ensures whole { OnOk result ((S.state shelf.new).files ≡ with_text
         (with_text (S.state shelf.old).files files.now.alerts.now
         (alerts_text (part_ran stream.now left.now)))
@@ -49,20 +61,24 @@ pub fn write_part<S: GrowingShelf>(
         ⊎ WriteCause result (Some files.now.audit.now)
         (S.state shelf.old).faults (S.state shelf.new).faults }
 {
-    write_alerts(shelf, alloc, files.alerts, stream, left)?;
-    write_audit(shelf, alloc, files.audit, stream, left, refused)
+    let alerts = write_alerts(shelf, alloc, files.alerts, stream, left)?;
+    let audit = write_audit(shelf, alloc, files.audit, stream, left, refused)?;
+    Ok(Written { alerts, audit })
 }
 
-/// Appends the text of a part's alerts to a file. After an error the file has gained a prefix of it.
+/// Appends the text of a part's alerts to a file, and returns how many bytes it has. After an error
+/// the file has gained a prefix of it.
 pub fn write_alerts<S: GrowingShelf>(
     shelf: &mut S,
     alloc: Global,
     name: &Word,
     stream: &Stream,
     left: &PartLeft,
-) -> Result<(), ShelfFault>
+) -> Result<u64, ShelfFault>
     requires closed { (S.state shelf.old).draft ≡ None }
     requires journals { length left.now.journals ≡ worker_count stream.now.setup.job.nodes }
+    ensures size { IfOk result (λ size.
+        size ≡ length (alerts_text (part_ran stream.now left.now))) }
     ensures whole { OnOk result ((S.state shelf.new).files ≡ with_text
         (S.state shelf.old).files name.now (alerts_text (part_ran stream.now left.now))) }
     ensures stopped { OnErr result (GrowsByPrefix (S.state shelf.old).files
@@ -74,10 +90,12 @@ pub fn write_alerts<S: GrowingShelf>(
     let Ok(text) = alerts_part_text(alloc, &stream.setup.job, &left.journals) else {
         return Err(ShelfFault::NoMemory);
     };
-    extend_all(shelf, name, text.as_slice())
+    extend_all(shelf, name, text.as_slice())?;
+    Ok(text.len() as u64)
 }
 
-/// Appends the text of a part's audit to a file. After an error the file has gained a prefix of it.
+/// Appends the text of a part's audit to a file, and returns how many bytes it has. After an error
+/// the file has gained a prefix of it.
 ///
 /// `refused` are the requests that were refused since the part before.
 pub fn write_audit<S: GrowingShelf>(
@@ -87,9 +105,11 @@ pub fn write_audit<S: GrowingShelf>(
     stream: &Stream,
     left: &PartLeft,
     refused: &[Noted],
-) -> Result<(), ShelfFault>
+) -> Result<u64, ShelfFault>
     requires closed { (S.state shelf.old).draft ≡ None }
     requires journals { length left.now.journals ≡ worker_count stream.now.setup.job.nodes }
+    ensures size { IfOk result (λ size.
+        size ≡ length (audit_text refused.now (part_ran stream.now left.now))) }
     ensures whole { OnOk result ((S.state shelf.new).files ≡ with_text
         (S.state shelf.old).files name.now
         (audit_text refused.now (part_ran stream.now left.now))) }
@@ -105,5 +125,6 @@ pub fn write_audit<S: GrowingShelf>(
     let Ok(text) = audit_part_text(alloc, job, refused, &left.feeds, &left.journals, states) else {
         return Err(ShelfFault::NoMemory);
     };
-    extend_all(shelf, name, text.as_slice())
+    extend_all(shelf, name, text.as_slice())?;
+    Ok(text.len() as u64)
 }

@@ -6,9 +6,10 @@ mod files;
 mod laws;
 mod parts;
 mod pending;
+mod resumed;
 mod stream;
 
-pub use files::{PartFiles, write_alerts, write_audit, write_part};
+pub use files::{PartFiles, Written, write_alerts, write_audit, write_part};
 pub use laws::parts_go_on;
 pub use parts::{LastPart, NextPart, PartLeft};
 pub use stream::Stream;

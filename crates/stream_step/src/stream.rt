@@ -116,8 +116,8 @@ fn appended(first: Requests, second: Requests) -> Result<Requests, NoMemory>
     Ok(Requests::from_vec(both))
 }
 
-// Equal requests.
-fn copies(alloc: Global, requests: &[Request]) -> Result<Requests, NoMemory>
+/// Equal requests. The one error is out of memory.
+pub(crate) fn copies(alloc: Global, requests: &[Request]) -> Result<Requests, NoMemory>
     ensures { IfOk result (λ copies. copies ≡ requests.now) }
 {
     let mut copies = Requests::new(alloc);

@@ -1,17 +1,14 @@
-use Rattle.std.proofs.Common.{◌≡◌, ◌∙◌, ◌++◌, ℕ, List, [], ap, true, length, map, refl, subst, sym}
-use Rattle.std.specs.Prelude.{IsTrue, slice_get}
-use Rattle.std.specs.List.{list_all}
+use Rattle.std.proofs.Common.{◌≡◌, ◌∙◌, ◌++◌, List, [], ap, true, length, map, refl, subst, sym}
+use Rattle.std.specs.Prelude.{slice_get}
 use Rattle.std.proofs.Math.Nat.{ℕ_set}
 use Rattle.std.proofs.Math.Logic.{∥∥₁_elim}
-use Rattle.flow_dag.specs.Masks.{Has}
 use Rattle.jobs.specs.Job.{job_view}
-use Rattle.jobs.specs.declared.job.Job.{Job}
 use Rattle.versions.specs.Judged.{AreAccepted}
 use Rattle.versions.specs.declared.request.Request.{Request}
 use Rattle.flow_model.specs.Begin.{Begin, at_first}
 use Rattle.flow_model.specs.Planned.{is_made_split, is_split_node}
 use Rattle.flow_model.specs.Setup.{setup_view}
-use Rattle.flow_model.specs.SetupView.{SetupView, Worker}
+use Rattle.flow_model.specs.SetupView.{SetupView}
 use Rattle.flow_model.specs.Workers.{workers_in}
 use Rattle.stream_step.specs.Pending.{SplitWithin, lifted}
 use Rattle.stream_step.proofs.PartLemmas.{states_first}
