@@ -1,3 +1,3 @@
-mod PendingLemmas
-mod PartLemmas
+pub mod PendingLemmas
+pub mod PartLemmas
 mod ResumeLemmas

@@ -41,7 +41,7 @@ get_either P (a ∷ xs) ys f g zero x e = f zero x e
 get_either P (a ∷ xs) ys f g (suc i) x e =
     get_either (λ n y. P (suc n) y) xs ys (λ n y h. f (suc n) y h) (λ n y h. (let k : length (a ∷ xs) + n ≡ suc (length xs + n) = omega arith in subst (λ m. P m y) k (g n y h))) i x e
 
-get_beyond : {A : Type 0} (n i : ℕ) (xs : List A) → slice_get (drop n xs) i ≡ slice_get xs (n + i)
+pub get_beyond : {A : Type 0} (n i : ℕ) (xs : List A) → slice_get (drop n xs) i ≡ slice_get xs (n + i)
 get_beyond zero i xs = (let k : i ≡ 0 + i = omega arith in ap (slice_get xs) k)
 get_beyond (suc n) i [] = refl
 get_beyond (suc n) i (x ∷ xs) = get_beyond n i xs ∙ (let k : suc (n + i) ≡ suc n + i = omega arith in ap (slice_get (x ∷ xs)) k)
