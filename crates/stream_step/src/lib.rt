@@ -2,14 +2,12 @@
 #![tactic(auto)]
 
 mod ended;
-mod files;
 mod laws;
 mod parts;
 mod pending;
 mod resumed;
 mod stream;
 
-pub use files::{PartFiles, Written, write_alerts, write_audit, write_part};
 pub use laws::parts_go_on;
 pub use parts::{LastPart, NextPart, PartLeft};
 pub use stream::Stream;

@@ -1,0 +1,5 @@
+mod PartLemmas
+mod PartRunLemmas
+mod GoesLemmas
+mod SavedLemmas
+mod StepLemmas

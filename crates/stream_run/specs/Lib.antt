@@ -1,0 +1,5 @@
+pub mod Parts
+pub mod Files
+pub mod Growing
+pub mod Standing
+pub mod Unwritten
