@@ -1,5 +1,5 @@
-mod PartLemmas
+pub mod PartLemmas
 mod PartRunLemmas
-mod GoesLemmas
+pub mod GoesLemmas
 mod SavedLemmas
 mod StepLemmas
