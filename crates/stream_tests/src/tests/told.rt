@@ -1,0 +1,204 @@
+// A part of a stream is run, written and told.
+ghost use Rattle.std.specs.Prelude.{◌≡◌, ◌<◌, ◌^◌, None, Some, IfOk, length};
+ghost use Rattle.jobs.specs.Job.{job_view};
+ghost use Rattle.jobs.specs.Nodes.{AreFromSources, IsSourceOf};
+ghost use Rattle.tuple_trace.specs.FeedRows.{AreRowsAfter};
+
+use job_file::read_job;
+use lane_core::Lanes;
+use lane_ring::RingLanes;
+use operators::Job;
+use payments::{Calls, GrowingShelf, MemoryShelf};
+use report::Fault;
+use std::alloc::Global;
+use std::sync::Wait;
+use std::thread::Threads;
+use stream_rows::RowReader;
+use stream_run::{
+    Books, PartEnd, StreamCall, StreamHost, StreamNames, Tally, Watch, run_rows, save_stream,
+};
+use stream_step::Stream;
+use tuple_trace::{Gate, NoMemory, OpenGate, Row, Word};
+use versions::{Requests, accepted_requests_stay_accepted, judge_all};
+
+/// A source before a sink.
+const JOB: &str = r#"columns = ["account:text"]
+[[node]]
+name = "card"
+kind = "source"
+[[node]]
+name = "out"
+kind = "sink"
+columns = ["account"]
+[[edge]]
+from = "card"
+to = "out"
+"#;
+
+/// Three payments.
+const PAYMENTS: &str = "source,account\ncard,ann\ncard,bob\ncard,cid\n";
+
+/// Counts what it is told.
+#[derive(Drop)]
+struct Counter {
+    ended: u64,
+    saved: u64,
+    alerts: u64,
+}
+
+impl Watch for Counter {
+    fn part_ended<S: GrowingShelf>(&mut self, _shelf: &S, end: &PartEnd<'_>) {
+        self.ended = self.ended.saturating_add(1);
+        self.alerts = end.alerts;
+    }
+
+    fn saved<S: GrowingShelf>(&mut self, _shelf: &S, _end: &PartEnd<'_>) {
+        self.saved = self.saved.saturating_add(1);
+    }
+
+    fn skipped(&mut self, _fault: Fault) {}
+}
+
+/// The files of a stream, by their names.
+#[derive(Drop)]
+struct FileWords {
+    requests: Word,
+    alerts: Word,
+    audit: Word,
+    save: Word,
+}
+
+fn word(alloc: Global, text: &str) -> Result<Word, NoMemory> {
+    Ok(Word::from_string(String::from_str(alloc, text)?))
+}
+
+fn file_words(alloc: Global) -> Result<FileWords, NoMemory> {
+    Ok(FileWords {
+        requests: word(alloc, "requests")?,
+        alerts: word(alloc, "alerts")?,
+        audit: word(alloc, "audit")?,
+        save: word(alloc, "save")?,
+    })
+}
+
+/// The stream of the job, without requests.
+fn begun(alloc: Global, job: Job) -> Result<Stream, NoMemory>
+    ensures job { IfOk result (λ stream. stream.setup.job ≡ job) }
+    ensures first { IfOk result (λ stream. stream.start.row ≡ 0) }
+{
+    let judged = judge_all(alloc, &job, &Requests::new(alloc))?;
+    accepted_requests_stay_accepted();
+    Stream::begin(alloc, job, judged, false)
+}
+
+/// Runs rows as one part, and writes a savepoint.
+fn run_one<R, L: Lanes + Sync, G: Gate + Sync, S: GrowingShelf>(
+    call: &StreamCall<'_, R, L, G>,
+    stream: Stream,
+    rows: &[Row],
+    shelf: &mut S,
+    counter: &mut Counter,
+) -> Result<(), Fault>
+where
+    R: Threads + Wait + Sync,
+    requires first { stream.start.row ≡ 0 }
+    requires behind { call.now.behind ≡ Some 0 }
+    requires numbered { AreRowsAfter 0 rows.now }
+    requires few { length rows.now < 2 ^ 63 }
+    requires sources { AreFromSources (job_view stream.setup.job) rows.now }
+    requires source { IsSourceOf (job_view stream.setup.job) call.now.source }
+    requires closed { (S.state shelf.old).draft ≡ None }
+{
+    let mut books = Books {
+        refused: Vec::new(call.host.alloc),
+        read: 0,
+        tally: Tally {
+            alerts: 0,
+            audit: 0,
+            unsaved: 0,
+            shown: 0,
+        },
+    };
+    let stream = run_rows(call, stream, &mut books, rows, shelf, counter)?;
+    let _stream = save_stream(call, stream, &mut books, shelf, counter)?;
+    Ok(())
+}
+
+/// Runs the three payments on these many threads.
+fn run_payments<R, S: GrowingShelf>(
+    rt: &R,
+    alloc: Global,
+    words: &FileWords,
+    shelf: &mut S,
+    counter: &mut Counter,
+) -> Result<(), Fault>
+where
+    R: Threads + Wait + Sync,
+    requires closed { (S.state shelf.old).draft ≡ None }
+{
+    let job = read_job(alloc, JOB.as_bytes())?;
+    let mut reader = RowReader::new();
+    let sound = reader.read(alloc, &job, PAYMENTS.as_bytes())?;
+    let rows = sound.rows.as_slice();
+    let Some(first) = rows.first() else {
+        return Err(Fault::Usage);
+    };
+    let source = first.source;
+    let stream = begun(alloc, job)?;
+    let call = StreamCall {
+        host: StreamHost {
+            rt,
+            alloc,
+            form: &RingLanes,
+            gate: &OpenGate,
+            threads: 2,
+            capacity: 16,
+        },
+        names: StreamNames {
+            requests: &words.requests,
+            alerts: &words.alerts,
+            audit: &words.audit,
+            save: &words.save,
+        },
+        every: Some(1),
+        behind: Some(0),
+        source,
+    };
+    run_one(&call, stream, rows, shelf, counter)
+}
+
+/// Whether a file holds this text.
+fn holds(shelf: &MemoryShelf, name: &Word, text: &str) -> bool {
+    match shelf.get(name) {
+        Some(bytes) => bytes.as_slice() == text.as_bytes(),
+        None => false,
+    }
+}
+
+/// What the feeder and the one worker did.
+const AUDIT: &str = "fed,,,,1,\nfed,,,,2,\nfed,,,,3,\nstopped,,,,,\nmet,out,0,0,1,\n\
+    met,out,0,0,2,\nmet,out,0,0,3,\nended,out,0,0,,\n";
+
+/// The alerts, the audit and the savepoint after the part. The watch was told of both once, and that the file
+/// of the alerts has so many bytes.
+fn is_told<R: Threads + Wait + Sync>(rt: &R, alloc: Global) -> Result<bool, Fault> {
+    let words = file_words(alloc)?;
+    let mut shelf = MemoryShelf::new(alloc, 5, Calls::new(alloc));
+    let mut counter = Counter {
+        ended: 0,
+        saved: 0,
+        alerts: 0,
+    };
+    run_payments(rt, alloc, &words, &mut shelf, &mut counter)?;
+    let told = counter.ended == 1 && counter.saved == 1 && counter.alerts == 30;
+    Ok(
+        told && holds(&shelf, &words.alerts, "out,1,ann\nout,2,bob\nout,3,cid\n")
+            && holds(&shelf, &words.audit, AUDIT)
+            && holds(&shelf, &words.save, "fries,stream,3,0,0,30,104\n"),
+    )
+}
+
+#[test]
+fn a_part_is_told(rt: HostRuntime) {
+    assert!(rt; is_told(&rt, rt.alloc()) == Ok(true));
+}
