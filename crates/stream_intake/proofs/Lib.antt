@@ -1,0 +1,3 @@
+mod IntakeLemmas
+mod MaskLemmas
+mod GoneLemmas
