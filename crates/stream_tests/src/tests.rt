@@ -1,2 +1,3 @@
+mod intake;
 mod parts;
 mod told;

@@ -8,7 +8,7 @@ use stream_step::{NextPart, Stream};
 use versions::{accepted_requests_stay_accepted, judge_all};
 
 /// A map with a roof of 3 before a sink.
-const JOB: &str = r#"columns = ["account:text", "tags:text"]
+pub(crate) const JOB: &str = r#"columns = ["account:text", "tags:text"]
 [[node]]
 name = "card"
 kind = "source"
@@ -30,7 +30,7 @@ to = "out"
 "#;
 
 /// Two changes of the map, after rows 2 and 5.
-const REQUESTS: &str = r#"[[request]]
+pub(crate) const REQUESTS: &str = r#"[[request]]
 after = 2
 [[request.change]]
 node = "u"
@@ -49,7 +49,7 @@ most = 3
 "#;
 
 /// The stream of a job, with the requests of its first reading.
-fn begun(alloc: Global, job: &str, requests: &str) -> Option<Box<Stream>>
+pub fn begun(alloc: Global, job: &str, requests: &str) -> Option<Box<Stream>>
     ensures { IfSome result (λ stream. stream.value.start.row ≡ 0) }
 {
     let Ok(job) = read_job(alloc, job.as_bytes()) else {

@@ -1,13 +1,12 @@
 // A part of a stream is run, written and told.
-ghost use Rattle.std.specs.Prelude.{◌≡◌, ◌<◌, ◌^◌, None, Some, IfOk, length};
+ghost use Rattle.std.specs.Prelude.{◌≡◌, ◌<◌, ◌^◌, None, Some, length};
 ghost use Rattle.jobs.specs.Job.{job_view};
 ghost use Rattle.jobs.specs.Nodes.{AreFromSources, IsSourceOf};
 ghost use Rattle.tuple_trace.specs.FeedRows.{AreRowsAfter};
 
-use job_file::read_job;
+use crate::tests::parts::begun;
 use lane_core::Lanes;
 use lane_ring::RingLanes;
-use operators::Job;
 use payments::{Calls, GrowingShelf, MemoryShelf};
 use report::Fault;
 use std::alloc::Global;
@@ -19,7 +18,6 @@ use stream_run::{
 };
 use stream_step::Stream;
 use tuple_trace::{Gate, NoMemory, OpenGate, Row, Word};
-use versions::{Requests, accepted_requests_stay_accepted, judge_all};
 
 /// A source before a sink.
 const JOB: &str = r#"columns = ["account:text"]
@@ -81,16 +79,6 @@ fn file_words(alloc: Global) -> Result<FileWords, NoMemory> {
     })
 }
 
-/// The stream of the job, without requests.
-fn begun(alloc: Global, job: Job) -> Result<Stream, NoMemory>
-    ensures job { IfOk result (λ stream. stream.setup.job ≡ job) }
-    ensures first { IfOk result (λ stream. stream.start.row ≡ 0) }
-{
-    let judged = judge_all(alloc, &job, &Requests::new(alloc))?;
-    accepted_requests_stay_accepted();
-    Stream::begin(alloc, job, judged, false)
-}
-
 /// Runs rows as one part, and writes a savepoint.
 fn run_one<R, L: Lanes + Sync, G: Gate + Sync, S: GrowingShelf>(
     call: &StreamCall<'_, R, L, G>,
@@ -125,10 +113,10 @@ where
 }
 
 /// Runs the three payments on these many threads.
-fn run_payments<R, S: GrowingShelf>(
-    rt: &R,
+fn run_payments<'a, R, S: GrowingShelf>(
+    rt: &'a R,
     alloc: Global,
-    words: &FileWords,
+    words: &'a FileWords,
     shelf: &mut S,
     counter: &mut Counter,
 ) -> Result<(), Fault>
@@ -136,15 +124,17 @@ where
     R: Threads + Wait + Sync,
     requires closed { (S.state shelf.old).draft ≡ None }
 {
-    let job = read_job(alloc, JOB.as_bytes())?;
+    let Some(stream) = begun(alloc, JOB, "") else {
+        return Err(Fault::Usage);
+    };
+    let stream = Box::into_inner(stream);
     let mut reader = RowReader::new();
-    let sound = reader.read(alloc, &job, PAYMENTS.as_bytes())?;
+    let sound = reader.read(alloc, &stream.setup.job, PAYMENTS.as_bytes())?;
     let rows = sound.rows.as_slice();
     let Some(first) = rows.first() else {
         return Err(Fault::Usage);
     };
     let source = first.source;
-    let stream = begun(alloc, job)?;
     let call = StreamCall {
         host: StreamHost {
             rt,

@@ -1,0 +1,9 @@
+use Rattle.std.proofs.Common.{◌≡◌, ℕ, List, subst, sym}
+use Rattle.tuple_trace.specs.FeedRows.{AreRowsAfter}
+use Rattle.tuple_trace.specs.declared.row.Row.{Row}
+use Rattle.stream_tests.proofs.tests.told.run_payments.Goals as goal
+
+pub run_one-requires-clause-numbered : goal.run_one-requires-clause-numbered
+run_one-requires-clause-numbered g c κs within =
+    subst (λ (rows : List Row). AreRowsAfter 0 rows) (sym c.as_slice-rows.ensures)
+    (subst (λ (k : ℕ). AreRowsAfter k c.in_ok-sound.sound.rows) c.new-reader.ensures.fed c.in_ok-sound.ensures.numbered)

@@ -1,0 +1,158 @@
+// What a stream takes of its file of requests, reading after reading.
+ghost use Rattle.std.specs.Prelude.{IfSome};
+ghost use Rattle.jobs.specs.Job.{job_view};
+ghost use Rattle.job_file.specs.RequestSizes.{AreUpTo};
+ghost use Rattle.stream_save.specs.StreamReading.{CanSaveStream};
+ghost use Rattle.stream_intake.specs.Intake.{IsKnownTo};
+
+use crate::tests::parts::{JOB, REQUESTS};
+use flow_model::Setup;
+use job_file::{read_job, read_requests_up_to};
+use jobs::Job;
+use std::alloc::Global;
+use stream_intake::{Intake, Taken, begin, resume, take};
+use stream_save::{StreamSave, StreamSaveFault, read_stream, read_streams_can_be_saved};
+use versions::{MAX_STREAM_REQUESTS, Requests};
+
+/// The first of the two changes.
+const FIRST: &str = r#"[[request]]
+after = 2
+[[request.change]]
+node = "u"
+from = 0
+kind = "filter"
+when = []
+"#;
+
+/// Another first change, and a second that was written for the job's function.
+const STALE: &str = r#"[[request]]
+after = 1
+[[request.change]]
+node = "u"
+from = 0
+kind = "map"
+steps = []
+[[request]]
+after = 5
+[[request.change]]
+node = "u"
+from = 0
+kind = "map"
+steps = []
+"#;
+
+/// After row 4 of a stream that has read two requests and issued the first, behind row 3.
+const SAVE: &str = "fries,stream,4,1,2,0,0\nwait,1,3\n";
+
+/// The same, of which both requests were issued.
+const BOTH: &str = "fries,stream,4,2,2,0,0\nwait,1,3\nwait,2,4\n";
+
+/// The requests of a file.
+fn requests_of(alloc: Global, job: &Job, text: &str) -> Option<Requests>
+    ensures { IfSome result (AreUpTo MAX_STREAM_REQUESTS) }
+{
+    read_requests_up_to(alloc, job, text.as_bytes(), MAX_STREAM_REQUESTS).ok()
+}
+
+/// The stream of the job, with the requests of its first reading.
+fn begun(alloc: Global, requests: &str) -> Option<Box<Intake>>
+    ensures { IfSome result (λ intake.
+        IsKnownTo intake.value.known.requests intake.value.stream) }
+{
+    let Ok(job) = read_job(alloc, JOB.as_bytes()) else {
+        return None;
+    };
+    let requests = requests_of(alloc, &job, requests)?;
+    match begin(alloc, job, requests, false) {
+        Ok(intake) => Box::new(alloc, intake).ok(),
+        Err(_) => None,
+    }
+}
+
+/// How many requests are pending and how many are known after a later reading, and the place of the
+/// first that it refuses.
+fn after_reading(alloc: Global, first: &str, later: &str) -> Option<(usize, usize, Option<u32>)> {
+    let Intake {
+        stream,
+        mut known,
+        ..
+    } = Box::into_inner(begun(alloc, first)?);
+    let found = requests_of(alloc, &stream.setup.job, later)?;
+    match take(alloc, stream, &mut known, found) {
+        Ok(Taken { stream, refused }) => Some((
+            stream.pending.len(),
+            known.requests.len(),
+            refused.as_slice().first().map(|refused| refused.place),
+        )),
+        Err(_) => None,
+    }
+}
+
+const READINGS: [(&str, &str, (usize, usize, Option<u32>)); 4] = [
+    ("", REQUESTS, (2, 2, None)),
+    (FIRST, REQUESTS, (2, 2, None)),
+    (REQUESTS, FIRST, (2, 2, None)),
+    (FIRST, STALE, (1, 2, Some(2))),
+];
+
+#[test]
+fn later_requests_come_after_the_known_ones(rt: HostRuntime) {
+    for (first, later, wanted) in READINGS {
+        assert!(rt; after_reading(rt.alloc(), first, later) == Some(wanted));
+    }
+}
+
+/// A job, and what a text tells of the savepoint of its stream.
+fn saved(alloc: Global, text: &str) -> Option<(Job, StreamSave)>
+    ensures { IfSome result (λ saved. CanSaveStream (job_view saved.0) saved.1) }
+{
+    let Intake { stream, .. } = Box::into_inner(begun(alloc, "")?);
+    let Ok(save) = read_stream(alloc, &stream.setup, text.as_bytes()) else {
+        return None;
+    };
+    read_streams_can_be_saved(&stream.setup);
+    Some((stream.setup.job, save))
+}
+
+/// The row that the first request of a setup waits for.
+fn first_wait(setup: &Setup) -> Option<u64> {
+    if setup.request_count() == 0 {
+        return None;
+    }
+    Some(setup.after(1))
+}
+
+/// What becomes of a stream that is to go on.
+#[derive(Clone, Copy, PartialEq, Eq)]
+enum Gone {
+    /// It goes on. The first request that was issued waits for this row, and so many are pending.
+    On(Option<u64>, usize),
+    Not(StreamSaveFault),
+}
+
+/// What becomes of the stream with this savepoint and this file of requests.
+fn after_resume(alloc: Global, save: &str, requests: &str) -> Option<Gone> {
+    let (job, save) = saved(alloc, save)?;
+    let requests = requests_of(alloc, &job, requests)?;
+    match resume(alloc, job, requests, false, save) {
+        Ok(intake) => Some(Gone::On(
+            first_wait(&intake.stream.setup),
+            intake.stream.pending.len(),
+        )),
+        Err(fault) => Some(Gone::Not(fault)),
+    }
+}
+
+const SAVES: [(&str, &str, Gone); 4] = [
+    (SAVE, REQUESTS, Gone::On(Some(3), 1)),
+    (SAVE, FIRST, Gone::On(Some(3), 0)),
+    (BOTH, REQUESTS, Gone::On(Some(3), 0)),
+    (BOTH, FIRST, Gone::Not(StreamSaveFault::Count(2))),
+];
+
+#[test]
+fn streams_go_on_from_their_savepoint(rt: HostRuntime) {
+    for (save, requests, wanted) in SAVES {
+        assert!(rt; after_resume(rt.alloc(), save, requests) == Some(wanted));
+    }
+}
