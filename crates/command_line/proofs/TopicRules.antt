@@ -5,7 +5,7 @@ use Rattle.clap.specs.Simple.{Shape, built, help_shape, is_simple, label_of, new
 use Rattle.clap.specs.Walk.{Rule, Text, answers_to, arg_by_index, arg_by_long}
 use Rattle.clap.proofs.OnLiterals.{clap_on_literals}
 use Rattle.command_line.specs.Apps.{program_app}
-use Rattle.command_line.specs.Words.{capacity_option, form_of, ordered_flag, threads_option}
+use Rattle.command_line.specs.Words.{capacity_option, every_option, form_of, from_option, ordered_flag, progress_flag, resume_flag, save_option, threads_option}
 use Rattle.command_line.specs.declared.topic.Topic.{Topic}
 use Rattle.command_line.specs.declared.topic.Topic.TheVariants as topic
 use Rattle.command_line.proofs.WalkLemmas.{IsFlag, IsName, IsOption, Reads}
@@ -22,6 +22,7 @@ word_of topic.Save = codes "save"
 word_of topic.Resume = codes "resume"
 word_of topic.Live = codes "live"
 word_of topic.Verify = codes "verify"
+word_of topic.Stream = codes "stream"
 
 -- a command, as it is built
 abbrev pub shape_at : Topic → Shape
@@ -369,6 +370,119 @@ verify_ordered : IsFlag (rules_of topic.Verify) ordered_flag
 unfolding clap_on_literals
 verify_ordered = record { rule = rule_called (rules_of topic.Verify) (codes "ordered"); dashes = refl; long = refl; by_long = refl; takes = refl; use_of = λ rs. refl; passes = λ rs. refl }
 
+stream_job : IsName (rules_of topic.Stream) 1 (codes "job")
+unfolding clap_on_literals
+stream_job = record { rule = rule_at (rules_of topic.Stream) 1; at = refl; one = refl; single = refl; last = refl; next = refl; by_id = refl; use_of = λ value rs. refl; passes = λ value rs. refl }
+
+stream_requests : IsName (rules_of topic.Stream) 2 (codes "requests")
+unfolding clap_on_literals
+stream_requests = record { rule = rule_at (rules_of topic.Stream) 2; at = refl; one = refl; single = refl; last = refl; next = refl; by_id = refl; use_of = λ value rs. refl; passes = λ value rs. refl }
+
+stream_alerts : IsName (rules_of topic.Stream) 3 (codes "alerts")
+unfolding clap_on_literals
+stream_alerts = record { rule = rule_at (rules_of topic.Stream) 3; at = refl; one = refl; single = refl; last = refl; next = refl; by_id = refl; use_of = λ value rs. refl; passes = λ value rs. refl }
+
+stream_audit : IsName (rules_of topic.Stream) 4 (codes "audit")
+unfolding clap_on_literals
+stream_audit = record { rule = rule_at (rules_of topic.Stream) 4; at = refl; one = refl; single = refl; last = refl; next = refl; by_id = refl; use_of = λ value rs. refl; passes = λ value rs. refl }
+
+stream_threads : IsOption (rules_of topic.Stream) threads_option
+unfolding clap_on_literals
+stream_threads = record {
+  rule = rule_called (rules_of topic.Stream) (codes "threads");
+  dashes = refl;
+  long = refl;
+  dashes_joined = λ value. refl;
+  joined = λ value. refl;
+  by_long = refl;
+  takes = refl;
+  most = refl;
+  called = refl;
+  by_id = refl;
+  use_of = λ value rs. refl;
+  passes = λ value rs. refl;
+}
+
+stream_capacity : IsOption (rules_of topic.Stream) capacity_option
+unfolding clap_on_literals
+stream_capacity = record {
+  rule = rule_called (rules_of topic.Stream) (codes "capacity");
+  dashes = refl;
+  long = refl;
+  dashes_joined = λ value. refl;
+  joined = λ value. refl;
+  by_long = refl;
+  takes = refl;
+  most = refl;
+  called = refl;
+  by_id = refl;
+  use_of = λ value rs. refl;
+  passes = λ value rs. refl;
+}
+
+stream_save : IsOption (rules_of topic.Stream) save_option
+unfolding clap_on_literals
+stream_save = record {
+  rule = rule_called (rules_of topic.Stream) (codes "save");
+  dashes = refl;
+  long = refl;
+  dashes_joined = λ value. refl;
+  joined = λ value. refl;
+  by_long = refl;
+  takes = refl;
+  most = refl;
+  called = refl;
+  by_id = refl;
+  use_of = λ value rs. refl;
+  passes = λ value rs. refl;
+}
+
+stream_every : IsOption (rules_of topic.Stream) every_option
+unfolding clap_on_literals
+stream_every = record {
+  rule = rule_called (rules_of topic.Stream) (codes "every");
+  dashes = refl;
+  long = refl;
+  dashes_joined = λ value. refl;
+  joined = λ value. refl;
+  by_long = refl;
+  takes = refl;
+  most = refl;
+  called = refl;
+  by_id = refl;
+  use_of = λ value rs. refl;
+  passes = λ value rs. refl;
+}
+
+stream_from : IsOption (rules_of topic.Stream) from_option
+unfolding clap_on_literals
+stream_from = record {
+  rule = rule_called (rules_of topic.Stream) (codes "from");
+  dashes = refl;
+  long = refl;
+  dashes_joined = λ value. refl;
+  joined = λ value. refl;
+  by_long = refl;
+  takes = refl;
+  most = refl;
+  called = refl;
+  by_id = refl;
+  use_of = λ value rs. refl;
+  passes = λ value rs. refl;
+}
+
+stream_ordered : IsFlag (rules_of topic.Stream) ordered_flag
+unfolding clap_on_literals
+stream_ordered = record { rule = rule_called (rules_of topic.Stream) (codes "ordered"); dashes = refl; long = refl; by_long = refl; takes = refl; use_of = λ rs. refl; passes = λ rs. refl }
+
+stream_resume : IsFlag (rules_of topic.Stream) resume_flag
+unfolding clap_on_literals
+stream_resume = record { rule = rule_called (rules_of topic.Stream) (codes "resume"); dashes = refl; long = refl; by_long = refl; takes = refl; use_of = λ rs. refl; passes = λ rs. refl }
+
+stream_progress : IsFlag (rules_of topic.Stream) progress_flag
+unfolding clap_on_literals
+stream_progress = record { rule = rule_called (rules_of topic.Stream) (codes "progress"); dashes = refl; long = refl; by_long = refl; takes = refl; use_of = λ rs. refl; passes = λ rs. refl }
+
 -- the rules of each command read its form
 pub reads : (about : Topic) → about ≢ topic.Program → Reads (rules_of about) (form_of about)
 reads topic.Program other = absurd (other refl)
@@ -381,3 +495,4 @@ reads topic.Save other = record { names = (save_job, (save_requests, (save_payme
 reads topic.Resume other = record { names = (resume_job, (resume_requests, (resume_payments, (resume_save, (resume_alerts, (resume_audit, tt)))))); options = (resume_threads, (resume_capacity, tt)); flags = tt }
 reads topic.Live other = record { names = (live_job, (live_requests, (live_payments, (live_alerts, (live_audit, tt))))); options = (live_threads, (live_capacity, tt)); flags = tt }
 reads topic.Verify other = record { names = (verify_job, (verify_requests, (verify_payments, (verify_audit, (verify_alerts, tt))))); options = tt; flags = (verify_ordered, tt) }
+reads topic.Stream other = record { names = (stream_job, (stream_requests, (stream_alerts, (stream_audit, tt)))); options = (stream_threads, (stream_capacity, (stream_save, (stream_every, (stream_from, tt))))); flags = (stream_ordered, (stream_resume, (stream_progress, tt))) }

@@ -64,6 +64,10 @@ easy_verify : Easy topic.Verify
 unfolding clap_on_literals
 easy_verify = record { again = refl; help = refl; below = refl; negates = refl; free = refl; defaults = refl; named = refl }
 
+easy_stream : Easy topic.Stream
+unfolding clap_on_literals
+easy_stream = record { again = refl; help = refl; below = refl; negates = refl; free = refl; defaults = refl; named = refl }
+
 easy : (about : Topic) → about ≢ topic.Program → Easy about
 easy topic.Program real = absurd (real refl)
 easy topic.First real = easy_first
@@ -75,6 +79,7 @@ easy topic.Save real = easy_save
 easy topic.Resume real = easy_resume
 easy topic.Live real = easy_live
 easy topic.Verify real = easy_verify
+easy topic.Stream real = easy_stream
 
 -- the command that was entered takes the words
 abbrev Enters : Topic → List Text → Type 0
@@ -94,6 +99,7 @@ enters_passing topic.Save ws real passes = (passes, refl)
 enters_passing topic.Resume ws real passes = (passes, refl)
 enters_passing topic.Live ws real passes = (passes, refl)
 enters_passing topic.Verify ws real passes = (passes, refl)
+enters_passing topic.Stream ws real passes = (passes, refl)
 
 -- ---- the program above it
 
@@ -140,6 +146,7 @@ begins topic.Save real = record { passes = refl; stopped = refl; held = refl }
 begins topic.Resume real = record { passes = refl; stopped = refl; held = refl }
 begins topic.Live real = record { passes = refl; stopped = refl; held = refl }
 begins topic.Verify real = record { passes = refl; stopped = refl; held = refl }
+begins topic.Stream real = record { passes = refl; stopped = refl; held = refl }
 
 abbrev ends_well : Held → Bool
 ends_well h = settle_passes top.rules top.args_override_self h && (list_all default_passes top.rules && is_valid top (finished top.rules h) true)

@@ -78,6 +78,7 @@ commands =
     ∷ (codes "resume", topic.Resume)
     ∷ (codes "live", topic.Live)
     ∷ (codes "verify", topic.Verify)
+    ∷ (codes "stream", topic.Stream)
     ∷ []
 
 -- the program with its commands

@@ -21,6 +21,8 @@ help_of topic.Program =
     ++ codes
     "  live JOB REQUESTS PAYMENTS ALERTS AUDIT         the same, with requests released by lines\n"
     ++ codes
+    "  stream JOB REQUESTS ALERTS AUDIT                runs payments as they come, without end\n"
+    ++ codes
     "  save JOB REQUESTS PAYMENTS ALERTS AUDIT SAVE N  runs the first payments, saves the counts\n"
     ++ codes
     "  resume JOB REQUESTS PAYMENTS SAVE ALERTS AUDIT  runs the later payments from there\n"
@@ -166,3 +168,30 @@ help_of topic.Verify =
     ++ codes "  --ordered  the run gave rows and requests one order\n"
     ++ codes "\n"
     ++ codes "example: fries verify job.toml requests.toml pay.csv audit.csv alerts.csv\n"
+help_of topic.Stream =
+    codes "usage: fries stream JOB REQUESTS ALERTS AUDIT [OPTIONS]\n"
+    ++ codes "\n"
+    ++ codes
+    "Runs payments of the standard input through a job as they come, in parts, without end.\n"
+    ++ codes
+    "A part ends where no more payments are there yet. Then the files have its alerts and audit.\n"
+    ++ codes "REQUESTS is read again before each part, so requests may be appended meanwhile.\n"
+    ++ codes "\n"
+    ++ codes "  JOB           file to read: a job as TOML\n"
+    ++ codes "  REQUESTS      file to read: requests as TOML\n"
+    ++ codes
+    "  ALERTS        file to write: what comes to the sinks, as CSV; it grows with each part\n"
+    ++ codes
+    "  AUDIT         file to write: what each worker did, as CSV; another word than ALERTS\n"
+    ++ codes
+    "  --save SAVE   file to write: the savepoint, as CSV; another word than ALERTS and AUDIT\n"
+    ++ codes "  --every N     payments between two savepoints, 1 to 1048576; without it, 65536\n"
+    ++ codes "  --resume      goes on from the savepoint; without it, both files begin anew\n"
+    ++ codes
+    "  --from N      first payments that are left out, 0 to 9223372036854775806; without it, 0\n"
+    ++ codes "  --threads N   threads, 1 to 16; without it, 1\n"
+    ++ codes "  --capacity C  items on a lane, 1 to 64; without it, 16\n"
+    ++ codes "  --ordered     gives rows and requests one order; without it, rows alone are whole\n"
+    ++ codes "  --progress    tells on the standard error how far the stream has come\n"
+    ++ codes "\n"
+    ++ codes "example: fries stream job.toml requests.toml alerts.csv audit.csv --save save.csv\n"

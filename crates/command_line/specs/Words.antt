@@ -27,9 +27,29 @@ capacity_option = record {
   start = codes "--capacity=";
 }
 
+-- the option `--save`
+abbrev pub save_option : ValueOption
+save_option = record { id = codes "save"; word = codes "--save"; start = codes "--save=" }
+
+-- the option `--every`
+abbrev pub every_option : ValueOption
+every_option = record { id = codes "every"; word = codes "--every"; start = codes "--every=" }
+
+-- the option `--from`
+abbrev pub from_option : ValueOption
+from_option = record { id = codes "from"; word = codes "--from"; start = codes "--from=" }
+
 -- the flag `--ordered`
 abbrev pub ordered_flag : Flag
 ordered_flag = record { id = codes "ordered"; word = codes "--ordered" }
+
+-- the flag `--resume`
+abbrev pub resume_flag : Flag
+resume_flag = record { id = codes "resume"; word = codes "--resume" }
+
+-- the flag `--progress`
+abbrev pub progress_flag : Flag
+progress_flag = record { id = codes "progress"; word = codes "--progress" }
 
 -- the full form of the words after a command: what may follow it
 abbrev pub form_of : Topic → Form
@@ -86,6 +106,12 @@ form_of topic.Verify = record {
   extra = codes "alerts" ∷ [];
   options = [];
   flags = ordered_flag ∷ [];
+}
+form_of topic.Stream = record {
+  names = codes "job" ∷ codes "requests" ∷ codes "alerts" ∷ codes "audit" ∷ [];
+  extra = [];
+  options = threads_option ∷ capacity_option ∷ save_option ∷ every_option ∷ from_option ∷ [];
+  flags = ordered_flag ∷ resume_flag ∷ progress_flag ∷ [];
 }
 
 -- ---- values
@@ -264,9 +290,10 @@ topic_of word =
     else if bytes_eq word (codes "resume") then Some topic.Resume
     else if bytes_eq word (codes "live") then Some topic.Live
     else if bytes_eq word (codes "verify") then Some topic.Verify
+    else if bytes_eq word (codes "stream") then Some topic.Stream
     else None
 
--- what the values of a command ask for
+-- what the values of a command ask for that ends; a stream may not
 abbrev pub asked_with : Topic → Values → Option Asked
 asked_with topic.Program values = None
 asked_with topic.First values = option_map First (first_of values)
@@ -278,6 +305,7 @@ asked_with topic.Save values = option_map Save (save_of values)
 asked_with topic.Resume values = option_map Resume (resume_of values)
 asked_with topic.Live values = option_map Live (run_with (unordered_of values) values)
 asked_with topic.Verify values = Some (Verify (verify_of values))
+asked_with topic.Stream values = None
 
 -- what the words after a command ask for, if they have its full form
 abbrev pub asked_after : Topic → List Text → Option Asked

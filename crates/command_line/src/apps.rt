@@ -26,6 +26,7 @@ const COMMANDS: &[(&str, Topic)] = &[
     ("resume", Topic::Resume),
     ("live", Topic::Live),
     ("verify", Topic::Verify),
+    ("stream", Topic::Stream),
 ];
 
 /// The program with its commands.

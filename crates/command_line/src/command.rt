@@ -156,7 +156,7 @@ impl From<NoMemory> for WordsFault {
 /// options stand at any place among them, each once at most: `--threads N` or `--threads=N`. The
 /// program tests this by itself, and `clap` then reads the values. `--help` or `-h` alone, or
 /// directly after a command and last, asks for help; `--version` or `-V` alone asks for the
-/// version.
+/// version. A stream is none of this, as it may never end: [`crate::stream_of`] reads its words.
 ///
 /// # Errors
 ///
@@ -216,9 +216,9 @@ fn command_after<'w>(
     }
 }
 
-// What `clap` reads in the words of a full form. It refuses none of them: an error says only that
-// memory ran out.
-fn matches_of<'w>(alloc: Global, words: &'w [&'w str]) -> Result<ArgMatches<'w>, Error>
+/// What `clap` reads in the words of a full form. It refuses none of them: an error says only that
+/// memory ran out.
+pub(crate) fn matches_of<'w>(alloc: Global, words: &'w [&'w str]) -> Result<ArgMatches<'w>, Error>
     requires { takes program_app (texts words.now) ≡ true }
     ensures matches { IfOk result (λ matches. subcommand_rows_of matches
         ≡ subcommand_of program_app (texts words.now)) }
@@ -240,6 +240,7 @@ fn topic_of(word: &str) -> Option<Topic>
         "resume" => Some(Topic::Resume),
         "live" => Some(Topic::Live),
         "verify" => Some(Topic::Verify),
+        "stream" => Some(Topic::Stream),
         _ => None,
     }
 }
@@ -267,7 +268,7 @@ fn alone(word: &str) -> Result<Command, WordsFault>
     }
 }
 
-fn is_help(word: &str) -> bool
+pub(crate) fn is_help(word: &str) -> bool
     ensures { result ≡ is_help_word word.now }
 {
     word == "--help" || word == "-h"
@@ -279,7 +280,7 @@ fn is_version(word: &str) -> bool
     word == "--version" || word == "-V"
 }
 
-fn strings_of<'w>(alloc: Global, words: &'w [Word]) -> Result<Vec<&'w str>, NoMemory>
+pub(crate) fn strings_of<'w>(alloc: Global, words: &'w [Word]) -> Result<Vec<&'w str>, NoMemory>
     ensures { IfOk result (λ strings. texts strings.items ≡ words.now) }
 {
     let mut strings = Vec::new(alloc);

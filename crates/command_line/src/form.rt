@@ -1,6 +1,8 @@
 // The full form of each command.
 ghost use Rattle.std.specs.Prelude.{◌≡◌};
-ghost use Rattle.command_line.specs.Words.{capacity_option, form_of, ordered_flag, threads_option};
+ghost use Rattle.command_line.specs.Words.{capacity_option, every_option, form_of, from_option};
+ghost use Rattle.command_line.specs.Words.{ordered_flag, progress_flag, resume_flag, save_option};
+ghost use Rattle.command_line.specs.Words.{threads_option};
 ghost use Rattle.command_line.specs.Views.{flag_view, form_view, option_view};
 
 use crate::Topic;
@@ -43,9 +45,37 @@ const CAPACITY: ValueOption = ValueOption {
     start: "--capacity=",
 };
 
+const SAVE: ValueOption = ValueOption {
+    id: "save",
+    word: "--save",
+    start: "--save=",
+};
+
+const EVERY: ValueOption = ValueOption {
+    id: "every",
+    word: "--every",
+    start: "--every=",
+};
+
+const FROM: ValueOption = ValueOption {
+    id: "from",
+    word: "--from",
+    start: "--from=",
+};
+
 const ORDERED: Flag = Flag {
     id: "ordered",
     word: "--ordered",
+};
+
+const RESUME: Flag = Flag {
+    id: "resume",
+    word: "--resume",
+};
+
+const PROGRESS: Flag = Flag {
+    id: "progress",
+    word: "--progress",
 };
 
 /// The full form of the words after a command. Nothing follows the program's name alone.
@@ -114,6 +144,12 @@ pub(crate) fn form_of(topic: Topic) -> Form
             extra: &["alerts"],
             options: &[],
             flags: &[ORDERED],
+        },
+        Topic::Stream => Form {
+            names: &["job", "requests", "alerts", "audit"],
+            extra: &[],
+            options: &[THREADS, CAPACITY, SAVE, EVERY, FROM],
+            flags: &[ORDERED, RESUME, PROGRESS],
         },
     }
 }

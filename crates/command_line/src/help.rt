@@ -18,6 +18,7 @@ pub fn help_text(topic: Topic) -> &'static str
         Topic::Resume => RESUME,
         Topic::Live => LIVE,
         Topic::Verify => VERIFY,
+        Topic::Stream => STREAM,
     }
 }
 
@@ -39,6 +40,7 @@ usage: fries COMMAND NAMES [OPTIONS]
   plan JOB REQUESTS                               prints what each request changes
   run JOB REQUESTS PAYMENTS ALERTS AUDIT          runs payments through a job
   live JOB REQUESTS PAYMENTS ALERTS AUDIT         the same, with requests released by lines
+  stream JOB REQUESTS ALERTS AUDIT                runs payments as they come, without end
   save JOB REQUESTS PAYMENTS ALERTS AUDIT SAVE N  runs the first payments, saves the counts
   resume JOB REQUESTS PAYMENTS SAVE ALERTS AUDIT  runs the later payments from there
   verify JOB REQUESTS PAYMENTS AUDIT [ALERTS]     looks whether an audit is that of a run
@@ -187,4 +189,27 @@ With ALERTS it looks too whether these are just the alerts of that run.
   --ordered  the run gave rows and requests one order
 
 example: fries verify job.toml requests.toml pay.csv audit.csv alerts.csv
+";
+
+const STREAM: &str = "\
+usage: fries stream JOB REQUESTS ALERTS AUDIT [OPTIONS]
+
+Runs payments of the standard input through a job as they come, in parts, without end.
+A part ends where no more payments are there yet. Then the files have its alerts and audit.
+REQUESTS is read again before each part, so requests may be appended meanwhile.
+
+  JOB           file to read: a job as TOML
+  REQUESTS      file to read: requests as TOML
+  ALERTS        file to write: what comes to the sinks, as CSV; it grows with each part
+  AUDIT         file to write: what each worker did, as CSV; another word than ALERTS
+  --save SAVE   file to write: the savepoint, as CSV; another word than ALERTS and AUDIT
+  --every N     payments between two savepoints, 1 to 1048576; without it, 65536
+  --resume      goes on from the savepoint; without it, both files begin anew
+  --from N      first payments that are left out, 0 to 9223372036854775806; without it, 0
+  --threads N   threads, 1 to 16; without it, 1
+  --capacity C  items on a lane, 1 to 64; without it, 16
+  --ordered     gives rows and requests one order; without it, rows alone are whole
+  --progress    tells on the standard error how far the stream has come
+
+example: fries stream job.toml requests.toml alerts.csv audit.csv --save save.csv
 ";

@@ -14,6 +14,8 @@ mod command;
 mod form;
 mod help;
 mod parts;
+mod stream;
+mod stream_values;
 mod topic;
 mod values;
 
@@ -22,4 +24,7 @@ pub use command::{
     WordsFault, command_of,
 };
 pub use help::{help_text, version_text};
+pub use stream::{
+    MAX_EVERY, MAX_FROM, StreamFiles, StreamSaving, USUAL_EVERY, is_stream, stream_of,
+};
 pub use topic::Topic;

@@ -12,4 +12,5 @@ pub enum Topic {
     Resume,
     Live,
     Verify,
+    Stream,
 }

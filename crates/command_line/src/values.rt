@@ -41,7 +41,7 @@ pub(crate) fn command_with(
         asked_with topic (first_value (found_of values.now)) ≡ None) }
 {
     match topic {
-        Topic::Program => Err(WordsFault::Usage),
+        Topic::Program | Topic::Stream => Err(WordsFault::Usage),
         Topic::First => Ok(Command::First(first_of(alloc, values)?)),
         Topic::Check => Ok(Command::Check(name_in(alloc, values, "job")?)),
         Topic::Plan => Ok(Command::Plan(plan_of(alloc, values)?)),
@@ -78,7 +78,7 @@ fn first_of(alloc: Global, values: &ArgMatches<'_>) -> Result<First, WordsFault>
     })
 }
 
-fn plan_of(alloc: Global, values: &ArgMatches<'_>) -> Result<PlanFiles, NoMemory>
+pub(crate) fn plan_of(alloc: Global, values: &ArgMatches<'_>) -> Result<PlanFiles, NoMemory>
     ensures { IfOk result (λ files. plan_asked files
         ≡ plan_of_values (first_value (found_of values.now))) }
 {
@@ -216,8 +216,8 @@ fn resume_of(alloc: Global, values: &ArgMatches<'_>) -> Result<ResumeFiles, Word
     Ok(ResumeFiles { run, save })
 }
 
-// Whether the run writes a file with this name.
-fn writes(values: &ArgMatches<'_>, name: &str) -> bool
+/// Whether the run writes a file with this name.
+pub(crate) fn writes(values: &ArgMatches<'_>, name: &str) -> bool
     ensures { result ≡ (bytes_eq (name_of (first_value (found_of values.now)) (codes "alerts"))
         name.now || bytes_eq (name_of (first_value (found_of values.now)) (codes "audit"))
         name.now) }
@@ -250,7 +250,7 @@ fn make_of(alloc: Global, values: &ArgMatches<'_>) -> Result<Make, WordsFault>
     })
 }
 
-fn engine_in(values: &ArgMatches<'_>) -> Option<EngineSize>
+pub(crate) fn engine_in(values: &ArgMatches<'_>) -> Option<EngineSize>
     ensures is { result ≡ engine_of (first_value (found_of values.now)) }
     ensures sized { IfSome result IsSize }
 {
@@ -260,7 +260,7 @@ fn engine_in(values: &ArgMatches<'_>) -> Option<EngineSize>
 }
 
 /// The number that an option's text spells, 1 to `most`; the usual one without the option.
-fn size_in(text: Option<&str>, usual: u32, most: u32) -> Option<u32>
+pub(crate) fn size_in(text: Option<&str>, usual: u32, most: u32) -> Option<u32>
     requires some { 1 ≤ usual }
     requires few { usual ≤ most }
     ensures is { result ≡ size_of usual most (option_map (λ text. text.now) text.entry) }
@@ -293,10 +293,10 @@ fn number_in(values: &ArgMatches<'_>, id: &str, most: u64) -> Option<u64>
     }
 }
 
-fn name_in(alloc: Global, values: &ArgMatches<'_>, id: &str) -> Result<Word, NoMemory>
+pub(crate) fn name_in(alloc: Global, values: &ArgMatches<'_>, id: &str) -> Result<Word, NoMemory>
     ensures { IfOk result (λ name. name ≡ name_of (first_value (found_of values.now)) id.now) }
 {
-    Ok(Word::from_string(text_in(values, id).to_string(alloc)?))
+    word_of(alloc, text_in(values, id))
 }
 
 // The name that may be left out, if it is there.
@@ -304,13 +304,20 @@ fn extra_in(alloc: Global, values: &ArgMatches<'_>, id: &str) -> Result<Option<W
     ensures { IfOk result (λ name. name ≡ first_value (found_of values.now) id.now) }
 {
     match values.get_str(id) {
-        Some(text) => Ok(Some(Word::from_string(text.to_string(alloc)?))),
+        Some(text) => Ok(Some(word_of(alloc, text)?)),
         None => Ok(None),
     }
 }
 
-// The text of a name, which every full form has.
-fn text_in<'w>(values: &ArgMatches<'w>, id: &str) -> &'w str
+/// A text as a word of its own. The one error is out of memory.
+pub(crate) fn word_of(alloc: Global, text: &str) -> Result<Word, NoMemory>
+    ensures { IfOk result (λ word. word ≡ text.now) }
+{
+    Ok(Word::from_string(text.to_string(alloc)?))
+}
+
+/// The text of a name, which every full form has.
+pub(crate) fn text_in<'w>(values: &ArgMatches<'w>, id: &str) -> &'w str
     ensures { result.now ≡ name_of (first_value (found_of values.now)) id.now }
 {
     match values.get_str(id) {
@@ -319,8 +326,8 @@ fn text_in<'w>(values: &ArgMatches<'w>, id: &str) -> &'w str
     }
 }
 
-// Whether a flag's text is the one that it has where it stands in the words.
-fn is_true(text: Option<&str>) -> bool
+/// Whether a flag's text is the one that it has where it stands in the words.
+pub(crate) fn is_true(text: Option<&str>) -> bool
     ensures { result ≡ is_true_text (option_map (λ text. text.now) text.entry) }
 {
     match text {

@@ -8,6 +8,7 @@ pub(crate) const COMMANDS: &[(&str, Topic)] = &[
     ("plan", Topic::Plan),
     ("run", Topic::Run),
     ("live", Topic::Live),
+    ("stream", Topic::Stream),
     ("save", Topic::Save),
     ("resume", Topic::Resume),
     ("verify", Topic::Verify),
@@ -109,8 +110,8 @@ pub(crate) fn help_line(line: &'static str) -> Option<HelpLine> {
 }
 
 impl HelpLine {
-    /// Whether a number follows the option.
-    pub(crate) fn takes_number(self) -> bool {
+    /// Whether a value follows the option.
+    pub(crate) fn takes_value(self) -> bool {
         !self.rest.starts_with(' ')
     }
 

@@ -6,6 +6,13 @@ use std::alloc::{AllocError, Global};
 use std::fmt::Write;
 use tuple_trace::{Word, digits_up_to};
 
+/// The options that need another.
+const NEEDS: &[(&str, &str)] = &[
+    ("--every", "--save"),
+    ("--resume", "--save"),
+    ("--from", "--resume"),
+];
+
 /// Appends the first thing that is wrong with the options among the words after a command.
 pub(crate) fn push_option_fault(
     alloc: Global,
@@ -17,7 +24,7 @@ pub(crate) fn push_option_fault(
     for word in words {
         match awaited {
             Some(line) => {
-                push_number_fault(line, word.as_str(), out)?;
+                push_word_value_fault(line, word.as_str(), out)?;
                 awaited = None;
             }
             None => awaited = push_word_fault(alloc, form, words, word.as_str(), out)?,
@@ -26,7 +33,26 @@ pub(crate) fn push_option_fault(
             return Ok(());
         }
     }
-    push_awaited(awaited, out)
+    match awaited {
+        Some(line) => push_awaited(line, out),
+        None => push_need(words, out),
+    }
+}
+
+/// The value of an option among the words after a command, as one word with it or as the next.
+pub(crate) fn value_of<'w>(words: &'w [Word], option: &str) -> Option<&'w str> {
+    let mut is_next = false;
+    for word in words {
+        if is_next {
+            return Some(word.as_str());
+        }
+        match parts_of(word.as_str()) {
+            (name, Some(value)) if name == option => return Some(value),
+            (name, None) if name == option => is_next = true,
+            _ => {}
+        }
+    }
+    None
 }
 
 /// Appends what is wrong with a number, if its name or option has limits.
@@ -60,18 +86,28 @@ pub(crate) fn push_alone(word: &str, out: &mut String) -> Result<(), AllocError>
     out.push_str(" stands alone; `--help` may also be the one word after a command.")
 }
 
-fn push_awaited(awaited: Option<HelpLine>, out: &mut String) -> Result<(), AllocError> {
-    match awaited {
-        Some(line) => {
-            let name = line.name;
-            write!(out, "No number follows `{name}`.")
+fn push_awaited(line: HelpLine, out: &mut String) -> Result<(), AllocError> {
+    let value = match line.limits() {
+        Some(_) => "number",
+        None => "name",
+    };
+    let name = line.name;
+    write!(out, "No {value} follows `{name}`.")
+}
+
+// Appends the first option that stands without the one that it needs.
+fn push_need(words: &[Word], out: &mut String) -> Result<(), AllocError> {
+    for pair in NEEDS {
+        if count_of(words, pair.0) > 0 && count_of(words, pair.1) == 0 {
+            let (one, needed) = (pair.0, pair.1);
+            return write!(out, "`{one}` needs `{needed}`.");
         }
-        None => Ok(()),
     }
+    Ok(())
 }
 
 // Appends what is wrong with a word, if it is an option. Returns the line of the option whose
-// number is the next word.
+// value is the next word.
 fn push_word_fault(
     alloc: Global,
     form: Form,
@@ -96,18 +132,30 @@ fn push_word_fault(
             push_value_fault(line, value, out)?;
             Ok(None)
         }
-        None if line.takes_number() => Ok(Some(line)),
+        None if line.takes_value() => Ok(Some(line)),
         None => Ok(None),
     }
 }
 
 fn push_value_fault(line: HelpLine, value: &str, out: &mut String) -> Result<(), AllocError> {
     let name = line.name;
-    if line.takes_number() {
-        push_number_fault(line, value, out)
+    if line.takes_value() {
+        push_word_value_fault(line, value, out)
     } else {
         write!(out, "`{name}` takes no value.")
     }
+}
+
+// Appends what is wrong with the value of an option: a number out of its limits, or no name.
+fn push_word_value_fault(line: HelpLine, word: &str, out: &mut String) -> Result<(), AllocError> {
+    push_number_fault(line, word, out)?;
+    if !out.is_empty() || !(word.is_empty() || word.starts_with('-')) {
+        return Ok(());
+    }
+    let name = line.name;
+    write!(out, "`{name}` has no name: ")?;
+    push_shown(word, out)?;
+    out.push_str(" is none; a name that begins with `-` is written as `./-x`.")
 }
 
 // An option, and its value if both are one word.

@@ -2,7 +2,7 @@
 use crate::forms::{COMMANDS, Form, form_of};
 use crate::names::{name_at, name_count};
 use crate::nearest::Nearest;
-use crate::options::{is_alone, push_alone, push_number_fault, push_option_fault};
+use crate::options::{is_alone, push_alone, push_number_fault, push_option_fault, value_of};
 use crate::shown::push_shown;
 use command_line::{Topic, help_text};
 use std::alloc::{AllocError, Global};
@@ -185,7 +185,7 @@ fn push_same_fault(form: Form, words: &[Word], out: &mut String) -> Result<(), A
             word_of(form, words, pair.0),
             word_of(form, words, pair.1),
         ) {
-            if one.as_str() == other.as_str() {
+            if one == other {
                 let (one, other) = (pair.0, pair.1);
                 return write!(out, "{one} and {other} are the same word.");
             }
@@ -194,12 +194,15 @@ fn push_same_fault(form: Form, words: &[Word], out: &mut String) -> Result<(), A
     Ok(())
 }
 
-// The word that stands for a name of the form.
-fn word_of<'w>(form: Form, words: &'w [Word], name: &str) -> Option<&'w Word> {
+// The word that stands for a name of the form. A savepoint may be named by its option.
+fn word_of<'w>(form: Form, words: &'w [Word], name: &str) -> Option<&'w str> {
     for (place, named) in form.names().split(' ').enumerate() {
         if named == name {
-            return name_at(words, place);
+            return Some(name_at(words, place)?.as_str());
         }
+    }
+    if name == "SAVE" {
+        return value_of(words, "--save");
     }
     None
 }

@@ -30,3 +30,6 @@ returns-in-Live c = rw c.in-Live.is refl
 
 pub returns-in-Verify : goal.returns-in-Verify
 returns-in-Verify c = rw c.in-Verify.is refl
+
+pub returns-in-Stream : goal.returns-in-Stream
+returns-in-Stream c = rw c.in-Stream.is refl
