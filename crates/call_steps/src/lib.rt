@@ -34,6 +34,6 @@ pub use laws::{files_end_whole, same_requests_have_one_setup, saved_runs_go_on};
 pub use live::{LiveDone, leave_live, run_live};
 pub use parts::{run_first_part, run_later_part};
 pub use printing::{print, print_made};
-pub use reading::{job_in, requests_in, rows_in, start_in};
+pub use reading::{job_in, read_file, requests_in, rows_in, start_in};
 pub use running::{Done, Outputs, leave_run, made_lines, run_in_order, run_on_threads};
 pub use setup::setup_of;

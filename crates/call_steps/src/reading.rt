@@ -97,9 +97,9 @@ pub fn start_in<S: Shelf>(
     Ok(read_save(alloc, setup, rows, bytes.as_slice())?)
 }
 
-// All bytes of a file.
+/// All bytes of a file, up to the limit of its kind.
 #[tactic(auto, using(crate::proofs::ReadLemmas::kept_whole))]
-pub(crate) fn read_file<S: Shelf>(
+pub fn read_file<S: Shelf>(
     alloc: Global,
     file: FileIs,
     name: &Word,

@@ -18,7 +18,8 @@ has_items [] = false
 has_items (first ∷ later) = true
 
 -- the text so far was read, before which rows were skipped, and no fault was found in it
-pub record IsReadTo (job : JobView) (skipped : ℕ) (reader : RowReader) (text : List ℕ) : Type 0 where
+pub record IsReadTo (job : JobView) (skipped : ℕ) (reader : RowReader) (text : List ℕ)
+    : Type 0 where
   pub begun : reader.begun ≡ has_items text
   pub header : reader.has_header ≡ has_items (records default_config (strip_bom text))
   pub fed : reader.fed ≡ skipped + length (stream_rows job skipped text).rows
@@ -34,7 +35,8 @@ rows_at job has_header fed records =
     if has_header then sound_rows job (fed + 1) records else rows_under_header job fed records
 
 -- a reader read these records, and is another then
-pub record HasRead (job : JobView) (old new : RowReader) (records : List (List (List ℕ))) (sound : SoundRows) : Type 0 where
+pub record HasRead (job : JobView) (old new : RowReader) (records : List (List (List ℕ)))
+    (sound : SoundRows) : Type 0 where
   pub rows : sound ≡ rows_at job old.has_header old.fed records
   pub begun : new.begun ≡ old.begun
   pub fed : new.fed ≡ old.fed + length sound.rows

@@ -47,8 +47,8 @@ impl Stream {
     /// A stream of which no row was fed, with the requests of its first reading. All of them are
     /// pending. The one error is out of memory; it gives up the job and its requests.
     ///
-    /// The mask of splits is that of a stream: it holds the splits of the job and of these requests,
-    /// and the nodes that later requests may make splits.
+    /// The mask of splits is that of a stream: it holds the splits of the job and of these
+    /// requests, and the nodes that later requests may make splits.
     pub fn begin(alloc: Global, job: Job, judged: Judged, ordered: bool) -> Result<Stream, NoMemory>
         requires { AreAccepted (job_view job) judged.accepted }
         ensures job { IfOk result (λ stream. stream.setup.job ≡ job) }

@@ -14,5 +14,6 @@ mod shown;
 mod told;
 
 pub use names::name_at;
+pub use options::value_of;
 pub use shown::push_shown;
 pub use told::{opening, word_fault};

@@ -40,7 +40,7 @@ pub(crate) fn push_option_fault(
 }
 
 /// The value of an option among the words after a command, as one word with it or as the next.
-pub(crate) fn value_of<'w>(words: &'w [Word], option: &str) -> Option<&'w str> {
+pub fn value_of<'w>(words: &'w [Word], option: &str) -> Option<&'w str> {
     let mut is_next = false;
     for word in words {
         if is_next {
