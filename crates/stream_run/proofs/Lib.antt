@@ -1,5 +1,5 @@
 pub mod PartLemmas
-mod PartRunLemmas
+pub mod PartRunLemmas
 pub mod GoesLemmas
 mod SavedLemmas
 mod StepLemmas

@@ -21,7 +21,7 @@ use Rattle.flow_worker.specs.Parts.{WorkedIs}
 use Rattle.flow_ends.specs.Ended.{record_of as ended}
 use Rattle.flow_engine.specs.Flown.{record_of}
 use Rattle.stream_step.specs.Parts.{IsRunOn}
-use Rattle.stream_step.specs.Pending.{due_by, lifted}
+use Rattle.stream_step.specs.Pending.{lifted}
 use Rattle.stream_step.specs.declared.stream.Stream.{Stream}
 use Rattle.stream_step.proofs.PendingLemmas.{lifted_wait}
 use Rattle.stream_run.proofs.PartLemmas.{length-blanks}
@@ -33,18 +33,18 @@ run_since start setup left rows feeds crew ran same run is =
     subst (λ (r : RunRecord). IsRunSince start (setup_view setup) rows (record_view r)) (sym is)
     (subst (λ (s : Setup). IsRunSince start (setup_view setup) rows (ended (setup_view s) feeds crew)) (sym same) run)
 
-pub run_on : (stream : Stream) (last source : ℕ) (rows : List Row) (setup : Setup) (ran : RunRecord) → AreRows (blanks source stream.start.row ++ rows)
+pub run_on : (stream : Stream) (requests : List Request) (source : ℕ) (rows : List Row) (setup : Setup) (ran : RunRecord) → AreRows (blanks source stream.start.row ++ rows)
     → AreFromSources (job_view stream.setup.job) (blanks source stream.start.row ++ rows)
-    → IsFollowed (setup_view stream.setup) (map (lifted stream.start.row) (due_by last stream.pending)) (setup_view setup)
+    → IsFollowed (setup_view stream.setup) (map (lifted stream.start.row) requests) (setup_view setup)
     → ran.setup ≡ setup → IsRunSince stream.start (setup_view setup) (blanks source stream.start.row ++ rows) (record_view ran)
-    → IsRunOn stream (map (lifted stream.start.row) (due_by last stream.pending)) (blanks source stream.start.row ++ rows) ran.setup (record_view ran)
-run_on stream last source rows setup ran numbered sources followed same run =
+    → IsRunOn stream (map (lifted stream.start.row) requests) (blanks source stream.start.row ++ rows) ran.setup (record_view ran)
+run_on stream requests source rows setup ran numbered sources followed same run =
     let all = blanks source stream.start.row ++ rows in
     record {
       within = omega (arith, length-append (blanks source stream.start.row) rows, length-blanks source stream.start.row);
       numbered = numbered;
       sources = sources;
-      wait = lifted_wait stream.start.row (due_by last stream.pending);
-      followed = subst (λ (s : Setup). IsFollowed (setup_view stream.setup) (map (lifted stream.start.row) (due_by last stream.pending)) (setup_view s)) (sym same) followed;
+      wait = lifted_wait stream.start.row requests;
+      followed = subst (λ (s : Setup). IsFollowed (setup_view stream.setup) (map (lifted stream.start.row) requests) (setup_view s)) (sym same) followed;
       run = subst (λ (s : Setup). IsRunSince stream.start (setup_view s) all (record_view ran)) (sym same) run;
     }

@@ -17,8 +17,9 @@ use Rattle.stream_run.specs.Files.{GrowInTurn, alerts_text, audit_text}
 use Rattle.stream_step.specs.Parts.{IsRunOn}
 use Rattle.stream_step.specs.Pending.{AreAsked}
 use Rattle.stream_step.specs.declared.stream.Stream.{Stream}
-use Rattle.stream_run.specs.Growing.{Ended, Goes, GoesAndStops, Names, uncounted}
+use Rattle.stream_run.specs.Growing.{Ended, Goes, GoesAndStops, IsOnePart, Names, uncounted}
 use Rattle.stream_run.specs.Parts.{HaveRun, KeepsAsked, Part}
+use Rattle.stream_run.specs.declared.books.Books.{Books}
 use Rattle.stream_run.proofs.GoesLemmas.{goes-part, stops-within}
 use Rattle.stream_run.proofs.PartLemmas.{First, Later, have_run-one}
 
@@ -67,4 +68,18 @@ module _ (later : Later) (first : First) (stream next : Stream) (requests : List
         (subst (λ (s : Setup). AreAsked (job_view s.job) s.judged.accepted pending all) (sym setup_is) (asked all of));
     job_is = job_is;
     splits_are = ap (λ (s : SetupView). s.splits) view_is ∙ ap (λ (s : SetupView). s.splits) on.followed.extended_is;
+  }
+
+  pub one_part : (names : Names) (books booked : Books) (old new : Option Files) (alerts audit : List ℕ) → alerts ≡ alerts_text (record_view ran) → audit ≡ audit_text books.refused.items (uncounted (record_view ran))
+      → new ≡ with_text (with_text old names.alerts alerts) names.audit audit → booked.tally.alerts ≡ books.tally.alerts + length alerts → booked.tally.audit ≡ books.tally.audit + length audit
+      → booked.tally.unsaved ≡ books.tally.unsaved + length rows → booked.refused.items ≡ [] → IsOnePart names books rows stream old next new booked
+  one_part names books booked old new alerts audit a b e more longer later none = record {
+    left = record_view ran;
+    have_run = have_run;
+    files_are =
+        e ∙ (ap (λ t. with_text (with_text old names.alerts t) names.audit audit) a ∙ ap (λ t. with_text (with_text old names.alerts (alerts_text (record_view ran))) names.audit t) b);
+    alerts_are = more ∙ ap (λ t. books.tally.alerts + length t) a;
+    audit_are = longer ∙ ap (λ t. books.tally.audit + length t) b;
+    unsaved_are = later;
+    none_refused = none;
   }

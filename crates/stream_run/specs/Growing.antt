@@ -1,5 +1,5 @@
 -- How the files of a stream grow.
-use Rattle.std.specs.Prelude.{◌≡◌, ◌⊎◌, ℕ, List, [], ◌∷◌, Option}
+use Rattle.std.specs.Prelude.{◌≡◌, ◌⊎◌, ◌+◌, ℕ, List, [], ◌∷◌, Option, length}
 use Rattle.std.specs.List.{flat_map}
 use Rattle.flow_model.specs.Begin.{at_first}
 use Rattle.flow_model.specs.Run.{Ran}
@@ -11,9 +11,11 @@ use Rattle.tuple_trace.specs.declared.row.Row.{Row}
 use Rattle.stream_run.specs.Files.{GrowInTurn, alerts_text, audit_text}
 use Rattle.stream_step.specs.declared.stream.Stream.{Stream}
 use Rattle.stream_run.specs.Parts.{HaveRun, Part}
+use Rattle.stream_run.specs.declared.books.Books.{Books}
 
--- The names of the files that a stream writes.
+-- The names of the files of a stream: that of its requests, and those that it writes.
 pub record Names : Type 0 where
+  pub requests : List ℕ
   pub alerts : List ℕ
   pub audit : List ℕ
   pub save : List ℕ
@@ -73,6 +75,20 @@ pub record Goes (names : Names) (rows : List Row) (old : Stream) (before : Optio
   pub have_run : HaveRun old (parts_in written) new
   pub files_are : after ≡ with_all_written names before written
   pub job_is : job_view new.setup.job ≡ job_view old.setup.job
+
+-- The rows were run as one part. Its audit tells the requests that the books had as refused, and the
+-- books count the bytes by which both files have grown, and the rows.
+pub record IsOnePart (names : Names) (books : Books) (rows : List Row) (old : Stream)
+    (before : Option Files) (new : Stream) (after : Option Files) (booked : Books) : Type 0 where
+  pub left : Ran
+  pub have_run : HaveRun old (record { setup = new.setup; rows = rows; left = left } ∷ []) new
+  pub files_are : after ≡ with_text (with_text before names.alerts (alerts_text left)) names.audit
+      (audit_text books.refused.items (uncounted left))
+  pub alerts_are : booked.tally.alerts ≡ books.tally.alerts + length (alerts_text left)
+  pub audit_are : booked.tally.audit
+      ≡ books.tally.audit + length (audit_text books.refused.items (uncounted left))
+  pub unsaved_are : booked.tally.unsaved ≡ books.tally.unsaved + length rows
+  pub none_refused : booked.refused.items ≡ []
 
 -- A part that was run after all that the stream wrote. Of its texts the files have the first bytes:
 -- first of its alerts, and then of its audit.

@@ -1,5 +1,5 @@
 -- What a stream has run, part by part.
-use Rattle.std.specs.Prelude.{◌≡◌, ◌++◌, List, [], ◌∷◌, Option, None, Some, map}
+use Rattle.std.specs.Prelude.{◌≡◌, ◌++◌, ℕ, List, [], ◌∷◌, Option, None, Some, map}
 use Rattle.jobs.specs.Job.{job_view}
 use Rattle.tuple_trace.specs.declared.row.Row.{Row}
 use Rattle.versions.specs.declared.request.Request.{Request}
@@ -9,7 +9,7 @@ use Rattle.flow_model.specs.Setup.{setup_view}
 use Rattle.flow_model.specs.declared.setup.Setup.{Setup}
 use Rattle.stream_law.specs.Stream.{SoFar, with_part}
 use Rattle.stream_step.specs.Parts.{HasRun, first_part}
-use Rattle.stream_step.specs.Pending.{AreAsked}
+use Rattle.stream_step.specs.Pending.{AreAsked, due_by, left_by, lifted}
 use Rattle.stream_step.specs.declared.stream.Stream.{Stream}
 
 -- The stream goes on from where this has ended: from the beginning of all if it is nothing.
@@ -43,6 +43,13 @@ pub record KeepsAsked (old new : Stream) : Type 0 where
       → AreAsked (job_view new.setup.job) new.setup.judged.accepted new.pending all
   pub job_is : job_view new.setup.job ≡ job_view old.setup.job
   pub splits_are : new.setup.splits ≡ old.setup.splits
+
+-- A part up to row `last` issued the requests that ask for a row up to there, each after the last row
+-- that was fed before it, or after the later row that it asks for. The others stay pending.
+pub record Issues (old : Stream) (last : ℕ) (new : Stream) : Type 0 where
+  pub issued : new.setup.judged.accepted
+      ≡ old.setup.judged.accepted ++ map (lifted old.start.row) (due_by last old.pending)
+  pub left : new.pending ≡ left_by last old.pending
 
 -- whatever the first stream has come from, the second goes on from that and then these parts
 abbrev pub HaveRun : Stream → List Part → Stream → Type 0

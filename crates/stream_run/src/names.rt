@@ -17,6 +17,7 @@ impl<'a> Model for StreamNames<'a> {
     ghost Value = { Names };
 
     ghost view = { λ n. record {
+      requests = n.requests.now;
       alerts = n.alerts.now;
       audit = n.audit.now;
       save = n.save.now;

@@ -5,8 +5,8 @@ ghost use Rattle.jobs.specs.Nodes.{AreFromSources, IsSourceOf};
 ghost use Rattle.tuple_trace.specs.FeedRows.{AreRowsAfter};
 ghost use Rattle.flow_model.specs.Record.{record_view};
 ghost use Rattle.stream_run.specs.Files.{alerts_text, audit_text};
-ghost use Rattle.stream_run.specs.Growing.{Goes, GoesAndStops, uncounted};
-ghost use Rattle.stream_run.specs.Parts.{KeepsAsked};
+ghost use Rattle.stream_run.specs.Growing.{Goes, GoesAndStops, IsOnePart, uncounted};
+ghost use Rattle.stream_run.specs.Parts.{Issues, KeepsAsked};
 ghost use Rattle.stream_run.specs.Standing.{Stands};
 ghost use Rattle.stream_run.specs.Unwritten.{IsUnwritten};
 
@@ -48,8 +48,12 @@ where
     requires stands { Stands call.now.behind call.now.names stream (S.state shelf.old).files }
     ensures goes { IfOk result (λ next. Goes call.now.names rows.now stream
         (S.state shelf.old).files next (S.state shelf.new).files) }
+    ensures part { IfOk result (λ next. IsOnePart call.now.names books.old rows.now stream
+        (S.state shelf.old).files next (S.state shelf.new).files books.new) }
     ensures row { IfOk result (λ next.
         next.start.row ≡ stream.start.row + length rows.now) }
+    ensures issued { IfOk result (λ next.
+        Issues stream (stream.start.row + length rows.now) next) }
     ensures kept { IfOk result (λ next. KeepsAsked stream next) }
     ensures stopped { OnErr result (GoesAndStops call.now.names stream
         (S.state shelf.old).files (S.state shelf.new).files) }
@@ -83,6 +87,12 @@ fn texts_of(alloc: Global, part: &PartRan, books: &Books, rows: usize) -> Result
         made.texts.alerts ≡ alerts_text (record_view part.now.ran)) }
     ensures audit { IfOk result (λ made. made.texts.audit
         ≡ audit_text books.now.refused.items (uncounted (record_view part.now.ran))) }
+    ensures more { IfOk result (λ made. made.tally.alerts
+        ≡ books.now.tally.alerts + length made.texts.alerts) }
+    ensures longer { IfOk result (λ made. made.tally.audit
+        ≡ books.now.tally.audit + length made.texts.audit) }
+    ensures unsaved { IfOk result (λ made. made.tally.unsaved
+        ≡ books.now.tally.unsaved + rows) }
 {
     let ran = &part.ran;
     let texts = PartTexts::of_part(alloc, ran, books.refused.as_slice())?;

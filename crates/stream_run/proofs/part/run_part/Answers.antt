@@ -56,7 +56,7 @@ returns-clause-run g c =
     let followed =
     subst (λ k. IsFollowed (setup_view c.args.stream.setup) (map (lifted c.args.stream.start.row) (due_by k c.args.stream.pending)) (setup_view c.in_ok-setup.field-0.setup)) (sym c.in_ok-setup.ensures.last)
     c.in_ok-setup.ensures.followed in
-    run_on c.args.stream c.in_ok-setup.field-0.last c.args.source c.args.rows.now c.in_ok-setup.field-0.setup c.in_ok-ran.ran
+    run_on c.args.stream (due_by c.in_ok-setup.field-0.last c.args.stream.pending) c.args.source c.args.rows.now c.in_ok-setup.field-0.setup c.in_ok-ran.ran
     (subst (λ (r : List Row). AreRows r) rows_are c.are_numbered.ensures)
     (sources_fed (job_view c.args.stream.setup.job) c.args.source c.args.stream.start.row c.args.rows.now c.requires.source c.requires.sources) followed same
     (rw (c.in_ok-setup.ensures.start, rows_are) at since)

@@ -22,3 +22,9 @@ pub returns-clause-goes : goal.returns-clause-goes
 returns-clause-goes g c =
     let is = c.in_ok-stream.ensures.stream in
     goes-save c.args.call.now.names c.args.stream c.in_ok-stream.field-0.stream _ _ _ (ap (λ (s : Stream). s.setup) is) (ap (λ (s : Stream). s.start) is) c.in_ok-store_save.ensures.whole
+
+pub returns-clause-saved : goal.returns-clause-saved
+returns-clause-saved g c =
+    let held = holds_stored _ _ c.args.call.now.names.save _ c.in_ok-store_save.ensures.whole in
+    rw c.in_ok-stream.ensures.stream
+    (subst (λ text. Holds (g.S.Shelf.state c.store_save.new.shelf).files c.args.call.now.names.save text) (c.as_slice.ensures ∙ c.in_ok-stream.ensures.text) held)

@@ -1,7 +1,7 @@
 use Rattle.std.proofs.Common.{◌≡◌, refl, sym}
 use Rattle.std.proofs.lemmas.Result.{err_from_is_err_and}
 use Rattle.stream_run.proofs.GoesLemmas.{stands-then, stops-between}
-use Rattle.stream_run.proofs.StepLemmas.{kept, stopped, written}
+use Rattle.stream_run.proofs.StepLemmas.{kept, one_part, stopped, written}
 use Rattle.stream_run.proofs.step.run_rows.Goals as goal
 
 pub returns-in_err-part-clause-stopped : goal.returns-in_err-part-clause-stopped
@@ -47,3 +47,10 @@ returns-clause-kept g c =
     kept c.parts_go_on.ensures.later c.parts_go_on.ensures.first c.args.stream c.go_on-stream.result _ c.args.call.now.source c.in_ok-part.part.last c.args.rows.now c.in_ok-part.part.ran
     c.in_ok-part.ensures.run c.go_on-stream.ensures.setup c.in_ok-part.ensures.last c.go_on-stream.ensures.start
     c.in_ok-part.part.pending c.go_on-stream.ensures.pending c.in_ok-part.ensures.asked
+
+pub returns-clause-part : goal.returns-clause-part
+returns-clause-part g c =
+    one_part c.parts_go_on.ensures.later c.parts_go_on.ensures.first c.args.stream c.go_on-stream.result _ c.args.call.now.source c.in_ok-part.part.last c.args.rows.now c.in_ok-part.part.ran
+    c.in_ok-part.ensures.run c.go_on-stream.ensures.setup c.in_ok-part.ensures.last c.go_on-stream.ensures.start
+    c.args.call.now.names c.args.books.now (record { refused = c.clear.new.self; read = c.args.books.now.read; tally = c.in_ok-made.made.tally }) _ _ c.in_ok-made.made.texts.alerts c.in_ok-made.made.texts.audit
+    c.in_ok-made.ensures.alerts c.in_ok-made.ensures.audit c.in_ok-append_part.ensures.whole c.in_ok-made.ensures.more c.in_ok-made.ensures.longer c.in_ok-made.ensures.unsaved c.clear.ensures.items
