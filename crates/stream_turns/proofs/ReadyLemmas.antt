@@ -1,0 +1,48 @@
+-- A stream stays ready while it runs rows.
+use Rattle.std.proofs.Common.{◌≡◌, ◌∙◌, ◌+◌, ◌-◌, ◌<◌, ◌≤◌, ◌++◌, ℕ, List, [], ◌∷◌, Option, append-nil, arith, drop, length, subst, suc, sym, zero}
+use Rattle.std.specs.Prelude.{Some}
+use Rattle.jobs.specs.Job.{job_view}
+use Rattle.jobs.specs.JobView.{JobView}
+use Rattle.jobs.specs.Nodes.{IsSourceOf}
+use Rattle.payments.specs.Files.{Files}
+use Rattle.tuple_trace.specs.declared.row.Row.{Row}
+use Rattle.versions.specs.Judged.{judged_within}
+use Rattle.versions.specs.declared.request.Request.{Request}
+use Rattle.stream_intake.specs.Intake.{IsKnownTo}
+use Rattle.stream_intake.specs.declared.known.Known.{Known}
+use Rattle.stream_rows.specs.Reader.{fed_of}
+use Rattle.stream_rows.specs.declared.limits.TheConstants.{MAX_ROWS}
+use Rattle.stream_run.specs.Growing.{Goes, Names}
+use Rattle.stream_run.specs.Parts.{KeepsAsked}
+use Rattle.stream_run.proofs.GoesLemmas.{goes-then}
+use Rattle.stream_step.specs.Pending.{AreAsked}
+use Rattle.stream_step.specs.declared.stream.Stream.{Stream}
+use Rattle.stream_turns.specs.Turns.{IsReady}
+use Rattle.stream_turns.specs.declared.desk.Desk.{Desk}
+
+length-drop : {X : Type 0} (n : ℕ) (xs : List X) → length (drop n xs) ≡ length xs - n
+length-drop zero xs = omega arith
+length-drop (suc n) [] = omega arith
+length-drop (suc n) (x ∷ xs) = length-drop n xs ∙ omega arith
+
+known-kept : (known : List Request) (a b : Stream) → KeepsAsked a b → IsKnownTo known a → IsKnownTo known b
+known-kept known a b kept is =
+    subst (λ (s : ℕ). AreAsked (job_view b.setup.job) b.setup.judged.accepted b.pending (judged_within (Some s) (job_view b.setup.job) known).accepted) (sym kept.splits_are)
+    (subst (λ (j : JobView). AreAsked (job_view b.setup.job) b.setup.judged.accepted b.pending (judged_within (Some a.setup.splits) j known).accepted) (sym kept.job_is) (kept.asked _ is))
+
+-- the rows of a piece were run that come after the last one
+pub ready-ran : (source : ℕ) (a b : Stream) (old new : Desk) (rows : List Row) → IsReady source a old → KeepsAsked a b → new.known ≡ old.known → fed_of new.reader ≡ fed_of old.reader + length rows
+    → fed_of old.reader + length rows < MAX_ROWS → b.start.row ≡ a.start.row + length (drop (a.start.row - fed_of old.reader) rows) → IsReady source b new
+ready-ran source a b old new rows ready kept known fed few row =
+    let count = length-drop (a.start.row - fed_of old.reader) rows in
+    record {
+      source_is = subst (λ (j : JobView). IsSourceOf j source) (sym kept.job_is) ready.source_is;
+      known = subst (λ (k : Known). IsKnownTo k.requests b) (sym known) (known-kept old.known.requests a b kept ready.known);
+      fed = omega (arith, fed, row, count, ready.fed);
+      few = omega (arith, few, row, count, ready.fed, ready.few);
+    }
+
+-- what goes on without rows
+pub goes-without : (names : Names) (rows : List Row) (a b c : Stream) (f g h : Option Files) → Goes names rows a f b g → Goes names [] b g c h → Goes names rows a f c h
+goes-without names rows a b c f g h one two =
+    subst (λ (r : List Row). Goes names r a f c h) (append-nil rows) (goes-then names rows [] a b c f g h one two)
