@@ -9,6 +9,7 @@ _fries_options() {
   case $1 in
     run) echo "--threads --capacity --ordered --help" ;;
     live | save | resume) echo "--threads --capacity --help" ;;
+    stream) echo "--threads --capacity --save --every --from --ordered --resume --progress --help" ;;
     plan | verify) echo "--ordered --help" ;;
     make) echo "--threads --ordered --help" ;;
     first | check) echo "--help" ;;
@@ -20,6 +21,8 @@ _fries_ending() {
   case $1-$2 in
     check-1 | plan-[12] | run-[12] | live-[12] | save-[12] | resume-[12] | verify-[12] | make-1) echo "toml" ;;
     first-[12] | run-[345] | live-[345] | save-[3456] | resume-[3456] | verify-[345]) echo "csv" ;;
+    stream-[12]) echo "toml" ;;
+    stream-[34]) echo "csv" ;;
   esac
 }
 
@@ -29,8 +32,8 @@ _fries_count_names() {
   names=0
   for ((at = 2; at < COMP_CWORD; at++)); do
     case ${COMP_WORDS[at]} in
-      --threads | --capacity)
-        # The number follows, as a word of its own or after a `=`.
+      --threads | --capacity | --save | --every | --from)
+        # The value follows, as a word of its own or after a `=`.
         [ "${COMP_WORDS[at + 1]}" = "=" ] && at=$((at + 1))
         at=$((at + 1))
         ;;
@@ -58,7 +61,7 @@ _fries() {
   local typed=${COMP_WORDS[COMP_CWORD]} before=${COMP_WORDS[COMP_CWORD - 1]}
   local command=${COMP_WORDS[1]} names
   if [ "$COMP_CWORD" = 1 ]; then
-    mapfile -t COMPREPLY < <(compgen -W "first check plan run live save resume verify make --help --version" -- "$typed")
+    mapfile -t COMPREPLY < <(compgen -W "first check plan run live stream save resume verify make --help --version" -- "$typed")
     return
   fi
   # Bash cuts words at `=`, so `--threads=2` comes as three words.
@@ -71,6 +74,14 @@ _fries() {
       ;;
     --capacity)
       mapfile -t COMPREPLY < <(compgen -W "1 8 16 32 64" -- "$typed")
+      return
+      ;;
+    --save)
+      _fries_files csv "$typed"
+      return
+      ;;
+    --every | --from)
+      # Any number may be wanted.
       return
       ;;
   esac

@@ -15,6 +15,10 @@ use Rattle.report.specs.declared.fault.FileIs.{FileIs}
 use Rattle.report.specs.declared.fault.FileIs.TheVariants as file
 use Rattle.savepoint.specs.declared.fault.SaveFault.{SaveFault}
 use Rattle.savepoint.specs.declared.fault.SaveFault.TheVariants as save
+use Rattle.stream_call.specs.declared.fault.StreamFault.{StreamFault}
+use Rattle.stream_call.specs.declared.fault.StreamFault.TheVariants as stream
+use Rattle.stream_save.specs.declared.fault.StreamSaveFault.{StreamSaveFault}
+use Rattle.stream_save.specs.declared.fault.StreamSaveFault.TheVariants as stream_save
 use Rattle.versions.specs.declared.fault.QFault.{QFault}
 use Rattle.versions.specs.declared.fault.QFault.TheVariants as refusal
 
@@ -93,6 +97,21 @@ code_of (fault.Read file) = read_code file
 code_of (fault.Write file) = write_code file
 code_of fault.NoMemory = codes "7"
 code_of (fault.Long file) = long_code file
+
+-- the savepoint of a stream: a wait has a row of its own
+abbrev pub stream_save_code : StreamSaveFault → List ℕ
+stream_save_code (stream_save.Shape number) = codes "S1"
+stream_save_code (stream_save.Past row) = codes "S2"
+stream_save_code (stream_save.Count number) = codes "S3 record"
+stream_save_code (stream_save.State number) = codes "S4"
+stream_save_code (stream_save.Alerts length) = codes "S5"
+stream_save_code (stream_save.Audit length) = codes "S5"
+stream_save_code stream_save.NoMemory = codes "7"
+
+abbrev pub stream_code : StreamFault → List ℕ
+stream_code (stream.Call code) = code_of code
+stream_code (stream.Save code) = stream_save_code code
+stream_code (stream.Ahead row) = codes "S6"
 
 abbrev pub refusal_code : QFault → List ℕ
 refusal_code (refusal.NoNode change) = codes "Q1"

@@ -57,7 +57,13 @@ pub fn skipped_rows(alloc: Global, row: u64) -> Result<String, NoMemory> {
 
 // ---- a message
 
-fn message(alloc: Global, head: &str, help: Help, detail: &str) -> Result<String, AllocError>
+/// A message: the first line, what is said of the code, and a line more if it isn't empty.
+pub(crate) fn message(
+    alloc: Global,
+    head: &str,
+    help: Help,
+    detail: &str,
+) -> Result<String, AllocError>
     ensures text { IfOk result (λ text. string_bytes text
         ≡ message_of head.now (help_view help.entry) detail.now) }
     ensures tells { (code : List ℕ) → help_with code ≡ Some (help_view help.entry) →
@@ -140,14 +146,18 @@ fn push_coded(
     write!(out, ": {fault}")
 }
 
-fn push_file(call: Call<'_>, file: FileIs, out: &mut String) -> Result<(), AllocError> {
+/// Appends what a file is and its name.
+pub(crate) fn push_file(call: Call<'_>, file: FileIs, out: &mut String) -> Result<(), AllocError> {
     let title = title_of(file);
     match call.name_of(file) {
         Some(name) => {
             write!(out, "fries: {title} ")?;
-            push_shown(name.as_str(), out)
+            push_shown(name, out)
         }
-        // Rows without a file are those that `make` makes.
+        None if file == FileIs::Payments && call.is_stream() => {
+            out.push_str("fries: standard input")
+        }
+        // Other rows without a file are those that `make` makes.
         None if file == FileIs::Payments => out.push_str("fries: made rows"),
         None => write!(out, "fries: {title}"),
     }
@@ -258,8 +268,13 @@ fn limit_place(alloc: Global, file: FileIs) -> Result<Place, AllocError> {
     Ok(place)
 }
 
-// The bytes of a file of the call.
-fn file_of<L: Look>(alloc: Global, call: Call<'_>, file: FileIs, look: &mut L) -> Option<Bytes> {
+/// The bytes of a file of the call.
+pub(crate) fn file_of<L: Look>(
+    alloc: Global,
+    call: Call<'_>,
+    file: FileIs,
+    look: &mut L,
+) -> Option<Bytes> {
     look.look(alloc, call.name_of(file)?, file.limit())
 }
 

@@ -2,7 +2,7 @@
 use report::{Fault, FileIs};
 use tuple_trace::Word;
 use versions::Refused;
-use word_faults::name_at;
+use word_faults::{name_at, value_of};
 
 /// A call of the program: its words, without the program's own name, and what it came to.
 #[derive(Clone, Copy)]
@@ -40,11 +40,22 @@ impl<'a> Call<'a> {
         }
     }
 
+    /// Whether the command is `stream`, whose payments come on the standard input.
+    pub(crate) fn is_stream(self) -> bool {
+        match self.words.first() {
+            Some(command) => command.as_str() == "stream",
+            None => false,
+        }
+    }
+
     /// The name of a file, if the words have one for it.
-    pub(crate) fn name_of(self, file: FileIs) -> Option<&'a Word> {
+    pub(crate) fn name_of(self, file: FileIs) -> Option<&'a str> {
         let (command, rest) = self.words.split_first()?;
+        if file == FileIs::Save && self.is_stream() {
+            return value_of(rest, "--save");
+        }
         let place = files_of(command).iter().position(|named| *named == file)?;
-        name_at(rest, place)
+        Some(name_at(rest, place)?.as_str())
     }
 }
 
@@ -61,6 +72,7 @@ fn files_of(command: &Word) -> &'static [FileIs] {
             FileIs::Alerts,
             FileIs::Audit,
         ],
+        "stream" => &[FileIs::Job, FileIs::Requests, FileIs::Alerts, FileIs::Audit],
         "verify" => &[
             FileIs::Job,
             FileIs::Requests,

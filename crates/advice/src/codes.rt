@@ -1,7 +1,7 @@
 // Which row of the table tells of a fault.
 ghost use Rattle.std.specs.Prelude.{◌≡◌, Some};
 ghost use Rattle.advice.specs.Codes.{code_of, job_code, payments_code, refusal_code, requests_code};
-ghost use Rattle.advice.specs.Codes.{audit_code, save_code};
+ghost use Rattle.advice.specs.Codes.{audit_code, save_code, stream_code, stream_save_code};
 ghost use Rattle.advice.specs.Table.{help_view, help_with};
 
 use crate::table::*;
@@ -10,6 +10,8 @@ use job_file::{JobFault, ReqFileFault};
 use payments::PFault;
 use report::{Fault, FileIs};
 use savepoint::SaveFault;
+use stream_call::StreamFault;
+use stream_save::StreamSaveFault;
 use versions::QFault;
 
 /// What is said of a fault.
@@ -35,6 +37,32 @@ pub fn help_of(fault: Fault) -> Help
         Fault::Long(FileIs::Audit) => LONG_AUDIT,
         Fault::Long(FileIs::Alerts) => LONG_ALERTS,
         Fault::Long(_) => LONG,
+    }
+}
+
+/// What is said of a fault of a stream.
+#[tactic(auto, unfolding(crate::specs::Table::help_with))]
+pub fn help_of_stream(fault: StreamFault) -> Help
+    ensures { help_with (stream_code fault) ≡ Some (help_view result) }
+{
+    match fault {
+        StreamFault::Call(fault) => help_of(fault),
+        StreamFault::Save(fault) => help_of_stream_save(fault),
+        StreamFault::Ahead(_) => S6,
+    }
+}
+
+#[tactic(auto, unfolding(crate::specs::Table::help_with))]
+fn help_of_stream_save(fault: StreamSaveFault) -> Help
+    ensures { help_with (stream_save_code fault) ≡ Some (help_view result) }
+{
+    match fault {
+        StreamSaveFault::Shape(_) => S1,
+        StreamSaveFault::Past(_) => S2,
+        StreamSaveFault::Count(_) => S3_STREAM,
+        StreamSaveFault::State(_) => S4,
+        StreamSaveFault::Alerts(_) | StreamSaveFault::Audit(_) => S5,
+        StreamSaveFault::NoMemory => MEMORY,
     }
 }
 

@@ -14,10 +14,12 @@ mod codes;
 mod look;
 mod row_places;
 mod shown;
+mod stream_text;
 mod table;
 
 pub use advice_text::{advice, skipped_rows};
 pub use call::Call;
-pub use codes::{help_of, help_of_refusal};
+pub use codes::{help_of, help_of_refusal, help_of_stream};
 pub use look::{HostLook, Look, ShelfLook};
+pub use stream_text::stream_advice;
 pub use table::{Help, HelpIn};

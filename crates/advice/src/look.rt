@@ -11,7 +11,7 @@ use tuple_trace::{Bytes, Word};
 /// A look is for a message alone. If a file can't be looked at, the message has fewer names.
 pub trait Look {
     /// The bytes of a file, at most `limit` of them.
-    fn look(&mut self, alloc: Global, name: &Word, limit: u64) -> Option<Bytes>;
+    fn look(&mut self, alloc: Global, name: &str, limit: u64) -> Option<Bytes>;
 }
 
 /// The files of the host. Only regular files are looked at: a pipe gives its bytes but once, and
@@ -29,11 +29,11 @@ impl<R: Files + Drop> HostLook<R> {
 }
 
 impl<R: Files + Drop> Look for HostLook<R> {
-    fn look(&mut self, alloc: Global, name: &Word, limit: u64) -> Option<Bytes> {
-        if !fs::metadata(&self.rt, name.as_str()).ok()?.is_file() {
+    fn look(&mut self, alloc: Global, name: &str, limit: u64) -> Option<Bytes> {
+        if !fs::metadata(&self.rt, name).ok()?.is_file() {
             return None;
         }
-        let file = fs::open(&self.rt, name.as_str()).ok()?;
+        let file = fs::open(&self.rt, name).ok()?;
         let mut bytes = Vec::new(alloc);
         file.take(limit).read_to_end(&mut bytes).ok()?;
         Some(Bytes::from_vec(bytes))
@@ -47,7 +47,8 @@ pub struct ShelfLook<'a, S> {
 }
 
 impl<S: Shelf> Look for ShelfLook<'_, S> {
-    fn look(&mut self, alloc: Global, name: &Word, limit: u64) -> Option<Bytes> {
-        self.shelf.read_all(alloc, name, limit).ok()
+    fn look(&mut self, alloc: Global, name: &str, limit: u64) -> Option<Bytes> {
+        let name = Word::from_string(name.to_string(alloc).ok()?);
+        self.shelf.read_all(alloc, &name, limit).ok()
     }
 }

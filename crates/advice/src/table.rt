@@ -143,13 +143,13 @@ pub const P7: Help = Help {
 
 pub const S1: Help = Help {
     code: "S1",
-    cause: "This record of the savepoint isn't of the form that `save` writes, or there is none.",
-    cure: "Give the file that `fries save` wrote, as it was written.",
+    cause: "This record of the savepoint isn't of the form that the command writes, or is missing.",
+    cure: "Give the file that `fries save` or `fries stream` wrote, as it was written.",
 };
 
 pub const S2: Help = Help {
     code: "S2",
-    cause: "The savepoint was made after this row, and the payments file has fewer rows.",
+    cause: "The savepoint was made after this row, and there are fewer payments.",
     cure: "Give the payments of the run that was saved, with those before the savepoint.",
 };
 
@@ -159,10 +159,28 @@ pub const S3: Help = Help {
     cure: "Give the requests of the run that was saved; add only requests for later rows.",
 };
 
+pub const S3_STREAM: Help = Help {
+    code: "S3 record",
+    cause: "The request of this record has no such wait: it isn't accepted now, or out of order.",
+    cure: "Give the job and the requests of the stream that was saved; only append requests.",
+};
+
 pub const S4: Help = Help {
     code: "S4",
     cause: "Its worker doesn't count, or its key goes to another, is too long, or comes too early.",
     cure: "Give the job of the run that was saved, and the savepoint as it was written.",
+};
+
+pub const S5: Help = Help {
+    code: "S5",
+    cause: "The file is shorter than it was when the savepoint was written.",
+    cure: "Give the file that the stream wrote, or begin a new stream without `--resume`.",
+};
+
+pub const S6: Help = Help {
+    code: "S6",
+    cause: "The input leaves out payments that come after the savepoint, which is after this row.",
+    cure: "Lower `--from` to this row at most, and send the payments behind it.",
 };
 
 pub const V1: Help = Help {
@@ -281,7 +299,7 @@ pub const READ_ASKS: Help = Help {
 
 pub const WRITE: Help = Help {
     code: "6",
-    cause: "The file couldn't be made or written; it is as before.",
+    cause: "The file couldn't be made or written; it is as before, unless a stream appends to it.",
     cure: "Check its folder, that you may write there, and that the disk has room.",
 };
 

@@ -3,12 +3,15 @@
 //! the standard error, in sentences.
 #![tactic(auto)]
 
+mod stream;
 mod streams;
 mod wrong_word;
 
+use crate::stream::stream_main;
 use crate::streams::{Lines, name_standard_output};
 use crate::wrong_word::place_of_wrong_word;
 use advice::{Call, HostLook, advice, skipped_rows};
+use command_line::{WordsFault, is_stream, stream_of};
 use live_control::StdIn;
 use payments::{HostFault, HostShelf, StdOut};
 use report::{Fault, FileIs};
@@ -32,12 +35,6 @@ fn main(rt: HostRuntime) -> ExitCode {
     let Ok(words) = words_of(&rt, alloc) else {
         return ExitCode::from(Fault::NoMemory.status());
     };
-    let mut shelf = HostShelf::new(rt, alloc);
-    let mut out = StdOut::new(Lines {
-        rt,
-        to_errors: words.to_errors,
-    });
-    let mut asks = StdIn::new(rt.reader());
     let gate = Telling {
         rt,
         tells: is_live(&words.list) && rt.stderr().is_terminal(),
@@ -47,6 +44,20 @@ fn main(rt: HostRuntime) -> ExitCode {
         alloc,
         gate: &gate,
     };
+    if is_stream(&words.list) {
+        match stream_of(alloc, &words.list) {
+            Ok(files) => return stream_main(&host, rt, &words, &files),
+            Err(WordsFault::NoMemory) => return ExitCode::from(Fault::NoMemory.status()),
+            // The fault is told as that of any other words that have no form.
+            Err(WordsFault::Usage) => {}
+        }
+    }
+    let mut shelf = HostShelf::new(rt, alloc);
+    let mut out = StdOut::new(Lines {
+        rt,
+        to_errors: words.to_errors,
+    });
+    let mut asks = StdIn::new(rt.reader());
     let outcome = fries(&host, &words.list, &mut shelf, &mut out, &mut asks);
     tell(&rt, alloc, &words, &outcome);
     tell_why(&rt, outcome.fault, shelf.why());
@@ -59,9 +70,9 @@ fn main(rt: HostRuntime) -> ExitCode {
 /// A gate that lets everything pass at once, and may tell on the standard error that a request was
 /// issued, as it happens.
 #[derive(Drop)]
-struct Telling {
-    rt: HostRuntime,
-    tells: bool,
+pub(crate) struct Telling {
+    pub(crate) rt: HostRuntime,
+    pub(crate) tells: bool,
 }
 
 impl Gate for Telling {
@@ -101,7 +112,7 @@ fn tell(rt: &HostRuntime, alloc: Global, words: &Words, outcome: &Outcome) {
 }
 
 // Tells why the system refused a file.
-fn tell_why(rt: &HostRuntime, fault: Option<Fault>, why: Option<HostFault>) {
+pub(crate) fn tell_why(rt: &HostRuntime, fault: Option<Fault>, why: Option<HostFault>) {
     let file = match fault {
         Some(Fault::Read(file) | Fault::Write(file)) => file,
         _ => return,
@@ -128,10 +139,10 @@ fn take_standard_descriptors<R: Files>(rt: &R) -> io::Result<[R::File; 3]> {
 
 // The words after the program's name.
 #[derive(Drop)]
-struct Words {
-    list: Vec<Word>,
+pub(crate) struct Words {
+    pub(crate) list: Vec<Word>,
     // Whether one of them is the standard output.
-    to_errors: bool,
+    pub(crate) to_errors: bool,
     // The place of the first that isn't UTF-8; the list is empty then.
     not_utf8: Option<usize>,
 }

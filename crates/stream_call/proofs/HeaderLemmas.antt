@@ -1,0 +1,27 @@
+-- Files that hold their headers alone.
+use Rattle.std.proofs.Common.{◌≡◌, ◌∙◌, ℕ, List, [], ◌∷◌, Option, None, Some, ap, arith, false, refl, true}
+use Rattle.std.proofs.lemmas.Bool.{and_from}
+use Rattle.std.proofs.lemmas.Bool.Decides.{nat_tests}
+use Rattle.std.specs.Prelude.{nat_eq, unwrap_or}
+use Rattle.std.specs.Str.{bytes_eq}
+use Rattle.payments.specs.Files.{Files, with_bytes}
+use Rattle.payments.proofs.FileLemmas.{get-insert_found, get-insert_passed}
+use Rattle.stream_run.specs.Standing.{Holds}
+
+eq-refl : (n : ℕ) → nat_eq n n ≡ true
+eq-refl n = grind (arith, nat_tests)
+
+same_name : (name : List ℕ) → bytes_eq name name ≡ true
+same_name [] = refl
+same_name (x ∷ name) = and_from (nat_eq x x) (bytes_eq name name) (eq-refl x) (same_name name)
+
+pub held : (old : Option Files) (name text : List ℕ) → Holds (with_bytes old name text) name text
+held None name text = tt
+held (Some m) name text = ap (λ (o : Option (List ℕ)). unwrap_or o []) (get-insert_found m name text name (same_name name))
+
+-- a file that was stored before another holds its text
+pub held_before : (old : Option Files) (name other text more : List ℕ) → bytes_eq name other ≡ false → Holds (with_bytes (with_bytes old name text) other more) name text
+held_before None name other text more apart = tt
+held_before (Some m) name other text more apart =
+    ap (λ (o : Option (List ℕ)). unwrap_or o [])
+    (get-insert_passed _ other more name apart ∙ get-insert_found m name text name (same_name name))

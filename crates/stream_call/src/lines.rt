@@ -1,0 +1,46 @@
+// What is printed of a stream.
+use crate::fault::StreamFault;
+use call_steps::{print, print_made};
+use payments::Sink;
+use report::{Fault, FileIs, Summary, push_refused, summary_line};
+use std::alloc::Global;
+use stream_turns::Desk;
+use tuple_trace::{Bytes, NoMemory};
+
+/// Prints the requests that were refused since the call began, and the summary of so many rows.
+pub(crate) fn print_end<O: Sink>(
+    alloc: Global,
+    desk: &Desk,
+    rows: u64,
+    out: &mut O,
+) -> Result<(), Fault> {
+    let lines = lines_of(alloc, desk, rows)?;
+    print(out, lines.as_slice())
+}
+
+fn lines_of(alloc: Global, desk: &Desk, rows: u64) -> Result<Bytes, NoMemory> {
+    let summary = Summary {
+        rows: rows as usize,
+        alerts: desk.books.tally.shown as usize,
+        requests: desk.known.requests.len(),
+        refused: desk.refused.len(),
+    };
+    let mut lines = Bytes::new(alloc);
+    push_refused(alloc, desk.refused.as_slice(), &mut lines)?;
+    let summary = summary_line(alloc, summary)?;
+    lines.extend_from_slice(summary.as_bytes())?;
+    Ok(lines)
+}
+
+/// Prints the line of a fault, unless it is the output that failed. What printing it comes to
+/// changes no answer.
+pub(crate) fn print_fault<O: Sink>(alloc: Global, fault: StreamFault, out: &mut O) {
+    if fault != StreamFault::Call(Fault::Write(FileIs::Out)) {
+        let _ = print_made(fault_line(alloc, fault), out);
+    }
+}
+
+fn fault_line(alloc: Global, fault: StreamFault) -> Result<String, NoMemory> {
+    let status = fault.status();
+    Ok(format!(in alloc; "fault {status} {fault}\n")?)
+}

@@ -1,0 +1,5 @@
+//! Tests of whole streams.
+#![tactic(auto)]
+
+#[cfg(test)]
+mod tests;

@@ -1,0 +1,48 @@
+//! A stream that stopped and goes on.
+use crate::tests::cuts::shelf_with;
+use crate::tests::texts::{AFTER_2, LATE_ALERTS, PAYMENTS};
+use crate::tests::{holds, say, tap_of, word};
+use payments::store;
+use std::alloc::Global;
+use std::sync::Wait;
+use std::thread::Threads;
+
+/// The words of a stream that saves after each row.
+const SAVING: &str = "stream job.toml requests.toml alerts.csv audit.csv --save save.csv --every 1";
+
+/// The words of the same stream where it goes on.
+const RESUMING: &str =
+    "stream job.toml requests.toml alerts.csv audit.csv --save save.csv --every 1 --resume";
+
+/// The first three of the four payments.
+const THREE: &str =
+    "source,account,amount\ncard,a,100.00\ncard,b,99.99\ncard,\"c\"\",\n\",120.00\n";
+
+/// A stream goes on with a request that asks for row 2 and was appended after row 3. Row 3 had met
+/// the old filter, and row 4 meets the new one.
+fn goes_on_late<R>(rt: &R, alloc: Global) -> Option<bool>
+where
+    R: Threads + Wait + Copy + Send + Sync + 'static,
+{
+    let mut shelf = shelf_with(alloc, "")?;
+    let mut tap = tap_of(alloc, THREE, 1)?;
+    let first = say(rt, alloc, SAVING, &mut shelf, &mut tap)?;
+    store(
+        &mut shelf,
+        &word(alloc, "requests.toml").ok()?,
+        AFTER_2.as_bytes(),
+    )
+    .ok()?;
+    let mut tap = tap_of(alloc, PAYMENTS, 1)?;
+    let second = say(rt, alloc, RESUMING, &mut shelf, &mut tap)?;
+    Some(
+        first.is(0, "rows 3 alerts 2 requests 0 refused 0\n")
+            && second.is(0, "rows 1 alerts 1 requests 1 refused 0\n")
+            && holds(alloc, &shelf, "alerts.csv", LATE_ALERTS),
+    )
+}
+
+#[test]
+fn late_request(rt: HostRuntime) {
+    assert!(rt; goes_on_late(&rt, rt.alloc()) == Some(true));
+}
