@@ -7,7 +7,7 @@ use advice::{Call, HostLook, advice, stream_advice};
 use command_line::StreamFiles;
 use input_pieces::HostTap;
 use payments::{GrowingShelf, HostShelf, StdOut};
-use report::Fault;
+use report::{Fault, FileIs};
 use std::alloc::Global;
 use std::io::IsTerminal;
 use std::process::ExitCode;
@@ -48,8 +48,11 @@ where
     };
     let outcome = stream(host, files, &mut shelf, &mut out, &mut tap, &mut watch);
     tell(&rt, alloc, words, &outcome);
-    if let Some(StreamFault::Call(fault)) = outcome.fault {
-        tell_why(&rt, Some(fault), shelf.why());
+    match outcome.fault {
+        // The standard input is no file of the shelf.
+        Some(StreamFault::Call(Fault::Read(FileIs::Payments))) => {}
+        Some(StreamFault::Call(fault)) => tell_why(&rt, Some(fault), shelf.why()),
+        _ => {}
     }
     ExitCode::from(outcome.status)
 }
