@@ -85,11 +85,12 @@ struct Teller<'a> {
 
 impl Watch for Teller<'_> {
     fn part_ended<S: GrowingShelf>(&mut self, _shelf: &S, end: &PartEnd<'_>) {
-        let row = end.stream.start.row;
+        let stream = end.stream;
+        let row = stream.start.row;
         if self.tells && row / TELL_EVERY > self.told / TELL_EVERY {
             self.told = row;
             let alerts = end.shown;
-            let requests = end.stream.start.turned;
+            let requests = stream.start.turned;
             let _ = eprint!(self.rt; "fries: rows {row} alerts {alerts} requests {requests}\n");
         }
     }

@@ -1,15 +1,15 @@
 //! Whole streams over files in memory, and what they leave.
 ghost use Rattle.std.specs.Prelude.{◌≡◌, None};
+ghost use Rattle.payments.specs.Memory.{draft_of};
 
 mod cuts;
 mod resumed;
 mod texts;
 
-use crate::tests::texts::CHAIN;
 use call_steps::Host;
 use command_line::stream_of;
 use input_pieces::{SureTap, Tap};
-use payments::{Calls, GrowingShelf, MemoryShelf, MemorySink, ShelfFault, store};
+use payments::{Calls, GrowingShelf, MemoryShelf, MemorySink};
 use report::Fault;
 use std::alloc::Global;
 use std::sync::Wait;
@@ -65,8 +65,7 @@ pub fn say<R, T: Tap>(
 ) -> Option<Box<Said>>
 where
     R: Threads + Wait + Copy + Send + Sync + 'static,
-    requires { (MemoryShelf.Shelf.state shelf.old).draft ≡ None }
-    ensures { (MemoryShelf.Shelf.state shelf.new).draft ≡ None }
+    requires { draft_of shelf.old ≡ None }
 {
     let words = words_in(alloc, line).ok()?;
     let files = stream_of(alloc, &words).ok()?;

@@ -1,16 +1,17 @@
 //! A stream that comes in pieces.
 ghost use Rattle.std.specs.Prelude.{◌≡◌, IfSome, None};
+ghost use Rattle.payments.specs.Memory.{draft_of};
 
-use crate::tests::texts::{AFTER_2, AFTER_9, ALERTS, CHAIN, PAYMENTS};
+use crate::tests::texts::{AFTER_9, ALERTS, CHAIN, PAYMENTS};
 use crate::tests::{STREAM, holds, say, tap_of, word};
 use payments::{Calls, MemoryShelf, store};
 use std::alloc::Global;
 use std::sync::Wait;
 use std::thread::Threads;
 
-/// A shelf with the job and these requests. Its call with this number fails, if there is one.
+/// A shelf with the job and these requests. No call of it fails.
 pub fn shelf_with(alloc: Global, requests: &str) -> Option<MemoryShelf>
-    ensures { IfSome result (λ shelf. (MemoryShelf.Shelf.state shelf).draft ≡ None) }
+    ensures { IfSome result (λ shelf. draft_of shelf ≡ None) }
 {
     let mut shelf = MemoryShelf::new(alloc, 7, Calls::new(alloc));
     store(&mut shelf, &word(alloc, "job.toml").ok()?, CHAIN.as_bytes()).ok()?;
