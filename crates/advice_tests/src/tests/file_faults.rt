@@ -53,7 +53,7 @@ ALERTS, AUDIT are missing. Type `fries run --help`.
         &["first", "p", "a", "1", "2", "3"],
         Some(Fault::Write(FileIs::Alerts)),
         "fries: alerts file `a`
-  The file couldn't be made or written; it is as before.
+  The file couldn't be made or written; it is as before, unless a stream appends to it.
   Check its folder, that you may write there, and that the disk has room.
 ",
     ),
@@ -61,7 +61,7 @@ ALERTS, AUDIT are missing. Type `fries run --help`.
         RUN,
         Some(Fault::Write(FileIs::Audit)),
         "fries: audit file `audit.csv`
-  The file couldn't be made or written; it is as before.
+  The file couldn't be made or written; it is as before, unless a stream appends to it.
   Check its folder, that you may write there, and that the disk has room.
 ",
     ),

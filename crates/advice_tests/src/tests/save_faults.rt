@@ -14,21 +14,21 @@ const CASES: &[(Fault, &str)] = &[
     (
         Fault::Save(SaveFault::Shape(1)),
         "fries: savepoint `save.csv`: S1 record 1 (line 2)
-  This record of the savepoint isn't of the form that `save` writes, or there is none.
-  Give the file that `fries save` wrote, as it was written.
+  This record of the savepoint isn't of the form that the command writes, or is missing.
+  Give the file that `fries save` or `fries stream` wrote, as it was written.
 ",
     ),
     (
         Fault::Save(SaveFault::Shape(3)),
         "fries: savepoint `save.csv`: S1 record 3
-  This record of the savepoint isn't of the form that `save` writes, or there is none.
-  Give the file that `fries save` wrote, as it was written.
+  This record of the savepoint isn't of the form that the command writes, or is missing.
+  Give the file that `fries save` or `fries stream` wrote, as it was written.
 ",
     ),
     (
         Fault::Save(SaveFault::Past(8)),
         "fries: savepoint `save.csv`: S2 rows 8
-  The savepoint was made after this row, and the payments file has fewer rows.
+  The savepoint was made after this row, and there are fewer payments.
   Give the payments of the run that was saved, with those before the savepoint.
 ",
     ),

@@ -10,12 +10,12 @@ const CASES: &[(&[&str], &str)] = &[
     (
         &["chek", "j"],
         "There is no command `chek`; is it `check`? The commands are check, plan, run, live, \
-save, resume, verify, make, first.",
+stream, save, resume, verify, make, first.",
     ),
     (
         &["frobnicate"],
-        "There is no command `frobnicate`. The commands are check, plan, run, live, save, \
-resume, verify, make, first.",
+        "There is no command `frobnicate`. The commands are check, plan, run, live, \
+stream, save, resume, verify, make, first.",
     ),
     (
         &["--threads", "2", "run"],
@@ -97,6 +97,10 @@ is too many. Type `fries verify --help`.",
         &["check", "-x"],
         "`-x` is no option; a name that begins with `-` is written as `./-x`. \
 Type `fries check --help`.",
+    ),
+    (
+        &["stream", "j", "q", "a", "u", "--every", "5"],
+        "`--every` needs `--save`. Type `fries stream --help`.",
     ),
     (
         &["check", ""],
