@@ -1,5 +1,6 @@
 -- How the commands that `clap` reads by are put together.
-use Rattle.std.proofs.Common.{Bor, ◌≡◌, ◌<◌, ◌≤◌, ◌+◌, ◌∙◌, ◌∷◌, [], ℕ, List, ap, drop, get_or, length, map, refl, subst, sym, false, append_assoc}
+use Rattle.std.proofs.Common.{Bor, ◌≡◌, ◌<◌, ◌≤◌, ◌+◌, ◌∙◌, ◌∷◌, [], ℕ, List, ap, drop, get_or}
+use Rattle.std.proofs.Common.{length, map, refl, subst, sym, false, append_assoc}
 use Rattle.std.proofs.lemmas.List.{append-nil, drop_all, drop_more}
 use Rattle.clap.specs.Built.{AddsArg, AddsSubcommand}
 use Rattle.clap.specs.Simple.{on_top}
@@ -7,7 +8,8 @@ use Rattle.clap.specs.Words.{App, Rule, Shape, Text, app_of, rule_of, with_rule,
 use Rattle.clap.specs.declared.builder.arg.Arg.{Arg}
 use Rattle.clap.specs.declared.builder.command.Command.{Command}
 use Rattle.clap.specs.declared.builder.command.Command.TheViews.{out-Command}
-use Rattle.command_line.specs.Apps.{IsApp, command_app, shape_on, topic_view, with_rules, with_shapes}
+use Rattle.command_line.specs.Apps.{IsApp, command_app, shape_on, topic_view, with_rules}
+use Rattle.command_line.specs.Apps.{with_shapes}
 use Rattle.command_line.specs.Form.{Form}
 use Rattle.command_line.specs.Words.{form_of}
 use Rattle.command_line.specs.declared.topic.Topic.{Topic}
@@ -21,7 +23,8 @@ abbrev rules_set : App → List Rule → App
 rules_set app rules = on_top (λ top. record top { rules = rules }) app
 
 -- the next argument is added
-pub becomes_by : (old : Command) (a : Arg) (new : Command) (rule : Rule) (rules : List Rule) (app : App) →
+pub becomes_by : (old : Command) (a : Arg) (new : Command) (rule : Rule) (rules : List Rule)
+    (app : App) →
     Becomes old (rule ∷ rules) app → rule_of a ≡ rule → a.global ≡ false → AddsArg old a new →
     Becomes new rules app
 becomes_by old a new rule rules app before is local adds =

@@ -1,10 +1,12 @@
 -- What a command line asks of a stream.
-use Rattle.std.specs.Prelude.{◌||◌, ℕ, Bool, true, false, is_some, List, [], ◌∷◌, Option, None, Some, option_and_then, option_map, codes, if◌then◌else◌}
+use Rattle.std.specs.Prelude.{◌||◌, ℕ, Bool, true, false, is_some, List, [], ◌∷◌, Option, None}
+use Rattle.std.specs.Prelude.{Some, option_and_then, option_map, codes, if◌then◌else◌}
 use Rattle.std.specs.Str.{bytes_eq}
 use Rattle.tuple_trace.specs.Digits.{at_most, digits_of}
 use Rattle.command_line.specs.Form.{Text, found_in, value_of}
 use Rattle.command_line.specs.Asked.{PlanAsked, plan_asked}
-use Rattle.command_line.specs.Words.{Values, asks_help, engine_in, form_of, is_true, name_in, plan_of, size_in}
+use Rattle.command_line.specs.Words.{Values, asks_help, engine_in, form_of, is_true, name_in}
+use Rattle.command_line.specs.Words.{plan_of, size_in}
 use Rattle.command_line.specs.declared.command.EngineSize.{EngineSize}
 use Rattle.command_line.specs.declared.stream.StreamFiles.{StreamFiles}
 use Rattle.command_line.specs.declared.stream.StreamSaving.{StreamSaving}

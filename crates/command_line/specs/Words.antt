@@ -1,13 +1,18 @@
 -- What the words of a command line ask for.
-use Rattle.std.specs.Prelude.{◌^◌, ◌-◌, ℕ, ℤ, pos, Bool, false, List, [], ◌∷◌, ◌||◌, nat_le, Option, None, Some, option_map, option_and_then, unwrap_or, codes, if◌then◌else◌}
+use Rattle.std.specs.Prelude.{◌^◌, ◌-◌, ℕ, ℤ, pos, Bool, false, List, [], ◌∷◌, ◌||◌, nat_le, Option}
+use Rattle.std.specs.Prelude.{None, Some, option_map, option_and_then, unwrap_or, codes}
+use Rattle.std.specs.Prelude.{if◌then◌else◌}
 use Rattle.std.specs.Str.{bytes_eq}
 use Rattle.tuple_trace.specs.Digits.{at_most, digits_of}
 use Rattle.command_line.specs.Form.{Flag, Form, Text, ValueOption, found_in, value_of}
 use Rattle.command_line.specs.declared.command.EngineSize.{EngineSize}
 use Rattle.command_line.specs.declared.topic.Topic.{Topic}
 use Rattle.command_line.specs.declared.topic.Topic.TheVariants as topic
-use Rattle.command_line.specs.Asked.{Asked, Check, First, FirstAsked, Help, Live, Make, MakeAsked, Plan, PlanAsked, Resume, ResumeAsked, Run, RunAsked, Save, SaveAsked, Verify, VerifyAsked, Version}
-use Rattle.tuple_trace.specs.declared.limits.TheConstants.{MAX_CAPACITY, MAX_THREADS, USUAL_CAPACITY}
+use Rattle.command_line.specs.Asked.{Asked, Check, First, FirstAsked, Help, Live, Make, MakeAsked}
+use Rattle.command_line.specs.Asked.{Plan, PlanAsked, Resume, ResumeAsked, Run, RunAsked, Save}
+use Rattle.command_line.specs.Asked.{SaveAsked, Verify, VerifyAsked, Version}
+use Rattle.tuple_trace.specs.declared.limits.TheConstants.{MAX_CAPACITY, MAX_THREADS}
+use Rattle.tuple_trace.specs.declared.limits.TheConstants.{USUAL_CAPACITY}
 
 -- ---- the forms of the commands
 

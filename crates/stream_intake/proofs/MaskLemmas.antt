@@ -1,5 +1,6 @@
 -- The mask of the nodes that may be splits in a stream of a job.
-use Rattle.std.proofs.Common.{◌≡◌, ◌∙◌, ◌<◌, ◌↔◌, ◌||◌, inl, inr, ℕ, List, [], Bool, true, false, refl, sym, arith, slice_get}
+use Rattle.std.proofs.Common.{◌≡◌, ◌∙◌, ◌<◌, ◌↔◌, ◌||◌, inl, inr, ℕ, List, [], Bool, true, false}
+use Rattle.std.proofs.Common.{refl, sym, arith, slice_get}
 use Rattle.std.specs.Prelude.{IsTrue}
 use Rattle.std.specs.Int.{bit_at}
 use Rattle.std.proofs.lemmas.Bool.{cases_eq, or_cases, or_left, or_right}
@@ -19,7 +20,8 @@ bit_same a b p q f g = elim (cases_eq a 1) [
 -- a job has one such mask
 pub one_mask : (nodes : List NodeDef) (a b : ℕ) → IsMaskOf nodes a → IsMaskOf nodes b → a ≡ b
 one_mask nodes a b f g =
-    same_from_bits a b (λ i. bit_same (bit_at a i) (bit_at b i) (bit_at-lt a i) (bit_at-lt b i) (λ h. (g i).1 ((f i).0 h)) (λ h. (f i).1 ((g i).0 h)))
+    same_from_bits a b (λ i. bit_same (bit_at a i) (bit_at b i) (bit_at-lt a i) (bit_at-lt b i)
+    (λ h. (g i).1 ((f i).0 h)) (λ h. (f i).1 ((g i).0 h)))
 
 -- ---- the mask of a setup with these requests, which make splits of nodes of the job's mask alone
 
@@ -27,7 +29,9 @@ or_false : (a : Bool) → (a || false) ≡ true → a ≡ true
 or_false true e = refl
 or_false false e = e
 
-pub mask_of_none : (nodes : List NodeDef) (splits : ℕ) → ((node : ℕ) → Has splits node ↔ IsTrue (splits_at nodes [] node || may_become_split (slice_get nodes node))) → IsMaskOf nodes splits
+pub mask_of_none : (nodes : List NodeDef) (splits : ℕ)
+    → ((node : ℕ) → Has splits node ↔ IsTrue (splits_at nodes [] node || may_become_split
+    (slice_get nodes node))) → IsMaskOf nodes splits
 mask_of_none nodes splits is node = (to, from)
   where
     own : Bool
@@ -48,8 +52,10 @@ mask_of_none nodes splits is node = (to, from)
       | inr b ↦ (is node).1 (or_right (own || false) spare b)
     ]
 
-pub mask_of_some : (nodes : List NodeDef) (mask splits : ℕ) (requests : List Request) → IsMaskOf nodes mask → ((node : ℕ) → IsTrue (is_made_split requests node) → Has mask node)
-    → ((node : ℕ) → Has splits node ↔ IsTrue (splits_at nodes requests node || may_become_split (slice_get nodes node))) → IsMaskOf nodes splits
+pub mask_of_some : (nodes : List NodeDef) (mask splits : ℕ) (requests : List Request)
+    → IsMaskOf nodes mask → ((node : ℕ) → IsTrue (is_made_split requests node) → Has mask node)
+    → ((node : ℕ) → Has splits node ↔ IsTrue (splits_at nodes requests node || may_become_split
+    (slice_get nodes node))) → IsMaskOf nodes splits
 mask_of_some nodes mask splits requests own_mask within is node = (to, from)
   where
     own : Bool
@@ -63,7 +69,8 @@ mask_of_some nodes mask splits requests own_mask within is node = (to, from)
 
     to : Has splits node → IsTrue (own || spare)
     to h = elim (or_cases (own || made) spare ((is node).0 h)) [
-      | inl a ↦ elim (or_cases own made a) [ inl b ↦ or_left own spare b | inr b ↦ (own_mask node).0 (within node b) ]
+      | inl a ↦ elim (or_cases own made a)
+          [ inl b ↦ or_left own spare b | inr b ↦ (own_mask node).0 (within node b) ]
       | inr b ↦ or_right own spare b
     ]
 

@@ -4,6 +4,7 @@ ghost use Rattle.versions.specs.declared.request.Request.{Request};
 
 use std::alloc::Global;
 use std::mem;
+use stream_step::appended;
 use tuple_trace::{Items, NoMemory};
 use versions::Requests;
 
@@ -40,15 +41,6 @@ impl Known {
         *self = Known { requests };
         Ok(())
     }
-}
-
-// The requests of both lists, one after the other.
-fn appended(first: Requests, second: Requests) -> Result<Requests, NoMemory>
-    ensures { IfOk result (λ both. both ≡ first ++ second) }
-{
-    let mut both = first.into_vec();
-    both.append(&mut second.into_vec())?;
-    Ok(Requests::from_vec(both))
 }
 
 /// A list in two pieces, the first of which has so many items. The one error is out of memory.

@@ -1,5 +1,6 @@
 -- The rows of a stream of payments: those before the first fault, and that fault.
-use Rattle.std.specs.Prelude.{◌+◌, ◌/◌, ℕ, max, nat_eq, List, [], ◌∷◌, ◌++◌, length, None, Some, Result, Ok, Err, if◌then◌else◌}
+use Rattle.std.specs.Prelude.{◌+◌, ◌/◌, ℕ, max, nat_eq, List, [], ◌∷◌, ◌++◌, length, None, Some}
+use Rattle.std.specs.Prelude.{Result, Ok, Err, if◌then◌else◌}
 use Rattle.std.specs.Cmp.Lexicographic.{pointwise}
 use Rattle.csv.specs.Reading.{default_config, records, strip_bom}
 use Rattle.tuple_trace.specs.declared.row.Row.{Row}

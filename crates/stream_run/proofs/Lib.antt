@@ -1,5 +1,5 @@
 pub mod PartLemmas
 pub mod PartRunLemmas
 pub mod GoesLemmas
-mod SavedLemmas
+pub mod SavedLemmas
 mod StepLemmas

@@ -1,5 +1,6 @@
 -- What a stream has run, part by part.
-use Rattle.std.proofs.Common.{◌≡◌, ◌∙◌, ◌≤◌, ◌+◌, ◌++◌, ℕ, zero, suc, List, [], ◌∷◌, Option, None, Some, drop, length, map, refl, sym, subst, ap, arith}
+use Rattle.std.proofs.Common.{◌≡◌, ◌∙◌, ◌≤◌, ◌+◌, ◌++◌, ℕ, zero, suc, List, [], ◌∷◌, Option, None}
+use Rattle.std.proofs.Common.{Some, drop, length, map, refl, sym, subst, ap, arith}
 use Rattle.std.specs.List.{range_with_len}
 use Rattle.std.proofs.Math.Seq.{drop-append_seam}
 use Rattle.std.proofs.lemmas.List.{length-append}
@@ -23,12 +24,16 @@ use Rattle.stream_run.specs.Parts.{HasCome, HaveRun, Part, with_all, with_one}
 
 -- ---- parts one after another
 
-pub with_all-append : (before : Option SoFar) (xs ys : List Part) → with_all before (xs ++ ys) ≡ with_all (with_all before xs) ys
+pub with_all-append : (before : Option SoFar) (xs ys : List Part) → with_all before (xs ++ ys)
+    ≡ with_all (with_all before xs) ys
 with_all-append before [] ys = refl
 with_all-append before (x ∷ xs) ys = with_all-append (Some (with_one before x)) xs ys
 
-pub have_run-then : (a b c : Stream) (xs ys : List Part) → HaveRun a xs b → HaveRun b ys c → HaveRun a (xs ++ ys) c
-have_run-then a b c xs ys f g before come = subst (λ s. HasCome c s) (sym (with_all-append before xs ys)) (g (with_all before xs) (f before come))
+pub have_run-then : (a b c : Stream) (xs ys : List Part) → HaveRun a xs b → HaveRun b ys c
+    → HaveRun a (xs ++ ys) c
+have_run-then a b c xs ys f g before come =
+    subst (λ s. HasCome c s) (sym (with_all-append before xs ys))
+    (g (with_all before xs) (f before come))
 
 -- what a stream has run stays, while requests are added to it
 pub have_run-none : (a b : Stream) → b.setup ≡ a.setup → b.start ≡ a.start → HaveRun a [] b
@@ -48,69 +53,103 @@ length-blanks source k = length-map-range_with_len (blank source) 0 k
 
 rows_behind : (source k n : ℕ) (rows : List Row) → n ≡ k → drop n (blanks source k ++ rows) ≡ rows
 rows_behind source k n rows e =
-    subst (λ m. drop m (blanks source k ++ rows) ≡ rows) (length-blanks source k ∙ sym e) (drop-append_seam (blanks source k) rows)
+    subst (λ m. drop m (blanks source k ++ rows) ≡ rows) (length-blanks source k ∙ sym e)
+    (drop-append_seam (blanks source k) rows)
 
-part_as : (part : RunPart) (s : Setup) (r : List Row) (l : Ran) → part.setup ≡ s → part.rows ≡ r → part.left ≡ l → part ≡ record { setup = s; rows = r; left = l }
+part_as : (part : RunPart) (s : Setup) (r : List Row) (l : Ran) → part.setup ≡ s → part.rows ≡ r
+    → part.left ≡ l → part ≡ record { setup = s; rows = r; left = l }
 part_as part s r l es er el =
     ap (λ x. record { setup = x; rows = part.rows; left = part.left }) es
-    ∙ (ap (λ x. record { setup = s; rows = x; left = part.left }) er ∙ ap (λ x. record { setup = s; rows = r; left = x }) el)
+    ∙ (ap (λ x. record { setup = s; rows = x; left = part.left }) er
+    ∙ ap (λ x. record { setup = s; rows = r; left = x }) el)
 
 -- what the law of parts says
 abbrev pub Later : Type 0
-Later = (stream : Stream) (so_far : SoFar) (requests : List Request) (rows : List Row) (setup : Setup) (left : Ran) → HasRun stream so_far → IsRunOn stream requests rows setup left
+Later = (stream : Stream) (so_far : SoFar) (requests : List Request) (rows : List Row)
+    (setup : Setup) (left : Ran) → HasRun stream so_far → IsRunOn stream requests rows setup left
     → (part : RunPart) × IsPartAfter so_far requests rows setup left part
 
 abbrev pub First : Type 0
-First = (stream : Stream) (requests : List Request) (rows : List Row) (setup : Setup) (left : Ran) → stream.start ≡ at_first (setup_view stream.setup) → IsRunOn stream requests rows setup left
+First = (stream : Stream) (requests : List Request) (rows : List Row) (setup : Setup) (left : Ran)
+    → stream.start ≡ at_first (setup_view stream.setup) → IsRunOn stream requests rows setup left
     → IsFirstRun setup rows left
 
 -- where the stream goes on after the part
 abbrev GoesOnAt : ℕ → Stream → Ran → Type 0
 GoesOnAt row next left = next.start ≡ start_of row left
 
-module _ (later : Later) (first : First) (stream next : Stream) (requests : List Request) (source : ℕ) (rows : List Row) (left : Ran) where
+module _ (later : Later) (first : First) (stream next : Stream) (requests : List Request)
+    (source : ℕ) (rows : List Row) (left : Ran) where
   abbrev fed : List Row
   fed = blanks source stream.start.row ++ rows
 
   length-fed : length fed ≡ stream.start.row + length rows
-  length-fed = length-append (blanks source stream.start.row) rows ∙ ap (λ k. k + length rows) (length-blanks source stream.start.row)
+  length-fed =
+      length-append (blanks source stream.start.row) rows
+      ∙ ap (λ k. k + length rows) (length-blanks source stream.start.row)
 
-  first_part_run : IsRunOn stream requests fed next.setup left → GoesOnAt (stream.start.row + length rows) next left
-      → stream.start ≡ at_first (setup_view stream.setup) → HasCome next (Some (with_one None (record { setup = next.setup; rows = rows; left = left })))
+  first_part_run : IsRunOn stream requests fed next.setup left
+      → GoesOnAt (stream.start.row + length rows) next left
+      → stream.start ≡ at_first (setup_view stream.setup)
+      → HasCome next (Some (with_one None (record {
+        setup = next.setup;
+        rows = rows;
+        left = left;
+      })))
   first_part_run on start_is come =
       let none : stream.start.row ≡ 0 = ap (λ (b : Begin). b.row) come in
       let rows_are : fed ≡ rows = ap (λ k. blanks source k ++ rows) none in
-      let is = subst (λ r. IsFirstRun next.setup r left) rows_are (first stream requests fed next.setup left come on) in
+      let is = subst (λ r. IsFirstRun next.setup r left) rows_are
+      (first stream requests fed next.setup left come on) in
       record {
         run = is.run;
         numbered = is.numbered;
         sources = is.sources;
         setup_is = refl;
-        start_is = start_is ∙ (ap (λ k. start_of (k + length rows) left) none ∙ (let same : 0 + length rows ≡ length rows = omega arith in ap (λ k. start_of k left) same));
+        start_is =
+            start_is ∙ (ap (λ k. start_of (k + length rows) left) none
+            ∙ (let same : 0 + length rows ≡ length rows = omega arith in ap (λ k. start_of k left)
+            same));
       }
 
-  later_part_run : IsRunOn stream requests fed next.setup left → GoesOnAt (stream.start.row + length rows) next left → left.setup ≡ setup_view next.setup
-      → (so_far : SoFar) → HasRun stream so_far → HasCome next (Some (with_one (Some so_far) (record { setup = next.setup; rows = rows; left = left })))
+  later_part_run : IsRunOn stream requests fed next.setup left
+      → GoesOnAt (stream.start.row + length rows) next left → left.setup ≡ setup_view next.setup
+      → (so_far : SoFar) → HasRun stream so_far
+      → HasCome next (Some (with_one (Some so_far)
+      (record { setup = next.setup; rows = rows; left = left })))
   later_part_run on start_is setup_is so_far has =
       let both = later stream so_far requests fed next.setup left has on in
       let row_is : stream.start.row ≡ length so_far.rows = ap (λ (b : Begin). b.row) has.start_is in
       let le : length so_far.rows ≤ length fed = omega (arith, row_is, length-fed) in
-      let run = goes_on_after so_far requests fed next left both.0 both.1 le (start_is ∙ ap (λ k. start_of k left) (sym length-fed)) setup_is in
-      let rows_are : both.0.rows ≡ so_far.rows ++ rows = both.1.is_run.rows_are ∙ ap (λ r. so_far.rows ++ r) (rows_behind source stream.start.row (length so_far.rows) rows (sym row_is)) in
-      subst (λ p. HasRun next (with_part so_far p)) (part_as both.0 next.setup (so_far.rows ++ rows) left both.1.setup_is rows_are both.1.left_is) run
+      let run =
+      goes_on_after so_far requests fed next left both.0 both.1 le
+      (start_is ∙ ap (λ k. start_of k left) (sym length-fed)) setup_is in
+      let rows_are : both.0.rows ≡ so_far.rows ++ rows =
+      both.1.is_run.rows_are ∙ ap (λ r. so_far.rows ++ r)
+      (rows_behind source stream.start.row (length so_far.rows) rows (sym row_is)) in
+      subst (λ p. HasRun next (with_part so_far p))
+      (part_as both.0 next.setup (so_far.rows ++ rows) left both.1.setup_is rows_are
+      both.1.left_is) run
 
-  pub have_run-one : IsRunOn stream requests fed next.setup left → GoesOnAt (stream.start.row + length rows) next left → left.setup ≡ setup_view next.setup
+  pub have_run-one : IsRunOn stream requests fed next.setup left
+      → GoesOnAt (stream.start.row + length rows) next left → left.setup ≡ setup_view next.setup
       → HaveRun stream (record { setup = next.setup; rows = rows; left = left } ∷ []) next
   have_run-one on start_is setup_is None come = first_part_run on start_is come
-  have_run-one on start_is setup_is (Some so_far) come = later_part_run on start_is setup_is so_far come
+  have_run-one on start_is setup_is (Some so_far) come =
+      later_part_run on start_is setup_is so_far come
 
 -- ---- what is fed
 
-blanks_from : (job : JobView) (source from count : ℕ) → IsSourceOf job source → AreFromSources job (map (blank source) (range_with_len from count))
+blanks_from : (job : JobView) (source from count : ℕ) → IsSourceOf job source
+    → AreFromSources job (map (blank source) (range_with_len from count))
 blanks_from job source from zero is = All-nil _
 blanks_from job source from (suc count) is =
-    All-cons (λ (r : Row). IsSourceOf job r.source) (blank source from) (map (blank source) (range_with_len (from + 1) count)) is (blanks_from job source (from + 1) count is)
+    All-cons (λ (r : Row). IsSourceOf job r.source) (blank source from)
+    (map (blank source) (range_with_len (from + 1) count)) is
+    (blanks_from job source (from + 1) count is)
 
-pub sources_fed : (job : JobView) (source count : ℕ) (rows : List Row) → IsSourceOf job source → AreFromSources job rows → AreFromSources job (blanks source count ++ rows)
+pub sources_fed : (job : JobView) (source count : ℕ) (rows : List Row) → IsSourceOf job source
+    → AreFromSources job rows → AreFromSources job (blanks source count ++ rows)
 sources_fed job source count rows is are =
-    All-append (λ (r : Row). IsSourceOf job r.source) (blanks source count) rows (blanks_from job source 0 count is) are
+    All-append (λ (r : Row). IsSourceOf job r.source) (blanks source count) rows
+    (blanks_from job source 0 count is) are

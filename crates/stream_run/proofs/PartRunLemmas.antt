@@ -1,5 +1,6 @@
 -- What an engine leaves of a part.
-use Rattle.std.proofs.Common.{◌≡◌, ◌∙◌, ◌≤◌, ◌+◌, ◌++◌, ℕ, List, All, ap, arith, length, map, subst, sym}
+use Rattle.std.proofs.Common.{◌≡◌, ◌∙◌, ◌≤◌, ◌+◌, ◌++◌, ℕ, List, All, ap, arith, length, map, subst}
+use Rattle.std.proofs.Common.{sym}
 use Rattle.std.proofs.lemmas.List.{length-append}
 use Rattle.jobs.specs.Job.{job_view}
 use Rattle.jobs.specs.JobView.{JobView}
@@ -27,24 +28,39 @@ use Rattle.stream_step.proofs.PendingLemmas.{lifted_wait}
 use Rattle.stream_run.proofs.PartLemmas.{length-blanks}
 
 -- the record of what a run on threads left is that of a run from there
-pub run_since : (start : Begin) (setup left : Setup) (rows : List Row) (feeds : List Feed) (crew : List WorkedIs) (ran : RunRecord) → left ≡ setup
-    → IsRunSince start (setup_view setup) rows (ended (setup_view setup) feeds crew) → ran ≡ record_of left feeds crew → IsRunSince start (setup_view setup) rows (record_view ran)
+pub run_since : (start : Begin) (setup left : Setup) (rows : List Row) (feeds : List Feed)
+    (crew : List WorkedIs) (ran : RunRecord) → left ≡ setup
+    → IsRunSince start (setup_view setup) rows (ended (setup_view setup) feeds crew) → ran
+    ≡ record_of left feeds crew → IsRunSince start (setup_view setup) rows (record_view ran)
 run_since start setup left rows feeds crew ran same run is =
     subst (λ (r : RunRecord). IsRunSince start (setup_view setup) rows (record_view r)) (sym is)
-    (subst (λ (s : Setup). IsRunSince start (setup_view setup) rows (ended (setup_view s) feeds crew)) (sym same) run)
+    (subst (λ (s : Setup). IsRunSince start (setup_view setup) rows
+    (ended (setup_view s) feeds crew)) (sym same) run)
 
-pub run_on : (stream : Stream) (requests : List Request) (source : ℕ) (rows : List Row) (setup : Setup) (ran : RunRecord) → AreRows (blanks source stream.start.row ++ rows)
+pub run_on : (stream : Stream) (requests : List Request) (source : ℕ) (rows : List Row)
+    (setup : Setup) (ran : RunRecord) → AreRows (blanks source stream.start.row ++ rows)
     → AreFromSources (job_view stream.setup.job) (blanks source stream.start.row ++ rows)
-    → IsFollowed (setup_view stream.setup) (map (lifted stream.start.row) requests) (setup_view setup)
-    → ran.setup ≡ setup → IsRunSince stream.start (setup_view setup) (blanks source stream.start.row ++ rows) (record_view ran)
-    → IsRunOn stream (map (lifted stream.start.row) requests) (blanks source stream.start.row ++ rows) ran.setup (record_view ran)
+    → IsFollowed (setup_view stream.setup) (map (lifted stream.start.row) requests)
+    (setup_view setup)
+    → ran.setup ≡ setup → IsRunSince stream.start (setup_view setup)
+    (blanks source stream.start.row ++ rows) (record_view ran)
+    → IsRunOn stream (map (lifted stream.start.row) requests)
+    (blanks source stream.start.row ++ rows) ran.setup (record_view ran)
 run_on stream requests source rows setup ran numbered sources followed same run =
     let all = blanks source stream.start.row ++ rows in
     record {
-      within = omega (arith, length-append (blanks source stream.start.row) rows, length-blanks source stream.start.row);
+      within = omega (
+        arith,
+        length-append (blanks source stream.start.row) rows,
+        length-blanks
+            source stream.start.row,
+      );
       numbered = numbered;
       sources = sources;
       wait = lifted_wait stream.start.row requests;
-      followed = subst (λ (s : Setup). IsFollowed (setup_view stream.setup) (map (lifted stream.start.row) requests) (setup_view s)) (sym same) followed;
-      run = subst (λ (s : Setup). IsRunSince stream.start (setup_view s) all (record_view ran)) (sym same) run;
+      followed =
+          subst (λ (s : Setup). IsFollowed (setup_view stream.setup)
+          (map (lifted stream.start.row) requests) (setup_view s)) (sym same) followed;
+      run = subst (λ (s : Setup). IsRunSince stream.start (setup_view s) all (record_view ran))
+          (sym same) run;
     }

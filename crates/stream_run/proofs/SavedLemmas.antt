@@ -1,19 +1,40 @@
 -- A file that was stored holds its text.
-use Rattle.std.proofs.Common.{◌≡◌, ◌∙◌, ℕ, List, [], Option, None, Some, ap, cond, subst, sym}
-use Rattle.std.specs.Prelude.{unwrap_or}
-use Rattle.std.specs.Ordering.{is_eq}
-use Rattle.std.specs.Cmp.{tied_itself}
-use Rattle.std.specs.Cmp.Lexicographic.{nat_list_cmp_total}
-use Rattle.std.specs.FinMap as map
+use Rattle.std.proofs.Common.{◌≡◌, ◌∙◌, ℕ, List, [], ◌∷◌, Option, None, Some, ap, arith, false}
+use Rattle.std.proofs.Common.{refl, subst, sym, true}
+use Rattle.std.proofs.lemmas.Bool.{and_from}
+use Rattle.std.proofs.lemmas.Bool.Decides.{nat_tests}
+use Rattle.std.specs.Prelude.{nat_eq, unwrap_or}
+use Rattle.std.specs.Str.{bytes_eq}
 use Rattle.payments.specs.Files.{Files, with_bytes}
+use Rattle.payments.proofs.FileLemmas.{get-insert_found, get-insert_passed}
 use Rattle.stream_run.specs.Standing.{Holds}
 
-get-stored : (m : Files) (name text : List ℕ) → map.get (map.insert m name text) name ≡ Some text
-get-stored m name text = map.get-insert nat_list_cmp_total m name text name ∙ ap (λ o. cond (is_eq o) (Some text) (map.get m name)) (tied_itself nat_list_cmp_total name)
+eq-refl : (n : ℕ) → nat_eq n n ≡ true
+eq-refl n = grind (arith, nat_tests)
 
-stored_so : (old : Option Files) (name text : List ℕ) → Holds (with_bytes old name text) name text
-stored_so None name text = tt
-stored_so (Some m) name text = ap (λ o. unwrap_or o []) (get-stored m name text)
+same_name : (name : List ℕ) → bytes_eq name name ≡ true
+same_name [] = refl
+same_name (x ∷ name) =
+    and_from (nat_eq x x) (bytes_eq name name) (eq-refl x) (same_name name)
 
-pub holds_stored : (old now : Option Files) (name text : List ℕ) → now ≡ with_bytes old name text → Holds now name text
-holds_stored old now name text is = subst (λ files. Holds files name text) (sym is) (stored_so old name text)
+pub held : (old : Option Files) (name text : List ℕ)
+    → Holds (with_bytes old name text) name text
+held None name text = tt
+held (Some m) name text =
+    ap (λ (o : Option (List ℕ)). unwrap_or o [])
+    (get-insert_found m name text name (same_name name))
+
+-- a file that was stored before another holds its text
+pub held_before : (old : Option Files) (name other text more : List ℕ)
+    → bytes_eq name other ≡ false
+    → Holds (with_bytes (with_bytes old name text) other more) name text
+held_before None name other text more apart = tt
+held_before (Some m) name other text more apart =
+    ap (λ (o : Option (List ℕ)). unwrap_or o [])
+    (get-insert_passed _ other more name apart
+    ∙ get-insert_found m name text name (same_name name))
+
+pub holds_stored : (old now : Option Files) (name text : List ℕ)
+    → now ≡ with_bytes old name text → Holds now name text
+holds_stored old now name text is =
+    subst (λ (files : Option Files). Holds files name text) (sym is) (held old name text)

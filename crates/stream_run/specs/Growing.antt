@@ -76,7 +76,7 @@ pub record Goes (names : Names) (rows : List Row) (old : Stream) (before : Optio
   pub files_are : after ≡ with_all_written names before written
   pub job_is : job_view new.setup.job ≡ job_view old.setup.job
 
--- The rows were run as one part. Its audit tells the requests that the books had as refused, and the
+-- The rows were run as one part. Its audit tells the requests that the books had as refused. The
 -- books count the bytes by which both files have grown, and the rows.
 pub record IsOnePart (names : Names) (books : Books) (rows : List Row) (old : Stream)
     (before : Option Files) (new : Stream) (after : Option Files) (booked : Books) : Type 0 where

@@ -44,8 +44,8 @@ pub record KeepsAsked (old new : Stream) : Type 0 where
   pub job_is : job_view new.setup.job ≡ job_view old.setup.job
   pub splits_are : new.setup.splits ≡ old.setup.splits
 
--- A part up to row `last` issued the requests that ask for a row up to there, each after the last row
--- that was fed before it, or after the later row that it asks for. The others stay pending.
+-- A part up to row `last` issued the requests that ask for a row up to there, each after the last
+-- row that was fed before it, or after the later row that it asks for. The others stay pending.
 pub record Issues (old : Stream) (last : ℕ) (new : Stream) : Type 0 where
   pub issued : new.setup.judged.accepted
       ≡ old.setup.judged.accepted ++ map (lifted old.start.row) (due_by last old.pending)

@@ -54,8 +54,8 @@ pub fn store_save<S: GrowingShelf>(
     store(shelf, names.save, text).map_err(|why| fault_of(FileIs::Save, why))
 }
 
-// The fault of a file that wasn't written. A write never finds a file too long.
-fn fault_of(file: FileIs, why: ShelfFault) -> Fault
+/// The fault of a file that wasn't written. A write never finds a file too long.
+pub fn fault_of(file: FileIs, why: ShelfFault) -> Fault
     ensures { result ≡ write_fault file why }
 {
     match why {

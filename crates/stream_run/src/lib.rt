@@ -14,7 +14,7 @@ mod watch;
 
 pub use books::{Books, Tally};
 pub use call::StreamCall;
-pub use files::{append_part, store_save};
+pub use files::{append_part, fault_of, store_save};
 pub use host::StreamHost;
 pub use names::StreamNames;
 pub use part::{PartRan, run_part};

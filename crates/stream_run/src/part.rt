@@ -47,8 +47,7 @@ impl PartRan {
         ensures pending { result.pending ≡ self.pending }
     {
         let PartRan { ran, last, pending } = self;
-        let (stream, _) = Stream::after_part(ran, last, pending);
-        stream
+        Stream::after_part(ran, last, pending)
     }
 }
 

@@ -1,6 +1,8 @@
 -- A part of a stream goes on from all so far.
-use Rattle.std.proofs.Common.{◌≡◌, ◌∙◌, ◌≤◌, ◌+◌, ◌++◌, ℕ, zero, suc, List, [], ◌∷◌, All, drop, length, take, refl, sym, subst, ap, arith, Some, slice_get}
-use Rattle.std.proofs.lemmas.List.{length-append, length-drop, length-map, length-take-le, take-append-drop}
+use Rattle.std.proofs.Common.{◌≡◌, ◌∙◌, ◌≤◌, ◌+◌, ◌++◌, ℕ, zero, suc, List, [], ◌∷◌, All, drop}
+use Rattle.std.proofs.Common.{length, take, refl, sym, subst, ap, arith, Some, slice_get}
+use Rattle.std.proofs.lemmas.List.{length-append, length-drop, length-map, length-take-le}
+use Rattle.std.proofs.lemmas.List.{take-append-drop}
 use Rattle.std.proofs.lemmas.List.Elements.{All-append, All-drop}
 use Rattle.cover_planner.specs.declared.cover.Plan.{Plan}
 use Rattle.keyed_state.specs.Counts.{Counts}
@@ -27,59 +29,85 @@ use Rattle.stream_step.proofs.PendingLemmas.{fed_due}
 
 -- what the laws of parts say
 abbrev pub RunsAreParts : Type 0
-RunsAreParts = (so_far : SoFar) (others new : List Row) (requests : List Request) (plans : List Plan) (part : RunPart) → IsPartRun so_far others new requests plans part → IsNextPart so_far part
+RunsAreParts =
+    (so_far : SoFar) (others new : List Row) (requests : List Request) (plans : List Plan)
+    (part : RunPart) → IsPartRun so_far others new requests plans part → IsNextPart so_far part
 
 abbrev pub MoreIsRun : Type 0
-MoreIsRun = (so_far : SoFar) (part : RunPart) → IsRunSoFar so_far → IsNextPart so_far part → IsRunSoFar (with_part so_far part)
+MoreIsRun =
+    (so_far : SoFar) (part : RunPart) → IsRunSoFar so_far → IsNextPart so_far part
+    → IsRunSoFar (with_part so_far part)
 
 -- ---- rows
 
-get_either : {A : Type 0} (P : ℕ → A → Type 0) (xs ys : List A) → ((i : ℕ) (x : A) → slice_get xs i ≡ Some x → P i x) → ((i : ℕ) (y : A) → slice_get ys i ≡ Some y → P (length xs + i) y)
+get_either : {A : Type 0} (P : ℕ → A → Type 0) (xs ys : List A)
+    → ((i : ℕ) (x : A) → slice_get xs i ≡ Some x → P i x)
+    → ((i : ℕ) (y : A) → slice_get ys i ≡ Some y → P (length xs + i) y)
     → (i : ℕ) (x : A) → slice_get (xs ++ ys) i ≡ Some x → P i x
 get_either P [] ys f g i x e = (let k : 0 + i ≡ i = omega arith in subst (λ n. P n x) k (g i x e))
 get_either P (a ∷ xs) ys f g zero x e = f zero x e
 get_either P (a ∷ xs) ys f g (suc i) x e =
-    get_either (λ n y. P (suc n) y) xs ys (λ n y h. f (suc n) y h) (λ n y h. (let k : length (a ∷ xs) + n ≡ suc (length xs + n) = omega arith in subst (λ m. P m y) k (g n y h))) i x e
+    get_either (λ n y. P (suc n) y) xs ys (λ n y h. f (suc n) y h)
+    (λ n y h. (let k : length (a ∷ xs) + n ≡ suc (length xs + n) = omega arith in subst
+    (λ m. P m y) k (g n y h))) i x e
 
-pub get_beyond : {A : Type 0} (n i : ℕ) (xs : List A) → slice_get (drop n xs) i ≡ slice_get xs (n + i)
+pub get_beyond : {A : Type 0} (n i : ℕ) (xs : List A) → slice_get (drop n xs) i
+    ≡ slice_get xs (n + i)
 get_beyond zero i xs = (let k : i ≡ 0 + i = omega arith in ap (slice_get xs) k)
 get_beyond (suc n) i [] = refl
-get_beyond (suc n) i (x ∷ xs) = get_beyond n i xs ∙ (let k : suc (n + i) ≡ suc n + i = omega arith in ap (slice_get (x ∷ xs)) k)
+get_beyond (suc n) i (x ∷ xs) =
+    get_beyond n i xs ∙ (let k : suc (n + i) ≡ suc n + i = omega arith in ap (slice_get (x ∷ xs)) k)
 
 pub rows_both : (xs ys : List Row) → AreRows xs → AreRows ys → AreRows (xs ++ drop (length xs) ys)
 rows_both xs ys are more =
-    get_either (λ n (r : Row). IsRow (n + 1) r) xs (drop (length xs) ys) are (λ i r e. more (length xs + i) r (sym (get_beyond (length xs) i ys) ∙ e))
+    get_either (λ n (r : Row). IsRow (n + 1) r) xs (drop (length xs) ys) are
+    (λ i r e. more (length xs + i) r (sym (get_beyond (length xs) i ys) ∙ e))
 
 -- ---- the part
 
 -- all so far, which one run is, before a part that was run from its end
-module _ (stream : Stream) (so_far : SoFar) (requests : List Request) (rows : List Row) (setup : Setup) (left : Ran) (has : HasRun stream so_far) (on : IsRunOn stream requests rows setup left) where
+module _ (stream : Stream) (so_far : SoFar) (requests : List Request) (rows : List Row)
+    (setup : Setup) (left : Ran) (has : HasRun stream so_far)
+    (on : IsRunOn stream requests rows setup left) where
   row_is : stream.start.row ≡ length so_far.rows
   row_is = ap (λ (b : Begin). b.row) has.start_is
 
   one_each : length so_far.setup.plans ≡ length so_far.setup.requests
-  one_each = subst (λ (s : SetupView). length s.plans ≡ length s.requests) (sym has.setup_is) (has_covers (setup_view stream.setup) stream.setup.planned).one_each
+  one_each =
+      subst (λ (s : SetupView). length s.plans ≡ length s.requests) (sym has.setup_is)
+      (has_covers (setup_view stream.setup) stream.setup.planned).one_each
 
   due : All (λ after. after ≤ length so_far.rows) (afters so_far.setup.requests)
   due =
-      subst (λ (s : SetupView). All (λ after. after ≤ length so_far.rows) (afters s.requests)) (sym has.setup_is)
-      (subst (λ k. All (λ after. after ≤ k) (afters stream.setup.judged.accepted)) row_is (fed_due stream.start.row stream.setup.judged.accepted stream.due))
+      subst (λ (s : SetupView). All (λ after. after ≤ length so_far.rows) (afters s.requests))
+      (sym has.setup_is)
+      (subst (λ k. All (λ after. after ≤ k) (afters stream.setup.judged.accepted)) row_is
+      (fed_due stream.start.row stream.setup.judged.accepted stream.due))
 
   job_is : (setup_view setup).job ≡ so_far.setup.job
-  job_is = ap (λ (s : SetupView). s.job) on.followed.extended_is ∙ ap (λ (s : SetupView). s.job) (sym has.setup_is)
+  job_is = ap (λ (s : SetupView). s.job) on.followed.extended_is
+      ∙ ap (λ (s : SetupView). s.job) (sym has.setup_is)
 
-  goes_on : IsRunSince (start_of (length so_far.rows) so_far.ran) (setup_view setup) (take (length so_far.rows) rows ++ drop (length so_far.rows) rows) left
+  goes_on : IsRunSince (start_of (length so_far.rows) so_far.ran) (setup_view setup)
+      (take (length so_far.rows) rows ++ drop (length so_far.rows) rows) left
   goes_on =
-      subst (λ (r : List Row). IsRunSince (start_of (length so_far.rows) so_far.ran) (setup_view setup) r left) (sym (take-append-drop (length so_far.rows) rows))
+      subst (λ (r : List Row). IsRunSince (start_of (length so_far.rows) so_far.ran)
+      (setup_view setup) r left) (sym (take-append-drop (length so_far.rows) rows))
       (subst (λ (b : Begin). IsRunSince b (setup_view setup) rows left) has.start_is on.run)
 
-  part_run : IsPartRun so_far (take (length so_far.rows) rows) (drop (length so_far.rows) rows) requests on.followed.plans (record { setup = setup; rows = so_far.rows ++ drop (length so_far.rows) rows; left = left })
+  part_run : IsPartRun so_far (take (length so_far.rows) rows)
+      (drop (length so_far.rows) rows) requests on.followed.plans
+      (record { setup = setup; rows = so_far.rows ++ drop (length so_far.rows) rows; left = left })
   part_run = record {
-    setup_is = on.followed.extended_is ∙ ap (λ (s : SetupView). extended s requests on.followed.plans) (sym has.setup_is);
+    setup_is =
+        on.followed.extended_is ∙ ap (λ (s : SetupView). extended s requests on.followed.plans)
+        (sym has.setup_is);
     one_each = one_each;
     rows_are = refl;
     numbered = rows_both so_far.rows rows has.numbered on.numbered;
-    as_many = length-take-le (length so_far.rows) rows (let w : stream.start.row ≤ length rows = on.within in omega (arith, row_is));
+    as_many =
+        length-take-le (length so_far.rows) rows
+        (let w : stream.start.row ≤ length rows = on.within in omega (arith, row_is));
     due = due;
     wait = subst (λ k. All (λ after. k ≤ after) (afters requests)) row_is on.wait;
     goes_on = goes_on;
@@ -87,8 +115,10 @@ module _ (stream : Stream) (so_far : SoFar) (requests : List Request) (rows : Li
 
   sources : AreFromSources (setup_view setup).job (so_far.rows ++ drop (length so_far.rows) rows)
   sources =
-      subst (λ (j : JobView). AreFromSources j (so_far.rows ++ drop (length so_far.rows) rows)) (sym job_is)
-      (All-append (λ (r : Row). IsSourceOf so_far.setup.job r.source) so_far.rows (drop (length so_far.rows) rows) has.sources
+      subst (λ (j : JobView). AreFromSources j (so_far.rows ++ drop (length so_far.rows) rows))
+      (sym job_is)
+      (All-append (λ (r : Row). IsSourceOf so_far.setup.job r.source) so_far.rows
+      (drop (length so_far.rows) rows) has.sources
       (All-drop (λ (r : Row). IsSourceOf so_far.setup.job r.source) (length so_far.rows) rows
       (subst (λ (s : SetupView). AreFromSources s.job rows) (sym has.setup_is) on.sources)))
 
@@ -101,9 +131,20 @@ module _ (stream : Stream) (so_far : SoFar) (requests : List Request) (rows : Li
       left_is = refl;
       plans = on.followed.plans;
       is_run = part_run;
-      one_run = more so_far (record { setup = setup; rows = so_far.rows ++ drop (length so_far.rows) rows; left = left }) has.run
-          (parts so_far (take (length so_far.rows) rows) (drop (length so_far.rows) rows) requests on.followed.plans
-          (record { setup = setup; rows = so_far.rows ++ drop (length so_far.rows) rows; left = left }) part_run);
+      one_run =
+          more so_far (record {
+            setup = setup;
+            rows = so_far.rows ++ drop (length so_far.rows) rows;
+            left = left;
+          }) has.run
+          (parts so_far (take (length so_far.rows) rows)
+          (drop (length so_far.rows) rows) requests on.followed.plans
+          (record {
+            setup = setup;
+            rows = so_far.rows
+                ++ drop (length so_far.rows) rows;
+            left = left;
+          }) part_run);
       numbered = rows_both so_far.rows rows has.numbered on.numbered;
       sources = sources;
     },
@@ -114,15 +155,20 @@ module _ (stream : Stream) (so_far : SoFar) (requests : List Request) (rows : Li
 at_same : (a b : SetupView) → a.job ≡ b.job → at_first a ≡ at_first b
 at_same a b e = ap (λ (j : JobView). at_first (record a { job = j })) e
 
-pub states_first : (setup : SetupView) → length (at_first setup).states ≡ length (workers_in setup.job)
+pub states_first : (setup : SetupView) → length (at_first setup).states
+    ≡ length (workers_in setup.job)
 states_first setup = simp length-map
 
-pub first_run : (stream : Stream) (requests : List Request) (rows : List Row) (setup : Setup) (left : Ran) → stream.start ≡ at_first (setup_view stream.setup) → IsRunOn stream requests rows setup left
+pub first_run : (stream : Stream) (requests : List Request) (rows : List Row) (setup : Setup)
+    (left : Ran) → stream.start ≡ at_first (setup_view stream.setup)
+    → IsRunOn stream requests rows setup left
     → IsFirstRun setup rows left
 first_run stream requests rows setup left first on =
-    let job_is : (setup_view stream.setup).job ≡ (setup_view setup).job = sym (ap (λ (s : SetupView). s.job) on.followed.extended_is) in
+    let job_is : (setup_view stream.setup).job ≡ (setup_view setup).job =
+    sym (ap (λ (s : SetupView). s.job) on.followed.extended_is) in
     record {
-      run = subst (λ (b : Begin). IsRunSince b (setup_view setup) rows left) (first ∙ at_same (setup_view stream.setup) (setup_view setup) job_is) on.run;
+      run = subst (λ (b : Begin). IsRunSince b (setup_view setup) rows left)
+          (first ∙ at_same (setup_view stream.setup) (setup_view setup) job_is) on.run;
       numbered = on.numbered;
       sources = subst (λ (j : JobView). AreFromSources j rows) job_is on.sources;
     }
@@ -132,13 +178,17 @@ first_run stream requests rows setup left first on =
 abbrev begin_as : ℕ → ℕ → List Counts → Begin
 begin_as row turned states = record { row = row; turned = turned; states = states }
 
-pub goes_on_after : (so_far : SoFar) (requests : List Request) (rows : List Row) (next : Stream) (left : Ran) (part : RunPart) → IsPartAfter so_far requests rows next.setup left part
-    → length so_far.rows ≤ length rows → next.start ≡ start_of (length rows) left → left.setup ≡ setup_view next.setup → HasRun next (with_part so_far part)
+pub goes_on_after : (so_far : SoFar) (requests : List Request) (rows : List Row) (next : Stream)
+    (left : Ran) (part : RunPart) → IsPartAfter so_far requests rows next.setup left part
+    → length so_far.rows ≤ length rows → next.start ≡ start_of (length rows) left → left.setup
+    ≡ setup_view next.setup → HasRun next (with_part so_far part)
 goes_on_after so_far requests rows next left part after le start_is setup_is =
     let same : setup_view part.setup ≡ setup_view next.setup = ap setup_view after.setup_is in
-    let rest : length so_far.rows + length (drop (length so_far.rows) rows) ≡ length rows = omega (arith, length-drop (length so_far.rows) rows, le) in
+    let rest : length so_far.rows + length (drop (length so_far.rows) rows) ≡ length rows =
+    omega (arith, length-drop (length so_far.rows) rows, le) in
     let count : length part.rows ≡ length rows =
-    ap (λ (r : List Row). length r) after.is_run.rows_are ∙ (length-append so_far.rows (drop (length so_far.rows) rows) ∙ rest) in
+    ap (λ (r : List Row). length r) after.is_run.rows_are
+    ∙ (length-append so_far.rows (drop (length so_far.rows) rows) ∙ rest) in
     record {
       run = after.one_run;
       numbered = after.numbered;
@@ -147,6 +197,8 @@ goes_on_after so_far requests rows next left part after le start_is setup_is =
       start_is =
           start_is
           ∙ (ap (λ k. start_of k left) (sym count)
-          ∙ (ap (λ (r : Ran). begin_as (length part.rows) (length left.setup.requests) r.states) (sym after.left_is)
-          ∙ ap (λ (s : SetupView). begin_as (length part.rows) (length s.requests) part.left.states) (setup_is ∙ sym same)));
+          ∙ (ap (λ (r : Ran). begin_as (length part.rows) (length left.setup.requests) r.states)
+          (sym after.left_is)
+          ∙ ap (λ (s : SetupView). begin_as (length part.rows) (length s.requests) part.left.states)
+          (setup_is ∙ sym same)));
     }

@@ -1,4 +1,3 @@
 pub mod Pending
 pub mod Parts
-pub mod Left
 pub mod Resumed

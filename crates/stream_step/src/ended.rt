@@ -7,48 +7,38 @@ ghost use Rattle.versions.specs.declared.request.Request.{Request};
 ghost use Rattle.flow_model.specs.Record.{record_view};
 ghost use Rattle.flow_model.specs.Workers.{workers_in};
 ghost use Rattle.savepoint.specs.Parts.{start_of};
-ghost use Rattle.stream_step.specs.Left.{part_ran};
 ghost use Rattle.stream_step.specs.Pending.{SplitWithin, lifted};
 
-use crate::parts::PartLeft;
 use crate::stream::Stream;
 use flow_model::{RunRecord, Start};
 use versions::Requests;
 
 impl Stream {
-    /// The stream after a part, and what the part left besides its counts. They are moved into the
-    /// stream. Takes no memory.
+    /// The stream after a part, whose counts are moved into it. Takes no memory.
     ///
     /// `ran` is the record of the part, `last` the number of its last row, and `pending` has the
     /// requests that wait for a later row.
-    pub fn after_part(ran: RunRecord, last: u64, pending: Requests) -> (Stream, PartLeft)
+    pub fn after_part(ran: RunRecord, last: u64, pending: Requests) -> Stream
         requires due { IsTrue (list_all (λ (request : Request). nat_le request.after last)
             ran.setup.judged.accepted) }
         requires accepted { AreAccepted (job_view ran.setup.job)
             (ran.setup.judged.accepted ++ map (lifted last) pending) }
         requires splits { SplitWithin ran.setup.splits pending }
         requires states { length ran.states ≡ length (workers_in (job_view ran.setup.job)) }
-        ensures setup { result.0.setup ≡ ran.setup }
-        ensures start { result.0.start ≡ start_of last (record_view ran) }
-        ensures pending { result.0.pending ≡ pending }
-        ensures left { part_ran result.0 result.1 ≡ record_view ran }
+        ensures setup { result.setup ≡ ran.setup }
+        ensures start { result.start ≡ start_of last (record_view ran) }
+        ensures pending { result.pending ≡ pending }
     {
-        let RunRecord {
-            setup,
-            feeds,
-            journals,
-            states,
-        } = ran;
+        let RunRecord { setup, states, .. } = ran;
         let start = Start {
             row: last,
             turned: setup.request_count() as u64,
             states,
         };
-        let stream = Stream {
+        Stream {
             setup,
             start,
             pending,
-        };
-        (stream, PartLeft { feeds, journals })
+        }
     }
 }

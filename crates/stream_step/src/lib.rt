@@ -9,5 +9,5 @@ mod resumed;
 mod stream;
 
 pub use laws::parts_go_on;
-pub use parts::{LastPart, NextPart, PartLeft};
-pub use stream::Stream;
+pub use parts::{LastPart, NextPart};
+pub use stream::{Stream, appended};

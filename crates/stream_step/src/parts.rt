@@ -11,8 +11,7 @@ ghost use Rattle.stream_step.specs.Pending.{AreAsked, SplitWithin, due_by, left_
 
 use crate::pending::{Parted, all_lifted, part_at};
 use crate::stream::Stream;
-use flow_model::{RunRecord, Setup, Start};
-use sink_journal::{Feeds, Journals};
+use flow_model::{Setup, Start};
 use std::alloc::Global;
 use stream_law::later_requests_are_judged_later;
 use tuple_trace::NoMemory;
@@ -53,13 +52,6 @@ pub struct LastPart {
     pub start: Start,
     ghost turned: { start.turned ≤ length setup.judged.accepted },
     ghost states: { length start.states ≡ length (workers_in (job_view setup.job)) },
-}
-
-/// What a part leaves besides its counts, which the stream has.
-#[derive(Drop)]
-pub struct PartLeft {
-    pub feeds: Feeds,
-    pub journals: Journals,
 }
 
 impl Stream {

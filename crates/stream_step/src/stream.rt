@@ -107,8 +107,8 @@ impl Stream {
     }
 }
 
-// The requests of both lists, one after the other.
-fn appended(first: Requests, second: Requests) -> Result<Requests, NoMemory>
+/// The requests of both lists, one after the other. The one error is out of memory.
+pub fn appended(first: Requests, second: Requests) -> Result<Requests, NoMemory>
     ensures { IfOk result (λ both. both ≡ first ++ second) }
 {
     let mut both = first.into_vec();

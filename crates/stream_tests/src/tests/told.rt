@@ -169,8 +169,8 @@ fn holds(shelf: &MemoryShelf, name: &Word, text: &str) -> bool {
 const AUDIT: &str = "fed,,,,1,\nfed,,,,2,\nfed,,,,3,\nstopped,,,,,\nmet,out,0,0,1,\n\
     met,out,0,0,2,\nmet,out,0,0,3,\nended,out,0,0,,\n";
 
-/// The alerts, the audit and the savepoint after the part. The watch was told of both once, and that the file
-/// of the alerts has so many bytes.
+/// The alerts, the audit and the savepoint after the part. The watch was told of both once, and that
+/// the file of the alerts has so many bytes.
 fn is_told<R: Threads + Wait + Sync>(rt: &R, alloc: Global) -> Result<bool, Fault> {
     let words = file_words(alloc)?;
     let mut shelf = MemoryShelf::new(alloc, 5, Calls::new(alloc));

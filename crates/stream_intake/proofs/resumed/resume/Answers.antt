@@ -1,4 +1,5 @@
-use Rattle.std.proofs.Common.{◌≡◌, ◌∙◌, ◌≤◌, ◌++◌, All, List, Some, ap, arith, drop, length, subst, sym, take}
+use Rattle.std.proofs.Common.{◌≡◌, ◌∙◌, ◌≤◌, ◌++◌, All, List, Some, ap, arith, drop, length, subst}
+use Rattle.std.proofs.Common.{sym, take}
 use Rattle.std.proofs.lemmas.List.{take-append-drop, take_min}
 use Rattle.std.proofs.lemmas.List.Elements.{All-drop, All-take}
 use Rattle.std.proofs.lemmas.Result.{err_from_is_err_and}
@@ -16,56 +17,91 @@ use Rattle.stream_intake.proofs.IntakeLemmas.{judged_alike, taken_fewer}
 use Rattle.stream_intake.proofs.resumed.resume.Goals as goal
 
 pub invariant_of-known-clause-few : goal.invariant_of-known-clause-few
-invariant_of-known-clause-few c = omega (arith, ap (λ (l : List Request). length l) c.in_ok-first.ensures.first, taken_fewer c.read_of-read.result c.args.requests, c.requires.few)
+invariant_of-known-clause-few c =
+    omega (
+      arith,
+      ap (λ (l : List Request). length l) c.in_ok-first.ensures.first,
+      taken_fewer
+          c.read_of-read.result c.args.requests,
+      c.requires.few,
+    )
 
 pub invariant_of-known-clause-changes : goal.invariant_of-known-clause-changes
 invariant_of-known-clause-changes c =
-    subst (λ (l : List Request). All (λ (r : Request). length r.changes ≤ MAX_CHANGES) l) (sym c.in_ok-first.ensures.first) (All-take (λ (r : Request). length r.changes ≤ MAX_CHANGES) _ c.args.requests c.requires.changes)
+    subst (λ (l : List Request). All (λ (r : Request). length r.changes ≤ MAX_CHANGES) l)
+    (sym c.in_ok-first.ensures.first)
+    (All-take (λ (r : Request). length r.changes ≤ MAX_CHANGES) _ c.args.requests
+    c.requires.changes)
 
 pub learn-requires-clause-changes : goal.learn-requires-clause-changes
 learn-requires-clause-changes c =
-    subst (λ (l : List Request). All (λ (r : Request). length r.changes ≤ MAX_CHANGES) l) (sym c.in_ok-first.ensures.second) (All-drop (λ (r : Request). length r.changes ≤ MAX_CHANGES) _ c.args.requests c.requires.changes)
+    subst (λ (l : List Request). All (λ (r : Request). length r.changes ≤ MAX_CHANGES) l)
+    (sym c.in_ok-first.ensures.second)
+    (All-drop (λ (r : Request). length r.changes ≤ MAX_CHANGES) _ c.args.requests
+    c.requires.changes)
 
 pub returns-in_err-stream-clause-fault : goal.returns-in_err-stream-clause-fault
 returns-in_err-stream-clause-fault c =
-    let p = err_from_is_err_and c.from_residual-in_err-stream.result c.from_residual-in_err-stream.ensures.1 in
-    let first_is : c.in_ok-first.first ≡ take c.args.save.read c.args.requests = c.in_ok-first.ensures.first ∙ (ap (λ n. take n c.args.requests) c.read_of-read.ensures ∙ take_min c.args.save.read c.args.requests) in
-    rw (p.1, p.2) (λ other splits mask. gone_fault _ _ _ _ _ _ first_is (c.in_err-stream.ensures.fault other splits mask))
+    let p = err_from_is_err_and c.from_residual-in_err-stream.result
+    c.from_residual-in_err-stream.ensures.1 in
+    let first_is : c.in_ok-first.first ≡ take c.args.save.read c.args.requests =
+    c.in_ok-first.ensures.first ∙ (ap (λ n. take n c.args.requests) c.read_of-read.ensures
+    ∙ take_min c.args.save.read c.args.requests) in
+    rw (p.1, p.2) (λ other splits mask. gone_fault _ _ _ _ _ _ first_is
+    (c.in_err-stream.ensures.fault other splits mask))
 
 pub returns-clause-resumed : goal.returns-clause-resumed
 returns-clause-resumed c =
-    let first_is : c.in_ok-first.first ≡ take c.args.save.read c.args.requests = c.in_ok-first.ensures.first ∙ (ap (λ n. take n c.args.requests) c.read_of-read.ensures ∙ take_min c.args.save.read c.args.requests) in
-    subst (λ (l : List Request). IsResumed (job_view c.args.job) (judged_in c.in_ok-stream-2.field-0.stream l).accepted c.args.ordered c.args.save (setup_view c.in_ok-stream-2.field-0.stream.setup)) first_is
-    (subst (λ (s : Setup). IsResumed (job_view c.args.job) (judged_within (Some s.splits) (job_view s.job) c.in_ok-first.first).accepted c.args.ordered c.args.save (setup_view s)) (sym c.in_ok-stream-2.ensures.setup)
+    let first_is : c.in_ok-first.first ≡ take c.args.save.read c.args.requests =
+    c.in_ok-first.ensures.first ∙ (ap (λ n. take n c.args.requests) c.read_of-read.ensures
+    ∙ take_min c.args.save.read c.args.requests) in
+    subst (λ (l : List Request). IsResumed (job_view c.args.job)
+    (judged_in c.in_ok-stream-2.field-0.stream l).accepted c.args.ordered c.args.save
+    (setup_view c.in_ok-stream-2.field-0.stream.setup)) first_is
+    (subst (λ (s : Setup). IsResumed (job_view c.args.job)
+    (judged_within (Some s.splits) (job_view s.job) c.in_ok-first.first).accepted c.args.ordered
+    c.args.save (setup_view s)) (sym c.in_ok-stream-2.ensures.setup)
     c.in_ok-stream.ensures.resumed)
 
 pub returns-clause-is_known : goal.returns-clause-is_known
 returns-clause-is_known c =
     let all_are : c.in_ok-first.first ++ c.in_ok-first.later ≡ c.args.requests =
     ap (λ (l : List Request). l ++ c.in_ok-first.later) c.in_ok-first.ensures.first
-    ∙ (ap (λ (l : List Request). take c.read_of-read.result c.args.requests ++ l) c.in_ok-first.ensures.second ∙ take-append-drop c.read_of-read.result c.args.requests) in
-    subst (λ (l : List Request). IsKnownTo l c.in_ok-stream-2.field-0.stream) all_are c.in_ok-stream-2.ensures.is_known
+    ∙ (ap (λ (l : List Request). take c.read_of-read.result c.args.requests ++ l)
+    c.in_ok-first.ensures.second ∙ take-append-drop c.read_of-read.result c.args.requests) in
+    subst (λ (l : List Request). IsKnownTo l c.in_ok-stream-2.field-0.stream) all_are
+    c.in_ok-stream-2.ensures.is_known
 
 pub returns-clause-pending : goal.returns-clause-pending
 returns-clause-pending c =
     let all_are : c.in_ok-first.first ++ c.in_ok-first.later ≡ c.args.requests =
     ap (λ (l : List Request). l ++ c.in_ok-first.later) c.in_ok-first.ensures.first
-    ∙ (ap (λ (l : List Request). take c.read_of-read.result c.args.requests ++ l) c.in_ok-first.ensures.second ∙ take-append-drop c.read_of-read.result c.args.requests) in
+    ∙ (ap (λ (l : List Request). take c.read_of-read.result c.args.requests ++ l)
+    c.in_ok-first.ensures.second ∙ take-append-drop c.read_of-read.result c.args.requests) in
     let old = c.in_ok-stream.stream in
     c.in_ok-stream-2.ensures.pending
-    ∙ (gone_pending c.later_requests_are_judged_later.ensures old c.args.save.start.turned c.in_ok-first.first c.in_ok-first.later c.args.requests old.pending (sym all_are) c.in_ok-stream.ensures.enough
+    ∙ (gone_pending c.later_requests_are_judged_later.ensures old c.args.save.start.turned
+    c.in_ok-first.first c.in_ok-first.later c.args.requests old.pending
+    (sym all_are) c.in_ok-stream.ensures.enough
     c.in_ok-stream.ensures.pending
-    ∙ sym (ap (λ (j : Judged). drop c.args.save.start.turned j.accepted) (judged_alike old c.in_ok-stream-2.field-0.stream c.args.requests c.in_ok-stream-2.ensures.setup)))
+    ∙ sym (ap (λ (j : Judged). drop c.args.save.start.turned j.accepted)
+    (judged_alike old c.in_ok-stream-2.field-0.stream c.args.requests
+    c.in_ok-stream-2.ensures.setup)))
 
 pub returns-clause-refused : goal.returns-clause-refused
 returns-clause-refused c =
-    let first_is : c.in_ok-first.first ≡ take c.args.save.read c.args.requests = c.in_ok-first.ensures.first ∙ (ap (λ n. take n c.args.requests) c.read_of-read.ensures ∙ take_min c.args.save.read c.args.requests) in
+    let first_is : c.in_ok-first.first ≡ take c.args.save.read c.args.requests =
+    c.in_ok-first.ensures.first ∙ (ap (λ n. take n c.args.requests) c.read_of-read.ensures
+    ∙ take_min c.args.save.read c.args.requests) in
     let all_are : c.in_ok-first.first ++ c.in_ok-first.later ≡ c.args.requests =
     ap (λ (l : List Request). l ++ c.in_ok-first.later) c.in_ok-first.ensures.first
-    ∙ (ap (λ (l : List Request). take c.read_of-read.result c.args.requests ++ l) c.in_ok-first.ensures.second ∙ take-append-drop c.read_of-read.result c.args.requests) in
+    ∙ (ap (λ (l : List Request). take c.read_of-read.result c.args.requests ++ l)
+    c.in_ok-first.ensures.second ∙ take-append-drop c.read_of-read.result c.args.requests) in
     let old = c.in_ok-stream.stream in
     c.in_ok-stream-2.ensures.refused
     ∙ (ap (refused_after old c.in_ok-first.first) all_are
     ∙ (ap (λ (l : List Request). refused_after old l c.args.requests) first_is
-    ∙ ap (λ (s : Setup). drop (length (judged_within (Some s.splits) (job_view s.job) (take c.args.save.read c.args.requests)).refused) (judged_within (Some s.splits) (job_view s.job) c.args.requests).refused)
+    ∙ ap (λ (s : Setup). drop (length (judged_within (Some s.splits) (job_view s.job)
+    (take c.args.save.read c.args.requests)).refused)
+    (judged_within (Some s.splits) (job_view s.job) c.args.requests).refused)
     (sym c.in_ok-stream-2.ensures.setup)))

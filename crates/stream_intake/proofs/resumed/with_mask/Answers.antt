@@ -14,12 +14,17 @@ use Rattle.stream_intake.proofs.resumed.with_mask.Goals as goal
 
 pub make_for_stream-requires : goal.make_for_stream-requires
 make_for_stream-requires c =
-    subst (AreAccepted (job_view c.args.job)) (sym c.none.ensures.accepted) (ap (λ (j : Judged). j.refused) (judged_none None (job_view c.args.job)))
+    subst (AreAccepted (job_view c.args.job)) (sym c.none.ensures.accepted)
+    (ap (λ (j : Judged). j.refused) (judged_none None (job_view c.args.job)))
 
 pub returns-clause-splits : goal.returns-clause-splits
 returns-clause-splits c =
     let setup = c.in_ok-job.field-0 in
-    let none : setup.judged.accepted ≡ [] = ap (λ (j : Judged). j.accepted) c.in_ok-job.ensures.judged ∙ c.none.ensures.accepted in
+    let none : setup.judged.accepted ≡ [] =
+    ap (λ (j : Judged). j.accepted) c.in_ok-job.ensures.judged ∙ c.none.ensures.accepted in
     subst (λ (j : Job). IsMaskOf j.nodes setup.splits) c.in_ok-job.ensures.job
     (mask_of_none setup.job.nodes setup.splits
-    (subst (λ (l : List Request). (node : ℕ) → Has setup.splits node ↔ IsTrue (splits_at setup.job.nodes l node || may_become_split (slice_get setup.job.nodes node))) none c.in_ok-job.ensures.exact.splits))
+    (subst (λ (l : List Request). (node : ℕ)
+    → Has setup.splits node ↔ IsTrue
+    (splits_at setup.job.nodes l node || may_become_split (slice_get setup.job.nodes node))) none
+    c.in_ok-job.ensures.exact.splits))

@@ -9,12 +9,16 @@ add-requires-clause-accepted c =
     let known : List Request = c.args.known.now.requests in (
       (judged_in c.args.stream known).accepted,
       c.requires.known,
-      added_accepted c.later_requests_are_judged_later.ensures c.accepted_requests_stay_accepted.ensures c.args.stream known c.args.more c.in_ok-accepted.field-0.accepted c.in_ok-accepted.ensures.accepted,
+      added_accepted c.later_requests_are_judged_later.ensures
+          c.accepted_requests_stay_accepted.ensures c.args.stream known c.args.more
+          c.in_ok-accepted.field-0.accepted c.in_ok-accepted.ensures.accepted,
     )
 
 pub add-requires-clause-splits : goal.add-requires-clause-splits
 add-requires-clause-splits c =
-    added_within c.later_requests_are_judged_later.ensures c.accepted_requests_split_within.ensures c.args.stream c.args.known.now.requests c.args.more c.in_ok-accepted.field-0.accepted c.in_ok-accepted.ensures.accepted
+    added_within c.later_requests_are_judged_later.ensures c.accepted_requests_split_within.ensures
+    c.args.stream c.args.known.now.requests c.args.more c.in_ok-accepted.field-0.accepted
+    c.in_ok-accepted.ensures.accepted
 
 pub returns-clause-is_known : goal.returns-clause-is_known
 returns-clause-is_known c =
@@ -22,6 +26,9 @@ returns-clause-is_known c =
     let later : List Request = c.in_ok-accepted.field-0.accepted in
     let law = c.later_requests_are_judged_later.ensures in
     let is = c.in_ok-accepted.ensures.accepted in
-    let added = added_accepted law c.accepted_requests_stay_accepted.ensures c.args.stream known c.args.more later is in
-    added_known law c.args.stream c.in_ok-stream.stream known c.args.more later is c.in_ok-stream.ensures.setup
+    let added =
+    added_accepted law c.accepted_requests_stay_accepted.ensures c.args.stream known c.args.more
+    later is in
+    added_known law c.args.stream c.in_ok-stream.stream known c.args.more later is
+    c.in_ok-stream.ensures.setup
     (c.in_ok-stream.ensures.asked (judged_in c.args.stream known).accepted c.requires.known added)

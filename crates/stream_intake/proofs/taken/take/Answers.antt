@@ -6,4 +6,6 @@ use Rattle.stream_intake.proofs.taken.take.Goals as goal
 
 pub learn-requires-clause-changes : goal.learn-requires-clause-changes
 learn-requires-clause-changes c =
-    subst (λ (l : List Request). All (λ (r : Request). length r.changes ≤ MAX_CHANGES) l) (sym c.in_ok-more.ensures) (All-drop (λ (r : Request). length r.changes ≤ MAX_CHANGES) _ c.args.found c.requires.changes)
+    subst (λ (l : List Request). All (λ (r : Request). length r.changes ≤ MAX_CHANGES) l)
+    (sym c.in_ok-more.ensures) (All-drop (λ (r : Request). length r.changes ≤ MAX_CHANGES) _
+    c.args.found c.requires.changes)

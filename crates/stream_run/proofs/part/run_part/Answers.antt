@@ -1,4 +1,5 @@
-use Rattle.std.proofs.Common.{◌≡◌, ◌∙◌, ◌++◌, IsTrue, List, ap, arith, length, map, nat_le, subst, sym}
+use Rattle.std.proofs.Common.{◌≡◌, ◌∙◌, ◌++◌, IsTrue, List, ap, arith, length, map, nat_le, subst}
+use Rattle.std.proofs.Common.{sym}
 use Rattle.std.specs.List.{list_all}
 use Rattle.jobs.specs.Job.{job_view}
 use Rattle.jobs.specs.JobView.{JobView}
@@ -21,42 +22,72 @@ use Rattle.stream_run.proofs.PartRunLemmas.{run_on, run_since}
 use Rattle.stream_run.proofs.part.run_part.Goals as goal
 
 pub behind-rows-requires-clause-numbered : goal.behind-rows-requires-clause-numbered
-behind-rows-requires-clause-numbered g c = subst (λ (s : Stream). AreRowsAfter s.start.row c.args.rows.now) (sym c.stream.view_is) c.requires.numbered
+behind-rows-requires-clause-numbered g c =
+    subst (λ (s : Stream). AreRowsAfter s.start.row c.args.rows.now)
+    (sym c.stream.view_is) c.requires.numbered
 
 pub run_from-requires-clause-rows : goal.run_from-requires-clause-rows
 run_from-requires-clause-rows g c κs within =
-    let job_is : job_view c.in_ok-setup.field-0.setup.job ≡ job_view c.args.stream.setup.job = ap (λ (s : SetupView). s.job) c.in_ok-setup.ensures.followed.extended_is in
-    let rows_are : c.behind-rows.result ≡ blanks c.args.source c.args.stream.start.row ++ c.args.rows.now =
-    c.behind-rows.ensures ∙ ap (λ (s : Stream). blanks c.args.source s.start.row ++ c.args.rows.now) c.stream.view_is in
-    subst (λ (r : List Row). AreFromSources (job_view c.in_ok-setup.field-0.setup.job) r) (sym rows_are)
-    (subst (λ (j : JobView). AreFromSources j (blanks c.args.source c.args.stream.start.row ++ c.args.rows.now)) (sym job_is)
-    (sources_fed (job_view c.args.stream.setup.job) c.args.source c.args.stream.start.row c.args.rows.now c.requires.source c.requires.sources))
+    let job_is : job_view c.in_ok-setup.field-0.setup.job ≡ job_view c.args.stream.setup.job =
+    ap (λ (s : SetupView). s.job) c.in_ok-setup.ensures.followed.extended_is in
+    let rows_are : c.behind-rows.result ≡ blanks c.args.source c.args.stream.start.row
+    ++ c.args.rows.now =
+    c.behind-rows.ensures ∙ ap (λ (s : Stream). blanks c.args.source s.start.row ++ c.args.rows.now)
+    c.stream.view_is in
+    subst (λ (r : List Row). AreFromSources (job_view c.in_ok-setup.field-0.setup.job) r)
+    (sym rows_are)
+    (subst (λ (j : JobView). AreFromSources j
+    (blanks c.args.source c.args.stream.start.row ++ c.args.rows.now)) (sym job_is)
+    (sources_fed (job_view c.args.stream.setup.job) c.args.source c.args.stream.start.row
+    c.args.rows.now c.requires.source c.requires.sources))
 
 pub invariant_of-result : goal.invariant_of-result
 invariant_of-result g c =
     let part = c.in_ok-setup.field-0 in
-    let same : c.in_ok-ran.ran.setup ≡ c.in_ok-setup.field-0.setup = ap (λ (r : RunRecord). r.setup) c.in_ok-ran.ensures ∙ c.in_ok-flown.ensures.setup in
-    let since = run_since _ c.in_ok-setup.field-0.setup c.in_ok-flown.flown.setup c.behind-rows.result c.in_ok-flown.flown.feeds c.in_ok-flown.flown.crew.items c.in_ok-ran.ran
+    let same : c.in_ok-ran.ran.setup ≡ c.in_ok-setup.field-0.setup =
+    ap (λ (r : RunRecord). r.setup) c.in_ok-ran.ensures ∙ c.in_ok-flown.ensures.setup in
+    let since =
+    run_since _ c.in_ok-setup.field-0.setup c.in_ok-flown.flown.setup c.behind-rows.result
+    c.in_ok-flown.flown.feeds c.in_ok-flown.flown.crew.items c.in_ok-ran.ran
     c.in_ok-flown.ensures.setup c.in_ok-flown.ensures.run c.in_ok-ran.ensures in
     record {
-      due = subst (λ (s : Setup). IsTrue (list_all (λ (request : Request). nat_le request.after part.last) s.judged.accepted)) (sym same) part.due;
-      accepted = subst (λ (s : Setup). AreAccepted (job_view s.job) (s.judged.accepted ++ map (lifted part.last) part.pending)) (sym same) part.accepted;
+      due = subst (λ (s : Setup). IsTrue (list_all
+          (λ (request : Request). nat_le request.after part.last) s.judged.accepted))
+          (sym same) part.due;
+      accepted =
+          subst (λ (s : Setup). AreAccepted (job_view s.job)
+          (s.judged.accepted ++ map (lifted part.last) part.pending)) (sym same) part.accepted;
       splits = subst (λ (s : Setup). SplitWithin s.splits part.pending) (sym same) part.splits;
       states = since.run.one_state_each;
-      journals = omega (arith, since.run.one_journal_each, length-workers_from 0 0 c.in_ok-ran.ran.setup.job.nodes);
+      journals =
+          omega (
+            arith,
+            since.run.one_journal_each,
+            length-workers_from 0 0
+                c.in_ok-ran.ran.setup.job.nodes,
+          );
     }
 
 pub returns-clause-run : goal.returns-clause-run
 returns-clause-run g c =
-    let same : c.in_ok-ran.ran.setup ≡ c.in_ok-setup.field-0.setup = ap (λ (r : RunRecord). r.setup) c.in_ok-ran.ensures ∙ c.in_ok-flown.ensures.setup in
-    let rows_are : c.behind-rows.result ≡ blanks c.args.source c.args.stream.start.row ++ c.args.rows.now =
-    c.behind-rows.ensures ∙ ap (λ (s : Stream). blanks c.args.source s.start.row ++ c.args.rows.now) c.stream.view_is in
-    let since = run_since _ c.in_ok-setup.field-0.setup c.in_ok-flown.flown.setup c.behind-rows.result c.in_ok-flown.flown.feeds c.in_ok-flown.flown.crew.items c.in_ok-ran.ran
+    let same : c.in_ok-ran.ran.setup ≡ c.in_ok-setup.field-0.setup =
+    ap (λ (r : RunRecord). r.setup) c.in_ok-ran.ensures ∙ c.in_ok-flown.ensures.setup in
+    let rows_are : c.behind-rows.result ≡ blanks c.args.source c.args.stream.start.row
+    ++ c.args.rows.now =
+    c.behind-rows.ensures ∙ ap (λ (s : Stream). blanks c.args.source s.start.row ++ c.args.rows.now)
+    c.stream.view_is in
+    let since =
+    run_since _ c.in_ok-setup.field-0.setup c.in_ok-flown.flown.setup c.behind-rows.result
+    c.in_ok-flown.flown.feeds c.in_ok-flown.flown.crew.items c.in_ok-ran.ran
     c.in_ok-flown.ensures.setup c.in_ok-flown.ensures.run c.in_ok-ran.ensures in
     let followed =
-    subst (λ k. IsFollowed (setup_view c.args.stream.setup) (map (lifted c.args.stream.start.row) (due_by k c.args.stream.pending)) (setup_view c.in_ok-setup.field-0.setup)) (sym c.in_ok-setup.ensures.last)
+    subst (λ k. IsFollowed (setup_view c.args.stream.setup)
+    (map (lifted c.args.stream.start.row) (due_by k c.args.stream.pending))
+    (setup_view c.in_ok-setup.field-0.setup)) (sym c.in_ok-setup.ensures.last)
     c.in_ok-setup.ensures.followed in
-    run_on c.args.stream (due_by c.in_ok-setup.field-0.last c.args.stream.pending) c.args.source c.args.rows.now c.in_ok-setup.field-0.setup c.in_ok-ran.ran
+    run_on c.args.stream (due_by c.in_ok-setup.field-0.last c.args.stream.pending) c.args.source
+    c.args.rows.now c.in_ok-setup.field-0.setup c.in_ok-ran.ran
     (subst (λ (r : List Row). AreRows r) rows_are c.are_numbered.ensures)
-    (sources_fed (job_view c.args.stream.setup.job) c.args.source c.args.stream.start.row c.args.rows.now c.requires.source c.requires.sources) followed same
+    (sources_fed (job_view c.args.stream.setup.job) c.args.source c.args.stream.start.row
+    c.args.rows.now c.requires.source c.requires.sources) followed same
     (rw (c.in_ok-setup.ensures.start, rows_are) at since)

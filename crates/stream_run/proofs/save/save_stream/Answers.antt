@@ -8,23 +8,38 @@ use Rattle.stream_run.proofs.save.save_stream.Goals as goal
 pub saved-requires-clause-stands : goal.saved-requires-clause-stands
 saved-requires-clause-stands g c =
     let is = c.in_ok-stream.ensures.stream in
-    let goes = goes-save c.args.call.now.names c.args.stream c.in_ok-stream.field-0.stream _ _ _ (ap (λ (s : Stream). s.setup) is) (ap (λ (s : Stream). s.start) is) c.in_ok-store_save.ensures.whole in
+    let goes =
+    goes-save c.args.call.now.names c.args.stream c.in_ok-stream.field-0.stream _ _ _
+    (ap (λ (s : Stream). s.setup) is)
+    (ap (λ (s : Stream). s.start) is) c.in_ok-store_save.ensures.whole in
     rw (c.end.ensures.behind, c.end.ensures.names, c.end.ensures.stream)
-    (stands-then c.args.call.now.behind c.args.call.now.names [] c.args.stream c.in_ok-stream.field-0.stream _ _ c.requires.stands goes)
+    (stands-then c.args.call.now.behind c.args.call.now.names [] c.args.stream
+    c.in_ok-stream.field-0.stream _ _ c.requires.stands goes)
 
 pub saved-requires-clause-saved : goal.saved-requires-clause-saved
 saved-requires-clause-saved g c =
     let held = holds_stored _ _ c.args.call.now.names.save _ c.in_ok-store_save.ensures.whole in
-    rw (c.end.ensures.names, c.end.ensures.stream, c.in_ok-stream.ensures.stream, c.end.ensures.read, c.end.ensures.alerts, c.end.ensures.audit)
-    (subst (λ text. Holds (g.S.Shelf.state c.store_save.new.shelf).files c.args.call.now.names.save text) (c.as_slice.ensures ∙ c.in_ok-stream.ensures.text) held)
+    rw (
+      c.end.ensures.names,
+      c.end.ensures.stream,
+      c.in_ok-stream.ensures.stream,
+      c.end.ensures.read,
+      c.end.ensures.alerts,
+      c.end.ensures.audit,
+    )
+    (subst (λ text. Holds (g.S.Shelf.state c.store_save.new.shelf).files c.args.call.now.names.save
+    text) (c.as_slice.ensures ∙ c.in_ok-stream.ensures.text) held)
 
 pub returns-clause-goes : goal.returns-clause-goes
 returns-clause-goes g c =
     let is = c.in_ok-stream.ensures.stream in
-    goes-save c.args.call.now.names c.args.stream c.in_ok-stream.field-0.stream _ _ _ (ap (λ (s : Stream). s.setup) is) (ap (λ (s : Stream). s.start) is) c.in_ok-store_save.ensures.whole
+    goes-save c.args.call.now.names c.args.stream c.in_ok-stream.field-0.stream _ _ _
+    (ap (λ (s : Stream). s.setup) is)
+    (ap (λ (s : Stream). s.start) is) c.in_ok-store_save.ensures.whole
 
 pub returns-clause-saved : goal.returns-clause-saved
 returns-clause-saved g c =
     let held = holds_stored _ _ c.args.call.now.names.save _ c.in_ok-store_save.ensures.whole in
     rw c.in_ok-stream.ensures.stream
-    (subst (λ text. Holds (g.S.Shelf.state c.store_save.new.shelf).files c.args.call.now.names.save text) (c.as_slice.ensures ∙ c.in_ok-stream.ensures.text) held)
+    (subst (λ text. Holds (g.S.Shelf.state c.store_save.new.shelf).files c.args.call.now.names.save
+    text) (c.as_slice.ensures ∙ c.in_ok-stream.ensures.text) held)

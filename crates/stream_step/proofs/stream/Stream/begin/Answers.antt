@@ -19,21 +19,31 @@ pub invariant_of-result : goal.invariant_of-result
 invariant_of-result c =
     let setup = c.in_ok-setup.setup in
     let cut = c.first_of.result in
-    let none : cut.judged.accepted ≡ [] = ap (λ (s : SetupView). s.requests) c.first_of.ensures.cut in
+    let none : cut.judged.accepted ≡ [] =
+    ap (λ (s : SetupView). s.requests) c.first_of.ensures.cut in
     let job_is : job_view cut.job ≡ job_view setup.job = ap job_view c.first_of.ensures.job in
-    let splits_are : cut.splits ≡ setup.splits = ap (λ (s : SetupView). s.splits) c.first_of.ensures.cut in
+    let splits_are : cut.splits ≡ setup.splits =
+    ap (λ (s : SetupView). s.splits) c.first_of.ensures.cut in
     let start = c.in_ok-start.start in
     let first : start ≡ at_first (setup_view setup) = c.in_ok-start.ensures in
-    let pending_is : c.in_ok-pending.pending ≡ setup.judged.accepted = c.in_ok-pending.ensures ∙ c.as_slice.ensures in
-    let within : SplitWithin setup.splits setup.judged.accepted = λ node made. ∥∥₁_elim setup.planned (ℕ_set _ _) (λ is. is.splits node (or_right (is_split_node (slice_get setup.job.nodes node)) (is_made_split setup.judged.accepted node) made)) in
+    let pending_is : c.in_ok-pending.pending ≡ setup.judged.accepted =
+    c.in_ok-pending.ensures ∙ c.as_slice.ensures in
+    let within : SplitWithin setup.splits setup.judged.accepted =
+    λ node made. ∥∥₁_elim setup.planned (ℕ_set _ _)
+    (λ is. is.splits node (or_right (is_split_node (slice_get setup.job.nodes node))
+    (is_made_split setup.judged.accepted node) made)) in
     record {
       turned = ap (λ (b : Begin). b.turned) first ∙ sym (ap (λ (l : List Request). length l) none);
-      states = ap (λ (b : Begin). length b.states) first ∙ (states_first (setup_view setup) ∙ sym (ap (λ j. length (workers_in j)) job_is));
+      states = ap (λ (b : Begin). length b.states) first
+          ∙ (states_first (setup_view setup) ∙ sym (ap (λ j. length (workers_in j)) job_is));
       due = subst (λ (l : List Request). are_fed start.row l ≡ true) (sym none) refl;
       accepted =
-          subst (λ (l : List Request). AreAccepted (job_view cut.job) (l ++ map (lifted start.row) c.in_ok-pending.pending)) (sym none)
-          (subst (λ k. AreAccepted (job_view cut.job) (map (lifted k) c.in_ok-pending.pending)) (sym (ap (λ (b : Begin). b.row) first))
-          (subst (λ (l : List Request). AreAccepted (job_view cut.job) l) (sym (lifted_first c.in_ok-pending.pending))
+          subst (λ (l : List Request). AreAccepted (job_view cut.job)
+          (l ++ map (lifted start.row) c.in_ok-pending.pending)) (sym none)
+          (subst (λ k. AreAccepted (job_view cut.job) (map (lifted k) c.in_ok-pending.pending))
+          (sym (ap (λ (b : Begin). b.row) first))
+          (subst (λ (l : List Request). AreAccepted (job_view cut.job) l)
+          (sym (lifted_first c.in_ok-pending.pending))
           (subst (λ (l : List Request). AreAccepted (job_view cut.job) l) (sym pending_is)
           (subst (λ j. AreAccepted j setup.judged.accepted) (sym job_is) setup.accepted))));
       within =

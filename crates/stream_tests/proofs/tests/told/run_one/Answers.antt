@@ -5,13 +5,18 @@ use Rattle.stream_tests.proofs.ToldLemmas.{stands_first}
 use Rattle.stream_tests.proofs.tests.told.run_one.Goals as goal
 
 pub run_rows-requires-clause-numbered : goal.run_rows-requires-clause-numbered
-run_rows-requires-clause-numbered g c κs within = subst (λ k. AreRowsAfter k c.args.rows.now) (sym c.requires.first) c.requires.numbered
+run_rows-requires-clause-numbered g c κs within =
+    subst (λ k. AreRowsAfter k c.args.rows.now) (sym c.requires.first) c.requires.numbered
 
 pub run_rows-requires-clause-stands : goal.run_rows-requires-clause-stands
-run_rows-requires-clause-stands g c κs within = stands_first c.args.call.now.behind c.args.call.now.names c.args.stream (g.S.Shelf.state c.args.shelf.now).files c.requires.behind c.requires.first
+run_rows-requires-clause-stands g c κs within =
+    stands_first c.args.call.now.behind c.args.call.now.names c.args.stream
+    (g.S.Shelf.state c.args.shelf.now).files c.requires.behind c.requires.first
 
 pub save_stream-requires-clause-stands : goal.save_stream-requires-clause-stands
 save_stream-requires-clause-stands g c =
     let before = (g.S.Shelf.state c.args.shelf.now).files in
-    stands-then c.args.call.now.behind c.args.call.now.names c.args.rows.now c.args.stream c.in_ok-stream.stream before (g.S.Shelf.state c.run_rows.new.shelf).files
-    (stands_first c.args.call.now.behind c.args.call.now.names c.args.stream before c.requires.behind c.requires.first) c.in_ok-stream.ensures.goes
+    stands-then c.args.call.now.behind c.args.call.now.names c.args.rows.now c.args.stream
+    c.in_ok-stream.stream before (g.S.Shelf.state c.run_rows.new.shelf).files
+    (stands_first c.args.call.now.behind c.args.call.now.names c.args.stream before
+    c.requires.behind c.requires.first) c.in_ok-stream.ensures.goes

@@ -6,4 +6,5 @@ use Rattle.stream_tests.proofs.tests.told.run_payments.Goals as goal
 pub run_one-requires-clause-numbered : goal.run_one-requires-clause-numbered
 run_one-requires-clause-numbered g c κs within =
     subst (λ (rows : List Row). AreRowsAfter 0 rows) (sym c.as_slice-rows.ensures)
-    (subst (λ (k : ℕ). AreRowsAfter k c.in_ok-sound.sound.rows) c.new-reader.ensures.fed c.in_ok-sound.ensures.numbered)
+    (subst (λ (k : ℕ). AreRowsAfter k c.in_ok-sound.sound.rows) c.new-reader.ensures.fed
+    c.in_ok-sound.ensures.numbered)
