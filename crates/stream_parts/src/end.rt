@@ -1,14 +1,12 @@
 // The last part of a stream.
-ghost use Rattle.std.specs.Prelude.{◌≡◌, IfErr, IfOk, None, length, map};
+ghost use Rattle.std.specs.Prelude.{◌≡◌, IfErr, IfOk, None, OnErr, length};
 ghost use Rattle.jobs.specs.Job.{job_view};
 ghost use Rattle.jobs.specs.Nodes.{IsSourceOf, worker_count};
-ghost use Rattle.tuple_trace.specs.FeedRows.{blanks};
 ghost use Rattle.flow_model.specs.Record.{record_view};
 ghost use Rattle.payments.specs.Growing.{with_text};
 ghost use Rattle.stream_run.specs.Files.{alerts_text, audit_text};
 ghost use Rattle.stream_run.specs.Unwritten.{IsUnwritten};
-ghost use Rattle.stream_step.specs.Parts.{IsRunOn};
-ghost use Rattle.stream_step.specs.Pending.{lifted};
+ghost use Rattle.stream_parts.specs.End.{IsLastRun, StopsAtEnd};
 
 use flow_engine::{Engine, run_from};
 use flow_model::RunRecord;
@@ -35,13 +33,14 @@ where
     R: Threads + Wait + Sync,
     requires source { IsSourceOf (job_view stream.setup.job) call.now.source }
     requires closed { (S.state shelf.old).draft ≡ None }
-    ensures run { IfOk result (λ ran. IsRunOn stream
-        (map (lifted stream.start.row) stream.pending) (blanks call.now.source stream.start.row)
-        ran.setup (record_view ran)) }
+    ensures run { IfOk result (λ ran.
+        IsLastRun stream call.now.source ran.setup (record_view ran)) }
     ensures files { IfOk result (λ ran. (S.state shelf.new).files ≡
         with_text (with_text (S.state shelf.old).files call.now.names.alerts
         (alerts_text (record_view ran))) call.now.names.audit
         (audit_text books.now.refused.items (record_view ran))) }
+    ensures stopped { OnErr result (StopsAtEnd call.now.names books.now.refused.items
+        call.now.source stream (S.state shelf.old).files (S.state shelf.new).files) }
     ensures closed { (S.state shelf.new).draft ≡ None }
     ensures cause { IfErr result (λ why. IsUnwritten call.now.names
         (S.state shelf.old).faults (S.state shelf.new).faults why) }
@@ -62,9 +61,7 @@ fn run_last<R, L: Lanes + Sync, G: Gate + Sync>(
 where
     R: Threads + Wait + Sync,
     requires source { IsSourceOf (job_view stream.setup.job) source }
-    ensures run { IfOk result (λ ran. IsRunOn stream
-        (map (lifted stream.start.row) stream.pending) (blanks source stream.start.row)
-        ran.setup (record_view ran)) }
+    ensures run { IfOk result (λ ran. IsLastRun stream source ran.setup (record_view ran)) }
     ensures journals { IfOk result (λ ran. length ran.journals
         ≡ worker_count ran.setup.job.nodes) }
     ensures states { IfOk result (λ ran. length ran.states ≡ worker_count ran.setup.job.nodes) }

@@ -1,4 +1,5 @@
-ghost use Rattle.std.specs.Prelude.{◌≡◌, ◌+◌, ◌<◌, ◌^◌, IfErr, IfOk, None, OnErr, OnOk, length};
+ghost use Rattle.std.specs.Prelude.{◌≡◌, ◌≤◌, ◌+◌, ◌-◌, ◌<◌, ◌^◌, IfErr, IfOk, None, OnErr};
+ghost use Rattle.std.specs.Prelude.{OnOk, drop, length};
 ghost use Rattle.jobs.specs.Job.{job_view};
 ghost use Rattle.jobs.specs.Nodes.{AreFromSources, IsSourceOf};
 ghost use Rattle.tuple_trace.specs.FeedRows.{AreRowsAfter};
@@ -60,4 +61,19 @@ where
         left = &left[count..];
     }
     Ok(stream)
+}
+
+/// The rows that come after row `last`, of rows that are numbered on after `fed`. The others were
+/// run before a savepoint. Takes no memory.
+pub fn rows_after(rows: &[Row], fed: u64, last: u64) -> &[Row]
+    requires numbered { AreRowsAfter fed rows.now }
+    requires before { fed ≤ last }
+    ensures are { result.now ≡ drop (last - fed) rows.now }
+    ensures numbered { AreRowsAfter last result.now }
+{
+    let run = last - fed;
+    if run >= rows.len() as u64 {
+        return &[];
+    }
+    &rows[run as usize..]
 }

@@ -28,6 +28,7 @@ pub fn save_if_due<R, L, G, S: GrowingShelf, W: Watch>(
     ensures stopped { OnErr result ((S.state shelf.new).files ≡ (S.state shelf.old).files) }
     ensures closed { (S.state shelf.new).draft ≡ None }
     ensures read { books.new.read ≡ books.old.read }
+    ensures refused { books.new.refused ≡ books.old.refused }
     ensures faults { OnOk result ((S.state shelf.new).faults ≡ (S.state shelf.old).faults) }
     ensures cause { IfErr result (λ why. IsUnwritten call.now.names
         (S.state shelf.old).faults (S.state shelf.new).faults why) }
@@ -61,6 +62,7 @@ pub fn save_if_asked<R, L, G, S: GrowingShelf, W: Watch>(
     ensures stopped { OnErr result ((S.state shelf.new).files ≡ (S.state shelf.old).files) }
     ensures closed { (S.state shelf.new).draft ≡ None }
     ensures read { books.new.read ≡ books.old.read }
+    ensures refused { books.new.refused ≡ books.old.refused }
     ensures faults { OnOk result ((S.state shelf.new).faults ≡ (S.state shelf.old).faults) }
     ensures cause { IfErr result (λ why. IsUnwritten call.now.names
         (S.state shelf.old).faults (S.state shelf.new).faults why) }

@@ -12,7 +12,8 @@ abbrev pub invariant-loop-left : goal.invariant-loop-left
 invariant-loop-left g l = record {
   done : List Row;
   rows : l.rows ≡ done ++ l.left;
-  goes : Goes l.call.names done l.fn.stream (g.S.Shelf.state l.fn.shelf).files l.stream (g.S.Shelf.state l.shelf).files;
+  goes : Goes l.call.names done l.fn.stream (g.S.Shelf.state l.fn.shelf).files l.stream
+      (g.S.Shelf.state l.shelf).files;
   row : l.stream.start.row ≡ l.fn.stream.start.row + length done;
   kept : KeepsAsked l.fn.stream l.stream;
   numbered : AreRowsAfter l.stream.start.row l.left;
