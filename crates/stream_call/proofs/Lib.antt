@@ -1,1 +1,1 @@
-mod HeaderLemmas
+mod OpenedLemmas

@@ -6,7 +6,7 @@ use Rattle.jobs.specs.JobView.{JobView}
 use Rattle.stream_rows.specs.Reader.{IsReadTo, fed_of}
 use Rattle.stream_run.specs.Growing.{Names}
 use Rattle.stream_run.specs.Standing.{Begins}
-use Rattle.stream_turns.specs.Turns.{IsReady}
+use Rattle.stream_turns.specs.Turns.{CanTakeTurn}
 use Rattle.command_line.specs.declared.stream.StreamFiles.{StreamFiles}
 use Rattle.command_line.specs.declared.stream.StreamSaving.{StreamSaving}
 use Rattle.stream_call.specs.declared.opened.Opened.{Opened}
@@ -25,11 +25,16 @@ names_of files = record {
   save = save_name files.audit files.saving;
 }
 
+-- after how many rows the savepoint is written again, if one is asked for
+abbrev pub every_of : Option StreamSaving → Option ℕ
+every_of None = None
+every_of (Some saving) = Some saving.every
+
 -- The stream begins anew, with files that hold their headers alone, or behind a row. It can take a
 -- turn, and nothing of its input is read.
-pub record IsOpened (names : Names) (opened : Opened) (files : Option Files) : Type 0 where
-  pub begins : Begins opened.behind names opened.stream files
-  pub ready : IsReady opened.source opened.stream opened.desk
-  pub unread : (job : JobView) → IsReadTo job (fed_of opened.desk.reader) opened.desk.reader []
-  pub kept : kept_of opened.desk.pieces ≡ []
-  pub goes_on : is_over opened.desk.pieces ≡ false
+pub record IsOpened (asked : StreamFiles) (opened : Opened) (files : Option Files) : Type 0 where
+  pub begins : Begins opened.behind (names_of asked) opened.stream files
+  pub ready : CanTakeTurn opened.source (every_of asked.saving) opened.stream opened.inputs
+  pub unread : (job : JobView) → IsReadTo job (fed_of opened.inputs.reader) opened.inputs.reader []
+  pub kept : kept_of opened.inputs.pieces ≡ []
+  pub goes_on : is_over opened.inputs.pieces ≡ false

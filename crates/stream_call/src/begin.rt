@@ -5,18 +5,19 @@ ghost use Rattle.payments.specs.Files.{with_bytes};
 ghost use Rattle.sink_journal.specs.Alerts.{header};
 ghost use Rattle.sink_journal.specs.Audit.{audit_header};
 ghost use Rattle.sink_journal.specs.Records.{record_text};
-ghost use Rattle.stream_call.specs.Opened.{IsOpened, names_of};
+ghost use Rattle.stream_call.specs.Opened.{IsOpened};
 
 use crate::fault::StreamFault;
 use crate::opened::{Asked, Opened, Origin, asked_in, make_opened, source_of};
 use call_steps::job_in;
 use command_line::StreamFiles;
 use jobs::Job;
-use payments::{GrowingShelf, ShelfFault, store};
+use payments::{GrowingShelf, store};
 use report::{Fault, FileIs};
 use sink_journal::{alerts_header_text, audit_header_text};
 use std::alloc::Global;
 use stream_intake::begin;
+use stream_run::fault_of;
 use tuple_trace::Word;
 
 /// Reads the job and the requests of a stream, and makes its files: each has its header alone.
@@ -29,7 +30,7 @@ pub(crate) fn begin_files<S: GrowingShelf>(
 ) -> Result<Opened, StreamFault>
     requires apart { bytes_eq files.now.alerts files.now.audit ≡ false }
     ensures opened { IfOk result (λ opened.
-        IsOpened (names_of files.now) opened (S.state shelf.new).files) }
+        IsOpened files.now opened (S.state shelf.new).files) }
     ensures closed { OnOk result ((S.state shelf.new).draft ≡ None) }
 {
     let job = job_in(alloc, &files.plan.job, shelf)?;
@@ -76,9 +77,5 @@ fn write_file<S: GrowingShelf>(
         ≡ with_bytes (S.state shelf.old).files name.now text.now) }
     ensures closed { (S.state shelf.new).draft ≡ None }
 {
-    match store(shelf, name, text) {
-        Ok(()) => Ok(()),
-        Err(ShelfFault::Failed) => Err(Fault::Write(file)),
-        Err(ShelfFault::Long | ShelfFault::NoMemory) => Err(Fault::NoMemory),
-    }
+    store(shelf, name, text).map_err(|why| fault_of(file, why))
 }

@@ -2,8 +2,8 @@ ghost use Rattle.std.specs.Prelude.{◌≡◌, IfOk, None, OnOk};
 ghost use Rattle.command_line.specs.Asked.{IsSize};
 ghost use Rattle.stream_run.specs.Standing.{Stands};
 ghost use Rattle.stream_call.specs.Faults.{status_for};
-ghost use Rattle.stream_call.specs.Opened.{IsOpened, names_of};
-ghost use Rattle.stream_turns.specs.Turns.{IsReady};
+ghost use Rattle.stream_call.specs.Opened.{IsOpened, every_of as every_in, names_of};
+ghost use Rattle.stream_turns.specs.Turns.{CanTakeTurn};
 
 use crate::begin::begin_files;
 use crate::fault::StreamFault;
@@ -25,7 +25,7 @@ use stream_parts::{end_stream, save_if_asked};
 use stream_run::{StreamCall, StreamHost, StreamNames, Watch};
 use stream_save::StreamSaveFault;
 use stream_step::Stream;
-use stream_turns::{Desk, End, Stopped, run_stream};
+use stream_turns::{End, Stopped, StreamInputs, run_stream};
 use tuple_trace::Gate;
 use versions::Refusals;
 
@@ -72,7 +72,7 @@ where
                 Some(fault) => Some(fault),
                 None => end_fault(alloc, &ran, out),
             };
-            let refused = mem::replace(&mut ran.desk.refused, Refusals::new(alloc));
+            let refused = mem::replace(&mut ran.inputs.refused, Refusals::new(alloc));
             outcome_of(alloc, fault, refused, out)
         }
         Err(fault) => outcome_of(alloc, Some(fault), Refusals::new(alloc), out),
@@ -81,7 +81,7 @@ where
 
 // Prints the lines at the end of a stream; a fault if the output refuses.
 fn end_fault<O: Sink>(alloc: Global, ran: &Ran, out: &mut O) -> Option<StreamFault> {
-    match print_end(alloc, &ran.desk, ran.rows, out) {
+    match print_end(alloc, &ran.inputs, ran.rows, out) {
         Ok(()) => None,
         Err(fault) => Some(StreamFault::Call(fault)),
     }
@@ -118,7 +118,7 @@ fn open<S: GrowingShelf>(
 ) -> Result<Opened, StreamFault>
     requires closed { (S.state shelf.old).draft ≡ None }
     ensures opened { IfOk result (λ opened.
-        IsOpened (names_of files.now) opened (S.state shelf.new).files) }
+        IsOpened files.now opened (S.state shelf.new).files) }
     ensures closed { OnOk result ((S.state shelf.new).draft ≡ None) }
 {
     if files.alerts.as_str() == files.audit.as_str() {
@@ -139,7 +139,7 @@ fn open<S: GrowingShelf>(
 // A stream that was run as far as it went.
 #[derive(Drop)]
 struct Ran {
-    desk: Desk,
+    inputs: StreamInputs,
     /// How many rows were run.
     rows: u64,
     fault: Option<StreamFault>,
@@ -160,12 +160,12 @@ where
     G: Gate + Sync,
     W: Watch,
     requires size { IsSize files.now.size }
-    requires opened { IsOpened (names_of files.now) opened (S.state shelf.old).files }
+    requires opened { IsOpened files.now opened (S.state shelf.old).files }
     requires closed { (S.state shelf.old).draft ≡ None }
 {
     let Opened {
         stream,
-        mut desk,
+        mut inputs,
         source,
         behind,
     } = opened;
@@ -183,10 +183,14 @@ where
         behind,
         source,
     };
-    let fault = run_to_end(&call, stream, &mut desk, tap, shelf, watch).err();
+    let fault = run_to_end(&call, stream, &mut inputs, tap, shelf, watch).err();
     let begun = behind.unwrap_or(0);
-    let rows = desk.reader.fed().saturating_sub(begun);
-    Ran { desk, rows, fault }
+    let rows = inputs.reader.fed().saturating_sub(begun);
+    Ran {
+        inputs,
+        rows,
+        fault,
+    }
 }
 
 fn names_in(files: &StreamFiles) -> StreamNames<'_>
@@ -203,7 +207,9 @@ fn names_in(files: &StreamFiles) -> StreamNames<'_>
     }
 }
 
-fn every_of(files: &StreamFiles) -> Option<u64> {
+fn every_of(files: &StreamFiles) -> Option<u64>
+    ensures { result ≡ every_in files.now.saving }
+{
     match &files.saving {
         Some(saving) => Some(u64::from(saving.every)),
         None => None,
@@ -215,26 +221,26 @@ fn every_of(files: &StreamFiles) -> Option<u64> {
 fn run_to_end<R, L: Lanes + Sync, G: Gate + Sync, T: Tap, S: GrowingShelf, W: Watch>(
     call: &StreamCall<'_, R, L, G>,
     stream: Stream,
-    desk: &mut Desk,
+    inputs: &mut StreamInputs,
     tap: &mut T,
     shelf: &mut S,
     watch: &mut W,
 ) -> Result<(), StreamFault>
 where
     R: Threads + Wait + Sync,
-    requires ready { IsReady call.now.source stream desk.old }
+    requires ready { CanTakeTurn call.now.source call.now.every stream inputs.old }
     requires closed { (S.state shelf.old).draft ≡ None }
     requires stands { Stands call.now.behind call.now.names stream (S.state shelf.old).files }
 {
-    let Stopped { stream, end } = run_stream(call, stream, desk, tap, shelf, watch)?;
+    let Stopped { stream, end } = run_stream(call, stream, inputs, tap, shelf, watch)?;
     let row = stream.start.row;
-    if end == End::Input && desk.reader.fed() < row {
+    if end == End::Input && inputs.reader.fed() < row {
         return Err(StreamFault::Save(StreamSaveFault::Past(row)));
     }
-    let stream = save_if_asked(call, stream, &mut desk.books, shelf, watch)?;
+    let stream = save_if_asked(call, stream, &mut inputs.books, shelf, watch)?;
     if let End::Fault(fault) = end {
         return Err(StreamFault::Call(fault));
     }
-    let _last = end_stream(call, stream, &desk.books, shelf)?;
+    let _last = end_stream(call, stream, &inputs.books, shelf)?;
     Ok(())
 }

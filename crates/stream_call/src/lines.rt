@@ -4,29 +4,29 @@ use call_steps::{print, print_made};
 use payments::Sink;
 use report::{Fault, FileIs, Summary, push_refused, summary_line};
 use std::alloc::Global;
-use stream_turns::Desk;
+use stream_turns::StreamInputs;
 use tuple_trace::{Bytes, NoMemory};
 
 /// Prints the requests that were refused since the call began, and the summary of so many rows.
 pub(crate) fn print_end<O: Sink>(
     alloc: Global,
-    desk: &Desk,
+    inputs: &StreamInputs,
     rows: u64,
     out: &mut O,
 ) -> Result<(), Fault> {
-    let lines = lines_of(alloc, desk, rows)?;
+    let lines = lines_of(alloc, inputs, rows)?;
     print(out, lines.as_slice())
 }
 
-fn lines_of(alloc: Global, desk: &Desk, rows: u64) -> Result<Bytes, NoMemory> {
+fn lines_of(alloc: Global, inputs: &StreamInputs, rows: u64) -> Result<Bytes, NoMemory> {
     let summary = Summary {
         rows: rows as usize,
-        alerts: desk.books.tally.shown as usize,
-        requests: desk.known.requests.len(),
-        refused: desk.refused.len(),
+        alerts: inputs.books.tally.shown as usize,
+        requests: inputs.known.requests.len(),
+        refused: inputs.refused.len(),
     };
     let mut lines = Bytes::new(alloc);
-    push_refused(alloc, desk.refused.as_slice(), &mut lines)?;
+    push_refused(alloc, inputs.refused.as_slice(), &mut lines)?;
     let summary = summary_line(alloc, summary)?;
     lines.extend_from_slice(summary.as_bytes())?;
     Ok(lines)

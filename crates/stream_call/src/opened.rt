@@ -21,7 +21,7 @@ use stream_intake::Intake;
 use stream_rows::RowReader;
 use stream_run::{Books, Tally};
 use stream_step::Stream;
-use stream_turns::Desk;
+use stream_turns::StreamInputs;
 use tuple_trace::{Bytes, NoMemory};
 use versions::{MAX_STREAM_REQUESTS, Requests};
 
@@ -29,7 +29,7 @@ use versions::{MAX_STREAM_REQUESTS, Requests};
 #[derive(Drop)]
 pub(crate) struct Opened {
     pub(crate) stream: Stream,
-    pub(crate) desk: Desk,
+    pub(crate) inputs: StreamInputs,
     /// The number of a source of its job.
     pub(crate) source: u32,
     /// Behind which row it goes on; `None` if it begins anew.
@@ -98,14 +98,15 @@ pub(crate) fn make_opened(
 ) -> Result<Opened, NoMemory>
     requires few { origin.left_out < MAX_ROWS }
     ensures stream { IfOk result (λ opened. opened.stream ≡ intake.stream) }
-    ensures known { IfOk result (λ opened. opened.desk.known ≡ intake.known) }
+    ensures known { IfOk result (λ opened. opened.inputs.known ≡ intake.known) }
     ensures source { IfOk result (λ opened. opened.source ≡ source) }
     ensures behind { IfOk result (λ opened. opened.behind ≡ origin.behind) }
-    ensures fed { IfOk result (λ opened. fed_of opened.desk.reader ≡ origin.left_out) }
+    ensures fed { IfOk result (λ opened. fed_of opened.inputs.reader ≡ origin.left_out) }
     ensures unread { IfOk result (λ opened. (job : JobView)
-        → IsReadTo job origin.left_out opened.desk.reader []) }
-    ensures kept { IfOk result (λ opened. kept_of opened.desk.pieces ≡ []) }
-    ensures goes_on { IfOk result (λ opened. is_over opened.desk.pieces ≡ false) }
+        → IsReadTo job origin.left_out opened.inputs.reader []) }
+    ensures unsaved { IfOk result (λ opened. opened.inputs.books.tally.unsaved ≡ 0) }
+    ensures kept { IfOk result (λ opened. kept_of opened.inputs.pieces ≡ []) }
+    ensures goes_on { IfOk result (λ opened. is_over opened.inputs.pieces ≡ false) }
 {
     let Intake {
         stream,
@@ -122,7 +123,7 @@ pub(crate) fn make_opened(
             shown: 0,
         },
     };
-    let desk = Desk {
+    let inputs = StreamInputs {
         pieces: Pieces::new(alloc),
         reader: RowReader::after(origin.left_out),
         known,
@@ -132,7 +133,7 @@ pub(crate) fn make_opened(
     };
     Ok(Opened {
         stream,
-        desk,
+        inputs,
         source,
         behind: origin.behind,
     })

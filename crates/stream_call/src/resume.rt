@@ -5,7 +5,7 @@ ghost use Rattle.jobs.specs.Job.{job_view};
 ghost use Rattle.stream_rows.specs.declared.limits.TheConstants.{MAX_ROWS};
 ghost use Rattle.stream_save.specs.StreamReading.{CanSaveStream};
 ghost use Rattle.versions.specs.declared.limits.TheConstants.{MAX_STREAM_REQUESTS};
-ghost use Rattle.stream_call.specs.Opened.{IsOpened, names_of};
+ghost use Rattle.stream_call.specs.Opened.{IsOpened};
 
 use crate::fault::StreamFault;
 use crate::opened::{Asked, Opened, Origin, asked_in, make_opened, source_of};
@@ -13,11 +13,12 @@ use call_steps::{job_in, read_file};
 use command_line::StreamFiles;
 use flow_model::Setup;
 use operators::Job;
-use payments::{GrowingShelf, ShelfFault};
+use payments::GrowingShelf;
 use report::{Fault, FileIs};
 use std::alloc::Global;
 use stream_intake::resume;
 use stream_rows::MAX_ROWS;
+use stream_run::fault_of;
 use stream_save::{StreamSave, StreamSaveFault, read_stream, read_streams_can_be_saved};
 use tuple_trace::{NoMemory, Word};
 use versions::{Requests, accepted_requests_stay_accepted, judge_within};
@@ -35,7 +36,7 @@ pub(crate) fn resume_files<S: GrowingShelf>(
 ) -> Result<Opened, StreamFault>
     requires closed { (S.state shelf.old).draft ≡ None }
     ensures opened { IfOk result (λ opened.
-        IsOpened (names_of files.now) opened (S.state shelf.new).files) }
+        IsOpened files.now opened (S.state shelf.new).files) }
     ensures closed { (S.state shelf.new).draft ≡ None }
 {
     let job = job_in(alloc, &files.plan.job, shelf)?;
@@ -131,9 +132,5 @@ fn cut_file<S: GrowingShelf>(
     requires closed { (S.state shelf.old).draft ≡ None }
     ensures closed { (S.state shelf.new).draft ≡ None }
 {
-    match shelf.cut(name, size) {
-        Ok(is_cut) => Ok(is_cut),
-        Err(ShelfFault::Failed) => Err(Fault::Write(file)),
-        Err(ShelfFault::Long | ShelfFault::NoMemory) => Err(Fault::NoMemory),
-    }
+    shelf.cut(name, size).map_err(|why| fault_of(file, why))
 }

@@ -1,1 +1,4 @@
+mod FaultLemmas
 mod ReadyLemmas
+mod TakenLemmas
+mod TextLemmas

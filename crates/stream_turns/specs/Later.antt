@@ -1,5 +1,6 @@
 -- What a stream takes of a later reading of its requests.
-use Rattle.std.specs.Prelude.{◌≡◌, ◌≢◌, ◌⊎◌, ◌<◌, ◌++◌, ℕ, List, Option, IfSome, Ok, Err, length, map}
+use Rattle.std.specs.Prelude.{◌≡◌, ◌⊎◌, ◌<◌, ◌++◌, ℕ, List, Option, IfSome, Ok, Err, length}
+use Rattle.std.specs.Prelude.{map}
 use Rattle.job_file.specs.RequestFile.{requests_up_to}
 use Rattle.job_file.specs.declared.fault.ReqFileFault.{ReqFileFault}
 use Rattle.jobs.specs.Job.{job_view}
@@ -13,10 +14,12 @@ use Rattle.report.specs.declared.fault.FileIs.TheVariants as file
 use Rattle.call_steps.specs.Reading.{HasRead}
 use Rattle.stream_step.specs.declared.stream.Stream.{Stream}
 use Rattle.stream_intake.specs.Intake.{accepted_after, known_after, refused_after}
-use Rattle.stream_turns.specs.declared.desk.Desk.{Desk}
+use Rattle.stream_turns.specs.declared.inputs.StreamInputs.{StreamInputs}
 
--- The stream takes what these requests have beyond the known ones. Those that are refused are noted.
-pub record TakesFound (found : List Request) (old : Desk) (stream : Stream) (new : Desk)
+-- The stream takes what these requests have beyond the known ones. Those that are refused are
+-- noted.
+pub record TakesFound (found : List Request) (old : StreamInputs) (stream : Stream)
+    (new : StreamInputs)
     (next : Stream) : Type 0 where
   pub known_are : new.known.requests ≡ known_after old.known.requests found
   pub pending_are : next.pending
@@ -28,7 +31,8 @@ pub record TakesFound (found : List Request) (old : Desk) (stream : Stream) (new
   pub read_are : new.books.read ≡ length new.known.requests
 
 -- Nothing is taken.
-pub record TakesNothing (old : Desk) (stream : Stream) (new : Desk) (next : Stream) : Type 0 where
+pub record TakesNothing (old : StreamInputs) (stream : Stream) (new : StreamInputs)
+    (next : Stream) : Type 0 where
   pub known_are : new.known ≡ old.known
   pub stream_is : next ≡ stream
   pub refused_are : new.refused ≡ old.refused
@@ -36,7 +40,7 @@ pub record TakesNothing (old : Desk) (stream : Stream) (new : Desk) (next : Stre
 
 -- The stream takes what these bytes tell. It takes nothing if they are those that were last looked
 -- at, or tell no requests.
-abbrev pub TakesBytes : List ℕ → Desk → Stream → Desk → Stream → Type 0
+abbrev pub TakesBytes : List ℕ → StreamInputs → Stream → StreamInputs → Stream → Type 0
 TakesBytes bytes old stream new next =
     ((found : List Request)
     × (requests_up_to MAX_STREAM_REQUESTS (job_view stream.setup.job) bytes ≡ Ok found)
@@ -47,7 +51,8 @@ TakesBytes bytes old stream new next =
 
 -- The stream takes what the file tells. It takes nothing if the file couldn't be read, or is too
 -- long.
-abbrev pub TakesFile : Option Files → List ℕ → Faults → Faults → Desk → Stream → Desk → Stream
+abbrev pub TakesFile : Option Files → List ℕ → Faults → Faults → StreamInputs → Stream
+    → StreamInputs → Stream
     → Type 0
 TakesFile files name before after old stream new next =
     HasRead file.Requests (λ bytes. TakesBytes bytes old stream new next) files name

@@ -1,2 +1,3 @@
 pub mod Later
 pub mod Turns
+pub mod Taken

@@ -12,3 +12,6 @@ run_to_end-requires-clause-stands g c κs within =
       rows = [];
       goes = goes-same _ c.args.opened.stream c.args.opened.stream _ _ refl refl refl;
     })
+
+pub run_to_end-requires-clause-ready : goal.run_to_end-requires-clause-ready
+run_to_end-requires-clause-ready g c κs within = rw c.every_of.ensures c.requires.opened.ready

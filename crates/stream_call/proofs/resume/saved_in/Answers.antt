@@ -6,4 +6,5 @@ use Rattle.stream_call.proofs.resume.saved_in.Goals as goal
 
 pub returns-clause-saved : goal.returns-clause-saved
 returns-clause-saved g c =
-    subst (λ (j : Job). CanSaveStream (job_view j) c.in_ok-save.save) c.in_ok-setup.ensures (c.read_streams_can_be_saved.ensures _ c.in_ok-save.save c.in_ok-save.ensures.ok)
+    subst (λ (j : Job). CanSaveStream (job_view j) c.in_ok-save.save) c.in_ok-setup.ensures
+    (c.read_streams_can_be_saved.ensures _ c.in_ok-save.save c.in_ok-save.ensures.ok)

@@ -6,4 +6,6 @@ use Rattle.stream_call.proofs.resume.setup_with.Goals as goal
 
 pub make_for_stream-requires : goal.make_for_stream-requires
 make_for_stream-requires c =
-    subst (λ (d : Judged). AreAccepted (job_view c.args.job) d.accepted) (sym c.in_ok-judged.ensures) (c.accepted_requests_stay_accepted.ensures None (job_view c.args.job) c.args.requests.now)
+    subst (λ (d : Judged). AreAccepted (job_view c.args.job) d.accepted)
+    (sym c.in_ok-judged.ensures) (c.accepted_requests_stay_accepted.ensures None
+    (job_view c.args.job) c.args.requests.now)

@@ -12,7 +12,7 @@ use versions::Refusals;
 
 /// What is kept of what a stream reads, beside the stream itself.
 #[derive(Drop)]
-pub struct Desk {
+pub struct StreamInputs {
     /// What was read of the input and isn't a whole record yet.
     pub pieces: Pieces,
     pub reader: RowReader,
@@ -25,9 +25,9 @@ pub struct Desk {
     pub books: Books,
 }
 
-impl Desk {
-    /// Notes requests that were refused, for the lines at the end and for the next part's audit. The
-    /// one error is out of memory.
+impl StreamInputs {
+    /// Notes requests that were refused, for the lines at the end and for the next part's audit.
+    /// The one error is out of memory.
     pub(crate) fn note(&mut self, alloc: Global, refused: &Refusals) -> Result<(), NoMemory>
         ensures refused { OnOk result (self.new.refused ≡ self.old.refused ++ refused.now) }
         ensures noted { OnOk result (self.new.books.refused.items
