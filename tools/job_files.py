@@ -183,6 +183,20 @@ def read_requests(path):
     return [Request(part, place) for place, part in enumerate(top.parts("request", []), 1)]
 
 
+class Current:
+    """A node as the earlier requests leave it: its function and its version."""
+
+    def __init__(self, node, requests):
+        self.node = node
+        self.function = node.function
+        self.version = 0
+        for request in requests:
+            for change in request.changes:
+                if change.node == node.name:
+                    self.function = change.function
+                    self.version += 1
+
+
 # ---- words
 
 

@@ -5,7 +5,7 @@ import subprocess
 import sys
 
 from audits import AuditFault
-from job_files import FileFault
+from job_files import FileFault, read_requests
 
 
 class ToolFault(Exception):
@@ -57,6 +57,18 @@ def lines_of(fries, *words):
     for copy in copies:
         said = said.replace(os.fspath(copy), str(copy))
     raise ToolFault(f"fries {words[0]}: {done.stdout.strip()}\n{said.strip()}".strip())
+
+
+def plan_of(fries, job, path):
+    """The words of each line that `fries plan` prints."""
+    return [line.split() for line in lines_of(fries, "plan", job, path)]
+
+
+def accepted(fries, job, path):
+    """The requests of a file that are accepted, in order."""
+    requests = read_requests(path)
+    refused = {int(words[1]) for words in plan_of(fries, job, path) if words[0] == "refused"}
+    return [request for request in requests if request.place not in refused]
 
 
 def run(name, main):
