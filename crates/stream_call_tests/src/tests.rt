@@ -3,6 +3,9 @@ ghost use Rattle.std.specs.Prelude.{◌≡◌, None};
 ghost use Rattle.payments.specs.Memory.{draft_of};
 
 mod cuts;
+mod keys;
+mod killed;
+mod left;
 mod resumed;
 mod texts;
 
@@ -20,6 +23,14 @@ use tuple_trace::{Bytes, NoMemory, OpenGate, Word};
 
 /// The words of a stream without a savepoint.
 pub const STREAM: &str = "stream job.toml requests.toml alerts.csv audit.csv";
+
+/// The words of a stream that saves after each row.
+pub const SAVING: &str =
+    "stream job.toml requests.toml alerts.csv audit.csv --save save.csv --every 1";
+
+/// The words of the same stream where it goes on.
+pub const RESUMING: &str =
+    "stream job.toml requests.toml alerts.csv audit.csv --save save.csv --every 1 --resume";
 
 /// Counts what it is told.
 #[derive(Drop)]

@@ -1,18 +1,11 @@
 //! A stream that stopped and goes on.
 use crate::tests::cuts::shelf_with;
 use crate::tests::texts::{AFTER_2, LATE_ALERTS, PAYMENTS};
-use crate::tests::{holds, say, tap_of, word};
+use crate::tests::{RESUMING, SAVING, holds, say, tap_of, word};
 use payments::store;
 use std::alloc::Global;
 use std::sync::Wait;
 use std::thread::Threads;
-
-/// The words of a stream that saves after each row.
-const SAVING: &str = "stream job.toml requests.toml alerts.csv audit.csv --save save.csv --every 1";
-
-/// The words of the same stream where it goes on.
-const RESUMING: &str =
-    "stream job.toml requests.toml alerts.csv audit.csv --save save.csv --every 1 --resume";
 
 /// The first three of the four payments.
 const THREE: &str =

@@ -28,6 +28,13 @@ after = 2
 change = [{ node = "big", from = 0, kind = "filter", when = [["amount", ">=", 5000]] }]
 "#;
 
+/// The same after row 3.
+pub const AFTER_3: &str = r#"
+[[request]]
+after = 3
+change = [{ node = "big", from = 0, kind = "filter", when = [["amount", ">=", 5000]] }]
+"#;
+
 /// The same after a row that never comes.
 pub const AFTER_9: &str = r#"
 [[request]]
@@ -38,6 +45,9 @@ change = [{ node = "big", from = 0, kind = "filter", when = [["amount", ">=", 50
 /// Four payments. The account of the third has a quote, a comma and a line break.
 pub const PAYMENTS: &str = "source,account,amount\ncard,a,100.00\ncard,b,99.99\n\
     card,\"c\"\",\n\",120.00\ncard,d,50.00\n";
+
+/// The first two of the four payments.
+pub const TWO: &str = "source,account,amount\ncard,a,100.00\ncard,b,99.99\n";
 
 /// The alerts of the four payments without requests.
 pub const ALERTS: &str =
