@@ -5,6 +5,7 @@
 
 mod stream;
 mod streams;
+mod teller;
 mod wrong_word;
 
 use crate::stream::stream_main;
