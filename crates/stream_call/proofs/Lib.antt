@@ -1,1 +1,4 @@
+mod EndedLemmas
 mod OpenedLemmas
+mod StoppedLemmas
+mod UnopenedLemmas

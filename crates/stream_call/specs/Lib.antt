@@ -1,2 +1,4 @@
 pub mod Faults
 pub mod Opened
+pub mod Unopened
+pub mod Ended

@@ -1,8 +1,19 @@
-ghost use Rattle.std.specs.Prelude.{◌≡◌, IfOk, None, OnOk};
+ghost use Rattle.std.specs.Prelude.{◌≡◌, ◌⊎◌, ◌≤◌, ◌-◌, [], IfErr, IfNone, IfOk, IfSome, None};
+ghost use Rattle.std.specs.Prelude.{OnOk, Some};
 ghost use Rattle.command_line.specs.Asked.{IsSize};
 ghost use Rattle.stream_run.specs.Standing.{Stands};
 ghost use Rattle.stream_call.specs.Faults.{status_for};
-ghost use Rattle.stream_call.specs.Opened.{IsOpened, every_of as every_in, names_of};
+ghost use Rattle.stream_call.specs.Ended.{EndsWhole, HasEndedAt, HasStreamed, IsLeftBy, IsUnended};
+ghost use Rattle.stream_call.specs.Ended.{HasStopped, IsUnprinted, end_lines, leaves, terms};
+ghost use Rattle.stream_call.specs.Ended.{terms_of};
+ghost use Rattle.stream_call.specs.Opened.{IsOpened, Opens, every_of as every_in, names_of};
+ghost use Rattle.stream_call.specs.Unopened.{IsUnopened};
+ghost use Rattle.jobs.specs.Job.{job_view};
+ghost use Rattle.jobs.specs.Nodes.{IsSourceOf};
+ghost use Rattle.call_steps.specs.Effects.{Prints};
+ghost use Rattle.payments.specs.World.{world};
+ghost use Rattle.stream_rows.specs.Reader.{fed_of};
+ghost use Rattle.stream_turns.specs.Taken.{HasReadText, at};
 ghost use Rattle.stream_turns.specs.Turns.{CanTakeTurn};
 
 use crate::begin::begin_files;
@@ -24,7 +35,7 @@ use std::thread::Threads;
 use stream_parts::{end_stream, save_if_asked};
 use stream_run::{StreamCall, StreamHost, StreamNames, Watch};
 use stream_save::StreamSaveFault;
-use stream_step::Stream;
+use stream_step::{Stream, parts_go_on};
 use stream_turns::{End, Stopped, StreamInputs, run_stream};
 use tuple_trace::Gate;
 use versions::Refusals;
@@ -62,39 +73,66 @@ where
     W: Watch,
     requires size { IsSize files.now.size }
     requires closed { (S.state shelf.old).draft ≡ None }
+    ensures ran { IfNone result.fault (HasStreamed files.now
+        (world (S.state shelf.old) (O.state out.old)) (world (S.state shelf.new) (O.state out.new))
+        (T.state tap.old) (T.state tap.new) result.refused) }
+    ensures stopped { IfSome result.fault (HasStopped files.now
+        (world (S.state shelf.old) (O.state out.old)) (world (S.state shelf.new) (O.state out.new))
+        (T.state tap.old) (T.state tap.new) result.refused) }
     ensures status { result.status ≡ status_for result.fault result.refused }
 {
     let alloc = host.alloc;
     match open(alloc, files, shelf) {
         Ok(opened) => {
-            let mut ran = run_opened(host, files, opened, tap, shelf, watch);
-            let fault = match ran.fault {
-                Some(fault) => Some(fault),
-                None => end_fault(alloc, &ran, out),
-            };
-            let refused = mem::replace(&mut ran.inputs.refused, Refusals::new(alloc));
-            outcome_of(alloc, fault, refused, out)
+            let ran = run_opened(host, files, opened, tap, shelf, watch);
+            outcome_of(alloc, ran, out)
         }
-        Err(fault) => outcome_of(alloc, Some(fault), Refusals::new(alloc), out),
+        Err(fault) => outcome_with(alloc, Some(fault), Refusals::new(alloc), out),
     }
 }
 
-// Prints the lines at the end of a stream; a fault if the output refuses.
-fn end_fault<O: Sink>(alloc: Global, ran: &Ran, out: &mut O) -> Option<StreamFault> {
-    match print_end(alloc, &ran.inputs, ran.rows, out) {
-        Ok(()) => None,
-        Err(fault) => Some(StreamFault::Call(fault)),
+// Prints the lines at the end of a stream, or that of its fault.
+fn outcome_of<O: Sink>(alloc: Global, ran: Ran, out: &mut O) -> StreamOutcome
+    ensures none { IfNone result.fault ((ran.fault ≡ None) × Prints (end_lines ran.inputs ran.rows)
+        (O.state out.old) (O.state out.new) None) }
+    ensures some { IfSome result.fault (λ why. (ran.fault ≡ Some why)
+        ⊎ (ran.fault ≡ None) × IsUnprinted (end_lines ran.inputs ran.rows) (O.state out.old) why) }
+    ensures refused { result.refused ≡ ran.inputs.refused }
+    ensures status { result.status ≡ status_for result.fault result.refused }
+{
+    let fault = end_fault(alloc, &ran, out);
+    let mut inputs = ran.inputs;
+    let refused = mem::replace(&mut inputs.refused, Refusals::new(alloc));
+    outcome_with(alloc, fault, refused, out)
+}
+
+// The fault of a stream. If it has none, its lines are printed, and the output may refuse them.
+fn end_fault<O: Sink>(alloc: Global, ran: &Ran, out: &mut O) -> Option<StreamFault>
+    ensures none { IfNone result ((ran.now.fault ≡ None)
+        × Prints (end_lines ran.now.inputs ran.now.rows) (O.state out.old) (O.state out.new) None) }
+    ensures some { IfSome result (λ why. (ran.now.fault ≡ Some why) ⊎ (ran.now.fault ≡ None)
+        × IsUnprinted (end_lines ran.now.inputs ran.now.rows) (O.state out.old) why) }
+{
+    match ran.fault {
+        Some(fault) => Some(fault),
+        None => match print_end(alloc, &ran.inputs, ran.rows, out) {
+            Ok(()) => None,
+            Err(fault) => Some(StreamFault::Call(fault)),
+        },
     }
 }
 
-// Prints the line of a fault.
-fn outcome_of<O: Sink>(
+// Prints the line of the fault, if there is one.
+fn outcome_with<O: Sink>(
     alloc: Global,
     fault: Option<StreamFault>,
     refused: Refusals,
     out: &mut O,
 ) -> StreamOutcome
+    ensures fault { result.fault ≡ fault }
+    ensures refused { result.refused ≡ refused }
     ensures status { result.status ≡ status_for result.fault result.refused }
+    ensures none { fault ≡ None → O.state out.new ≡ O.state out.old }
 {
     let status = match fault {
         Some(fault) => {
@@ -117,9 +155,10 @@ fn open<S: GrowingShelf>(
     shelf: &mut S,
 ) -> Result<Opened, StreamFault>
     requires closed { (S.state shelf.old).draft ≡ None }
-    ensures opened { IfOk result (λ opened.
-        IsOpened files.now opened (S.state shelf.new).files) }
+    ensures opens { IfOk result (Opens files.now (S.state shelf.old) (S.state shelf.new)) }
     ensures closed { OnOk result ((S.state shelf.new).draft ≡ None) }
+    ensures cause { IfErr result (IsUnopened files.now (S.state shelf.old)
+        (S.state shelf.new)) }
 {
     if files.alerts.as_str() == files.audit.as_str() {
         return Err(StreamFault::Call(Fault::Usage));
@@ -162,6 +201,13 @@ where
     requires size { IsSize files.now.size }
     requires opened { IsOpened files.now opened (S.state shelf.old).files }
     requires closed { (S.state shelf.old).draft ≡ None }
+    ensures whole { IfNone result.fault (EndsWhole (terms_of files.now opened)
+        (at opened.stream (S.state shelf.old).files opened.inputs (T.state tap.old))
+        (leaves result.inputs (T.state tap.new) (S.state shelf.new))) }
+    ensures left { IfSome result.fault (IsLeftBy (terms_of files.now opened)
+        (at opened.stream (S.state shelf.old).files opened.inputs (T.state tap.old))
+        (S.state shelf.old).faults (leaves result.inputs (T.state tap.new) (S.state shelf.new))) }
+    ensures rows { result.rows ≡ fed_of result.inputs.reader - opened.stream.start.row }
 {
     let Opened {
         stream,
@@ -229,18 +275,58 @@ fn run_to_end<R, L: Lanes + Sync, G: Gate + Sync, T: Tap, S: GrowingShelf, W: Wa
 where
     R: Threads + Wait + Sync,
     requires ready { CanTakeTurn call.now.source call.now.every stream inputs.old }
+    requires unread { HasReadText (fed_of inputs.old.reader) []
+        (at stream (S.state shelf.old).files inputs.old (T.state tap.old)) }
     requires closed { (S.state shelf.old).draft ≡ None }
     requires stands { Stands call.now.behind call.now.names stream (S.state shelf.old).files }
+    ensures whole { OnOk result (EndsWhole
+        (terms call.now.names call.now.every call.now.source)
+        (at stream (S.state shelf.old).files inputs.old (T.state tap.old))
+        (leaves inputs.new (T.state tap.new) (S.state shelf.new))) }
+    ensures left { IfErr result (IsLeftBy
+        (terms call.now.names call.now.every call.now.source)
+        (at stream (S.state shelf.old).files inputs.old (T.state tap.old))
+        (S.state shelf.old).faults
+        (leaves inputs.new (T.state tap.new) (S.state shelf.new))) }
 {
+    parts_go_on();
     let Stopped { stream, end } = run_stream(call, stream, inputs, tap, shelf, watch)?;
+    match end {
+        End::Input => end_whole(call, stream, inputs, shelf, watch),
+        End::Fault(fault) => {
+            save_if_asked(call, stream, &mut inputs.books, shelf, watch)?;
+            Err(StreamFault::Call(fault))
+        }
+    }
+}
+
+// Ends a stream whose input has ended: writes its savepoint, and runs the last part. The input may
+// have fewer rows than were run before the call.
+fn end_whole<R, L: Lanes + Sync, G: Gate + Sync, S: GrowingShelf, W: Watch>(
+    call: &StreamCall<'_, R, L, G>,
+    stream: Stream,
+    inputs: &mut StreamInputs,
+    shelf: &mut S,
+    watch: &mut W,
+) -> Result<(), StreamFault>
+where
+    R: Threads + Wait + Sync,
+    requires source { IsSourceOf (job_view stream.setup.job) call.now.source }
+    requires closed { (S.state shelf.old).draft ≡ None }
+    requires stands { Stands call.now.behind call.now.names stream (S.state shelf.old).files }
+    ensures enough { OnOk result (stream.start.row ≤ fed_of inputs.new.reader) }
+    ensures ended { OnOk result (HasEndedAt (terms call.now.names call.now.every call.now.source)
+        stream inputs.new.books (S.state shelf.old).files (S.state shelf.new).files) }
+    ensures left { IfErr result (IsUnended
+        (terms call.now.names call.now.every call.now.source) stream (S.state shelf.old)
+        (S.state shelf.new) inputs.new) }
+    ensures reader { inputs.new.reader ≡ inputs.old.reader }
+{
     let row = stream.start.row;
-    if end == End::Input && inputs.reader.fed() < row {
+    if inputs.reader.fed() < row {
         return Err(StreamFault::Save(StreamSaveFault::Past(row)));
     }
     let stream = save_if_asked(call, stream, &mut inputs.books, shelf, watch)?;
-    if let End::Fault(fault) = end {
-        return Err(StreamFault::Call(fault));
-    }
     let _last = end_stream(call, stream, &inputs.books, shelf)?;
     Ok(())
 }

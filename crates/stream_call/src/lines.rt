@@ -1,4 +1,9 @@
 // What is printed of a stream.
+ghost use Rattle.std.specs.Prelude.{◌≡◌, IfOk};
+ghost use Rattle.std.specs.Result.{result_err};
+ghost use Rattle.call_steps.specs.Effects.{Prints};
+ghost use Rattle.stream_call.specs.Ended.{end_lines};
+
 use crate::fault::StreamFault;
 use call_steps::{print, print_made};
 use payments::Sink;
@@ -13,12 +18,17 @@ pub(crate) fn print_end<O: Sink>(
     inputs: &StreamInputs,
     rows: u64,
     out: &mut O,
-) -> Result<(), Fault> {
+) -> Result<(), Fault>
+    ensures { Prints (end_lines inputs.now rows) (O.state out.old) (O.state out.new)
+        (result_err result) }
+{
     let lines = lines_of(alloc, inputs, rows)?;
     print(out, lines.as_slice())
 }
 
-fn lines_of(alloc: Global, inputs: &StreamInputs, rows: u64) -> Result<Bytes, NoMemory> {
+fn lines_of(alloc: Global, inputs: &StreamInputs, rows: u64) -> Result<Bytes, NoMemory>
+    ensures { IfOk result (λ lines. lines ≡ end_lines inputs.now rows) }
+{
     let summary = Summary {
         rows: rows as usize,
         alerts: inputs.books.tally.shown as usize,

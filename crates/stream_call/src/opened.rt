@@ -1,5 +1,5 @@
 // What a stream begins with, anew or behind its savepoint.
-ghost use Rattle.std.specs.Prelude.{◌≡◌, ◌<◌, [], IfOk, false};
+ghost use Rattle.std.specs.Prelude.{◌≡◌, ◌<◌, [], IfErr, IfOk, OnOk, false};
 ghost use Rattle.input_pieces.specs.Gathering.{is_over, kept_of};
 ghost use Rattle.job_file.specs.RequestSizes.{AreUpTo};
 ghost use Rattle.jobs.specs.Job.{job_view};
@@ -8,6 +8,8 @@ ghost use Rattle.jobs.specs.Nodes.{IsSourceOf};
 ghost use Rattle.stream_rows.specs.Reader.{IsReadTo, fed_of};
 ghost use Rattle.stream_rows.specs.declared.limits.TheConstants.{MAX_ROWS};
 ghost use Rattle.versions.specs.declared.limits.TheConstants.{MAX_STREAM_REQUESTS};
+ghost use Rattle.stream_call.specs.Opened.{AreStreamRequestsOf};
+ghost use Rattle.stream_call.specs.Unopened.{AreNoStreamRequests, HasNoSource};
 
 use call_steps::read_file;
 use command_line::StreamFiles;
@@ -62,9 +64,15 @@ pub(crate) fn asked_in<S: Shelf>(
     files: &StreamFiles,
     shelf: &mut S,
 ) -> Result<Asked, Fault>
+    ensures asked { IfOk result (λ asked. AreStreamRequestsOf (S.state shelf.old).files
+        files.now.plan.requests (job_view job.now) asked.requests) }
     ensures few { IfOk result (λ asked. AreUpTo MAX_STREAM_REQUESTS asked.requests) }
     ensures files { (S.state shelf.new).files ≡ (S.state shelf.old).files }
     ensures draft { (S.state shelf.new).draft ≡ (S.state shelf.old).draft }
+    ensures kept { OnOk result (S.state shelf.new ≡ S.state shelf.old) }
+    ensures cause { IfErr result (AreNoStreamRequests (S.state shelf.old).files
+        files.now.plan.requests (job_view job.now)
+        (S.state shelf.old).faults (S.state shelf.new).faults) }
 {
     let bytes = read_file(alloc, FileIs::Requests, &files.plan.requests, shelf)?;
     let requests = read_requests_up_to(alloc, job, bytes.as_slice(), MAX_STREAM_REQUESTS)?;
@@ -77,14 +85,15 @@ pub(crate) fn asked_in<S: Shelf>(
 ///
 /// The fault of any first row, if the job has none.
 pub(crate) fn source_of(job: &Job) -> Result<u32, Fault>
-    ensures { IfOk result (λ source. IsSourceOf (job_view job.now) source) }
+    ensures source { IfOk result (λ source. IsSourceOf (job_view job.now) source) }
+    ensures none { IfErr result (λ why. (why ≡ Fault.Payments (PFault.Source 1))
+        × HasNoSource (job_view job.now)) }
 {
-    for (place, node) in job.nodes.as_slice().iter().enumerate() {
-        if is_source(&node.func) {
-            return Ok(place as u32);
-        }
+    let mut nodes = job.nodes.as_slice().iter();
+    match nodes.position(|node| is_source(&node.func)) {
+        Some(place) => Ok(place as u32),
+        None => Err(Fault::Payments(PFault::Source(1))),
     }
-    Err(Fault::Payments(PFault::Source(1)))
 }
 
 /// A stream whose file of requests has these bytes, and with the books as they are there. The one
@@ -99,6 +108,7 @@ pub(crate) fn make_opened(
     requires few { origin.left_out < MAX_ROWS }
     ensures stream { IfOk result (λ opened. opened.stream ≡ intake.stream) }
     ensures known { IfOk result (λ opened. opened.inputs.known ≡ intake.known) }
+    ensures refused { IfOk result (λ opened. opened.inputs.refused ≡ intake.refused) }
     ensures source { IfOk result (λ opened. opened.source ≡ source) }
     ensures behind { IfOk result (λ opened. opened.behind ≡ origin.behind) }
     ensures fed { IfOk result (λ opened. fed_of opened.inputs.reader ≡ origin.left_out) }

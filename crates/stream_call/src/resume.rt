@@ -1,11 +1,16 @@
 // A stream that goes on from its savepoint.
-ghost use Rattle.std.specs.Prelude.{◌≡◌, ◌<◌, ◌≤◌, IfOk, None, Some};
+ghost use Rattle.std.specs.Prelude.{◌≡◌, ◌<◌, ◌≤◌, IfErr, IfOk, List, None, OnErr, OnOk, Some};
 ghost use Rattle.job_file.specs.RequestSizes.{AreUpTo};
 ghost use Rattle.jobs.specs.Job.{job_view};
+ghost use Rattle.jobs.specs.JobView.{JobView};
 ghost use Rattle.stream_rows.specs.declared.limits.TheConstants.{MAX_ROWS};
 ghost use Rattle.stream_save.specs.StreamReading.{CanSaveStream};
 ghost use Rattle.versions.specs.declared.limits.TheConstants.{MAX_STREAM_REQUESTS};
-ghost use Rattle.stream_call.specs.Opened.{IsOpened};
+ghost use Rattle.versions.specs.declared.request.Request.{Request};
+ghost use Rattle.stream_call.specs.Opened.{AreCutTo, GoesOnFrom, IsCutTo, IsOfFiles, IsOpened};
+ghost use Rattle.stream_call.specs.Opened.{IsStreamSaveOf, resume_at, resume_of};
+ghost use Rattle.stream_call.specs.Unopened.{AreUnmade, HasOnlyAlerts, IsNoStreamSave, IsShort};
+ghost use Rattle.stream_call.specs.Unopened.{IsUncut, IsUnopened, Misfits};
 
 use crate::fault::StreamFault;
 use crate::opened::{Asked, Opened, Origin, asked_in, make_opened, source_of};
@@ -14,7 +19,7 @@ use command_line::StreamFiles;
 use flow_model::Setup;
 use operators::Job;
 use payments::GrowingShelf;
-use report::{Fault, FileIs};
+use report::FileIs;
 use std::alloc::Global;
 use stream_intake::resume;
 use stream_rows::MAX_ROWS;
@@ -37,7 +42,13 @@ pub(crate) fn resume_files<S: GrowingShelf>(
     requires closed { (S.state shelf.old).draft ≡ None }
     ensures opened { IfOk result (λ opened.
         IsOpened files.now opened (S.state shelf.new).files) }
-    ensures closed { (S.state shelf.new).draft ≡ None }
+    ensures of { IfOk result (IsOfFiles files.now (S.state shelf.old).files) }
+    ensures from { IfOk result (GoesOnFrom (resume_at save.now left_out) files.now
+        (S.state shelf.old).files (S.state shelf.new).files) }
+    ensures closed { OnOk result ((S.state shelf.new).draft ≡ None) }
+    ensures faults { OnOk result ((S.state shelf.new).faults ≡ (S.state shelf.old).faults) }
+    ensures cause { resume_of files.now.saving ≡ Some (resume_at save.now left_out)
+        → IfErr result (IsUnopened files.now (S.state shelf.old) (S.state shelf.new)) }
 {
     let job = job_in(alloc, &files.plan.job, shelf)?;
     let Asked { bytes, requests } = asked_in(alloc, &job, files, shelf)?;
@@ -45,8 +56,9 @@ pub(crate) fn resume_files<S: GrowingShelf>(
     let Saved { job, save } = saved_in(alloc, job, &requests, save, shelf)?;
     let origin = origin_of(&save, left_out)?;
     let intake = resume(alloc, job, requests, files.plan.ordered, save)?;
+    let opened = make_opened(alloc, intake, bytes, source, origin)?;
     cut_files(files, origin, shelf)?;
-    Ok(make_opened(alloc, intake, bytes, source, origin)?)
+    Ok(opened)
 }
 
 // A job, and a savepoint of a stream of it.
@@ -65,8 +77,14 @@ fn saved_in<S: GrowingShelf>(
 ) -> Result<Saved, StreamFault>
     requires few { AreUpTo MAX_STREAM_REQUESTS requests.now }
     ensures job { IfOk result (λ saved. saved.job ≡ job) }
+    ensures read { IfOk result (λ saved. IsStreamSaveOf (S.state shelf.old).files name.now
+        (job_view job) saved.save) }
     ensures saved { IfOk result (λ saved. CanSaveStream (job_view job) saved.save) }
+    ensures files { (S.state shelf.new).files ≡ (S.state shelf.old).files }
     ensures draft { (S.state shelf.new).draft ≡ (S.state shelf.old).draft }
+    ensures kept { OnOk result (S.state shelf.new ≡ S.state shelf.old) }
+    ensures cause { IfErr result (IsNoStreamSave (S.state shelf.old).files name.now
+        (job_view job) (S.state shelf.old).faults (S.state shelf.new).faults) }
 {
     let text = read_file(alloc, FileIs::Save, name, shelf)?;
     let setup = setup_with(alloc, job, requests)?;
@@ -92,6 +110,10 @@ fn origin_of(save: &StreamSave, left_out: u64) -> Result<Origin, StreamFault>
     ensures within { IfOk result (λ origin. left_out ≤ save.now.start.row) }
     ensures few { IfOk result (λ origin. save.now.start.row < MAX_ROWS) }
     ensures behind { IfOk result (λ origin. origin.behind ≡ Some save.now.start.row) }
+    ensures alerts { IfOk result (λ origin. origin.alerts ≡ save.now.alerts) }
+    ensures audit { IfOk result (λ origin. origin.audit ≡ save.now.audit) }
+    ensures cause { IfErr result (λ why. (job : JobView) (requests : List Request)
+        → Misfits job requests left_out save.now why) }
 {
     let row = save.start.row;
     if left_out > row || row >= MAX_ROWS {
@@ -112,25 +134,43 @@ fn cut_files<S: GrowingShelf>(
     shelf: &mut S,
 ) -> Result<(), StreamFault>
     requires closed { (S.state shelf.old).draft ≡ None }
+    ensures cut { OnOk result (AreCutTo files.now origin.alerts origin.audit
+        (S.state shelf.old).files (S.state shelf.new).files) }
+    ensures stopped { OnErr result (HasOnlyAlerts files.now (S.state shelf.old).files
+        (S.state shelf.new).files) }
     ensures closed { (S.state shelf.new).draft ≡ None }
+    ensures faults { OnOk result ((S.state shelf.new).faults ≡ (S.state shelf.old).faults) }
+    ensures cause { IfErr result (AreUnmade files.now (S.state shelf.new).files
+        (S.state shelf.old).faults (S.state shelf.new).faults) }
 {
-    if !cut_file(FileIs::Alerts, &files.alerts, origin.alerts, shelf)? {
-        return Err(StreamFault::Save(StreamSaveFault::Alerts(origin.alerts)));
-    }
-    if !cut_file(FileIs::Audit, &files.audit, origin.audit, shelf)? {
-        return Err(StreamFault::Save(StreamSaveFault::Audit(origin.audit)));
-    }
-    Ok(())
+    let Origin { alerts, audit, .. } = origin;
+    let short = StreamSaveFault::Alerts(alerts);
+    cut_file(FileIs::Alerts, &files.alerts, alerts, short, shelf)?;
+    let short = StreamSaveFault::Audit(audit);
+    cut_file(FileIs::Audit, &files.audit, audit, short, shelf)
 }
 
+// Cuts a file to the length that counts. A file that is shorter has the fault `short`.
 fn cut_file<S: GrowingShelf>(
     file: FileIs,
     name: &Word,
     size: u64,
+    short: StreamSaveFault,
     shelf: &mut S,
-) -> Result<bool, Fault>
+) -> Result<(), StreamFault>
     requires closed { (S.state shelf.old).draft ≡ None }
+    ensures cut { OnOk result (IsCutTo name.now size (S.state shelf.old).files
+        (S.state shelf.new).files) }
+    ensures as_before { OnErr result ((S.state shelf.new).files ≡ (S.state shelf.old).files) }
     ensures closed { (S.state shelf.new).draft ≡ None }
+    ensures faults { OnOk result ((S.state shelf.new).faults ≡ (S.state shelf.old).faults) }
+    ensures cause { IfErr result (IsUncut file name.now
+        (IsShort (S.state shelf.new).files name.now size short)
+        (S.state shelf.old).faults (S.state shelf.new).faults) }
 {
-    shelf.cut(name, size).map_err(|why| fault_of(file, why))
+    match shelf.cut(name, size) {
+        Ok(true) => Ok(()),
+        Ok(false) => Err(StreamFault::Save(short)),
+        Err(why) => Err(StreamFault::Call(fault_of(file, why))),
+    }
 }

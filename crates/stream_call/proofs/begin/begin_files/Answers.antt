@@ -1,8 +1,10 @@
-use Rattle.std.proofs.Common.{◌≡◌, ◌∙◌, ℕ, Option, List, [], ap, arith, subst, sym}
+use Rattle.std.proofs.Common.{◌≡◌, ◌∙◌, ℕ, Option, List, [], ap, arith, inl, inr, subst, sym}
+use Rattle.std.proofs.lemmas.Result.{err_from_is_err_and}
 use Rattle.jobs.specs.Job.{job_view}
 use Rattle.jobs.specs.Nodes.{IsSourceOf}
 use Rattle.jobs.specs.declared.job.Job.{Job}
-use Rattle.payments.specs.Files.{Files}
+use Rattle.payments.specs.Files.{Files, with_bytes}
+use Rattle.payments.specs.World.{ShelfState}
 use Rattle.sink_journal.specs.Alerts.{header}
 use Rattle.sink_journal.specs.Audit.{audit_header}
 use Rattle.sink_journal.specs.Records.{record_text}
@@ -14,51 +16,62 @@ use Rattle.stream_intake.specs.Intake.{IsKnownTo}
 use Rattle.stream_intake.specs.declared.known.Known.{Known}
 use Rattle.stream_run.specs.Standing.{Begins, Holds, IsNew}
 use Rattle.stream_call.specs.Opened.{every_of, names_of}
+use Rattle.stream_call.specs.Unopened.{NoJob, NoMemory, NoRequests, NoSource, Unwritten}
 use Rattle.stream_call.proofs.OpenedLemmas.{none-due}
 use Rattle.stream_run.proofs.SavedLemmas.{held, held_before}
 use Rattle.stream_call.proofs.begin.begin_files.Goals as goal
 
 pub returns-clause-opened : goal.returns-clause-opened
 returns-clause-opened g c =
-    let made = c.in_ok-make_opened.field-0 in
-    let is = c.in_ok-make_opened.ensures in
+    let made = c.in_ok-opened.opened in
+    let is = c.in_ok-opened.ensures in
     let intake = c.in_ok-intake.intake in
+    let files = c.args.files.now in
     let now = (g.S.Shelf.state c.write_headers.new.shelf).files in
+    let mid = (g.S.Shelf.state c.asked_in.new.shelf).files in
     let alerts = record_text (header intake.stream.setup.job.columns) in
+    let audit = record_text audit_header in
     let row : made.stream.start.row ≡ 0 =
     ap (λ (s : Stream). s.start.row) is.stream
     ∙ ap (λ (b : Begin). b.row) c.in_ok-intake.ensures.first in
     let job_is : made.stream.setup.job ≡ c.in_ok-job.job =
     ap (λ (s : Stream). s.setup.job) is.stream ∙ c.in_ok-intake.ensures.job in
-    let new : IsNew (names_of c.args.files.now) intake.stream now =
+    let headers = c.in_ok-headers.ensures in
+    let text_is : c.in_ok-headers.headers.alerts ≡ alerts =
+    headers.alerts
+    ∙ ap (λ (j : Job). record_text (header j.columns)) (sym c.in_ok-intake.ensures.job) in
+    let files_are : now ≡ with_bytes (with_bytes mid files.alerts alerts) files.audit audit =
+    c.in_ok-write_headers.ensures.files
+    ∙ (ap (λ (t : List ℕ). with_bytes (with_bytes mid files.alerts t) files.audit
+    c.in_ok-headers.headers.audit) text_is
+    ∙ ap (λ (t : List ℕ). with_bytes (with_bytes mid files.alerts alerts) files.audit t)
+    headers.audit) in
+    let new : IsNew (names_of files) intake.stream now =
     record {
       first = c.in_ok-intake.ensures.first;
       alerts =
-          subst (λ (f : Option Files). Holds f c.args.files.now.alerts alerts)
-          (sym c.in_ok-origin.ensures.files)
-          (held_before _ c.args.files.now.alerts c.args.files.now.audit alerts
-          (record_text audit_header) c.requires.apart);
+          subst (λ (f : Option Files). Holds f files.alerts alerts) (sym files_are)
+          (held_before mid files.alerts files.audit alerts audit c.requires.apart);
       audit =
-          subst (λ (f : Option Files). Holds f c.args.files.now.audit (record_text audit_header))
-          (sym c.in_ok-origin.ensures.files)
-          (held _ c.args.files.now.audit (record_text audit_header));
+          subst (λ (f : Option Files). Holds f files.audit audit) (sym files_are)
+          (held (with_bytes mid files.alerts alerts) files.audit audit);
     } in
     record {
       begins =
-          subst (λ (b : Option ℕ). Begins b (names_of c.args.files.now) made.stream now)
-          (sym (is.behind ∙ c.in_ok-origin.ensures.behind))
-          (subst (λ (s : Stream). IsNew (names_of c.args.files.now) s now) (sym is.stream) new);
+          subst (λ (b : Option ℕ). Begins b (names_of files) made.stream now)
+          (sym (is.behind ∙ c.origin.ensures.behind))
+          (subst (λ (s : Stream). IsNew (names_of files) s now) (sym is.stream) new);
       ready = record {
         source_is =
             subst (λ (n : ℕ). IsSourceOf (job_view made.stream.setup.job) n) (sym is.source)
             (subst (λ (j : Job). IsSourceOf (job_view j) c.in_ok-source.source)
-            (sym job_is) c.in_ok-source.ensures);
+            (sym job_is) c.in_ok-source.ensures.source);
         known =
             subst (λ (k : Known). IsKnownTo k.requests made.stream) (sym is.known)
             (subst (λ (s : Stream). IsKnownTo intake.known.requests s) (sym is.stream)
             (subst (λ (r : List Request). IsKnownTo r intake.stream)
             (sym c.in_ok-intake.ensures.known) c.in_ok-intake.ensures.is_known));
-        fed = omega (arith, is.fed, c.in_ok-origin.ensures.left_out);
+        fed = omega (arith, is.fed, c.origin.ensures.left_out);
         few = omega (arith, row);
         none_due = none-due (every_of c.args.files.now.saving) _ is.unsaved;
       };
@@ -67,3 +80,116 @@ returns-clause-opened g c =
       kept = is.kept;
       goes_on = is.goes_on;
     }
+
+pub returns-clause-of : goal.returns-clause-of
+returns-clause-of g c =
+    let is = c.in_ok-opened.ensures in
+    let intake = c.in_ok-intake.ensures in
+    record {
+      job = rw (is.stream, intake.job) c.in_ok-job.ensures.job;
+      requests = rw (is.stream, intake.job, is.known, intake.known, sym c.in_ok-job.ensures.files)
+          c.in_ok-bytes.ensures.asked;
+      splits = rw (is.stream, intake.job) intake.splits;
+    }
+
+pub returns-clause-anew : goal.returns-clause-anew
+returns-clause-anew g c =
+    let is = c.in_ok-opened.ensures in
+    let intake = c.in_ok-intake.ensures in
+    let headers = c.in_ok-headers.ensures in
+    record {
+      behind = is.behind ∙ c.origin.ensures.behind;
+      none_left_out = is.fed ∙ c.origin.ensures.left_out;
+      ordered = rw is.stream intake.ordered;
+      none_issued = rw is.stream intake.none;
+      refused = rw (is.stream, is.known, is.refused, intake.known) intake.refused;
+      files_are = rw (
+        is.stream,
+        intake.job,
+        sym headers.alerts,
+        sym headers.audit,
+        sym c.in_ok-job.ensures.files,
+        sym c.in_ok-bytes.ensures.files,
+      )
+          c.in_ok-write_headers.ensures.files;
+    }
+
+pub returns-in_err-job-clause-cause : goal.returns-in_err-job-clause-cause
+returns-in_err-job-clause-cause g c =
+    let fault = err_from_is_err_and c.from_residual.result c.from_residual.ensures.1 in
+    rw (fault.1, fault.2)
+    (inl (NoJob _ c.in_err-job.ensures.cause, c.in_err-job.ensures.files))
+
+pub returns-in_err-bytes-clause-cause : goal.returns-in_err-bytes-clause-cause
+returns-in_err-bytes-clause-cause g c =
+    let fault =
+    err_from_is_err_and c.from_residual-in_err-bytes.result
+    c.from_residual-in_err-bytes.ensures.1 in
+    rw (fault.1, fault.2)
+    (inl (
+      NoRequests (job_view c.in_ok-job.job) c.in_err-bytes.field-0.0 c.in_ok-job.ensures.job
+          (rw (sym c.in_ok-job.ensures.kept) c.in_err-bytes.ensures.cause),
+      c.in_err-bytes.ensures.files ∙ c.in_ok-job.ensures.files,
+    ))
+
+pub returns-in_err-source-clause-cause : goal.returns-in_err-source-clause-cause
+returns-in_err-source-clause-cause g c =
+    let fault =
+    err_from_is_err_and c.from_residual-in_err-source.result
+    c.from_residual-in_err-source.ensures.1 in
+    let same = c.in_ok-bytes.ensures.kept ∙ c.in_ok-job.ensures.kept in
+    rw (fault.1, fault.2, c.in_err-source.ensures.none.0)
+    (inl (
+      NoSource (job_view c.in_ok-job.job) c.in_ok-job.ensures.job
+          c.in_err-source.ensures.none.1,
+      ap (λ (s : ShelfState). s.files) same,
+    ))
+
+pub returns-in_err-headers-clause-cause : goal.returns-in_err-headers-clause-cause
+returns-in_err-headers-clause-cause g c =
+    let fault =
+    err_from_is_err_and c.from_residual-in_err-headers.result
+    c.from_residual-in_err-headers.ensures.1 in
+    let same = c.in_ok-bytes.ensures.kept ∙ c.in_ok-job.ensures.kept in
+    rw (fault.1, fault.2)
+    (inl (
+      NoMemory (ap (λ (s : ShelfState). s.faults) same),
+      ap (λ (s : ShelfState). s.files) same,
+    ))
+
+pub returns-in_err-intake-clause-cause : goal.returns-in_err-intake-clause-cause
+returns-in_err-intake-clause-cause g c =
+    let fault =
+    err_from_is_err_and c.from_residual-in_err-intake.result
+    c.from_residual-in_err-intake.ensures.1 in
+    let same = c.in_ok-bytes.ensures.kept ∙ c.in_ok-job.ensures.kept in
+    rw (fault.1, fault.2)
+    (inl (
+      NoMemory (ap (λ (s : ShelfState). s.faults) same),
+      ap (λ (s : ShelfState). s.files) same,
+    ))
+
+pub returns-in_err-opened-clause-cause : goal.returns-in_err-opened-clause-cause
+returns-in_err-opened-clause-cause g c =
+    let fault =
+    err_from_is_err_and c.from_residual-in_err-opened.result
+    c.from_residual-in_err-opened.ensures.1 in
+    let same = c.in_ok-bytes.ensures.kept ∙ c.in_ok-job.ensures.kept in
+    rw (fault.1, fault.2)
+    (inl (
+      NoMemory (ap (λ (s : ShelfState). s.faults) same),
+      ap (λ (s : ShelfState). s.files) same,
+    ))
+
+pub returns-in_err-write_headers-clause-cause : goal.returns-in_err-write_headers-clause-cause
+returns-in_err-write_headers-clause-cause g c =
+    let fault =
+    err_from_is_err_and c.from_residual-in_err-write_headers.result
+    c.from_residual-in_err-write_headers.ensures.1 in
+    let same = c.in_ok-bytes.ensures.kept ∙ c.in_ok-job.ensures.kept in
+    rw (fault.1, fault.2)
+    (inr (
+      Unwritten c.in_err-write_headers.field-0.0 (rw (sym (ap (λ (s : ShelfState). s.faults) same))
+          c.in_err-write_headers.ensures.cause),
+      rw (sym (ap (λ (s : ShelfState). s.files) same)) c.in_err-write_headers.ensures.stopped,
+    ))

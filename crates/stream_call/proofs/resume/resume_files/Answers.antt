@@ -1,24 +1,32 @@
-use Rattle.std.proofs.Common.{◌≡◌, ◌∙◌, ℕ, Option, List, [], Some, ap, arith, subst, sym}
+use Rattle.std.proofs.Common.{◌≡◌, ◌∙◌, ℕ, Option, List, [], ap, arith, inl, inr, subst}
+use Rattle.std.proofs.Common.{sym, take}
+use Rattle.std.proofs.lemmas.Result.{err_from_is_err_and}
 use Rattle.jobs.specs.Job.{job_view}
 use Rattle.jobs.specs.JobView.{JobView}
 use Rattle.jobs.specs.Nodes.{IsSourceOf}
 use Rattle.jobs.specs.declared.job.Job.{Job}
+use Rattle.payments.specs.World.{ShelfState}
 use Rattle.flow_model.specs.Begin.{Begin}
+use Rattle.flow_model.specs.Setup.{setup_view}
 use Rattle.flow_model.specs.SetupView.{SetupView}
 use Rattle.versions.specs.declared.request.Request.{Request}
 use Rattle.stream_rows.specs.Reader.{IsReadTo}
+use Rattle.stream_step.specs.Resumed.{IsResumed}
 use Rattle.stream_step.specs.declared.stream.Stream.{Stream}
-use Rattle.stream_intake.specs.Intake.{IsKnownTo}
+use Rattle.stream_intake.specs.Intake.{IsKnownTo, judged_in}
 use Rattle.stream_intake.specs.declared.known.Known.{Known}
 use Rattle.stream_run.specs.Standing.{Begins}
-use Rattle.stream_call.specs.Opened.{every_of, names_of}
+use Rattle.stream_call.specs.Opened.{AreStreamRequestsOf, IsStreamSaveOf, every_of, names_of}
+use Rattle.stream_call.specs.Opened.{resume_at}
+use Rattle.stream_call.specs.Unopened.{NoFit, NoJob, NoMemory, NoRequests, NoSave, NoSource}
 use Rattle.stream_call.proofs.OpenedLemmas.{none-due}
+use Rattle.stream_call.proofs.UnopenedLemmas.{unfit}
 use Rattle.stream_call.proofs.resume.resume_files.Goals as goal
 
 pub returns-clause-opened : goal.returns-clause-opened
 returns-clause-opened g c =
-    let made = c.in_ok-make_opened.field-0 in
-    let is = c.in_ok-make_opened.ensures in
+    let made = c.in_ok-opened.opened in
+    let is = c.in_ok-opened.ensures in
     let intake = c.in_ok-intake.intake in
     let now = (g.S.Shelf.state c.cut_files.new.shelf).files in
     let save = c.in_ok-job-2.field-0.save in
@@ -39,7 +47,7 @@ returns-clause-opened g c =
         source_is =
             subst (λ (n : ℕ). IsSourceOf (job_view made.stream.setup.job) n) (sym is.source)
             (subst (λ (j : JobView). IsSourceOf j c.in_ok-source.source)
-            (sym job_is) c.in_ok-source.ensures);
+            (sym job_is) c.in_ok-source.ensures.source);
         known =
             subst (λ (k : Known). IsKnownTo k.requests made.stream) (sym is.known)
             (subst (λ (s : Stream). IsKnownTo intake.known.requests s) (sym is.stream)
@@ -54,3 +62,193 @@ returns-clause-opened g c =
       kept = is.kept;
       goes_on = is.goes_on;
     }
+
+pub returns-clause-of : goal.returns-clause-of
+returns-clause-of g c =
+    let is = c.in_ok-opened.ensures in
+    let intake = c.in_ok-intake.ensures in
+    let job_is : job_view c.in_ok-intake.intake.stream.setup.job ≡ job_view c.in_ok-job.job =
+    ap (λ (s : SetupView). s.job) intake.resumed.setup_is
+    ∙ (intake.resumed.job_is ∙ ap job_view c.in_ok-job-2.ensures.job) in
+    record {
+      job = rw (is.stream, job_is) c.in_ok-job.ensures.job;
+      requests = rw (is.stream, job_is, is.known, intake.known, sym c.in_ok-job.ensures.files)
+          c.in_ok-bytes.ensures.asked;
+      splits = rw (is.stream, ap (λ (j : JobView). j.nodes) job_is) (rw
+          (sym (ap (λ (j : Job). j.nodes) c.in_ok-job-2.ensures.job)) intake.splits);
+    }
+
+pub returns-clause-from : goal.returns-clause-from
+returns-clause-from g c =
+    let is = c.in_ok-opened.ensures in
+    let intake = c.in_ok-intake.ensures in
+    let stream = c.in_ok-intake.intake.stream in
+    let origin = c.in_ok-origin.ensures in
+    let save = c.in_ok-job-2.field-0.save in
+    let asked = c.args.files.now in
+    let requests = c.in_ok-bytes.field-0.requests in
+    let second : job_view stream.setup.job ≡ job_view c.in_ok-job-2.field-0.job =
+    ap (λ (s : SetupView). s.job) intake.resumed.setup_is ∙ intake.resumed.job_is in
+    let job_is : job_view stream.setup.job ≡ job_view c.in_ok-job.job =
+    second ∙ ap job_view c.in_ok-job-2.ensures.job in
+    let resumed : IsResumed (job_view stream.setup.job)
+    (judged_in stream (take save.read requests)).accepted asked.plan.ordered save
+    (setup_view stream.setup) =
+    subst (λ (j : JobView). IsResumed j (judged_in stream (take save.read requests)).accepted
+    asked.plan.ordered save (setup_view stream.setup)) (sym second) intake.resumed in
+    record {
+      save = save;
+      read = rw (
+        is.stream,
+        job_is,
+        sym c.in_ok-job.ensures.files,
+        sym c.in_ok-bytes.ensures.files,
+      ) c.in_ok-job-2.ensures.read;
+      behind = is.behind ∙ origin.behind;
+      left_out = is.fed ∙ origin.left_out;
+      start = rw is.stream intake.start;
+      resumed = rw (is.stream, is.known, intake.known) resumed;
+      refused = rw (is.stream, is.known, is.refused, intake.known) intake.refused;
+      cut = rw (
+        sym c.in_ok-job.ensures.files,
+        sym c.in_ok-bytes.ensures.files,
+        sym c.in_ok-job-2.ensures.files,
+        sym origin.alerts,
+        sym origin.audit,
+      )
+          c.in_ok-cut_files.ensures.cut;
+    }
+
+pub returns-in_err-job-clause-cause : goal.returns-in_err-job-clause-cause
+returns-in_err-job-clause-cause g c resumed =
+    let fault = err_from_is_err_and c.from_residual.result c.from_residual.ensures.1 in
+    rw (fault.1, fault.2)
+    (inl (NoJob _ c.in_err-job.ensures.cause, c.in_err-job.ensures.files))
+
+pub returns-in_err-bytes-clause-cause : goal.returns-in_err-bytes-clause-cause
+returns-in_err-bytes-clause-cause g c resumed =
+    let fault =
+    err_from_is_err_and c.from_residual-in_err-bytes.result
+    c.from_residual-in_err-bytes.ensures.1 in
+    rw (fault.1, fault.2)
+    (inl (
+      NoRequests (job_view c.in_ok-job.job) c.in_err-bytes.field-0.0 c.in_ok-job.ensures.job
+          (rw (sym c.in_ok-job.ensures.kept) c.in_err-bytes.ensures.cause),
+      c.in_err-bytes.ensures.files ∙ c.in_ok-job.ensures.files,
+    ))
+
+pub returns-in_err-source-clause-cause : goal.returns-in_err-source-clause-cause
+returns-in_err-source-clause-cause g c resumed =
+    let fault =
+    err_from_is_err_and c.from_residual-in_err-source.result
+    c.from_residual-in_err-source.ensures.1 in
+    let same = c.in_ok-bytes.ensures.kept ∙ c.in_ok-job.ensures.kept in
+    rw (fault.1, fault.2, c.in_err-source.ensures.none.0)
+    (inl (
+      NoSource (job_view c.in_ok-job.job) c.in_ok-job.ensures.job
+          c.in_err-source.ensures.none.1,
+      ap (λ (s : ShelfState). s.files) same,
+    ))
+
+pub returns-in_err-job-2-clause-cause : goal.returns-in_err-job-2-clause-cause
+returns-in_err-job-2-clause-cause g c resumed =
+    let fault =
+    err_from_is_err_and c.from_residual-in_err-job-2.result
+    c.from_residual-in_err-job-2.ensures.1 in
+    let same = c.in_ok-bytes.ensures.kept ∙ c.in_ok-job.ensures.kept in
+    rw (fault.1, fault.2)
+    (inl (
+      NoSave (job_view c.in_ok-job.job) (resume_at c.args.save.now c.args.left_out)
+          c.in_err-job-2.field-0.0
+          c.in_ok-job.ensures.job resumed (rw (sym same) c.in_err-job-2.ensures.cause),
+      c.in_err-job-2.ensures.files ∙ ap (λ (s : ShelfState). s.files) same,
+    ))
+
+pub returns-in_err-origin-clause-cause : goal.returns-in_err-origin-clause-cause
+returns-in_err-origin-clause-cause g c resumed =
+    let fault =
+    err_from_is_err_and c.from_residual-in_err-origin.result
+    c.from_residual-in_err-origin.ensures.1 in
+    let same =
+    c.in_ok-job-2.ensures.kept ∙ (c.in_ok-bytes.ensures.kept ∙ c.in_ok-job.ensures.kept) in
+    let job = job_view c.in_ok-job.job in
+    let requests = c.in_ok-bytes.field-0.requests in
+    let has : AreStreamRequestsOf (g.S.Shelf.state c.args.shelf.now).files
+    c.args.files.now.plan.requests job requests =
+    rw (sym c.in_ok-job.ensures.files) c.in_ok-bytes.ensures.asked in
+    let saved : IsStreamSaveOf (g.S.Shelf.state c.args.shelf.now).files c.args.save.now job
+    c.in_ok-job-2.field-0.save =
+    rw (sym (c.in_ok-bytes.ensures.files ∙ c.in_ok-job.ensures.files)) c.in_ok-job-2.ensures.read in
+    rw (fault.1, fault.2)
+    (inl (
+      NoFit job requests (resume_at c.args.save.now c.args.left_out)
+          c.in_ok-job-2.field-0.save _ c.in_ok-job.ensures.job has resumed saved
+          (c.in_err-origin.ensures.cause job requests),
+      ap (λ (s : ShelfState). s.files) same,
+    ))
+
+pub returns-in_err-intake-clause-cause : goal.returns-in_err-intake-clause-cause
+returns-in_err-intake-clause-cause g c resumed =
+    let fault =
+    err_from_is_err_and c.from_residual-in_err-intake.result
+    c.from_residual-in_err-intake.ensures.1 in
+    let same =
+    c.in_ok-job-2.ensures.kept ∙ (c.in_ok-bytes.ensures.kept ∙ c.in_ok-job.ensures.kept) in
+    let job = job_view c.in_ok-job.job in
+    let requests = c.in_ok-bytes.field-0.requests in
+    let has : AreStreamRequestsOf (g.S.Shelf.state c.args.shelf.now).files
+    c.args.files.now.plan.requests job requests =
+    rw (sym c.in_ok-job.ensures.files) c.in_ok-bytes.ensures.asked in
+    let saved : IsStreamSaveOf (g.S.Shelf.state c.args.shelf.now).files c.args.save.now job
+    c.in_ok-job-2.field-0.save =
+    rw (sym (c.in_ok-bytes.ensures.files ∙ c.in_ok-job.ensures.files)) c.in_ok-job-2.ensures.read in
+    let faults = ap (λ (s : ShelfState). s.faults) same in
+    rw (fault.1, fault.2)
+    (inl (
+      unfit c.args.files.now _ _ _ job requests (resume_at c.args.save.now c.args.left_out)
+          c.in_ok-job-2.field-0.save c.in_ok-job.ensures.job has resumed saved faults _
+          (rw (sym c.in_ok-job-2.ensures.job) c.in_err-intake.ensures.fault),
+      ap (λ (s : ShelfState). s.files) same,
+    ))
+
+pub returns-in_err-opened-clause-cause : goal.returns-in_err-opened-clause-cause
+returns-in_err-opened-clause-cause g c resumed =
+    let fault =
+    err_from_is_err_and c.from_residual-in_err-opened.result
+    c.from_residual-in_err-opened.ensures.1 in
+    let same =
+    c.in_ok-job-2.ensures.kept ∙ (c.in_ok-bytes.ensures.kept ∙ c.in_ok-job.ensures.kept) in
+    let job = job_view c.in_ok-job.job in
+    let requests = c.in_ok-bytes.field-0.requests in
+    let has : AreStreamRequestsOf (g.S.Shelf.state c.args.shelf.now).files
+    c.args.files.now.plan.requests job requests =
+    rw (sym c.in_ok-job.ensures.files) c.in_ok-bytes.ensures.asked in
+    let saved : IsStreamSaveOf (g.S.Shelf.state c.args.shelf.now).files c.args.save.now job
+    c.in_ok-job-2.field-0.save =
+    rw (sym (c.in_ok-bytes.ensures.files ∙ c.in_ok-job.ensures.files)) c.in_ok-job-2.ensures.read in
+    rw (fault.1, fault.2)
+    (inl (
+      NoMemory (ap (λ (s : ShelfState). s.faults) same),
+      ap (λ (s : ShelfState). s.files) same,
+    ))
+
+pub returns-in_err-cut_files-clause-cause : goal.returns-in_err-cut_files-clause-cause
+returns-in_err-cut_files-clause-cause g c resumed =
+    let fault =
+    err_from_is_err_and c.from_residual-in_err-cut_files.result
+    c.from_residual-in_err-cut_files.ensures.1 in
+    let same =
+    c.in_ok-job-2.ensures.kept ∙ (c.in_ok-bytes.ensures.kept ∙ c.in_ok-job.ensures.kept) in
+    let job = job_view c.in_ok-job.job in
+    let requests = c.in_ok-bytes.field-0.requests in
+    let has : AreStreamRequestsOf (g.S.Shelf.state c.args.shelf.now).files
+    c.args.files.now.plan.requests job requests =
+    rw (sym c.in_ok-job.ensures.files) c.in_ok-bytes.ensures.asked in
+    let saved : IsStreamSaveOf (g.S.Shelf.state c.args.shelf.now).files c.args.save.now job
+    c.in_ok-job-2.field-0.save =
+    rw (sym (c.in_ok-bytes.ensures.files ∙ c.in_ok-job.ensures.files)) c.in_ok-job-2.ensures.read in
+    rw (fault.1, fault.2)
+    (inr (
+      rw (sym (ap (λ (s : ShelfState). s.faults) same)) c.in_err-cut_files.ensures.cause,
+      rw (sym (ap (λ (s : ShelfState). s.files) same)) c.in_err-cut_files.ensures.stopped,
+    ))

@@ -1,0 +1,155 @@
+-- How a stream ends.
+use Rattle.std.proofs.Common.{◌≡◌, ◌∙◌, ◌++◌, ℕ, List, [], Option, None, Some, ap, arith, drop}
+use Rattle.std.proofs.Common.{false}
+use Rattle.std.proofs.Common.{inl, inr, length, map, refl, subst, sym}
+use Rattle.std.proofs.Math.ListN.{drop_of_length-le}
+use Rattle.std.specs.Prelude.{Err, IfErr, IfNone, IfSome, Ok, OnOk, Result, ⊤, unwrap_or}
+use Rattle.std.specs.Result.{result_err}
+use Rattle.input_pieces.specs.Gathering.{is_over}
+use Rattle.payments.specs.Causes.{Faults}
+use Rattle.payments.specs.Files.{Files}
+use Rattle.payments.specs.World.{ShelfState}
+use Rattle.tuple_trace.specs.FeedRows.{blanks}
+use Rattle.tuple_trace.specs.declared.row.Row.{Row}
+use Rattle.flow_model.specs.Begin.{Begin}
+use Rattle.flow_model.specs.Run.{Ran}
+use Rattle.flow_model.specs.declared.setup.Setup.{Setup}
+use Rattle.stream_law.specs.Stream.{IsRunSoFar, SoFar, with_part}
+use Rattle.report.specs.declared.fault.Fault.{Fault}
+use Rattle.stream_rows.specs.Reader.{IsReadTo, fed_of}
+use Rattle.stream_step.specs.Parts.{first_part}
+use Rattle.stream_step.specs.Pending.{lifted}
+use Rattle.stream_step.specs.declared.stream.Stream.{Stream}
+use Rattle.stream_run.specs.Growing.{Goes, GoesAndStops, Names, parts_in}
+use Rattle.stream_run.specs.Parts.{HasCome, with_all, with_one}
+use Rattle.stream_run.specs.Standing.{Begins, Holds, saved_text}
+use Rattle.stream_run.specs.declared.books.Books.{Books}
+use Rattle.stream_run.proofs.PartLemmas.{First, Later, length-blanks}
+use Rattle.stream_parts.specs.End.{IsLastRun}
+use Rattle.stream_turns.specs.Taken.{HasReadText, HasTakenTurn, StreamState, at, job_at}
+use Rattle.stream_turns.specs.Turns.{IsGivenUp}
+use Rattle.stream_turns.specs.declared.inputs.StreamInputs.{StreamInputs}
+use Rattle.stream_turns.specs.declared.turns.End.TheVariants as end
+use Rattle.stream_call.specs.Ended.{EndsWhole, HasEndedAt, IsLeftBy, IsSavedAt, IsUnended, Left}
+use Rattle.stream_call.specs.Ended.{Terms, last_part}
+use Rattle.stream_call.specs.declared.fault.StreamFault.{StreamFault}
+use Rattle.stream_call.specs.declared.fault.StreamFault.TheVariants as stream
+
+-- what a call that ends so has as its fault
+pub none-so : {E : Type 0} (r : Result ⊤ E) (P : Type 0) → OnOk r P → IfNone (result_err r) P
+none-so (Ok value) P is = is
+none-so (Err why) P is = tt
+
+pub some-so : {E : Type 0} (r : Result ⊤ E) (P : E → Type 0) → IfErr r P
+    → IfSome (result_err r) P
+some-so (Ok value) P is = tt
+some-so (Err why) P is = is
+
+-- nothing was read yet
+pub nothing-read : (place : StreamState)
+    → IsReadTo (job_at place) (fed_of place.inputs.reader) place.inputs.reader []
+    → is_over place.inputs.pieces ≡ false → HasReadText (fed_of place.inputs.reader) [] place
+nothing-read place read goes_on = record {
+  read = read;
+  cut = λ on. refl;
+  whole = λ over. absurd (cc (over, goes_on));
+}
+
+-- the row where a call began
+pub begun-row : (behind : Option ℕ) (names : Names) (begin : Stream) (files : Option Files)
+    → Begins behind names begin files → unwrap_or behind 0 ≡ begin.start.row
+begun-row None names begin files is = sym (ap (λ (b : Begin). b.row) is.first)
+begun-row (Some row) names begin files is = sym is
+
+-- whatever a stream had run, that and its last part are one run
+run-last : Later → First → (stream : Stream) (source : ℕ) (setup : Setup) (left : Ran)
+    → IsLastRun stream source setup left → (so_far : Option SoFar) → HasCome stream so_far
+    → IsRunSoFar (with_one so_far (last_part setup left))
+run-last later first stream source setup left last None come =
+    let requests = map (lifted stream.start.row) stream.pending in
+    let is = first stream requests (blanks source stream.start.row) setup left come last in
+    let row : stream.start.row ≡ 0 = ap (λ (b : Begin). b.row) come in
+    subst (λ (r : List Row). IsRunSoFar (first_part setup r left))
+    (ap (λ (k : ℕ). blanks source k) row) is.run
+run-last later first stream source setup left last (Some so) come =
+    let requests = map (lifted stream.start.row) stream.pending in
+    let fed = blanks source stream.start.row in
+    let no_rows : List Row = [] in
+    let both = later stream so requests fed setup left come last in
+    let row : stream.start.row ≡ length so.rows = ap (λ (b : Begin). b.row) come.start_is in
+    let none : drop (length so.rows) fed ≡ no_rows =
+    drop_of_length-le fed (omega (arith, row, length-blanks source stream.start.row)) in
+    let rows : both.0.rows ≡ so.rows ++ no_rows =
+    both.1.is_run.rows_are ∙ ap (λ (r : List Row). so.rows ++ r) none in
+    subst (λ (l : Ran). IsRunSoFar (with_part so
+    (record { setup = setup; rows = so.rows ++ no_rows; left = l }))) both.1.left_is
+    (subst (λ (r : List Row). IsRunSoFar (with_part so
+    (record { setup = setup; rows = r; left = both.0.left }))) rows
+    (subst (λ (s : Setup). IsRunSoFar (with_part so
+    (record { setup = s; rows = both.0.rows; left = both.0.left }))) both.1.setup_is
+    both.1.one_run))
+
+-- the savepoint was written where the stream is
+pub saved-at : (terms : Terms) (stream next : Stream) (books : Books)
+    (before after : Option Files) → next ≡ stream
+    → Goes terms.names [] stream before next after
+    → IfSome terms.every (λ every. Holds after terms.names.save
+    (saved_text next books.read books.tally.alerts books.tally.audit))
+    → IsSavedAt terms stream books before after
+saved-at terms stream next books before after same goes holds = record {
+  goes = subst (λ (s : Stream). Goes terms.names [] stream before s after) same goes;
+  holds = subst (λ (s : Stream). IfSome terms.every (λ every. Holds after terms.names.save
+      (saved_text s books.read books.tally.alerts books.tally.audit))) same holds;
+}
+
+-- a stream whose input has ended, and that was ended then
+pub ends-whole : Later → First → (terms : Terms) (begin : StreamState) (stream : Stream)
+    (files : Option Files) (mid : StreamInputs) (left : Left)
+    → HasTakenTurn terms.names (fed_of begin.inputs.reader) [] begin (Some end.Input)
+    (at stream files mid left.tap) → fed_of left.inputs.reader ≡ stream.start.row
+    → HasEndedAt terms stream left.inputs.books files left.shelf.files → EndsWhole terms begin left
+ends-whole later first terms begin stream files mid left took fed ended = record {
+  turned = record { stream = stream; files = files; inputs = mid; took = took };
+  all_run = fed;
+  ended = ended;
+  one_run = λ before come. run-last later first stream terms.source ended.setup ended.left
+      ended.last (with_all before (parts_in took.0.ran.goes.written))
+      (took.0.ran.goes.have_run before come);
+}
+
+-- a stream that was given up in a turn, or when its savepoint was written
+pub given-up-in : (terms : Terms) (begin : StreamState) (faults : Faults) (left : Left)
+    (why : Fault) → IsGivenUp terms.names faults left.shelf.faults why
+    → GoesAndStops terms.names begin.stream begin.files left.shelf.files
+    → IsLeftBy terms begin faults left (stream.Call why)
+given-up-in terms begin faults left why cause stops = inl (cause, stops)
+
+-- a stream whose input has a fault
+pub ends-by : (terms : Terms) (begin : StreamState) (faults : Faults) (left : Left) (why : Fault)
+    (last : Stream) (files : Option Files) (mid : StreamInputs)
+    → HasTakenTurn terms.names (fed_of begin.inputs.reader) [] begin (Some (end.Fault why))
+    (at last files mid left.tap)
+    → IsSavedAt terms last left.inputs.books files left.shelf.files
+    → IsLeftBy terms begin faults left (stream.Call why)
+ends-by terms begin faults left why last files mid took saved =
+    inr (inl (record {
+      fault = why;
+      why_is = refl;
+      turned = record { stream = last; files = files; inputs = mid; took = took };
+      is_saved = saved;
+    }))
+
+-- a stream all of whose input was taken, and that isn't ended
+pub ends-not : (terms : Terms) (begin : StreamState) (faults : Faults) (left : Left)
+    (why : StreamFault) (last : Stream) (shelf : ShelfState) (mid : StreamInputs)
+    → HasTakenTurn terms.names (fed_of begin.inputs.reader) [] begin (Some end.Input)
+    (at last shelf.files mid left.tap) → shelf.faults.writes ≡ faults.writes
+    → IsUnended terms last shelf left.shelf left.inputs why → IsLeftBy terms begin faults left why
+ends-not terms begin faults left why last shelf mid took writes un =
+    inr (inr (record {
+      turned = record { stream = last; files = shelf.files; inputs = mid; took = took };
+      shelf = shelf;
+      files_are = refl;
+      writes = writes;
+      unended = un;
+    }))
