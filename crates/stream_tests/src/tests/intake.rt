@@ -1,5 +1,4 @@
 // What a stream takes of its file of requests, reading after reading.
-ghost use Rattle.std.specs.Prelude.{IfSome};
 ghost use Rattle.jobs.specs.Job.{job_view};
 ghost use Rattle.job_file.specs.RequestSizes.{AreUpTo};
 ghost use Rattle.stream_save.specs.StreamReading.{CanSaveStream};
@@ -10,9 +9,10 @@ use flow_model::Setup;
 use job_file::{read_job, read_requests_up_to};
 use jobs::Job;
 use std::alloc::Global;
+use std::process::Abort;
 use stream_intake::{Intake, Taken, begin, resume, take};
 use stream_save::{StreamSave, StreamSaveFault, read_stream, read_streams_can_be_saved};
-use versions::{MAX_STREAM_REQUESTS, Requests};
+use versions::{MAX_STREAM_REQUESTS, Refusals, Requests};
 
 /// The first of the two changes.
 const FIRST: &str = r#"[[request]]
@@ -48,44 +48,46 @@ const SAVE: &str = "fries,stream,4,1,2,0,0\nwait,1,3\n";
 const BOTH: &str = "fries,stream,4,2,2,0,0\nwait,1,3\nwait,2,4\n";
 
 /// The requests of a file.
-fn requests_of(alloc: Global, job: &Job, text: &str) -> Option<Requests>
-    ensures { IfSome result (AreUpTo MAX_STREAM_REQUESTS) }
+fn requests_of(rt: &impl Abort, alloc: Global, job: &Job, text: &str) -> Requests
+    ensures { AreUpTo MAX_STREAM_REQUESTS result }
 {
-    read_requests_up_to(alloc, job, text.as_bytes(), MAX_STREAM_REQUESTS).ok()
+    read_requests_up_to(alloc, job, text.as_bytes(), MAX_STREAM_REQUESTS).expect(rt, "requests")
 }
 
 /// The stream of the job, with the requests of its first reading.
-fn begun(alloc: Global, requests: &str) -> Option<Box<Intake>>
-    ensures { IfSome result (λ intake.
-        IsKnownTo intake.value.known.requests intake.value.stream) }
+fn begun(rt: &impl Abort, alloc: Global, requests: &str) -> Intake
+    ensures { IsKnownTo result.known.requests result.stream }
 {
-    let Ok(job) = read_job(alloc, JOB.as_bytes()) else {
-        return None;
-    };
-    let requests = requests_of(alloc, &job, requests)?;
-    match begin(alloc, job, requests, false) {
-        Ok(intake) => Box::new(alloc, intake).ok(),
-        Err(_) => None,
-    }
+    let job = read_job(alloc, JOB.as_bytes()).expect(rt, "a job");
+    let requests = requests_of(rt, alloc, &job, requests);
+    begin(alloc, job, requests, false).expect(rt, "memory")
+}
+
+/// The place of the first request that was refused.
+fn first_place(refused: &Refusals) -> Option<u32> {
+    Some(refused.as_slice().first()?.place)
 }
 
 /// How many requests are pending and how many are known after a later reading, and the place of the
 /// first that it refuses.
-fn after_reading(alloc: Global, first: &str, later: &str) -> Option<(usize, usize, Option<u32>)> {
+fn after_reading(
+    rt: &impl Abort,
+    alloc: Global,
+    first: &str,
+    later: &str,
+) -> (usize, usize, Option<u32>) {
     let Intake {
         stream,
         mut known,
         ..
-    } = Box::into_inner(begun(alloc, first)?);
-    let found = requests_of(alloc, &stream.setup.job, later)?;
-    match take(alloc, stream, &mut known, found) {
-        Ok(Taken { stream, refused }) => Some((
-            stream.pending.len(),
-            known.requests.len(),
-            refused.as_slice().first().map(|refused| refused.place),
-        )),
-        Err(_) => None,
-    }
+    } = begun(rt, alloc, first);
+    let found = requests_of(rt, alloc, &stream.setup.job, later);
+    let Taken { stream, refused } = take(alloc, stream, &mut known, found).expect(rt, "memory");
+    (
+        stream.pending.len(),
+        known.requests.len(),
+        first_place(&refused),
+    )
 }
 
 const READINGS: [(&str, &str, (usize, usize, Option<u32>)); 4] = [
@@ -98,20 +100,18 @@ const READINGS: [(&str, &str, (usize, usize, Option<u32>)); 4] = [
 #[test]
 fn later_requests_come_after_the_known_ones(rt: HostRuntime) {
     for (first, later, wanted) in READINGS {
-        assert!(rt; after_reading(rt.alloc(), first, later) == Some(wanted));
+        assert!(rt; after_reading(&rt, rt.alloc(), first, later) == wanted);
     }
 }
 
 /// A job, and what a text tells of the savepoint of its stream.
-fn saved(alloc: Global, text: &str) -> Option<(Job, StreamSave)>
-    ensures { IfSome result (λ saved. CanSaveStream (job_view saved.0) saved.1) }
+fn saved(rt: &impl Abort, alloc: Global, text: &str) -> (Job, StreamSave)
+    ensures { CanSaveStream (job_view result.0) result.1 }
 {
-    let Intake { stream, .. } = Box::into_inner(begun(alloc, "")?);
-    let Ok(save) = read_stream(alloc, &stream.setup, text.as_bytes()) else {
-        return None;
-    };
+    let Intake { stream, .. } = begun(rt, alloc, "");
+    let save = read_stream(alloc, &stream.setup, text.as_bytes()).expect(rt, "a savepoint");
     read_streams_can_be_saved(&stream.setup);
-    Some((stream.setup.job, save))
+    (stream.setup.job, save)
 }
 
 /// The row that the first request of a setup waits for.
@@ -122,37 +122,33 @@ fn first_wait(setup: &Setup) -> Option<u64> {
     Some(setup.after(1))
 }
 
-/// What becomes of a stream that is to go on.
-#[derive(Clone, Copy, PartialEq, Eq)]
-enum Gone {
-    /// It goes on. The first request that was issued waits for this row, and so many are pending.
-    On(Option<u64>, usize),
-    Not(StreamSaveFault),
-}
+/// What becomes of a stream that is to go on. If it does, the first request that was issued waits
+/// for this row, and so many are pending.
+type Gone = Result<(Option<u64>, usize), StreamSaveFault>;
 
 /// What becomes of the stream with this savepoint and this file of requests.
-fn after_resume(alloc: Global, save: &str, requests: &str) -> Option<Gone> {
-    let (job, save) = saved(alloc, save)?;
-    let requests = requests_of(alloc, &job, requests)?;
+fn after_resume(rt: &impl Abort, alloc: Global, save: &str, requests: &str) -> Gone {
+    let (job, save) = saved(rt, alloc, save);
+    let requests = requests_of(rt, alloc, &job, requests);
     match resume(alloc, job, requests, false, save) {
-        Ok(intake) => Some(Gone::On(
+        Ok(intake) => Ok((
             first_wait(&intake.stream.setup),
             intake.stream.pending.len(),
         )),
-        Err(fault) => Some(Gone::Not(fault)),
+        Err(fault) => Err(fault),
     }
 }
 
 const SAVES: [(&str, &str, Gone); 4] = [
-    (SAVE, REQUESTS, Gone::On(Some(3), 1)),
-    (SAVE, FIRST, Gone::On(Some(3), 0)),
-    (BOTH, REQUESTS, Gone::On(Some(3), 0)),
-    (BOTH, FIRST, Gone::Not(StreamSaveFault::Count(2))),
+    (SAVE, REQUESTS, Ok((Some(3), 1))),
+    (SAVE, FIRST, Ok((Some(3), 0))),
+    (BOTH, REQUESTS, Ok((Some(3), 0))),
+    (BOTH, FIRST, Err(StreamSaveFault::Count(2))),
 ];
 
 #[test]
 fn streams_go_on_from_their_savepoint(rt: HostRuntime) {
     for (save, requests, wanted) in SAVES {
-        assert!(rt; after_resume(rt.alloc(), save, requests) == Some(wanted));
+        assert!(rt; after_resume(&rt, rt.alloc(), save, requests) == wanted);
     }
 }

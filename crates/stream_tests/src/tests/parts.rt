@@ -1,9 +1,10 @@
 // Which requests a part of a stream has, and which wait for a later one.
-ghost use Rattle.std.specs.Prelude.{◌≡◌, IfSome};
+ghost use Rattle.std.specs.Prelude.{◌≡◌};
 
 use flow_model::Setup;
 use job_file::{read_job, read_requests};
 use std::alloc::Global;
+use std::process::Abort;
 use stream_step::{NextPart, Stream};
 use versions::{accepted_requests_stay_accepted, judge_all};
 
@@ -49,32 +50,14 @@ most = 3
 "#;
 
 /// The stream of a job, with the requests of its first reading.
-pub fn begun(alloc: Global, job: &str, requests: &str) -> Option<Box<Stream>>
-    ensures { IfSome result (λ stream. stream.value.start.row ≡ 0) }
+pub(crate) fn begun(rt: &impl Abort, alloc: Global, job: &str, requests: &str) -> Stream
+    ensures { result.start.row ≡ 0 }
 {
-    let Ok(job) = read_job(alloc, job.as_bytes()) else {
-        return None;
-    };
-    let Ok(requests) = read_requests(alloc, &job, requests.as_bytes()) else {
-        return None;
-    };
-    let Ok(judged) = judge_all(alloc, &job, &requests) else {
-        return None;
-    };
+    let job = read_job(alloc, job.as_bytes()).expect(rt, "a job");
+    let requests = read_requests(alloc, &job, requests.as_bytes()).expect(rt, "requests");
+    let judged = judge_all(alloc, &job, &requests).expect(rt, "memory");
     accepted_requests_stay_accepted();
-    match Stream::begin(alloc, job, judged, false) {
-        Ok(stream) => Box::new(alloc, stream).ok(),
-        Err(_) => None,
-    }
-}
-
-/// The part up to row `last`.
-fn part_up_to(alloc: Global, last: u64) -> Option<Box<NextPart>> {
-    let stream = begun(alloc, JOB, REQUESTS)?;
-    match Box::into_inner(stream).next_part(alloc, last) {
-        Ok(part) => Box::new(alloc, part).ok(),
-        Err(_) => None,
-    }
+    Stream::begin(alloc, job, judged, false).expect(rt, "memory")
 }
 
 /// The row after which the only request of a setup is issued.
@@ -86,30 +69,18 @@ fn only_wait(setup: &Setup) -> Option<u64> {
 }
 
 /// Row 3 is the last of the first part, so the second request is left for a later one.
-fn is_parted(alloc: Global) -> bool {
-    match part_up_to(alloc, 3) {
-        Some(part) => {
-            only_wait(&part.setup) == Some(2) && part.pending.len() == 1 && part.last == 3
-        }
-        None => false,
-    }
+fn is_parted(part: &NextPart) -> bool {
+    only_wait(&part.setup) == Some(2) && part.pending.len() == 1 && part.last == 3
 }
 
 #[test]
 fn requests_wait_for_their_part(rt: HostRuntime) {
-    assert!(rt; is_parted(rt.alloc()));
-}
-
-/// The requests of the part after which the input ends.
-fn last_requests(alloc: Global) -> Option<usize> {
-    let stream = begun(alloc, JOB, REQUESTS)?;
-    match Box::into_inner(stream).last_part(alloc) {
-        Ok(part) => Some(part.setup.request_count()),
-        Err(_) => None,
-    }
+    let part = begun(&rt, rt.alloc(), JOB, REQUESTS).next_part(rt.alloc(), 3);
+    assert!(rt; is_parted(&part.expect(&rt, "memory")));
 }
 
 #[test]
 fn the_last_part_has_all_requests(rt: HostRuntime) {
-    assert_eq!(rt; last_requests(rt.alloc()), Some(2));
+    let part = begun(&rt, rt.alloc(), JOB, REQUESTS).last_part(rt.alloc());
+    assert_eq!(rt; part.expect(&rt, "memory").setup.request_count(), 2);
 }

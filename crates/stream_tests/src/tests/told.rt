@@ -2,14 +2,15 @@
 ghost use Rattle.std.specs.Prelude.{◌≡◌, ◌<◌, ◌^◌, None, Some, length};
 ghost use Rattle.jobs.specs.Job.{job_view};
 ghost use Rattle.jobs.specs.Nodes.{AreFromSources, IsSourceOf};
+ghost use Rattle.payments.specs.Memory.{draft_of};
 ghost use Rattle.tuple_trace.specs.FeedRows.{AreRowsAfter};
 
 use crate::tests::parts::begun;
-use lane_core::Lanes;
 use lane_ring::RingLanes;
 use payments::{Calls, GrowingShelf, MemoryShelf};
 use report::Fault;
 use std::alloc::Global;
+use std::process::Abort;
 use std::sync::Wait;
 use std::thread::Threads;
 use stream_rows::RowReader;
@@ -17,7 +18,7 @@ use stream_run::{
     Books, PartEnd, StreamCall, StreamHost, StreamNames, Tally, Watch, run_rows, save_stream,
 };
 use stream_step::Stream;
-use tuple_trace::{Gate, NoMemory, OpenGate, Row, Word};
+use tuple_trace::{OpenGate, Row, Word};
 
 /// A source before a sink.
 const JOB: &str = r#"columns = ["account:text"]
@@ -66,37 +67,38 @@ struct FileWords {
     save: Word,
 }
 
-fn word(alloc: Global, text: &str) -> Result<Word, NoMemory> {
-    Ok(Word::from_string(String::from_str(alloc, text)?))
+fn word(rt: &impl Abort, alloc: Global, text: &str) -> Word {
+    Word::from_string(String::from_str(alloc, text).expect(rt, "memory"))
 }
 
-fn file_words(alloc: Global) -> Result<FileWords, NoMemory> {
-    Ok(FileWords {
-        requests: word(alloc, "requests")?,
-        alerts: word(alloc, "alerts")?,
-        audit: word(alloc, "audit")?,
-        save: word(alloc, "save")?,
-    })
+fn file_words(rt: &impl Abort, alloc: Global) -> FileWords {
+    FileWords {
+        requests: word(rt, alloc, "requests"),
+        alerts: word(rt, alloc, "alerts"),
+        audit: word(rt, alloc, "audit"),
+        save: word(rt, alloc, "save"),
+    }
 }
 
 /// Runs rows as one part, and writes a savepoint.
-fn run_one<R, L: Lanes + Sync, G: Gate + Sync, S: GrowingShelf>(
-    call: &StreamCall<'_, R, L, G>,
+fn run_one<R>(
+    call: &StreamCall<'_, R, RingLanes, OpenGate>,
     stream: Stream,
     rows: &[Row],
-    shelf: &mut S,
+    shelf: &mut MemoryShelf,
     counter: &mut Counter,
-) -> Result<(), Fault>
+)
 where
-    R: Threads + Wait + Sync,
+    R: Threads + Wait + Abort + Sync,
     requires first { stream.start.row ≡ 0 }
     requires behind { call.now.behind ≡ Some 0 }
     requires numbered { AreRowsAfter 0 rows.now }
     requires few { length rows.now < 2 ^ 63 }
     requires sources { AreFromSources (job_view stream.setup.job) rows.now }
     requires source { IsSourceOf (job_view stream.setup.job) call.now.source }
-    requires closed { (S.state shelf.old).draft ≡ None }
+    requires closed { draft_of shelf.old ≡ None }
 {
+    let rt = call.host.rt;
     let mut books = Books {
         refused: Vec::new(call.host.alloc),
         read: 0,
@@ -107,34 +109,29 @@ where
             shown: 0,
         },
     };
-    let stream = run_rows(call, stream, &mut books, rows, shelf, counter)?;
-    let _stream = save_stream(call, stream, &mut books, shelf, counter)?;
-    Ok(())
+    let ran = run_rows(call, stream, &mut books, rows, shelf, counter).expect(rt, "a part");
+    let _saved = save_stream(call, ran, &mut books, shelf, counter).expect(rt, "a savepoint");
 }
 
-/// Runs the three payments on these many threads.
-fn run_payments<'a, R, S: GrowingShelf>(
+/// Runs the three payments on two threads.
+fn run_payments<'a, R>(
     rt: &'a R,
     alloc: Global,
     words: &'a FileWords,
-    shelf: &mut S,
+    shelf: &mut MemoryShelf,
     counter: &mut Counter,
-) -> Result<(), Fault>
+)
 where
-    R: Threads + Wait + Sync,
-    requires closed { (S.state shelf.old).draft ≡ None }
+    R: Threads + Wait + Abort + Sync,
+    requires closed { draft_of shelf.old ≡ None }
 {
-    let Some(stream) = begun(alloc, JOB, "") else {
-        return Err(Fault::Usage);
-    };
-    let stream = Box::into_inner(stream);
+    let stream = begun(rt, alloc, JOB, "");
     let mut reader = RowReader::new();
-    let sound = reader.read(alloc, &stream.setup.job, PAYMENTS.as_bytes())?;
+    let sound = reader
+        .read(alloc, &stream.setup.job, PAYMENTS.as_bytes())
+        .expect(rt, "memory");
     let rows = sound.rows.as_slice();
-    let Some(first) = rows.first() else {
-        return Err(Fault::Usage);
-    };
-    let source = first.source;
+    let source = rows.first().expect(rt, "a row").source;
     let call = StreamCall {
         host: StreamHost {
             rt,
@@ -154,7 +151,7 @@ where
         behind: Some(0),
         source,
     };
-    run_one(&call, stream, rows, shelf, counter)
+    run_one(&call, stream, rows, shelf, counter);
 }
 
 /// Whether a file holds this text.
@@ -169,26 +166,26 @@ fn holds(shelf: &MemoryShelf, name: &Word, text: &str) -> bool {
 const AUDIT: &str = "fed,,,,1,\nfed,,,,2,\nfed,,,,3,\nstopped,,,,,\nmet,out,0,0,1,\n\
     met,out,0,0,2,\nmet,out,0,0,3,\nended,out,0,0,,\n";
 
-/// The alerts, the audit and the savepoint after the part. The watch was told of both once, and that
-/// the file of the alerts has so many bytes.
-fn is_told<R: Threads + Wait + Sync>(rt: &R, alloc: Global) -> Result<bool, Fault> {
-    let words = file_words(alloc)?;
-    let mut shelf = MemoryShelf::new(alloc, 5, Calls::new(alloc));
+/// Whether the shelf holds the alerts, the audit and the savepoint after the part. The watch was
+/// told of both once, and that the file of the alerts has 30 bytes.
+fn is_told(shelf: &MemoryShelf, words: &FileWords, counter: &Counter) -> bool {
+    counter.ended == 1
+        && counter.saved == 1
+        && counter.alerts == 30
+        && holds(shelf, &words.alerts, "out,1,ann\nout,2,bob\nout,3,cid\n")
+        && holds(shelf, &words.audit, AUDIT)
+        && holds(shelf, &words.save, "fries,stream,3,0,0,30,104\n")
+}
+
+#[test]
+fn a_part_is_told(rt: HostRuntime) {
+    let words = file_words(&rt, rt.alloc());
+    let mut shelf = MemoryShelf::new(rt.alloc(), 5, Calls::new(rt.alloc()));
     let mut counter = Counter {
         ended: 0,
         saved: 0,
         alerts: 0,
     };
-    run_payments(rt, alloc, &words, &mut shelf, &mut counter)?;
-    let told = counter.ended == 1 && counter.saved == 1 && counter.alerts == 30;
-    Ok(
-        told && holds(&shelf, &words.alerts, "out,1,ann\nout,2,bob\nout,3,cid\n")
-            && holds(&shelf, &words.audit, AUDIT)
-            && holds(&shelf, &words.save, "fries,stream,3,0,0,30,104\n"),
-    )
-}
-
-#[test]
-fn a_part_is_told(rt: HostRuntime) {
-    assert!(rt; is_told(&rt, rt.alloc()) == Ok(true));
+    run_payments(&rt, rt.alloc(), &words, &mut shelf, &mut counter);
+    assert!(rt; is_told(&shelf, &words, &counter));
 }
