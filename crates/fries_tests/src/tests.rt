@@ -1,8 +1,10 @@
 //! Whole calls over files in memory, and what they leave.
 
 mod alone;
+mod changes;
 mod check;
 mod first;
+mod graphs;
 mod kinds;
 mod lines;
 mod make;
@@ -19,31 +21,12 @@ use crate::tests::told::{has_audit, tells_feed, tells_turns};
 use flow_model::RunRecord;
 use payments::{Calls, MemoryShelf, MemorySink};
 use std::alloc::Global;
+use std::process::Abort;
 use std::sync::Wait;
 use std::thread::Threads;
 use top_call::Outcome;
 use tuple_trace::{NoMemory, OpenGate, Word};
 use whole_calls::{call, file, put_text, words_in};
-
-/// What a call finds outside: files by their names, and the numbers of the calls of the shelf and
-/// of the output that fail.
-#[derive(Clone, Copy)]
-pub struct Around<'a> {
-    pub files: &'a [(&'a str, &'a str)],
-    pub failing: &'a [u64],
-    pub refusing: &'a [u64],
-}
-
-impl<'a> Around<'a> {
-    /// These files, and no call that fails.
-    pub fn of(files: &'a [(&'a str, &'a str)]) -> Self {
-        Around {
-            files,
-            failing: &[],
-            refusing: &[],
-        }
-    }
-}
 
 /// What a file is to be.
 #[derive(Clone, Copy)]
@@ -78,9 +61,17 @@ pub enum Ran<'a> {
     Turns(&'a str),
 }
 
-/// What a call is to leave.
+/// A call: what it finds outside, its words, and what it is to leave.
 #[derive(Clone, Copy)]
-pub struct Left<'a> {
+pub struct Case<'a> {
+    /// The files by their names.
+    pub files: &'a [(&'a str, &'a str)],
+    /// The numbers of the calls of the shelf that fail.
+    pub failing: &'a [u64],
+    /// The numbers of the calls of the output that fail.
+    pub refusing: &'a [u64],
+    /// The words, with a space between two.
+    pub line: &'a str,
     pub status: u8,
     /// What stands under `alerts.csv`.
     pub alerts: Wanted<'a>,
@@ -94,63 +85,97 @@ pub struct Left<'a> {
     pub failed: Option<&'a str>,
 }
 
-impl<'a> Left<'a> {
-    /// A status and printed lines, but no file and no record.
-    pub fn lines(status: u8, out: &'a str) -> Self {
-        Left {
-            status,
-            alerts: Wanted::Nothing,
-            audit: Wanted::Nothing,
-            out,
-            ran: Ran::Nothing,
-            failed: None,
-        }
-    }
+/// A call without files, of which none fails. It leaves no file and no record, and prints nothing.
+pub const CALL: Case<'static> = Case {
+    files: &[],
+    failing: &[],
+    refusing: &[],
+    line: "",
+    status: 0,
+    alerts: Wanted::Nothing,
+    audit: Wanted::Nothing,
+    out: "",
+    ran: Ran::Nothing,
+    failed: None,
+};
 
-    /// The same with alerts, and with some record.
-    pub fn alerts(status: u8, alerts: &'a str, out: &'a str) -> Self {
-        Left {
-            alerts: Wanted::Text(alerts),
-            ran: Ran::Something,
-            ..Left::lines(status, out)
-        }
-    }
-
-    /// The same, and with some audit.
-    pub fn run(status: u8, alerts: &'a str, out: &'a str) -> Self {
-        Left {
-            audit: Wanted::Something,
-            ..Left::alerts(status, alerts, out)
-        }
+/// Asserts that each call leaves what it is to leave. An append takes at most 16 bytes.
+///
+/// A test passes a `static`: the value of a `const` is proved
+/// anew wherever it stands.
+pub fn check_all<R>(rt: &R, cases: &[Case<'_>])
+where
+    R: AllocGlobal + Abort + Threads + Wait + Copy + Send + Sync + 'static,
+{
+    for case in cases {
+        check_over(rt, case.files, case);
     }
 }
 
-/// Whether a call leaves this. The line has its words, with a space between two. An append takes at
-/// most 16 bytes.
-pub fn leaves<R>(rt: &R, alloc: Global, around: &Around<'_>, line: &str, left: &Left<'_>) -> bool
+/// Checks a call over these files in place of its own. The assert of the tests stands here.
+pub fn check_over<R>(rt: &R, files: &[(&str, &str)], case: &Case<'_>)
 where
-    R: Threads + Wait + Copy + Send + Sync + 'static,
+    R: AllocGlobal + Abort + Threads + Wait + Copy + Send + Sync + 'static,
 {
-    match words_in(alloc, line) {
-        Ok(words) => matches!(is_left(rt, alloc, around, &words, left), Ok(true)),
+    assert!(rt; leaves(rt, files, case), "{}: {}", case.line, case.out);
+}
+
+/// Checks a call with each of these lines in place of its own.
+pub fn check_lines<R>(rt: &R, case: &Case<'_>, lines: &[&str])
+where
+    R: AllocGlobal + Abort + Threads + Wait + Copy + Send + Sync + 'static,
+{
+    for line in lines {
+        check_all(rt, &[Case { line, ..*case }]);
+    }
+}
+
+/// Checks a call with each of these lines, and what each of them prints.
+pub fn check_prints<R>(rt: &R, case: &Case<'_>, prints: &[(&str, &str)])
+where
+    R: AllocGlobal + Abort + Threads + Wait + Copy + Send + Sync + 'static,
+{
+    for (line, out) in prints {
+        check_all(rt, &[Case { line, out, ..*case }]);
+    }
+}
+
+fn leaves<R>(rt: &R, files: &[(&str, &str)], case: &Case<'_>) -> bool
+where
+    R: AllocGlobal + Threads + Wait + Copy + Send + Sync + 'static,
+{
+    match words_in(rt.alloc(), case.line) {
+        Ok(words) => matches!(is_left(rt, files, case, &words), Ok(true)),
         Err(_) => false,
     }
 }
 
 fn is_left<R>(
     rt: &R,
-    alloc: Global,
-    around: &Around<'_>,
+    files: &[(&str, &str)],
+    case: &Case<'_>,
     words: &[Word],
-    left: &Left<'_>,
 ) -> Result<bool, NoMemory>
 where
-    R: Threads + Wait + Copy + Send + Sync + 'static,
+    R: AllocGlobal + Threads + Wait + Copy + Send + Sync + 'static,
 {
-    let mut shelf = shelf_of(alloc, around)?;
-    let mut out = MemorySink::new(alloc, Calls::from_slice(alloc, around.refusing)?);
-    let outcome = call(rt, alloc, words, &mut shelf, &mut out, &OpenGate)?;
-    has_left(alloc, &outcome, &shelf, out.written(), left)
+    let mut shelf = shelf_of(rt.alloc(), files, case.failing)?;
+    let mut out = sink_of(rt.alloc(), case.refusing)?;
+    ends(rt, case, words, &mut shelf, &mut out)
+}
+
+fn ends<R>(
+    rt: &R,
+    case: &Case<'_>,
+    words: &[Word],
+    shelf: &mut MemoryShelf,
+    out: &mut MemorySink,
+) -> Result<bool, NoMemory>
+where
+    R: AllocGlobal + Threads + Wait + Copy + Send + Sync + 'static,
+{
+    let outcome = call(rt, rt.alloc(), words, shelf, out, &OpenGate)?;
+    Ok(has_left(rt.alloc(), &outcome, shelf, out.written(), case))
 }
 
 fn has_left(
@@ -158,51 +183,66 @@ fn has_left(
     outcome: &Outcome,
     shelf: &MemoryShelf,
     out: &[u8],
-    left: &Left<'_>,
-) -> Result<bool, NoMemory> {
-    Ok(
-        outcome.status == left.status
-            && out == left.out.as_bytes()
-            && has_failed(shelf, left.failed)
-            && is_ran(alloc, &outcome.ran, left.ran)?
-            && is_stored(alloc, file(alloc, shelf, "alerts.csv"), left.alerts)?
-            && is_stored(alloc, file(alloc, shelf, "audit.csv"), left.audit)?,
-    )
+    case: &Case<'_>,
+) -> bool {
+    outcome.status == case.status
+        && out == case.out.as_bytes()
+        && has_failed(shelf, case.failed)
+        && is_ran(alloc, &outcome.ran, case.ran)
+        && is_stored(alloc, file(alloc, shelf, "alerts.csv"), case.alerts)
+        && is_stored(alloc, file(alloc, shelf, "audit.csv"), case.audit)
 }
 
 fn has_failed(shelf: &MemoryShelf, wanted: Option<&str>) -> bool {
-    match (shelf.failed(), wanted) {
-        (_, None) => true,
-        (Some(name), Some(wanted)) => {
+    let Some(wanted) = wanted else {
+        return true;
+    };
+    match shelf.failed() {
+        Some(name) => {
             name.as_str() == wanted && shelf.read_faults() == 1 && shelf.write_faults() == 0
         }
-        (None, Some(_)) => false,
+        None => false,
     }
 }
 
-fn is_ran(alloc: Global, ran: &Option<RunRecord>, wanted: Ran<'_>) -> Result<bool, NoMemory> {
+fn is_ran(alloc: Global, ran: &Option<RunRecord>, wanted: Ran<'_>) -> bool {
     match (ran, wanted) {
-        (None, Ran::Nothing) | (Some(_), Ran::Something) => Ok(true),
+        (None, Ran::Nothing) | (Some(_), Ran::Something) => true,
         (Some(ran), Ran::Audit(text)) => has_audit(alloc, ran, text),
         (Some(ran), Ran::Feed(lines)) => tells_feed(alloc, ran, lines),
         (Some(ran), Ran::Turns(lines)) => tells_turns(alloc, ran, lines),
-        _ => Ok(false),
+        _ => false,
     }
 }
 
-fn is_stored(alloc: Global, bytes: Option<&[u8]>, wanted: Wanted<'_>) -> Result<bool, NoMemory> {
+fn is_stored(alloc: Global, bytes: Option<&[u8]>, wanted: Wanted<'_>) -> bool {
     match (bytes, wanted) {
-        (_, Wanted::Any) | (None, Wanted::Nothing) | (Some(_), Wanted::Something) => Ok(true),
-        (Some(bytes), Wanted::Text(text)) => Ok(bytes == text.as_bytes()),
+        (_, Wanted::Any) | (None, Wanted::Nothing) | (Some(_), Wanted::Something) => true,
+        (Some(bytes), Wanted::Text(text)) => bytes == text.as_bytes(),
         (Some(bytes), Wanted::Alone(rows)) => are_alerts(alloc, bytes, rows),
-        _ => Ok(false),
+        _ => false,
     }
 }
 
-fn shelf_of(alloc: Global, around: &Around<'_>) -> Result<MemoryShelf, NoMemory> {
-    let mut shelf = MemoryShelf::new(alloc, 16, Calls::from_slice(alloc, around.failing)?);
-    for (name, text) in around.files {
-        put_text(alloc, name, text, &mut shelf)?;
-    }
+fn shelf_of(
+    alloc: Global,
+    files: &[(&str, &str)],
+    failing: &[u64],
+) -> Result<Box<MemoryShelf>, NoMemory> {
+    let failing = Calls::from_slice(alloc, failing)?;
+    let mut shelf = Box::new(alloc, MemoryShelf::new(alloc, 16, failing))?;
+    put_all(alloc, files, &mut shelf)?;
     Ok(shelf)
+}
+
+fn put_all(alloc: Global, files: &[(&str, &str)], shelf: &mut MemoryShelf) -> Result<(), NoMemory> {
+    for (name, text) in files {
+        put_text(alloc, name, text, shelf)?;
+    }
+    Ok(())
+}
+
+fn sink_of(alloc: Global, refusing: &[u64]) -> Result<Box<MemorySink>, NoMemory> {
+    let refusing = Calls::from_slice(alloc, refusing)?;
+    Ok(Box::new(alloc, MemorySink::new(alloc, refusing))?)
 }

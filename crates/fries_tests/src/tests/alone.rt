@@ -1,10 +1,11 @@
-use crate::tests::run::run_leaves;
+use crate::tests::run::RUN;
 use crate::tests::texts::{CHAIN, FOUR_PAYMENTS};
-use crate::tests::{Around, Left, Ran, Wanted, leaves};
+use crate::tests::{CALL, Case, Ran, Wanted, check_all, check_over};
 use flow_replay::{FuncTable, Landing, alone};
 use jobs::{ColumnKind, Job};
 use plain_runs::{job_of, rows_of};
 use std::alloc::Global;
+use std::process::Abort;
 use std::str;
 use std::sync::Wait;
 use std::thread::Threads;
@@ -81,36 +82,80 @@ fn push_field(
     field: &Value,
     lines: &mut Bytes,
 ) -> Result<(), NoMemory> {
-    match (field, kind) {
-        (Value::Text(text), _) => {
-            lines.push(b',')?;
-            lines.extend_from_slice(text.as_slice())
-        }
-        (Value::Num(cents), ColumnKind::Cents) => {
-            let amount = format!(in alloc; ",{}.{:02}", cents / 100, cents % 100)?;
-            lines.extend_from_slice(amount.as_bytes())
-        }
-        (Value::Num(number), _) => {
-            let number = format!(in alloc; ",{number}")?;
-            lines.extend_from_slice(number.as_bytes())
-        }
+    lines.push(b',')?;
+    match field {
+        Value::Text(text) => lines.extend_from_slice(text.as_slice()),
+        Value::Num(number) => push_number(alloc, kind, *number, lines),
     }
 }
 
-/// Adds the alert of what came to a sink with this name.
-fn push_alert(
+fn push_number(
     alloc: Global,
-    job: &Job,
-    sink: &str,
-    landing: &Landing,
+    kind: ColumnKind,
+    number: i64,
     lines: &mut Bytes,
 ) -> Result<(), NoMemory> {
-    lines.extend_from_slice(format!(in alloc; "{sink},{}", landing.row)?.as_bytes())?;
-    let columns = job.columns.iter();
-    for (column, field) in columns.zip(landing.fields.as_slice()) {
-        push_field(alloc, column.kind, field, lines)?;
+    let text = match kind {
+        ColumnKind::Cents => format!(in alloc; "{}.{:02}", number / 100, number % 100),
+        _ => format!(in alloc; "{number}"),
+    };
+    lines.extend_from_slice(text?.as_bytes())
+}
+
+/// A job that rows are sent through by themselves, one function for each node, and the name of its
+/// sink.
+#[derive(Drop)]
+struct Path<'a> {
+    alloc: Global,
+    job: &'a Job,
+    table: &'a FuncTable,
+    sink: &'a str,
+}
+
+impl Path<'_> {
+    /// Adds the alert of what came to the sink.
+    fn push_alert(&self, landing: &Landing, lines: &mut Bytes) -> Result<(), NoMemory> {
+        let start = format!(in self.alloc; "{},{}", self.sink, landing.row)?;
+        lines.extend_from_slice(start.as_bytes())?;
+        self.push_fields(landing.fields.as_slice(), lines)?;
+        lines.push(b'\n')
     }
-    lines.push(b'\n')
+
+    fn push_fields(&self, fields: &[Value], lines: &mut Bytes) -> Result<(), NoMemory> {
+        for (column, field) in self.job.columns.iter().zip(fields) {
+            push_field(self.alloc, column.kind, field, lines)?;
+        }
+        Ok(())
+    }
+
+    fn push_alerts(&self, landings: &[Landing], lines: &mut Bytes) -> Result<(), NoMemory> {
+        for landing in landings {
+            self.push_alert(landing, lines)?;
+        }
+        Ok(())
+    }
+
+    /// Adds the alerts of a row.
+    fn push_row(&self, row: &Row, lines: &mut Bytes) -> Result<(), NoMemory> {
+        let landings = alone(self.alloc, self.job, self.table, row)?;
+        self.push_alerts(landings.as_slice(), lines)
+    }
+
+    /// Adds the alerts of the rows whose flag is `old`.
+    fn push_rows(
+        &self,
+        rows: &[Row],
+        olds: &[bool],
+        old: bool,
+        lines: &mut Bytes,
+    ) -> Result<(), NoMemory> {
+        for (row, is_old) in rows.iter().zip(olds) {
+            if *is_old == old {
+                self.push_row(row, lines)?;
+            }
+        }
+        Ok(())
+    }
 }
 
 /// The functions of a job, one for each node.
@@ -122,34 +167,13 @@ fn funcs(alloc: Global, job: &Job) -> Result<FuncTable, NoMemory> {
     Ok(table)
 }
 
-/// Adds the alerts of a row that is sent through a job by itself.
-fn push_alone(
-    alloc: Global,
-    job: &Job,
-    sink: &str,
-    row: &Row,
-    lines: &mut Bytes,
-) -> Result<(), NoMemory> {
-    let table = funcs(alloc, job)?;
-    let landings = alone(alloc, job, &table, row)?;
-    push_alerts(alloc, job, sink, landings.as_slice(), lines)
-}
-
-fn push_alerts(
-    alloc: Global,
-    job: &Job,
-    sink: &str,
-    landings: &[Landing],
-    lines: &mut Bytes,
-) -> Result<(), NoMemory> {
-    for landing in landings {
-        push_alert(alloc, job, sink, landing, lines)?;
-    }
-    Ok(())
+/// A job in a box: that is one part to drop.
+fn boxed(alloc: Global, job: &str) -> Option<Box<Job>> {
+    Box::new(alloc, job_of(alloc, job)?).ok()
 }
 
 /// Adds the alerts of the rows whose flag is `old`. Each is sent through this job by itself.
-fn push_rows(
+fn push_job(
     alloc: Global,
     job: &str,
     rows: ByThemselves<'_>,
@@ -157,14 +181,16 @@ fn push_rows(
     old: bool,
     lines: &mut Bytes,
 ) -> Result<(), NoMemory> {
-    let job = job_of(alloc, job).ok_or(NoMemory)?;
+    let job = boxed(alloc, job).ok_or(NoMemory)?;
+    let table = funcs(alloc, &job)?;
     let all = rows_of(alloc, &job, rows.payments).ok_or(NoMemory)?;
-    for (row, is_old) in all.as_slice().iter().zip(olds) {
-        if *is_old == old {
-            push_alone(alloc, &job, rows.sink, row, lines)?;
-        }
-    }
-    Ok(())
+    let path = Path {
+        alloc,
+        job: &job,
+        table: &table,
+        sink: rows.sink,
+    };
+    path.push_rows(all.as_slice(), olds, old, lines)
 }
 
 /// How many lines of a text are this one.
@@ -202,19 +228,26 @@ pub struct ByThemselves<'a> {
 /// The alerts of these rows with these flags.
 fn wanted(alloc: Global, rows: ByThemselves<'_>, olds: &[bool]) -> Result<Bytes, NoMemory> {
     let mut lines = Bytes::new(alloc);
-    push_rows(alloc, rows.old, rows, olds, true, &mut lines)?;
-    push_rows(alloc, rows.new, rows, olds, false, &mut lines)?;
+    push_job(alloc, rows.old, rows, olds, true, &mut lines)?;
+    push_job(alloc, rows.new, rows, olds, false, &mut lines)?;
     Ok(lines)
 }
 
 /// Whether the alerts are a header and those of these rows in one of the ways, in any order.
-pub fn are_alerts(alloc: Global, alerts: &[u8], rows: ByThemselves<'_>) -> Result<bool, NoMemory> {
+/// `false` if memory runs out.
+pub fn are_alerts(alloc: Global, alerts: &[u8], rows: ByThemselves<'_>) -> bool {
     let mut found = false;
     for olds in rows.ways {
-        let wanted = wanted(alloc, rows, olds)?;
-        found |= are_lines(alerts, wanted.as_slice());
+        found |= are_those(alloc, alerts, rows, olds);
     }
-    Ok(found)
+    found
+}
+
+fn are_those(alloc: Global, alerts: &[u8], rows: ByThemselves<'_>, olds: &[bool]) -> bool {
+    match wanted(alloc, rows, olds) {
+        Ok(lines) => are_lines(alerts, lines.as_slice()),
+        Err(_) => false,
+    }
 }
 
 /// Whether a header and then these lines stand here, in any order.
@@ -228,16 +261,6 @@ fn are_lines(alerts: &[u8], lines: &[u8]) -> bool {
     }
 }
 
-/// These alerts, some record, and these lines.
-fn prints<'a>(alerts: Wanted<'a>, out: &'a str) -> Left<'a> {
-    Left {
-        alerts,
-        audit: Wanted::Any,
-        ran: Ran::Something,
-        ..Left::lines(0, out)
-    }
-}
-
 /// Rows 1 and 2 may be old, rows 3 and 4 are new.
 const WAYS_OF_ROWS: [[bool; 4]; 4] = [
     [false, false, false, false],
@@ -246,22 +269,37 @@ const WAYS_OF_ROWS: [[bool; 4]; 4] = [
     [true, true, false, false],
 ];
 
-/// Whether `run` of the wide job prints this, and its alerts are those of its rows by themselves.
-/// The new job has this step in the map on the first way.
-fn wide_agrees<R>(
-    rt: &R,
-    alloc: Global,
-    requests: &str,
-    step: &str,
-    out: &str,
-) -> Result<bool, NoMemory>
+/// Checks a run of this job, a wide one.
+fn check_wide<'a, R>(rt: &R, job: &'a str, requests: &'a str, alerts: Wanted<'a>, out: &'a str)
 where
-    R: Threads + Wait + Copy + Send + Sync + 'static,
+    R: AllocGlobal + Abort + Threads + Wait + Copy + Send + Sync + 'static,
 {
-    let old = wide(alloc, MAP, "")?;
-    let new = wide(alloc, MAP, step)?;
-    let left = prints(wide_alone(old.as_str(), new.as_str()), out);
-    Ok(run_leaves(rt, alloc, old.as_str(), requests, PIECES, left))
+    let files = [
+        ("job.toml", job),
+        ("requests.toml", requests),
+        ("payments.csv", PIECES),
+    ];
+    let case = Case {
+        alerts,
+        audit: Wanted::Any,
+        out,
+        ..RUN
+    };
+    check_over(rt, &files, &case);
+}
+
+/// Checks a run of the wide job that counts over eight workers. Some alerts are left.
+fn check_count<R>(rt: &R, out: &str)
+where
+    R: AllocGlobal + Abort + Threads + Wait + Copy + Send + Sync + 'static,
+{
+    let job = wide(rt.alloc(), COUNT, "").expect(rt, "memory");
+    check_wide(rt, job.as_str(), "", Wanted::Something, out);
+}
+
+#[test]
+fn counts_over_eight_workers(rt: HostRuntime) {
+    check_count(&rt, "rows 4 alerts 176 requests 0 refused 0\n");
 }
 
 fn wide_alone<'a>(old: &'a str, new: &'a str) -> Wanted<'a> {
@@ -274,27 +312,21 @@ fn wide_alone<'a>(old: &'a str, new: &'a str) -> Wanted<'a> {
     })
 }
 
-fn counts_run<R>(rt: &R, alloc: Global) -> Result<bool, NoMemory>
+/// Checks a run of the wide job with these requests: its alerts are those of its rows by
+/// themselves. The new job has this step in the map on the first way.
+fn check_rows<R>(rt: &R, requests: &str, step: &str, out: &str)
 where
-    R: Threads + Wait + Copy + Send + Sync + 'static,
+    R: AllocGlobal + Abort + Threads + Wait + Copy + Send + Sync + 'static,
 {
-    let job = wide(alloc, COUNT, "")?;
-    let left = prints(
-        Wanted::Something,
-        "rows 4 alerts 176 requests 0 refused 0\n",
-    );
-    Ok(run_leaves(rt, alloc, job.as_str(), "", PIECES, left))
-}
-
-#[test]
-fn counts_over_eight_workers(rt: HostRuntime) {
-    assert!(rt; matches!(counts_run(&rt, rt.alloc()), Ok(true)));
+    let old = wide(rt.alloc(), MAP, "").expect(rt, "memory");
+    let new = wide(rt.alloc(), MAP, step).expect(rt, "memory");
+    let alerts = wide_alone(old.as_str(), new.as_str());
+    check_wide(rt, old.as_str(), requests, alerts, out);
 }
 
 #[test]
 fn rows_by_themselves(rt: HostRuntime) {
-    let out = "rows 4 alerts 176 requests 0 refused 0\n";
-    assert!(rt; matches!(wide_agrees(&rt, rt.alloc(), "", "", out), Ok(true)));
+    check_rows(&rt, "", "", "rows 4 alerts 176 requests 0 refused 0\n");
 }
 
 /// Gives the map on the first way a step, after row 2.
@@ -308,25 +340,27 @@ change = [{ node = "m0", from = 0, kind = "map", steps = [["seen", "add", "seen"
 fn each_row_by_one_table(rt: HostRuntime) {
     let step = r#"["seen", "add", "seen", 7]"#;
     let out = "rows 4 alerts 176 requests 1 refused 0\n";
-    assert!(rt; matches!(wide_agrees(&rt, rt.alloc(), ADD_SEVEN, step, out), Ok(true)));
+    check_rows(&rt, ADD_SEVEN, step, out);
 }
 
 /// The four payments, all through the chain.
-const FOUR_ALONE: ByThemselves<'static> = ByThemselves {
-    old: CHAIN,
-    new: CHAIN,
-    sink: "alerts",
-    payments: FOUR_PAYMENTS,
-    ways: &[[true; 4]],
-};
+static FOUR_ALONE: [Case<'static>; 1] = [Case {
+    files: &[("pay.csv", FOUR_PAYMENTS)],
+    line: "first pay.csv alerts.csv 10000 99 5000",
+    alerts: Wanted::Alone(ByThemselves {
+        old: CHAIN,
+        new: CHAIN,
+        sink: "alerts",
+        payments: FOUR_PAYMENTS,
+        ways: &[[true; 4]],
+    }),
+    audit: Wanted::Any,
+    out: "rows 4 alerts 2 requests 1 refused 0\n",
+    ran: Ran::Something,
+    ..CALL
+}];
 
 #[test]
 fn four_payments_by_themselves(rt: HostRuntime) {
-    let files = [("pay.csv", FOUR_PAYMENTS)];
-    let line = "first pay.csv alerts.csv 10000 99 5000";
-    let left = prints(
-        Wanted::Alone(FOUR_ALONE),
-        "rows 4 alerts 2 requests 1 refused 0\n",
-    );
-    assert!(rt; leaves(&rt, rt.alloc(), &Around::of(&files), line, &left));
+    check_all(&rt, &FOUR_ALONE);
 }

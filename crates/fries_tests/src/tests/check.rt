@@ -1,6 +1,6 @@
 use crate::tests::texts::{CHAIN, PAYMENTS};
-use crate::tests::{Around, Left, leaves};
-use std::alloc::Global;
+use crate::tests::{CALL, Case, check_all, check_over};
+use std::process::Abort;
 use std::sync::Wait;
 use std::thread::Threads;
 
@@ -34,93 +34,104 @@ from = "c"
 to = "a"
 "#;
 
-const CHECK: &str = "check job.toml";
-
-/// Whether `check job.toml` leaves this where this is the job file.
-fn check_leaves<R>(rt: &R, alloc: Global, job: &str, left: Left<'_>) -> bool
-where
-    R: Threads + Wait + Copy + Send + Sync + 'static,
-{
-    let files = [("job.toml", job)];
-    leaves(rt, alloc, &Around::of(&files), CHECK, &left)
-}
+const CHECK: Case<'static> = Case {
+    files: &[("job.toml", CHAIN)],
+    line: "check job.toml",
+    ..CALL
+};
 
 /// Jobs, and the line of their sizes.
-const SIZES: [(&str, &str); 2] = [
-    (CHAIN, "nodes 3 edges 2 workers 2 weight 2\n"),
-    (PAYMENTS, "nodes 9 edges 8 workers 8 weight 14\n"),
+static SIZES: [Case<'static>; 2] = [
+    Case {
+        out: "nodes 3 edges 2 workers 2 weight 2\n",
+        ..CHECK
+    },
+    Case {
+        files: &[("job.toml", PAYMENTS)],
+        out: "nodes 9 edges 8 workers 8 weight 14\n",
+        ..CHECK
+    },
 ];
 
 #[test]
 fn sizes_of_jobs(rt: HostRuntime) {
-    for (job, line) in SIZES {
-        assert!(rt;
-            check_leaves(&rt, rt.alloc(), job, Left::lines(0, line)),
-            "{line}"
-        );
-    }
+    check_all(&rt, &SIZES);
 }
+
+static UNPRINTED: [Case<'static>; 1] = [Case {
+    refusing: &[0],
+    status: 6,
+    ..CHECK
+}];
 
 #[test]
 fn unprinted_sizes(rt: HostRuntime) {
-    let around = Around {
-        files: &[("job.toml", CHAIN)],
-        failing: &[],
-        refusing: &[0],
-    };
-    assert!(rt; leaves(&rt, rt.alloc(), &around, CHECK, &Left::lines(6, "")));
+    check_all(&rt, &UNPRINTED);
 }
+
+static REFUSED: [Case<'static>; 1] = [Case {
+    files: &[("job.toml", CYCLE)],
+    status: 2,
+    out: "fault 2 J7 node 0\n",
+    ..CHECK
+}];
 
 #[test]
 fn cycle_is_refused(rt: HostRuntime) {
-    let left = Left::lines(2, "fault 2 J7 node 0\n");
-    assert!(rt; check_leaves(&rt, rt.alloc(), CYCLE, left));
+    check_all(&rt, &REFUSED);
 }
+
+const MISSING: Case<'static> = Case {
+    files: &[("other.toml", CHAIN)],
+    status: 5,
+    out: "fault 5 job\n",
+    ..CHECK
+};
+
+static MISSING_AND_CUT: [Case<'static>; 3] = [
+    MISSING,
+    Case {
+        files: &[],
+        line: "check none.toml",
+        failed: Some("none.toml"),
+        ..MISSING
+    },
+    Case {
+        files: &[("job.toml", "columns = [\"account:t")],
+        status: 2,
+        out: "fault 2 J1\n",
+        ..CHECK
+    },
+];
+
+static TOO_LONG: Case<'static> = Case {
+    status: 9,
+    out: "fault 9 job\n",
+    ..CHECK
+};
 
 #[test]
 fn missing_and_cut_files(rt: HostRuntime) {
-    let other = [("other.toml", CHAIN)];
-    let missing = Left::lines(5, "fault 5 job\n");
-    assert!(rt;
-        leaves(&rt, rt.alloc(), &Around::of(&other), CHECK, &missing),
-        "missing"
-    );
-    let counted = Left {
-        failed: Some("none.toml"),
-        ..missing
-    };
-    assert!(rt;
-        leaves(
-            &rt,
-            rt.alloc(),
-            &Around::of(&[]),
-            "check none.toml",
-            &counted
-        ),
-        "counted"
-    );
-    let cut = Left::lines(2, "fault 2 J1\n");
-    assert!(rt;
-        check_leaves(&rt, rt.alloc(), "columns = [\"account:t", cut),
-        "cut"
-    );
-    let long = Left::lines(9, "fault 9 job\n");
-    assert!(rt; feeds_leave(&rt, rt.alloc(), 1_048_577, long), "too long");
+    check_all(&rt, &MISSING_AND_CUT);
+    check_feeds(&rt, 1_048_577, &TOO_LONG);
 }
 
-/// Whether a job file of this number of line feeds leaves this.
-fn feeds_leave<R>(rt: &R, alloc: Global, count: usize, left: Left<'_>) -> bool
+/// Checks a call over a job file of this number of line feeds.
+fn check_feeds<R>(rt: &R, count: usize, case: &Case<'_>)
 where
-    R: Threads + Wait + Copy + Send + Sync + 'static,
+    R: AllocGlobal + Abort + Threads + Wait + Copy + Send + Sync + 'static,
 {
-    match "\n".repeat(alloc, count) {
-        Ok(text) => check_leaves(rt, alloc, text.as_str(), left),
-        Err(_) => false,
-    }
+    let text = "\n".repeat(rt.alloc(), count).expect(rt, "memory");
+    check_over(rt, &[("job.toml", text.as_str())], case);
 }
+
+static LONGEST: Case<'static> = Case {
+    status: 2,
+    out: "fault 2 J2 columns\n",
+    ..CHECK
+};
 
 #[test]
 fn the_longest_file(rt: HostRuntime) {
-    let left = Left::lines(2, "fault 2 J2 columns\n");
-    assert!(rt; feeds_leave(&rt, rt.alloc(), 1_048_576, left));
+    check_feeds(&rt, 1_048_576, &LONGEST);
 }

@@ -1,8 +1,5 @@
 //! A request makes a map a split, within the roof that the job gives it.
-use crate::tests::{Around, Left, leaves};
-use std::alloc::Global;
-use std::sync::Wait;
-use std::thread::Threads;
+use crate::tests::{CALL, Case, Ran, Wanted, check_all};
 
 const JOB: &str = r#"
 columns = ["account:text", "merchant:text", "amount:cents", "tags:text"]
@@ -39,60 +36,68 @@ change = [{ node = "u", from = 0, kind = "split", on = "tags", by = ";", most = 
 
 const ONE_PAYMENT: &str = "source,account,merchant,amount,tags\ncard,x,m,1.00,a;b\n";
 
-/// Whether these words leave this over the job, these requests and one payment of two tags.
-fn says<R>(rt: &R, alloc: Global, words: &str, requests: &str, left: Left<'_>) -> bool
-where
-    R: Threads + Wait + Copy + Send + Sync + 'static,
-{
-    let files = [
+/// The split asked first.
+const SPLIT_FIRST: Case<'static> = Case {
+    files: &[
         ("job.toml", JOB),
-        ("requests.toml", requests),
+        ("requests.toml", SPLIT_THEN_FILTER),
         ("payments.csv", ONE_PAYMENT),
-    ];
-    leaves(rt, alloc, &Around::of(&files), words, &left)
-}
+    ],
+    line: "plan job.toml requests.toml",
+    out: "request 1 asked u members u heads u parts 1 edges -
+request 2 asked m members u,m heads u parts 1 edges u-m
+",
+    ..CALL
+};
+
+/// The filter asked first.
+const FILTER_FIRST: Case<'static> = Case {
+    files: &[
+        ("job.toml", JOB),
+        ("requests.toml", FILTER_THEN_SPLIT),
+        ("payments.csv", ONE_PAYMENT),
+    ],
+    out: "request 1 asked m members u,m heads u parts 1 edges u-m
+request 2 asked u members u heads u parts 1 edges -
+",
+    ..SPLIT_FIRST
+};
+
+static ROOF: [Case<'static>; 1] = [Case {
+    files: &[
+        ("job.toml", JOB),
+        ("requests.toml", ""),
+        ("payments.csv", ONE_PAYMENT),
+    ],
+    line: "check job.toml",
+    out: "nodes 4 edges 3 workers 3 weight 7\n",
+    ..CALL
+}];
 
 #[test]
 fn roof_of_a_map(rt: HostRuntime) {
-    let left = Left::lines(0, "nodes 4 edges 3 workers 3 weight 7\n");
-    assert!(rt; says(&rt, rt.alloc(), "check job.toml", "", left));
+    check_all(&rt, &ROOF);
 }
+
+static PLANS: [Case<'static>; 2] = [SPLIT_FIRST, FILTER_FIRST];
 
 #[test]
 fn cover_of_a_later_split(rt: HostRuntime) {
-    let cases = [
-        (
-            SPLIT_THEN_FILTER,
-            "request 1 asked u members u heads u parts 1 edges -
-request 2 asked m members u,m heads u parts 1 edges u-m
-",
-        ),
-        (
-            FILTER_THEN_SPLIT,
-            "request 1 asked m members u,m heads u parts 1 edges u-m
-request 2 asked u members u heads u parts 1 edges -
-",
-        ),
-    ];
-    for (requests, lines) in cases {
-        let left = Left::lines(0, lines);
-        assert!(rt;
-            says(
-                &rt,
-                rt.alloc(),
-                "plan job.toml requests.toml",
-                requests,
-                left
-            ),
-            "{lines}"
-        );
-    }
+    check_all(&rt, &PLANS);
 }
+
+static TWO_PIECES: [Case<'static>; 1] = [Case {
+    line: "run job.toml requests.toml payments.csv alerts.csv audit.csv --threads 4",
+    alerts: Wanted::Text(
+        "sink,row,account,merchant,amount,tags\nout,1,x,m,1.00,a\nout,1,x,m,1.00,b\n",
+    ),
+    audit: Wanted::Something,
+    out: "rows 1 alerts 2 requests 2 refused 0\n",
+    ran: Ran::Something,
+    ..SPLIT_FIRST
+}];
 
 #[test]
 fn two_pieces_of_a_row(rt: HostRuntime) {
-    let alerts = "sink,row,account,merchant,amount,tags\nout,1,x,m,1.00,a\nout,1,x,m,1.00,b\n";
-    let left = Left::run(0, alerts, "rows 1 alerts 2 requests 2 refused 0\n");
-    let words = "run job.toml requests.toml payments.csv alerts.csv audit.csv --threads 4";
-    assert!(rt; says(&rt, rt.alloc(), words, SPLIT_THEN_FILTER, left));
+    check_all(&rt, &TWO_PIECES);
 }

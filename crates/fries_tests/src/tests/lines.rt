@@ -5,7 +5,7 @@ use payments::PFault;
 use report::{Fault, FileIs, fault_line};
 use std::alloc::Global;
 
-const LINES: [(Fault, &str); 22] = [
+static LINES: [(Fault, &str); 22] = [
     (Fault::Job(JobFault::NotToml), "fault 2 J1\n"),
     (
         Fault::Job(JobFault::Shape(Part::Unknown)),
@@ -66,7 +66,7 @@ fn has_line(alloc: Global, fault: Fault, wanted: &str) -> bool {
 
 #[test]
 fn lines_of_faults(rt: HostRuntime) {
-    for (fault, line) in LINES {
-        assert!(rt; has_line(rt.alloc(), fault, line), "{line}");
+    for (fault, line) in &LINES {
+        assert!(rt; has_line(rt.alloc(), *fault, line), "{line}");
     }
 }

@@ -1,5 +1,5 @@
 use crate::tests::texts::{CHAIN, PAYMENTS};
-use crate::tests::{Around, Left, Ran, leaves};
+use crate::tests::{CALL, Case, Ran, check_all, check_lines, check_prints};
 
 /// A job of three maps without steps in a row. Its weight is 4.
 const THREE_MAPS: &str = r#"columns = ["account:text", "amount:cents"]
@@ -44,30 +44,39 @@ const FILES: [(&str, &str); 3] = [
     ("payments", PAYMENTS),
 ];
 
-/// A run that printed these lines, and wrote no file.
-fn made(lines: &str) -> Left<'_> {
-    Left {
-        ran: Ran::Something,
-        ..Left::lines(0, lines)
-    }
-}
+/// A run that writes no file.
+static MAKE: Case<'static> = Case {
+    files: &FILES,
+    ran: Ran::Something,
+    ..CALL
+};
 
-const TOO_MANY: [&str; 2] = ["make maps 7 262145", "make maps 7 4294967295"];
+static LARGEST: [Case<'static>; 1] = [Case {
+    line: "make maps 7 262144",
+    out: "rows 262144 alerts 262144 requests 0 refused 0\n",
+    files: &FILES,
+    ran: Ran::Something,
+    ..CALL
+}];
+
+static TOO_LARGE: Case<'static> = Case {
+    files: &FILES,
+    status: 4,
+    out: "fault 4 P7 row 262145\n",
+    ..CALL
+};
+
+static TOO_MANY: [&str; 2] = ["make maps 7 262145", "make maps 7 4294967295"];
 
 #[test]
 fn largest_make(rt: HostRuntime) {
-    let around = Around::of(&FILES);
-    let largest = made("rows 262144 alerts 262144 requests 0 refused 0\n");
-    assert!(rt; leaves(&rt, rt.alloc(), &around, "make maps 7 262144", &largest));
-    let left = Left::lines(4, "fault 4 P7 row 262145\n");
-    for line in TOO_MANY {
-        assert!(rt; leaves(&rt, rt.alloc(), &around, line, &left));
-    }
+    check_all(&rt, &LARGEST);
+    check_lines(&rt, &TOO_LARGE, &TOO_MANY);
 }
 
 /// Runs of rows that are made, by one thread or by more, and what they print. The numbers of alerts
 /// were counted by another program. In ordered mode no line `serial` is printed.
-const MADE: [(&str, &str); 10] = [
+static MADE: [(&str, &str); 10] = [
     ("make chain 7 0", "rows 0 alerts 0 requests 0 refused 0\n"),
     (
         "make chain 7 1000",
@@ -109,21 +118,18 @@ const MADE: [(&str, &str); 10] = [
 
 #[test]
 fn makes_print_the_same(rt: HostRuntime) {
-    for (line, lines) in MADE {
-        assert!(rt; leaves(&rt, rt.alloc(), &Around::of(&FILES), line, &made(lines)));
-    }
+    check_prints(&rt, &MAKE, &MADE);
 }
+
+static MISSING: [Case<'static>; 1] = [Case {
+    files: &FILES,
+    line: "make missing 7 1",
+    status: 5,
+    out: "fault 5 job\n",
+    ..CALL
+}];
 
 #[test]
 fn make_without_a_job(rt: HostRuntime) {
-    let left = Left::lines(5, "fault 5 job\n");
-    assert!(rt;
-        leaves(
-            &rt,
-            rt.alloc(),
-            &Around::of(&FILES),
-            "make missing 7 1",
-            &left
-        )
-    );
+    check_all(&rt, &MISSING);
 }

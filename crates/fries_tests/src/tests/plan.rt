@@ -1,178 +1,134 @@
+use crate::tests::graphs::{SPLIT_ABOVE, THREE_MAPS, TWO_PARTS, TWO_SOURCES};
 use crate::tests::texts::{CHAIN, COPIES, PAYMENTS, PAYMENTS_REQUESTS};
-use crate::tests::{Around, Left, leaves};
-use std::alloc::Global;
-use std::sync::Wait;
-use std::thread::Threads;
+use crate::tests::{CALL, Case, check_all};
 
-const PLAN: &str = "plan job.toml requests.toml";
+const PLAN: Case<'static> = Case {
+    line: "plan job.toml requests.toml",
+    ..CALL
+};
 
-/// Whether `plan` leaves this where these are the job and the requests.
-fn plan_leaves<R>(rt: &R, alloc: Global, job: &str, requests: &str, left: Left<'_>) -> bool
-where
-    R: Threads + Wait + Copy + Send + Sync + 'static,
-{
-    let files = [("job.toml", job), ("requests.toml", requests)];
-    leaves(rt, alloc, &Around::of(&files), PLAN, &left)
-}
-
-/// Three maps in a row.
-const THREE_MAPS: &str = r#"
-columns = ["amount:cents"]
-node = [
-  { name = "card", kind = "source" },
-  { name = "a", kind = "map", steps = [] },
-  { name = "b", kind = "map", steps = [] },
-  { name = "c", kind = "map", steps = [] },
-  { name = "out", kind = "sink", columns = ["amount"] },
-]
-edge = [
-  { from = "card", to = "a" },
-  { from = "a", to = "b" },
-  { from = "b", to = "c" },
-  { from = "c", to = "out" },
-]
-"#;
-
-#[test]
-fn chain_plan(rt: HostRuntime) {
-    let requests = r#"
+static CHAIN_PLAN: [Case<'static>; 1] = [Case {
+    files: &[
+        ("job.toml", THREE_MAPS),
+        (
+            "requests.toml",
+            r#"
 [[request]]
 after = 3
 change = [
   { node = "a", from = 0, kind = "map", steps = [["amount", "add", "amount", 1]] },
   { node = "c", from = 0, kind = "map", steps = [["amount", "mul", "amount", 2]] },
 ]
-"#;
-    let line = "request 1 asked a,c members a,c heads a parts 1 edges a-b,b-c\n";
-    assert!(rt; plan_leaves(&rt, rt.alloc(), THREE_MAPS, requests, Left::lines(0, line)));
-}
-
-/// A split, a filter behind it whose two ways lead over a map each, and a map where they meet
-/// again.
-const SPLIT_ABOVE: &str = r#"
-columns = ["tags:text"]
-node = [
-  { name = "card", kind = "source" },
-  { name = "s", kind = "split", on = "tags", by = ";", most = 2 },
-  { name = "g", kind = "filter", when = [["tags", "=", "a"]] },
-  { name = "x", kind = "map", steps = [] },
-  { name = "y", kind = "map", steps = [] },
-  { name = "m", kind = "filter", when = [] },
-  { name = "out", kind = "sink", columns = ["tags"] },
-]
-edge = [
-  { from = "card", to = "s" },
-  { from = "s", to = "g" },
-  { from = "g", to = "x" },
-  { from = "g", port = 1, to = "y" },
-  { from = "x", to = "m" },
-  { from = "y", to = "m" },
-  { from = "m", to = "out" },
-]
-"#;
+"#,
+        ),
+    ],
+    out: "request 1 asked a,c members a,c heads a parts 1 edges a-b,b-c\n",
+    ..PLAN
+}];
 
 #[test]
-fn split_above_plan(rt: HostRuntime) {
-    let requests = r#"
+fn chain_plan(rt: HostRuntime) {
+    check_all(&rt, &CHAIN_PLAN);
+}
+
+static SPLIT_ABOVE_PLAN: [Case<'static>; 1] = [Case {
+    files: &[
+        ("job.toml", SPLIT_ABOVE),
+        (
+            "requests.toml",
+            r#"
 [[request]]
 after = 0
 change = [{ node = "m", from = 0, kind = "filter", when = [["tags", "!=", "b"]] }]
-"#;
-    let line = "request 1 asked m members s,m heads s parts 1 edges s-g,g-x,g-y,x-m,y-m\n";
-    assert!(rt; plan_leaves(&rt, rt.alloc(), SPLIT_ABOVE, requests, Left::lines(0, line)));
-}
-
-/// A filter with a map on each of its two ways.
-const TWO_PARTS: &str = r#"
-columns = ["amount:cents"]
-node = [
-  { name = "card", kind = "source" },
-  { name = "g", kind = "filter", when = [["amount", ">=", 100]] },
-  { name = "x", kind = "map", steps = [] },
-  { name = "y", kind = "map", steps = [] },
-  { name = "more", kind = "sink", columns = ["amount"] },
-  { name = "less", kind = "sink", columns = ["amount"] },
-]
-edge = [
-  { from = "card", to = "g" },
-  { from = "g", to = "x" },
-  { from = "g", port = 1, to = "y" },
-  { from = "x", to = "more" },
-  { from = "y", to = "less" },
-]
-"#;
+"#,
+        ),
+    ],
+    out: "request 1 asked m members s,m heads s parts 1 edges s-g,g-x,g-y,x-m,y-m\n",
+    ..PLAN
+}];
 
 #[test]
-fn two_parts_plan(rt: HostRuntime) {
-    let requests = r#"
+fn split_above_plan(rt: HostRuntime) {
+    check_all(&rt, &SPLIT_ABOVE_PLAN);
+}
+
+static TWO_PARTS_PLAN: [Case<'static>; 1] = [Case {
+    files: &[
+        ("job.toml", TWO_PARTS),
+        (
+            "requests.toml",
+            r#"
 [[request]]
 after = 1
 change = [
   { node = "x", from = 0, kind = "map", steps = [["amount", "min", "amount", 5]] },
   { node = "y", from = 0, kind = "map", steps = [["amount", "max", "amount", 5]] },
 ]
-"#;
-    let line = "request 1 asked x,y members x,y heads x,y parts 2 edges -\n";
-    assert!(rt; plan_leaves(&rt, rt.alloc(), TWO_PARTS, requests, Left::lines(0, line)));
-}
+"#,
+        ),
+    ],
+    out: "request 1 asked x,y members x,y heads x,y parts 2 edges -\n",
+    ..PLAN
+}];
 
 #[test]
-fn beside_the_head(rt: HostRuntime) {
-    let job = r#"
-columns = ["amount:cents"]
-node = [
-  { name = "p", kind = "source" },
-  { name = "q", kind = "source" },
-  { name = "a", kind = "map", steps = [] },
-  { name = "b", kind = "map", steps = [] },
-  { name = "out", kind = "sink", columns = ["amount"] },
-]
-edge = [
-  { from = "p", to = "a" },
-  { from = "a", to = "b" },
-  { from = "q", to = "b" },
-  { from = "b", to = "out" },
-]
-"#;
-    let requests = r#"
+fn two_parts_plan(rt: HostRuntime) {
+    check_all(&rt, &TWO_PARTS_PLAN);
+}
+
+static BESIDE_THE_HEAD: [Case<'static>; 1] = [Case {
+    files: &[
+        ("job.toml", TWO_SOURCES),
+        (
+            "requests.toml",
+            r#"
 [[request]]
 after = 2
 change = [
   { node = "b", from = 0, kind = "map", steps = [] },
   { node = "a", from = 0, kind = "map", steps = [] },
 ]
-"#;
-    let line = "request 1 asked a,b members a,b heads a parts 1 edges a-b\n";
-    assert!(rt; plan_leaves(&rt, rt.alloc(), job, requests, Left::lines(0, line)));
+"#,
+        ),
+    ],
+    out: "request 1 asked a,b members a,b heads a parts 1 edges a-b\n",
+    ..PLAN
+}];
+
+#[test]
+fn beside_the_head(rt: HostRuntime) {
+    check_all(&rt, &BESIDE_THE_HEAD);
 }
+
+const PAYMENTS_PLAN: Case<'static> = Case {
+    files: &[("job.toml", PAYMENTS), ("requests.toml", PAYMENTS_REQUESTS)],
+    status: 8,
+    out: "request 1 asked big,hot members big,hot heads big parts 1 edges big-hot
+request 2 asked often members often heads often parts 1 edges -
+refused 3 Q4 change 1 current 1
+",
+    ..PLAN
+};
+
+static ACCEPTED_AND_STALE: [Case<'static>; 1] = [PAYMENTS_PLAN];
 
 #[test]
 fn payments_plan(rt: HostRuntime) {
-    let lines = "request 1 asked big,hot members big,hot heads big parts 1 edges big-hot
-request 2 asked often members often heads often parts 1 edges -
-refused 3 Q4 change 1 current 1
-";
-    assert!(rt;
-        plan_leaves(
-            &rt,
-            rt.alloc(),
-            PAYMENTS,
-            PAYMENTS_REQUESTS,
-            Left::lines(8, lines)
-        )
-    );
+    check_all(&rt, &ACCEPTED_AND_STALE);
 }
+
+static ORDERED_PLAN: [Case<'static>; 1] = [Case {
+    line: "plan job.toml requests.toml --ordered",
+    out: "request 1 asked big,hot members big,hot heads big parts 1 edges big-hot
+request 2 asked big,hot,often members big,hot,often heads big parts 1 edges big-hot,big-tally,tally-often
+refused 3 Q4 change 1 current 1
+",
+    ..PAYMENTS_PLAN
+}];
 
 #[test]
 fn ordered_plan(rt: HostRuntime) {
-    let files = [("job.toml", PAYMENTS), ("requests.toml", PAYMENTS_REQUESTS)];
-    let lines = "request 1 asked big,hot members big,hot heads big parts 1 edges big-hot
-request 2 asked big,hot,often members big,hot,often heads big parts 1 edges big-hot,big-tally,tally-often
-refused 3 Q4 change 1 current 1
-";
-    let line = "plan job.toml requests.toml --ordered";
-    let left = Left::lines(8, lines);
-    assert!(rt; leaves(&rt, rt.alloc(), &Around::of(&files), line, &left));
+    check_all(&rt, &ORDERED_PLAN);
 }
 
 /// One request that is accepted, and one for each reason to refuse one.
@@ -211,9 +167,10 @@ after = 3
 change = [{ node = "big", from = 0, kind = "filter", when = [] }]
 "#;
 
-#[test]
-fn every_reason_to_refuse(rt: HostRuntime) {
-    let lines = "request 1 asked often members often heads often parts 1 edges -
+static EVERY_REASON: [Case<'static>; 1] = [Case {
+    files: &[("job.toml", PAYMENTS), ("requests.toml", REFUSED)],
+    status: 8,
+    out: "request 1 asked often members often heads often parts 1 edges -
 refused 2 Q1 change 1
 refused 3 Q2 change 1
 refused 4 Q3 change 2
@@ -223,43 +180,71 @@ refused 7 Q6 change 1
 refused 8 Q7 change 1
 refused 9 Q8
 refused 10 Q9 last 5
-";
-    assert!(rt; plan_leaves(&rt, rt.alloc(), PAYMENTS, REFUSED, Left::lines(8, lines)));
+",
+    ..PLAN
+}];
+
+#[test]
+fn every_reason_to_refuse(rt: HostRuntime) {
+    check_all(&rt, &EVERY_REASON);
 }
+
+static NO_REQUEST: [Case<'static>; 1] = [Case {
+    files: &[("job.toml", CHAIN), ("requests.toml", "")],
+    ..PLAN
+}];
 
 #[test]
 fn plan_without_a_request(rt: HostRuntime) {
-    assert!(rt; plan_leaves(&rt, rt.alloc(), CHAIN, "", Left::lines(0, "")));
+    check_all(&rt, &NO_REQUEST);
 }
 
-/// A job, its requests, and the status and the line of their fault.
-const FAULTS: [(&str, &str, u8, &str); 4] = [
-    (CHAIN, "request", 3, "fault 3 F1\n"),
-    (CHAIN, "[[request]]\n", 3, "fault 3 F2 after\n"),
-    (
-        CHAIN,
-        "[[request]]\nafter = -1\n",
-        3,
-        "fault 3 F3 after -1\n",
-    ),
-    ("node", "request", 2, "fault 2 J1\n"),
+/// Plans of which a file is refused.
+static FAULTS: [Case<'static>; 4] = [
+    Case {
+        files: &[("job.toml", CHAIN), ("requests.toml", "request")],
+        status: 3,
+        out: "fault 3 F1\n",
+        ..PLAN
+    },
+    Case {
+        files: &[("job.toml", CHAIN), ("requests.toml", "[[request]]\n")],
+        status: 3,
+        out: "fault 3 F2 after\n",
+        ..PLAN
+    },
+    Case {
+        files: &[
+            ("job.toml", CHAIN),
+            ("requests.toml", "[[request]]\nafter = -1\n"),
+        ],
+        status: 3,
+        out: "fault 3 F3 after -1\n",
+        ..PLAN
+    },
+    Case {
+        files: &[("job.toml", "node"), ("requests.toml", "request")],
+        status: 2,
+        out: "fault 2 J1\n",
+        ..PLAN
+    },
 ];
 
 #[test]
 fn faults_of_plan(rt: HostRuntime) {
-    for (job, requests, status, line) in FAULTS {
-        assert!(rt;
-            plan_leaves(&rt, rt.alloc(), job, requests, Left::lines(status, line)),
-            "{line}"
-        );
-    }
+    check_all(&rt, &FAULTS);
 }
+
+static MISSING: [Case<'static>; 1] = [Case {
+    files: &[("job.toml", CHAIN)],
+    status: 5,
+    out: "fault 5 requests\n",
+    ..PLAN
+}];
 
 #[test]
 fn missing_requests(rt: HostRuntime) {
-    let files = [("job.toml", CHAIN)];
-    let left = Left::lines(5, "fault 5 requests\n");
-    assert!(rt; leaves(&rt, rt.alloc(), &Around::of(&files), PLAN, &left));
+    check_all(&rt, &MISSING);
 }
 
 /// Requests that give `big` another kind, of which the last but one is accepted, one that changes a
@@ -281,15 +266,21 @@ after = 3
 change = [{ node = "big", from = 1, kind = "filter", when = [] }]
 "#;
 
-#[test]
-fn refused_changes(rt: HostRuntime) {
-    let lines = "request 1 asked big members big heads big parts 1 edges -
+static REFUSED_CHANGES: [Case<'static>; 1] = [Case {
+    files: &[("job.toml", CHAIN), ("requests.toml", CHANGES)],
+    status: 8,
+    out: "request 1 asked big members big heads big parts 1 edges -
 refused 1 Q6 change 1
 refused 2 Q2 change 1
 refused 3 Q8
 refused 5 Q9 last 5
-";
-    assert!(rt; plan_leaves(&rt, rt.alloc(), CHAIN, CHANGES, Left::lines(8, lines)));
+",
+    ..PLAN
+}];
+
+#[test]
+fn refused_changes(rt: HostRuntime) {
+    check_all(&rt, &REFUSED_CHANGES);
 }
 
 /// Changes one of the maps that the copies come to.
@@ -309,24 +300,20 @@ change = [
 ]
 "#;
 
-/// Requests that change copies, and the line of their plan.
-const CHANGED_COPIES: [(&str, &str); 2] = [
-    (
-        ONE_COPY,
-        "request 1 asked a members a heads a parts 1 edges -\n",
-    ),
-    (
-        BOTH_COPIES,
-        "request 1 asked a,b members r,a,b heads r parts 1 edges r-a,r-b\n",
-    ),
+static CHANGED_COPIES: [Case<'static>; 2] = [
+    Case {
+        files: &[("job.toml", COPIES), ("requests.toml", ONE_COPY)],
+        out: "request 1 asked a members a heads a parts 1 edges -\n",
+        ..PLAN
+    },
+    Case {
+        files: &[("job.toml", COPIES), ("requests.toml", BOTH_COPIES)],
+        out: "request 1 asked a,b members r,a,b heads r parts 1 edges r-a,r-b\n",
+        ..PLAN
+    },
 ];
 
 #[test]
 fn copies_that_do_not_meet(rt: HostRuntime) {
-    for (requests, line) in CHANGED_COPIES {
-        assert!(rt;
-            plan_leaves(&rt, rt.alloc(), COPIES, requests, Left::lines(0, line)),
-            "{line}"
-        );
-    }
+    check_all(&rt, &CHANGED_COPIES);
 }

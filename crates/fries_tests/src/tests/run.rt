@@ -1,33 +1,24 @@
+use crate::tests::changes::{
+    AFTER_2, AFTER_2_AND_3, AFTER_4, AT_FIRST, AT_THE_FRONT, TIMES_A_MILLION, UNCHANGED,
+};
 use crate::tests::texts::{
     CHAIN, FOUR_ALERTS, FOUR_PAYMENTS, HEADER, PAYMENTS, PAYMENTS_ALERTS, PAYMENTS_REQUESTS,
     TEN_PAYMENTS, THREE_ALERTS, TWO_ALERTS,
 };
-use crate::tests::{Around, Left, Ran, Wanted, leaves};
-use std::alloc::Global;
+use crate::tests::{CALL, Case, Ran, Wanted, check_all};
+use std::process::Abort;
 use std::sync::Wait;
 use std::thread::Threads;
 
-pub const RUN: &str = "run job.toml requests.toml payments.csv alerts.csv audit.csv";
+const LINE: &str = "run job.toml requests.toml payments.csv alerts.csv audit.csv";
 
-/// Whether `run` leaves this where these are the job, the requests and the payments.
-pub fn run_leaves<R>(
-    rt: &R,
-    alloc: Global,
-    job: &str,
-    requests: &str,
-    payments: &str,
-    left: Left<'_>,
-) -> bool
-where
-    R: Threads + Wait + Copy + Send + Sync + 'static,
-{
-    let files = [
-        ("job.toml", job),
-        ("requests.toml", requests),
-        ("payments.csv", payments),
-    ];
-    leaves(rt, alloc, &Around::of(&files), RUN, &left)
-}
+/// A run that leaves some audit and some record.
+pub const RUN: Case<'static> = Case {
+    line: LINE,
+    audit: Wanted::Something,
+    ran: Ran::Something,
+    ..CALL
+};
 
 pub const NO_PAYMENTS: &str = "source,account,merchant,amount,tags\n";
 
@@ -37,34 +28,40 @@ ended,big,0,0,,
 ended,alerts,0,1,,
 ";
 
+const NOT_PAID: [(&str, &str); 3] = [
+    ("job.toml", CHAIN),
+    ("requests.toml", ""),
+    ("payments.csv", NO_PAYMENTS),
+];
+
+static HEADER_ALONE: [Case<'static>; 1] = [Case {
+    files: &NOT_PAID,
+    alerts: Wanted::Text(HEADER),
+    audit: Wanted::Text(AUDIT_OF_NONE),
+    out: "rows 0 alerts 0 requests 0 refused 0\n",
+    ..RUN
+}];
+
 #[test]
 fn header_alone(rt: HostRuntime) {
-    let left = Left {
-        audit: Wanted::Text(AUDIT_OF_NONE),
-        ..Left::run(0, HEADER, "rows 0 alerts 0 requests 0 refused 0\n")
-    };
-    assert!(rt; run_leaves(&rt, rt.alloc(), CHAIN, "", NO_PAYMENTS, left));
+    check_all(&rt, &HEADER_ALONE);
 }
 
-/// Lets payments from 50.00 on pass, before the first row.
-const AT_FIRST: &str = r#"
-[[request]]
-after = 0
-change = [{ node = "big", from = 0, kind = "filter", when = [["amount", ">=", 5000]] }]
-"#;
+static BEFORE_ALL_ROWS: [Case<'static>; 1] = [Case {
+    files: &[
+        ("job.toml", CHAIN),
+        ("requests.toml", AT_FIRST),
+        ("payments.csv", FOUR_PAYMENTS),
+    ],
+    alerts: Wanted::Text(FOUR_ALERTS),
+    out: "rows 4 alerts 4 requests 1 refused 0\n",
+    ..RUN
+}];
 
 #[test]
 fn request_before_the_first_row(rt: HostRuntime) {
-    let left = Left::run(0, FOUR_ALERTS, "rows 4 alerts 4 requests 1 refused 0\n");
-    assert!(rt; run_leaves(&rt, rt.alloc(), CHAIN, AT_FIRST, FOUR_PAYMENTS, left));
+    check_all(&rt, &BEFORE_ALL_ROWS);
 }
-
-/// The same after row 2.
-const AFTER_2: &str = r#"
-[[request]]
-after = 2
-change = [{ node = "big", from = 0, kind = "filter", when = [["amount", ">=", 5000]] }]
-"#;
 
 /// Two payments for which both thresholds decide the same way, and two for which they don't.
 ///
@@ -82,284 +79,321 @@ alerts,3,c,m,50.00,
 alerts,4,d,m,99.99,
 ";
 
+static LATER_ROWS: [Case<'static>; 1] = [Case {
+    files: &[
+        ("job.toml", CHAIN),
+        ("requests.toml", AFTER_2),
+        ("payments.csv", TWO_AND_TWO),
+    ],
+    alerts: Wanted::Text(ALERTS_OF_TWO_AND_TWO),
+    out: "rows 4 alerts 3 requests 1 refused 0\n",
+    ..RUN
+}];
+
 #[test]
 fn later_rows_meet_the_request(rt: HostRuntime) {
-    let lines = "rows 4 alerts 3 requests 1 refused 0\n";
-    let left = Left::run(0, ALERTS_OF_TWO_AND_TWO, lines);
-    assert!(rt; run_leaves(&rt, rt.alloc(), CHAIN, AFTER_2, TWO_AND_TWO, left));
+    check_all(&rt, &LATER_ROWS);
 }
-
-/// The same after the last row.
-const AFTER_4: &str = r#"
-[[request]]
-after = 4
-change = [{ node = "big", from = 0, kind = "filter", when = [["amount", ">=", 5000]] }]
-"#;
 
 const RUN_NARROW: &str =
     "run job.toml requests.toml payments.csv alerts.csv audit.csv --threads 1 --capacity 1";
 
 /// On one thread, over lanes of one item, each of these requests overtakes only the row before it.
 /// That row passes by both thresholds.
+static NARROW: [Case<'static>; 2] = [
+    Case {
+        files: &[
+            ("job.toml", CHAIN),
+            ("requests.toml", AFTER_2),
+            ("payments.csv", FOUR_PAYMENTS),
+        ],
+        line: RUN_NARROW,
+        alerts: Wanted::Text(THREE_ALERTS),
+        out: "rows 4 alerts 3 requests 1 refused 0\n",
+        ..RUN
+    },
+    Case {
+        files: &[
+            ("job.toml", CHAIN),
+            ("requests.toml", AFTER_4),
+            ("payments.csv", FOUR_PAYMENTS),
+        ],
+        line: RUN_NARROW,
+        alerts: Wanted::Text(TWO_ALERTS),
+        out: "rows 4 alerts 2 requests 1 refused 0\n",
+        ..RUN
+    },
+];
+
 #[test]
 fn narrow_lanes(rt: HostRuntime) {
-    let cases = [
-        (
-            AFTER_2,
-            THREE_ALERTS,
-            "rows 4 alerts 3 requests 1 refused 0\n",
-        ),
-        (
-            AFTER_4,
-            TWO_ALERTS,
-            "rows 4 alerts 2 requests 1 refused 0\n",
-        ),
-    ];
-    for (requests, alerts, line) in cases {
-        let files = [
-            ("job.toml", CHAIN),
-            ("requests.toml", requests),
-            ("payments.csv", FOUR_PAYMENTS),
-        ];
-        let left = Left::run(0, alerts, line);
-        assert!(rt;
-            leaves(&rt, rt.alloc(), &Around::of(&files), RUN_NARROW, &left),
-            "{line}"
-        );
-    }
+    check_all(&rt, &NARROW);
 }
 
-/// Two requests from the same function.
-const AFTER_2_AND_3: &str = r#"
-[[request]]
-after = 2
-change = [{ node = "big", from = 0, kind = "filter", when = [["amount", ">=", 5000]] }]
-[[request]]
-after = 3
-change = [{ node = "big", from = 0, kind = "filter", when = [["amount", ">=", 5000]] }]
-"#;
+static STALE: [Case<'static>; 1] = [Case {
+    files: &[
+        ("job.toml", CHAIN),
+        ("requests.toml", AFTER_2_AND_3),
+        ("payments.csv", TWO_AND_TWO),
+    ],
+    status: 8,
+    alerts: Wanted::Text(ALERTS_OF_TWO_AND_TWO),
+    out: "refused 2 Q4 change 1 current 1\nrows 4 alerts 3 requests 2 refused 1\n",
+    ..RUN
+}];
 
 #[test]
 fn stale_request(rt: HostRuntime) {
-    let lines = "refused 2 Q4 change 1 current 1\nrows 4 alerts 3 requests 2 refused 1\n";
-    let left = Left::run(8, ALERTS_OF_TWO_AND_TWO, lines);
-    assert!(rt; run_leaves(&rt, rt.alloc(), CHAIN, AFTER_2_AND_3, TWO_AND_TWO, left));
+    check_all(&rt, &STALE);
 }
+
+static PAYMENTS_JOB: [Case<'static>; 1] = [Case {
+    files: &[
+        ("job.toml", PAYMENTS),
+        ("requests.toml", PAYMENTS_REQUESTS),
+        ("payments.csv", TEN_PAYMENTS),
+    ],
+    status: 8,
+    alerts: Wanted::Text(PAYMENTS_ALERTS),
+    out: "refused 3 Q4 change 1 current 1\nrows 10 alerts 4 requests 3 refused 1\n",
+    ..RUN
+}];
 
 #[test]
 fn payments_job(rt: HostRuntime) {
-    let lines = "refused 3 Q4 change 1 current 1\nrows 10 alerts 4 requests 3 refused 1\n";
-    let left = Left::run(8, PAYMENTS_ALERTS, lines);
-    assert!(rt;
-        run_leaves(
-            &rt,
-            rt.alloc(),
-            PAYMENTS,
-            PAYMENTS_REQUESTS,
-            TEN_PAYMENTS,
-            left
-        )
-    );
+    check_all(&rt, &PAYMENTS_JOB);
 }
 
-/// A map between a source and a sink, which multiplies by a million.
-const TIMES_A_MILLION: &str = r#"
-columns = ["amount:cents"]
-node = [
-  { name = "card", kind = "source" },
-  { name = "change", kind = "map", steps = [["amount", "mul", "amount", 1000000]] },
-  { name = "out", kind = "sink", columns = ["amount"] },
-]
-edge = [{ from = "card", to = "change" }, { from = "change", to = "out" }]
-"#;
-
-/// The same map without steps.
-const UNCHANGED: &str = r#"
-columns = ["amount:cents"]
-node = [
-  { name = "card", kind = "source" },
-  { name = "change", kind = "map", steps = [] },
-  { name = "out", kind = "sink", columns = ["amount"] },
-]
-edge = [{ from = "card", to = "change" }, { from = "change", to = "out" }]
-"#;
-
-/// A job with one map, a payment, and how its amount is shown.
-const MAPPED: [(&str, &str, &str); 2] = [
-    (
-        TIMES_A_MILLION,
-        "source,amount\ncard,92233720368547.75\n",
-        "sink,row,amount\nout,1,92233720368547758.07\n",
-    ),
-    (
-        UNCHANGED,
-        "source,amount\ncard,-0.05\n",
-        "sink,row,amount\nout,1,-0.05\n",
-    ),
+/// Jobs with one map, and how the amount of a payment is shown.
+static MAPPED: [Case<'static>; 2] = [
+    Case {
+        files: &[
+            ("job.toml", TIMES_A_MILLION),
+            ("requests.toml", ""),
+            ("payments.csv", "source,amount\ncard,92233720368547.75\n"),
+        ],
+        alerts: Wanted::Text("sink,row,amount\nout,1,92233720368547758.07\n"),
+        out: "rows 1 alerts 1 requests 0 refused 0\n",
+        ..RUN
+    },
+    Case {
+        files: &[
+            ("job.toml", UNCHANGED),
+            ("requests.toml", ""),
+            ("payments.csv", "source,amount\ncard,-0.05\n"),
+        ],
+        alerts: Wanted::Text("sink,row,amount\nout,1,-0.05\n"),
+        out: "rows 1 alerts 1 requests 0 refused 0\n",
+        ..RUN
+    },
 ];
 
 #[test]
 fn clamped_product(rt: HostRuntime) {
-    for (job, payment, alerts) in MAPPED {
-        let left = Left::run(0, alerts, "rows 1 alerts 1 requests 0 refused 0\n");
-        assert!(rt;
-            run_leaves(&rt, rt.alloc(), job, "", payment, left),
-            "{alerts}"
-        );
-    }
+    check_all(&rt, &MAPPED);
 }
 
-const QUOTED: &str = "source,account,merchant,amount,tags\r\ncard,a,\"A, \"\"B\"\" Ltd\",150,\r\n";
-
-const QUOTED_ALERTS: &str = "sink,row,account,merchant,amount,tags
+static QUOTED: [Case<'static>; 1] = [Case {
+    files: &[
+        ("job.toml", CHAIN),
+        ("requests.toml", ""),
+        (
+            "payments.csv",
+            "source,account,merchant,amount,tags\r\ncard,a,\"A, \"\"B\"\" Ltd\",150,\r\n",
+        ),
+    ],
+    alerts: Wanted::Text(
+        "sink,row,account,merchant,amount,tags
 alerts,1,a,\"A, \"\"B\"\" Ltd\",150.00,
-";
+",
+    ),
+    out: "rows 1 alerts 1 requests 0 refused 0\n",
+    ..RUN
+}];
 
 #[test]
 fn quoted_merchant(rt: HostRuntime) {
-    let left = Left::run(0, QUOTED_ALERTS, "rows 1 alerts 1 requests 0 refused 0\n");
-    assert!(rt; run_leaves(&rt, rt.alloc(), CHAIN, "", QUOTED, left));
+    check_all(&rt, &QUOTED);
 }
-
-/// The first request of the payments job, before the first row.
-const AT_THE_FRONT: &str = r#"
-[[request]]
-after = 0
-[[request.change]]
-node = "big"
-from = 0
-kind = "filter"
-when = [["amount", ">=", 5000]]
-[[request.change]]
-node = "hot"
-from = 0
-kind = "filter"
-when = [["risk", ">=", 3]]
-"#;
 
 const ORDERED_ALERTS: &str = "sink,row,account,merchant,amount,risk,seen
 review,2,bob,casino,250.00,3,
 review,6,fay,casino,75.00,3,
 ";
 
-const ORDERED: &str = "run job.toml requests.toml payments.csv alerts.csv audit.csv --ordered";
-
-#[test]
-fn ordered_run(rt: HostRuntime) {
-    let files = [
+static ORDERED: [Case<'static>; 1] = [Case {
+    files: &[
         ("job.toml", PAYMENTS),
         ("requests.toml", AT_THE_FRONT),
         ("payments.csv", TEN_PAYMENTS),
-    ];
-    let lines = "serial 0 10\nrows 10 alerts 2 requests 1 refused 0\n";
-    let left = Left::run(0, ORDERED_ALERTS, lines);
-    assert!(rt; leaves(&rt, rt.alloc(), &Around::of(&files), ORDERED, &left));
+    ],
+    line: "run job.toml requests.toml payments.csv alerts.csv audit.csv --ordered",
+    alerts: Wanted::Text(ORDERED_ALERTS),
+    out: "serial 0 10\nrows 10 alerts 2 requests 1 refused 0\n",
+    ..RUN
+}];
+
+#[test]
+fn ordered_run(rt: HostRuntime) {
+    check_all(&rt, &ORDERED);
 }
 
-/// A job, requests and payments, and the status and the line of their fault.
-const FAULTS: [(&str, &str, &str, u8, &str); 3] = [
-    ("node", "", FOUR_PAYMENTS, 2, "fault 2 J1\n"),
-    (CHAIN, "request", FOUR_PAYMENTS, 3, "fault 3 F1\n"),
-    (CHAIN, "", TEN_PAYMENTS, 4, "fault 4 P2\n"),
+/// Runs of which a file is refused.
+static FAULTS: [Case<'static>; 3] = [
+    Case {
+        files: &[
+            ("job.toml", "node"),
+            ("requests.toml", ""),
+            ("payments.csv", FOUR_PAYMENTS),
+        ],
+        line: LINE,
+        status: 2,
+        out: "fault 2 J1\n",
+        ..CALL
+    },
+    Case {
+        files: &[
+            ("job.toml", CHAIN),
+            ("requests.toml", "request"),
+            ("payments.csv", FOUR_PAYMENTS),
+        ],
+        line: LINE,
+        status: 3,
+        out: "fault 3 F1\n",
+        ..CALL
+    },
+    Case {
+        files: &[
+            ("job.toml", CHAIN),
+            ("requests.toml", ""),
+            ("payments.csv", TEN_PAYMENTS),
+        ],
+        line: LINE,
+        status: 4,
+        out: "fault 4 P2\n",
+        ..CALL
+    },
 ];
 
 #[test]
 fn faults_of_run(rt: HostRuntime) {
-    for (job, requests, payments, status, line) in FAULTS {
-        assert!(rt;
-            run_leaves(
-                &rt,
-                rt.alloc(),
-                job,
-                requests,
-                payments,
-                Left::lines(status, line)
-            ),
-            "{line}"
-        );
-    }
+    check_all(&rt, &FAULTS);
 }
 
-// Calls 0 to 2 read, call 3 begins the alerts, and call 4 appends the first 16 bytes of them. They
-// were never kept.
+/// Calls 0 to 2 read, call 3 begins the alerts, and call 4 appends the first 16 bytes of them. They
+/// were never kept.
+static SIXTH: [Case<'static>; 1] = [Case {
+    files: &[
+        ("job.toml", CHAIN),
+        ("requests.toml", ""),
+        (
+            "payments.csv",
+            "source,account,merchant,amount,tags\ncard,a,m,150,\n",
+        ),
+    ],
+    failing: &[5],
+    status: 6,
+    audit: Wanted::Nothing,
+    out: "fault 6 alerts\n",
+    ..RUN
+}];
+
 #[test]
 fn sixth_call_fails(rt: HostRuntime) {
-    let around = Around {
-        files: &[
-            ("job.toml", CHAIN),
-            ("requests.toml", ""),
-            (
-                "payments.csv",
-                "source,account,merchant,amount,tags\ncard,a,m,150,\n",
-            ),
-        ],
-        failing: &[5],
-        refusing: &[],
-    };
-    let left = Left {
-        ran: Ran::Something,
-        ..Left::lines(6, "fault 6 alerts\n")
-    };
-    assert!(rt; leaves(&rt, rt.alloc(), &around, RUN, &left));
+    check_all(&rt, &SIXTH);
 }
 
-/// Calls of the shelf from the first to the last; the status and the line if one of them fails; and
-/// whether the alerts and the audit are whole then. Without a payment these have 38 and 84 bytes,
-/// and an append takes 16. The last call isn't made.
-const FAILING: [(u64, u64, u8, &str, bool, bool); 6] = [
-    (0, 0, 5, "fault 5 job\n", false, false),
-    (1, 1, 5, "fault 5 requests\n", false, false),
-    (2, 2, 5, "fault 5 payments\n", false, false),
-    (3, 7, 6, "fault 6 alerts\n", false, false),
-    (8, 15, 6, "fault 6 audit\n", true, false),
+/// The chain without a payment. Its alerts have 38 bytes and its audit 84, and an append takes 16.
+const UNPAID: Case<'static> = Case {
+    files: &NOT_PAID,
+    audit: Wanted::Nothing,
+    ..RUN
+};
+
+/// Calls of the shelf from the first to the last, and what is left if one of them fails. The last
+/// call isn't made.
+static FAILING: [(u64, u64, Case<'static>); 6] = [
+    (
+        0,
+        0,
+        Case {
+            status: 5,
+            out: "fault 5 job\n",
+            ran: Ran::Nothing,
+            ..UNPAID
+        },
+    ),
+    (
+        1,
+        1,
+        Case {
+            status: 5,
+            out: "fault 5 requests\n",
+            ran: Ran::Nothing,
+            ..UNPAID
+        },
+    ),
+    (
+        2,
+        2,
+        Case {
+            status: 5,
+            out: "fault 5 payments\n",
+            ran: Ran::Nothing,
+            ..UNPAID
+        },
+    ),
+    (
+        3,
+        7,
+        Case {
+            status: 6,
+            out: "fault 6 alerts\n",
+            ..UNPAID
+        },
+    ),
+    (
+        8,
+        15,
+        Case {
+            status: 6,
+            alerts: Wanted::Text(HEADER),
+            out: "fault 6 audit\n",
+            ..UNPAID
+        },
+    ),
     (
         16,
         16,
-        0,
-        "rows 0 alerts 0 requests 0 refused 0\n",
-        true,
-        true,
+        Case {
+            alerts: Wanted::Text(HEADER),
+            audit: Wanted::Text(AUDIT_OF_NONE),
+            out: "rows 0 alerts 0 requests 0 refused 0\n",
+            ..UNPAID
+        },
     ),
 ];
 
-fn whole_or_none(text: &str, is_whole: bool) -> Wanted<'_> {
-    if is_whole {
-        Wanted::Text(text)
-    } else {
-        Wanted::Nothing
-    }
-}
-
-const FILES_WITHOUT_A_PAYMENT: [(&str, &str); 3] = [
-    ("job.toml", CHAIN),
-    ("requests.toml", ""),
-    ("payments.csv", NO_PAYMENTS),
-];
-
-/// What is left of a row of `FAILING`.
-fn left_of(status: u8, out: &'static str, alerts: bool, audit: bool) -> Left<'static> {
-    Left {
-        alerts: whole_or_none(HEADER, alerts),
-        audit: whole_or_none(AUDIT_OF_NONE, audit),
-        ran: if status == 5 {
-            Ran::Nothing
-        } else {
-            Ran::Something
-        },
-        ..Left::lines(status, out)
+/// Checks a call once for each of these calls of the shelf, which fails.
+fn check_failing<R>(rt: &R, first: u64, last: u64, case: &Case<'_>)
+where
+    R: AllocGlobal + Abort + Threads + Wait + Copy + Send + Sync + 'static,
+{
+    for failing in first..=last {
+        let failing = [failing];
+        check_all(
+            rt,
+            &[Case {
+                failing: &failing,
+                ..*case
+            }],
+        );
     }
 }
 
 #[test]
 fn each_call_of_the_shelf_fails(rt: HostRuntime) {
-    for (first, last, status, out, alerts, audit) in FAILING {
-        let left = left_of(status, out, alerts, audit);
-        for failing in first..=last {
-            let around = Around {
-                failing: &[failing],
-                ..Around::of(&FILES_WITHOUT_A_PAYMENT)
-            };
-            assert!(rt; leaves(&rt, rt.alloc(), &around, RUN, &left), "{failing}");
-        }
+    for (first, last, case) in &FAILING {
+        check_failing(&rt, *first, *last, case);
     }
 }

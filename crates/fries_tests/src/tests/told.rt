@@ -2,35 +2,43 @@
 
 use flow_model::RunRecord;
 use jobs::worker_count;
-use sink_journal::{Entry, Feed, audit_text};
+use sink_journal::{Entry, Feed, Journal, audit_text};
 use std::alloc::Global;
 use tuple_trace::{Bytes, NoMemory};
 
-/// Whether this is the audit of a record without refused requests.
-pub fn has_audit(alloc: Global, ran: &RunRecord, text: &str) -> Result<bool, NoMemory> {
-    let count = worker_count(&ran.setup.job);
-    if ran.journals.len() as u64 != count || ran.states.len() as u64 != count {
-        return Ok(false);
-    }
+/// Whether this is the audit of a record without refused requests. `false` if memory runs out, as
+/// below.
+pub fn has_audit(alloc: Global, ran: &RunRecord, text: &str) -> bool {
     let job = &ran.setup.job;
-    let audit = audit_text(alloc, job, &[], &ran.feeds, &ran.journals, &ran.states)?;
-    Ok(audit.as_slice() == text.as_bytes())
+    let count = worker_count(job);
+    if ran.journals.len() as u64 != count || ran.states.len() as u64 != count {
+        return false;
+    }
+    match audit_text(alloc, job, &[], &ran.feeds, &ran.journals, &ran.states) {
+        Ok(audit) => audit.as_slice() == text.as_bytes(),
+        Err(_) => false,
+    }
 }
 
 /// Whether these are the lines of the feed of a record.
-pub fn tells_feed(alloc: Global, ran: &RunRecord, lines: &str) -> Result<bool, NoMemory> {
+pub fn tells_feed(alloc: Global, ran: &RunRecord, lines: &str) -> bool {
     let mut feed = Bytes::new(alloc);
-    push_feeds(alloc, ran.feeds.as_slice(), &mut feed)?;
-    Ok(feed.as_slice() == lines.as_bytes())
+    push_feeds(alloc, ran.feeds.as_slice(), &mut feed).is_ok()
+        && feed.as_slice() == lines.as_bytes()
 }
 
 /// Whether these are the lines of the turns of a record.
-pub fn tells_turns(alloc: Global, ran: &RunRecord, lines: &str) -> Result<bool, NoMemory> {
+pub fn tells_turns(alloc: Global, ran: &RunRecord, lines: &str) -> bool {
     let mut turns = Bytes::new(alloc);
-    for (worker, journal) in ran.journals.iter().enumerate() {
-        push_turns(alloc, worker, journal.as_slice(), &mut turns)?;
+    push_journals(alloc, ran.journals.as_slice(), &mut turns).is_ok()
+        && turns.as_slice() == lines.as_bytes()
+}
+
+fn push_journals(alloc: Global, journals: &[Journal], lines: &mut Bytes) -> Result<(), NoMemory> {
+    for (worker, journal) in journals.iter().enumerate() {
+        push_turns(alloc, worker, journal.as_slice(), lines)?;
     }
-    Ok(turns.as_slice() == lines.as_bytes())
+    Ok(())
 }
 
 fn push_turns(
@@ -51,11 +59,11 @@ fn push_turns(
 fn push_feeds(alloc: Global, feeds: &[Feed], lines: &mut Bytes) -> Result<(), NoMemory> {
     for feed in feeds {
         let line = match feed {
-            Feed::Fed(row) => format!(in alloc; "fed {row}\n")?,
-            Feed::Issued(request) => format!(in alloc; "issued {request}\n")?,
-            Feed::Stopped => format!(in alloc; "stopped\n")?,
+            Feed::Fed(row) => format!(in alloc; "fed {row}\n"),
+            Feed::Issued(request) => format!(in alloc; "issued {request}\n"),
+            Feed::Stopped => format!(in alloc; "stopped\n"),
         };
-        lines.extend_from_slice(line.as_bytes())?;
+        lines.extend_from_slice(line?.as_bytes())?;
     }
     Ok(())
 }

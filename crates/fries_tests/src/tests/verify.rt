@@ -1,41 +1,10 @@
 use crate::tests::run::NO_PAYMENTS;
 use crate::tests::texts::{CHAIN, FOUR_PAYMENTS, TWO_ALERTS};
-use crate::tests::{Around, Left, Ran, Wanted, leaves};
+use crate::tests::{CALL, Case, Ran, Wanted, check_all, check_over};
 use std::alloc::Global;
+use std::process::Abort;
 use std::sync::Wait;
 use std::thread::Threads;
-
-const VERIFY: &str = "verify job.toml requests.toml payments.csv audit.csv";
-
-/// Whether `verify` ends so over the chain, these payments and this audit.
-fn says<'a, R>(
-    rt: &R,
-    alloc: Global,
-    payments: &'a str,
-    audit: &'a str,
-    status: u8,
-    line: &'a str,
-) -> bool
-where
-    R: Threads + Wait + Copy + Send + Sync + 'static,
-{
-    let files = [
-        ("job.toml", CHAIN),
-        ("requests.toml", ""),
-        ("payments.csv", payments),
-        ("audit.csv", audit),
-    ];
-    let left = Left {
-        audit: Wanted::Text(audit),
-        ran: if status == 0 {
-            Ran::Something
-        } else {
-            Ran::Nothing
-        },
-        ..Left::lines(status, line)
-    };
-    leaves(rt, alloc, &Around::of(&files), VERIFY, &left)
-}
 
 const AUDIT_OF_NONE: &str = "entry,node,worker,lane,number,extra
 stopped,,,,,
@@ -48,12 +17,42 @@ stopped,,,,,
 ended,alerts,0,1,,
 ";
 
+const VERIFY: Case<'static> = Case {
+    line: "verify job.toml requests.toml payments.csv audit.csv",
+    ..CALL
+};
+
+/// The chain without a payment.
+static EMPTY: [Case<'static>; 2] = [
+    Case {
+        files: &[
+            ("job.toml", CHAIN),
+            ("requests.toml", ""),
+            ("payments.csv", NO_PAYMENTS),
+            ("audit.csv", AUDIT_OF_NONE),
+        ],
+        audit: Wanted::Text(AUDIT_OF_NONE),
+        out: "verified\nrows 0 alerts 0 requests 0 refused 0\n",
+        ran: Ran::Something,
+        ..VERIFY
+    },
+    Case {
+        files: &[
+            ("job.toml", CHAIN),
+            ("requests.toml", ""),
+            ("payments.csv", NO_PAYMENTS),
+            ("audit.csv", AUDIT_CUT),
+        ],
+        audit: Wanted::Text(AUDIT_CUT),
+        status: 11,
+        out: "fault 11 V4 worker 0\n",
+        ..VERIFY
+    },
+];
+
 #[test]
 fn verify_empty(rt: HostRuntime) {
-    let lines = "verified\nrows 0 alerts 0 requests 0 refused 0\n";
-    assert!(rt; says(&rt, rt.alloc(), NO_PAYMENTS, AUDIT_OF_NONE, 0, lines));
-    let line = "fault 11 V4 worker 0\n";
-    assert!(rt; says(&rt, rt.alloc(), NO_PAYMENTS, AUDIT_CUT, 11, line));
+    check_all(&rt, &EMPTY);
 }
 
 const AUDIT_OF_FOUR: &str = "entry,node,worker,lane,number,extra
@@ -63,7 +62,7 @@ met,alerts,0,1,2,\nmet,alerts,0,1,4,\nended,alerts,0,1,,
 ";
 
 /// A part of the audit, what stands in its place, and the line of the fault.
-const DAMAGES: [(&str, &str, &str); 4] = [
+static DAMAGES: [(&str, &str, &str); 4] = [
     ("met,alerts,0,1,2,\n", "", "fault 11 V5 lane 1\n"),
     ("fed,,,,2,\n", "fed,,,,3,\n", "fault 11 V3 record 2\n"),
     ("entry,", "x,", "fault 11 V1 record 0\n"),
@@ -74,72 +73,80 @@ const DAMAGES: [(&str, &str, &str); 4] = [
     ),
 ];
 
-fn is_found<R>(rt: &R, alloc: Global, damage: (&str, &str, &str)) -> bool
+const OF_FOUR: Case<'static> = Case {
+    files: &[
+        ("job.toml", CHAIN),
+        ("requests.toml", ""),
+        ("payments.csv", FOUR_PAYMENTS),
+        ("audit.csv", AUDIT_OF_FOUR),
+    ],
+    audit: Wanted::Text(AUDIT_OF_FOUR),
+    out: "verified\nrows 4 alerts 2 requests 0 refused 0\n",
+    ran: Ran::Something,
+    ..VERIFY
+};
+
+/// The audit of the four payments with `new` in place of a part. `None` if it lacks that part, or
+/// memory runs out.
+fn damaged(alloc: Global, part: &str, new: &str) -> Option<String> {
+    let (before, after) = AUDIT_OF_FOUR.split_once(part)?;
+    format!(in alloc; "{before}{new}{after}").ok()
+}
+
+/// Checks the fault of this audit of the four payments.
+fn check_audit<'a, R>(rt: &R, audit: &'a str, out: &'a str)
 where
-    R: Threads + Wait + Copy + Send + Sync + 'static,
-{
-    let Some((before, after)) = AUDIT_OF_FOUR.split_once(damage.0) else {
-        return false;
-    };
-    let new = damage.1;
-    match format!(in alloc; "{before}{new}{after}") {
-        Ok(text) => says(rt, alloc, FOUR_PAYMENTS, text.as_str(), 11, damage.2),
-        Err(_) => false,
-    }
-}
-
-#[test]
-fn verify_damaged(rt: HostRuntime) {
-    let lines = "verified\nrows 4 alerts 2 requests 0 refused 0\n";
-    assert!(rt; says(&rt, rt.alloc(), FOUR_PAYMENTS, AUDIT_OF_FOUR, 0, lines));
-    for damage in DAMAGES {
-        assert!(rt; is_found(&rt, rt.alloc(), damage), "{}", damage.2);
-    }
-}
-
-const VERIFY_ALERTS: &str =
-    "verify job.toml requests.toml payments.csv audit.csv --ordered alerts.csv";
-
-/// An audit and alerts beside the four payments, and the calls of the shelf that fail.
-#[derive(Clone, Copy)]
-struct Beside<'a> {
-    audit: &'a str,
-    alerts: &'a str,
-    failing: &'a [u64],
-}
-
-/// Whether `verify` ends so over these files.
-fn compares<'a, R>(rt: &R, alloc: Global, beside: Beside<'a>, status: u8, line: &'a str) -> bool
-where
-    R: Threads + Wait + Copy + Send + Sync + 'static,
+    R: AllocGlobal + Abort + Threads + Wait + Copy + Send + Sync + 'static,
 {
     let files = [
         ("job.toml", CHAIN),
         ("requests.toml", ""),
         ("payments.csv", FOUR_PAYMENTS),
-        ("audit.csv", beside.audit),
-        ("alerts.csv", beside.alerts),
+        ("audit.csv", audit),
     ];
-    let around = Around {
-        failing: beside.failing,
-        ..Around::of(&files)
+    let case = Case {
+        audit: Wanted::Text(audit),
+        status: 11,
+        out,
+        ..VERIFY
     };
-    let left = Left {
-        alerts: Wanted::Text(beside.alerts),
-        audit: Wanted::Text(beside.audit),
-        ran: if status == 0 {
-            Ran::Something
-        } else {
-            Ran::Nothing
-        },
-        ..Left::lines(status, line)
-    };
-    leaves(rt, alloc, &around, VERIFY_ALERTS, &left)
+    check_over(rt, &files, &case);
 }
+
+fn check_damage<R>(rt: &R, damage: &(&str, &str, &str))
+where
+    R: AllocGlobal + Abort + Threads + Wait + Copy + Send + Sync + 'static,
+{
+    let text = damaged(rt.alloc(), damage.0, damage.1).expect(rt, "an audit");
+    check_audit(rt, text.as_str(), damage.2);
+}
+
+static UNDAMAGED: [Case<'static>; 1] = [OF_FOUR];
+
+#[test]
+fn verify_damaged(rt: HostRuntime) {
+    check_all(&rt, &UNDAMAGED);
+    for damage in &DAMAGES {
+        check_damage(&rt, damage);
+    }
+}
+
+const VERIFY_ALERTS: Case<'static> = Case {
+    files: &[
+        ("job.toml", CHAIN),
+        ("requests.toml", ""),
+        ("payments.csv", FOUR_PAYMENTS),
+        ("audit.csv", AUDIT_OF_FOUR),
+        ("alerts.csv", TWO_ALERTS),
+    ],
+    line: "verify job.toml requests.toml payments.csv audit.csv --ordered alerts.csv",
+    alerts: Wanted::Text(TWO_ALERTS),
+    ..OF_FOUR
+};
 
 /// Alerts that aren't those of the run, and the line of the fault: with another amount, without the
 /// last line, with a line more, with none, without the last line feed, and with a field in quotes.
-const OTHER_ALERTS: [(&str, &str); 6] = [
+static OTHER_ALERTS: [(&str, &str); 6] = [
     (
         "sink,row,account,merchant,amount,tags
 alerts,2,b,m,100.01,
@@ -177,35 +184,74 @@ alerts,4,d,m,120.00,
     ),
 ];
 
+/// Checks the fault of these alerts.
+fn check_alerts<'a, R>(rt: &R, alerts: &'a str, out: &'a str)
+where
+    R: AllocGlobal + Abort + Threads + Wait + Copy + Send + Sync + 'static,
+{
+    let files = [
+        ("job.toml", CHAIN),
+        ("requests.toml", ""),
+        ("payments.csv", FOUR_PAYMENTS),
+        ("audit.csv", AUDIT_OF_FOUR),
+        ("alerts.csv", alerts),
+    ];
+    let case = Case {
+        status: 11,
+        alerts: Wanted::Text(alerts),
+        out,
+        ran: Ran::Nothing,
+        ..VERIFY_ALERTS
+    };
+    check_over(rt, &files, &case);
+}
+
+static OWN_ALERTS: [Case<'static>; 1] = [VERIFY_ALERTS];
+
 #[test]
 fn verify_alerts(rt: HostRuntime) {
-    let own = Beside {
-        audit: AUDIT_OF_FOUR,
-        alerts: TWO_ALERTS,
-        failing: &[],
-    };
-    let lines = "verified\nrows 4 alerts 2 requests 0 refused 0\n";
-    assert!(rt; compares(&rt, rt.alloc(), own, 0, lines));
-    for (alerts, line) in OTHER_ALERTS {
-        assert!(rt;
-            compares(&rt, rt.alloc(), Beside { alerts, ..own }, 11, line),
-            "{line}"
-        );
+    check_all(&rt, &OWN_ALERTS);
+    for (alerts, line) in &OTHER_ALERTS {
+        check_alerts(&rt, alerts, line);
     }
 }
 
+/// Alerts that can't be read, beside the audit of another run and beside their own.
+static UNREAD: [Case<'static>; 2] = [
+    Case {
+        files: &[
+            ("job.toml", CHAIN),
+            ("requests.toml", ""),
+            ("payments.csv", FOUR_PAYMENTS),
+            ("audit.csv", AUDIT_OF_NONE),
+            ("alerts.csv", ""),
+        ],
+        failing: &[4],
+        status: 11,
+        alerts: Wanted::Text(""),
+        audit: Wanted::Text(AUDIT_OF_NONE),
+        out: "fault 11 V3 record 1\n",
+        ran: Ran::Nothing,
+        ..VERIFY_ALERTS
+    },
+    Case {
+        files: &[
+            ("job.toml", CHAIN),
+            ("requests.toml", ""),
+            ("payments.csv", FOUR_PAYMENTS),
+            ("audit.csv", AUDIT_OF_FOUR),
+            ("alerts.csv", ""),
+        ],
+        failing: &[4],
+        status: 5,
+        alerts: Wanted::Text(""),
+        out: "fault 5 alerts\n",
+        ran: Ran::Nothing,
+        ..VERIFY_ALERTS
+    },
+];
+
 #[test]
 fn alerts_are_read_after_the_audit(rt: HostRuntime) {
-    let other = Beside {
-        audit: AUDIT_OF_NONE,
-        alerts: "",
-        failing: &[4],
-    };
-    let line = "fault 11 V3 record 1\n";
-    assert!(rt; compares(&rt, rt.alloc(), other, 11, line));
-    let unread = Beside {
-        audit: AUDIT_OF_FOUR,
-        ..other
-    };
-    assert!(rt; compares(&rt, rt.alloc(), unread, 5, "fault 5 alerts\n"));
+    check_all(&rt, &UNREAD);
 }

@@ -1,6 +1,6 @@
-use crate::tests::run::run_leaves;
+use crate::tests::run::RUN;
 use crate::tests::texts::COPIES;
-use crate::tests::{Left, Ran, Wanted};
+use crate::tests::{Case, Ran, Wanted, check_all};
 
 /// Two requests that wait for the same row.
 const TWO_REQUESTS: &str = r#"
@@ -42,16 +42,24 @@ fed 5
 stopped
 ";
 
+static FIVE_PAYMENTS: [Case<'static>; 1] = [Case {
+    files: &[
+        ("job.toml", TWO_WAYS),
+        ("requests.toml", TWO_REQUESTS),
+        (
+            "payments.csv",
+            "source,amount\ncard,1\ncard,0.50\ncard,2\ncard,0.50\ncard,3\n",
+        ),
+    ],
+    alerts: Wanted::Something,
+    out: "rows 5 alerts 5 requests 2 refused 0\n",
+    ran: Ran::Feed(TWO_WAYS_FEED),
+    ..RUN
+}];
+
 #[test]
 fn two_requests_after_one_row(rt: HostRuntime) {
-    let payments = "source,amount\ncard,1\ncard,0.50\ncard,2\ncard,0.50\ncard,3\n";
-    let left = Left {
-        alerts: Wanted::Something,
-        audit: Wanted::Something,
-        ran: Ran::Feed(TWO_WAYS_FEED),
-        ..Left::lines(0, "rows 5 alerts 5 requests 2 refused 0\n")
-    };
-    assert!(rt; run_leaves(&rt, rt.alloc(), TWO_WAYS, TWO_REQUESTS, payments, left));
+    check_all(&rt, &FIVE_PAYMENTS);
 }
 
 /// Adds a cent on the way of one of two copies, after row 1.
@@ -62,14 +70,19 @@ change = [{ node = "a", from = 0, kind = "map", steps = [["amount", "add", "amou
 "#;
 
 /// Worker 1 is `a`.
+static TWO_COPIES: [Case<'static>; 1] = [Case {
+    files: &[
+        ("job.toml", COPIES),
+        ("requests.toml", ON_ONE_COPY),
+        ("payments.csv", "source,amount\ncard,1\ncard,2\n"),
+    ],
+    alerts: Wanted::Something,
+    out: "rows 2 alerts 4 requests 1 refused 0\n",
+    ran: Ran::Turns("1 turned 1\n"),
+    ..RUN
+}];
+
 #[test]
 fn copies_that_do_not_meet(rt: HostRuntime) {
-    let left = Left {
-        alerts: Wanted::Something,
-        audit: Wanted::Something,
-        ran: Ran::Turns("1 turned 1\n"),
-        ..Left::lines(0, "rows 2 alerts 4 requests 1 refused 0\n")
-    };
-    let payments = "source,amount\ncard,1\ncard,2\n";
-    assert!(rt; run_leaves(&rt, rt.alloc(), COPIES, ON_ONE_COPY, payments, left));
+    check_all(&rt, &TWO_COPIES);
 }

@@ -1,15 +1,21 @@
 use crate::tests::texts::{
     CHAIN, FOUR_PAYMENTS, PAYMENTS, PAYMENTS_ALERTS, PAYMENTS_REQUESTS, TEN_PAYMENTS, TWO_ALERTS,
 };
-use crate::tests::{Around, Left, leaves};
+use crate::tests::{CALL, Case, Ran, Wanted, check_all, check_lines, check_prints};
 
 /// The chain, no request, and the four payments.
 const FILES: [(&str, &str); 3] = [("j", CHAIN), ("r", ""), ("p", FOUR_PAYMENTS)];
 
-const USAGE: &str = "fault 1 usage\n";
+/// These files, and words that are refused.
+static USAGE: Case<'static> = Case {
+    files: &FILES,
+    status: 1,
+    out: "fault 1 usage\n",
+    ..CALL
+};
 
 /// Words that are no full form. The first line has none.
-const FAULTY_WORDS: [&str; 49] = [
+static FAULTY_WORDS: [&str; 49] = [
     "",
     "help",
     "help run",
@@ -63,21 +69,11 @@ const FAULTY_WORDS: [&str; 49] = [
 
 #[test]
 fn faulty_words(rt: HostRuntime) {
-    for line in FAULTY_WORDS {
-        assert!(rt;
-            leaves(
-                &rt,
-                rt.alloc(),
-                &Around::of(&FILES),
-                line,
-                &Left::lines(1, USAGE)
-            )
-        );
-    }
+    check_lines(&rt, &USAGE, &FAULTY_WORDS);
 }
 
 /// Words of which one is empty: the first, the last, or that between two spaces.
-const EMPTY_WORDS: [&str; 6] = [
+static EMPTY_WORDS: [&str; 6] = [
     " j",
     "check ",
     "run j r p  audit.csv",
@@ -88,22 +84,12 @@ const EMPTY_WORDS: [&str; 6] = [
 
 #[test]
 fn empty_words(rt: HostRuntime) {
-    for line in EMPTY_WORDS {
-        assert!(rt;
-            leaves(
-                &rt,
-                rt.alloc(),
-                &Around::of(&FILES),
-                line,
-                &Left::lines(1, USAGE)
-            )
-        );
-    }
+    check_lines(&rt, &USAGE, &EMPTY_WORDS);
 }
 
 /// Numbers outside their limits, options without a number, and options that stand twice or before
 /// the command.
-const FAULTY_OPTIONS: [&str; 20] = [
+static FAULTY_OPTIONS: [&str; 20] = [
     "run j r p alerts.csv audit.csv --threads 0",
     "run j r p alerts.csv audit.csv --threads=0",
     "run j r p alerts.csv audit.csv --threads 17",
@@ -128,17 +114,7 @@ const FAULTY_OPTIONS: [&str; 20] = [
 
 #[test]
 fn faulty_options(rt: HostRuntime) {
-    for line in FAULTY_OPTIONS {
-        assert!(rt;
-            leaves(
-                &rt,
-                rt.alloc(),
-                &Around::of(&FILES),
-                line,
-                &Left::lines(1, USAGE)
-            )
-        );
-    }
+    check_lines(&rt, &USAGE, &FAULTY_OPTIONS);
 }
 
 const SUMMARY: &str = "rows 4 alerts 2 requests 0 refused 0\n";
@@ -146,7 +122,7 @@ const SUMMARY: &str = "rows 4 alerts 2 requests 0 refused 0\n";
 const ORDERED: &str = "serial 4\nrows 4 alerts 2 requests 0 refused 0\n";
 
 /// Options of `run` at any place, and what it then prints.
-const OPTIONS: [(&str, &str); 11] = [
+static OPTIONS: [(&str, &str); 11] = [
     ("run j r p alerts.csv audit.csv --threads 1", SUMMARY),
     ("run j r p alerts.csv audit.csv --threads 16", SUMMARY),
     ("run j r p alerts.csv audit.csv --threads 002", SUMMARY),
@@ -172,29 +148,44 @@ const OPTIONS: [(&str, &str); 11] = [
     ),
 ];
 
-#[test]
-fn options_of_run(rt: HostRuntime) {
-    for (line, lines) in OPTIONS {
-        let left = Left::run(0, TWO_ALERTS, lines);
-        assert!(rt; leaves(&rt, rt.alloc(), &Around::of(&FILES), line, &left));
-    }
-}
+/// These files, and a run that leaves two alerts.
+static RUN: Case<'static> = Case {
+    files: &FILES,
+    alerts: Wanted::Text(TWO_ALERTS),
+    audit: Wanted::Something,
+    ran: Ran::Something,
+    ..CALL
+};
 
 #[test]
-fn threads_after_the_names(rt: HostRuntime) {
-    let files = [
+fn options_of_run(rt: HostRuntime) {
+    check_prints(&rt, &RUN, &OPTIONS);
+}
+
+static TWO_THREADS: [Case<'static>; 1] = [Case {
+    files: &[
         ("j", PAYMENTS),
         ("r", PAYMENTS_REQUESTS),
         ("p", TEN_PAYMENTS),
-    ];
-    let line = "run j r p alerts.csv audit.csv --threads=2";
-    let lines = "refused 3 Q4 change 1 current 1\nrows 10 alerts 4 requests 3 refused 1\n";
-    let left = Left::run(8, PAYMENTS_ALERTS, lines);
-    assert!(rt; leaves(&rt, rt.alloc(), &Around::of(&files), line, &left));
+    ],
+    line: "run j r p alerts.csv audit.csv --threads=2",
+    status: 8,
+    alerts: Wanted::Text(PAYMENTS_ALERTS),
+    out: "refused 3 Q4 change 1 current 1
+rows 10 alerts 4 requests 3 refused 1
+",
+    audit: Wanted::Something,
+    ran: Ran::Something,
+    ..CALL
+}];
+
+#[test]
+fn threads_after_the_names(rt: HostRuntime) {
+    check_all(&rt, &TWO_THREADS);
 }
 
 /// Words that ask for a text, and how it begins or is.
-const TEXTS: [(&str, &str); 3] = [
+static TEXTS: [(&str, &str); 3] = [
     ("--version", "fries 0.2.0\n"),
     ("-V", "fries 0.2.0\n"),
     (
@@ -210,17 +201,12 @@ example: fries check job.toml
     ),
 ];
 
+static TEXT: Case<'static> = Case {
+    files: &FILES,
+    ..CALL
+};
+
 #[test]
 fn help_and_version(rt: HostRuntime) {
-    for (line, text) in TEXTS {
-        assert!(rt;
-            leaves(
-                &rt,
-                rt.alloc(),
-                &Around::of(&FILES),
-                line,
-                &Left::lines(0, text)
-            )
-        );
-    }
+    check_prints(&rt, &TEXT, &TEXTS);
 }
