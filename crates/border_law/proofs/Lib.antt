@@ -5,3 +5,4 @@ pub mod EachLemmas
 pub mod PairLemmas
 pub mod BorderLemmas
 pub mod PartLemmas
+pub mod ExactLemmas

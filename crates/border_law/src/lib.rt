@@ -11,4 +11,4 @@
 
 mod laws;
 
-pub use laws::parts_without_rows_set_borders;
+pub use laws::{parts_between_rows_are_exact, parts_without_rows_set_borders};
