@@ -9,7 +9,7 @@ _fries_options() {
   case $1 in
     run) echo "--threads --capacity --ordered --help" ;;
     live | save | resume) echo "--threads --capacity --help" ;;
-    stream) echo "--threads --capacity --save --every --from --ordered --resume --progress --help" ;;
+    stream) echo "--threads --capacity --save --every --from --ordered --exact --resume --progress --help" ;;
     plan | verify) echo "--ordered --help" ;;
     make) echo "--threads --ordered --help" ;;
     first | check) echo "--help" ;;

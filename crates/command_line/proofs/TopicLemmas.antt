@@ -225,6 +225,7 @@ over_same v w (Some size) (Some saving) agree =
       agree.same (codes "audit") refl,
       agree.flag
           (codes "ordered"),
+      agree.flag (codes "exact"),
       agree.flag (codes "progress"),
     ) refl
 

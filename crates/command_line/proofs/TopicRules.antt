@@ -6,6 +6,7 @@ use Rattle.clap.specs.Walk.{Rule, Text, answers_to, arg_by_index, arg_by_long}
 use Rattle.clap.proofs.OnLiterals.{clap_on_literals}
 use Rattle.command_line.specs.Apps.{program_app}
 use Rattle.command_line.specs.Words.{capacity_option, every_option, form_of, from_option}
+use Rattle.command_line.specs.Words.{exact_flag}
 use Rattle.command_line.specs.Words.{ordered_flag, progress_flag, resume_flag, save_option}
 use Rattle.command_line.specs.Words.{threads_option}
 use Rattle.command_line.specs.declared.topic.Topic.{Topic}
@@ -997,6 +998,19 @@ stream_ordered =
       passes = λ rs. refl;
     }
 
+stream_exact : IsFlag (rules_of topic.Stream) exact_flag
+unfolding clap_on_literals
+stream_exact =
+    record {
+      rule = rule_called (rules_of topic.Stream) (codes "exact");
+      dashes = refl;
+      long = refl;
+      by_long = refl;
+      takes = refl;
+      use_of = λ rs. refl;
+      passes = λ rs. refl;
+    }
+
 stream_resume : IsFlag (rules_of topic.Stream) resume_flag
 unfolding clap_on_literals
 stream_resume =
@@ -1094,5 +1108,5 @@ reads topic.Stream other =
       names = (stream_job, (stream_requests, (stream_alerts, (stream_audit, tt))));
       options =
           (stream_threads, (stream_capacity, (stream_save, (stream_every, (stream_from, tt)))));
-      flags = (stream_ordered, (stream_resume, (stream_progress, tt)));
+      flags = (stream_ordered, (stream_exact, (stream_resume, (stream_progress, tt))));
     }

@@ -192,6 +192,8 @@ help_of topic.Stream =
     ++ codes "  --threads N   threads, 1 to 16; without it, 1\n"
     ++ codes "  --capacity C  items on a lane, 1 to 64; without it, 16\n"
     ++ codes "  --ordered     gives rows and requests one order; without it, rows alone are whole\n"
+    ++ codes
+    "  --exact       each request takes effect just behind its row; without it, it overtakes rows\n"
     ++ codes "  --progress    tells on the standard error how far the stream has come\n"
     ++ codes "\n"
     ++ codes "example: fries stream job.toml requests.toml alerts.csv audit.csv --save save.csv\n"

@@ -23,12 +23,14 @@ pub record SavingAsked : Type 0 where
   pub resume : Option ℕ
 
 -- what `stream` is asked to do: the files of `plan`, the alerts and the audit that it is to write,
--- by how large engines, what it is to save, and whether it is to tell how far it has come
+-- by how large engines, whether its requests take effect just behind their rows, what it is to save,
+-- and whether it is to tell how far it has come
 pub record StreamAsked : Type 0 where
   pub plan : PlanAsked
   pub alerts : Text
   pub audit : Text
   pub size : EngineSize
+  pub exact : Bool
   pub saving : Option SavingAsked
   pub progress : Bool
 
@@ -44,6 +46,7 @@ stream_asked files = record {
   alerts = files.alerts;
   audit = files.audit;
   size = files.size;
+  exact = files.exact;
   saving = option_map saving_asked files.saving;
   progress = files.progress;
 }
@@ -105,6 +108,7 @@ stream_over values (Some size) (Some saving) =
       alerts = name_in values (codes "alerts");
       audit = name_in values (codes "audit");
       size = size;
+      exact = is_true (values (codes "exact"));
       saving = saving;
       progress = is_true (values (codes "progress"));
     })

@@ -52,6 +52,10 @@ ordered_flag = record { id = codes "ordered"; word = codes "--ordered" }
 abbrev pub resume_flag : Flag
 resume_flag = record { id = codes "resume"; word = codes "--resume" }
 
+-- the flag `--exact`
+abbrev pub exact_flag : Flag
+exact_flag = record { id = codes "exact"; word = codes "--exact" }
+
 -- the flag `--progress`
 abbrev pub progress_flag : Flag
 progress_flag = record { id = codes "progress"; word = codes "--progress" }
@@ -116,7 +120,7 @@ form_of topic.Stream = record {
   names = codes "job" ∷ codes "requests" ∷ codes "alerts" ∷ codes "audit" ∷ [];
   extra = [];
   options = threads_option ∷ capacity_option ∷ save_option ∷ every_option ∷ from_option ∷ [];
-  flags = ordered_flag ∷ resume_flag ∷ progress_flag ∷ [];
+  flags = ordered_flag ∷ exact_flag ∷ resume_flag ∷ progress_flag ∷ [];
 }
 
 -- ---- values

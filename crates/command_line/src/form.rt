@@ -1,6 +1,7 @@
 // The full form of each command.
 ghost use Rattle.std.specs.Prelude.{◌≡◌};
-ghost use Rattle.command_line.specs.Words.{capacity_option, every_option, form_of, from_option};
+ghost use Rattle.command_line.specs.Words.{capacity_option, every_option, exact_flag, form_of};
+ghost use Rattle.command_line.specs.Words.{from_option};
 ghost use Rattle.command_line.specs.Words.{ordered_flag, progress_flag, resume_flag, save_option};
 ghost use Rattle.command_line.specs.Words.{threads_option};
 ghost use Rattle.command_line.specs.Views.{flag_view, form_view, option_view};
@@ -66,6 +67,11 @@ const FROM: ValueOption = ValueOption {
 const ORDERED: Flag = Flag {
     id: "ordered",
     word: "--ordered",
+};
+
+const EXACT: Flag = Flag {
+    id: "exact",
+    word: "--exact",
 };
 
 const RESUME: Flag = Flag {
@@ -149,7 +155,7 @@ pub(crate) fn form_of(topic: Topic) -> Form
             names: &["job", "requests", "alerts", "audit"],
             extra: &[],
             options: &[THREADS, CAPACITY, SAVE, EVERY, FROM],
-            flags: &[ORDERED, RESUME, PROGRESS],
+            flags: &[ORDERED, EXACT, RESUME, PROGRESS],
         },
     }
 }

@@ -209,6 +209,7 @@ REQUESTS is read again before each part, so requests may be appended meanwhile.
   --threads N   threads, 1 to 16; without it, 1
   --capacity C  items on a lane, 1 to 64; without it, 16
   --ordered     gives rows and requests one order; without it, rows alone are whole
+  --exact       each request takes effect just behind its row; without it, it overtakes rows
   --progress    tells on the standard error how far the stream has come
 
 example: fries stream job.toml requests.toml alerts.csv audit.csv --save save.csv

@@ -34,6 +34,8 @@ pub struct StreamFiles {
     /// The file that the audit is written to. Its name is another word than that of the alerts.
     pub audit: Word,
     pub size: EngineSize,
+    /// Whether each request takes effect just behind the row that it asks for.
+    pub exact: bool,
     /// What is saved; `None` if nothing is.
     pub saving: Option<StreamSaving>,
     /// Whether it is to tell how far it has come.

@@ -35,6 +35,7 @@ pub(crate) fn stream_with(alloc: Global, values: &ArgMatches<'_>) -> Result<Stre
         audit: name_in(alloc, values, "audit")?,
         plan: plan_of(alloc, values)?,
         size,
+        exact: is_true(values.get_str("exact")),
         progress: is_true(values.get_str("progress")),
     })
 }
