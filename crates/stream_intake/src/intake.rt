@@ -2,13 +2,14 @@ ghost use Rattle.std.specs.Prelude.{◌≡◌, ◌≤◌, [], All, IfOk, length}
 ghost use Rattle.versions.specs.declared.request.Request.{Request};
 ghost use Rattle.flow_model.specs.Begin.{at_first};
 ghost use Rattle.flow_model.specs.Setup.{setup_view};
+ghost use Rattle.stream_step.specs.Pending.{exact_from};
 ghost use Rattle.stream_intake.specs.Intake.{IsKnownTo, IsMaskOf, judged_in};
 
 use crate::known::Known;
 use crate::taken::{Taken, learn};
 use operators::Job;
 use std::alloc::Global;
-use stream_step::Stream;
+use stream_step::{Stream, StreamMode};
 use tuple_trace::NoMemory;
 use versions::{Judged, MAX_CHANGES, MAX_STREAM_REQUESTS, Refusals, Requests};
 
@@ -28,23 +29,30 @@ pub struct Intake {
 /// Which nodes may be splits is settled by the job: those that it makes splits, and those that a
 /// request may make one with more than one piece. So a request is judged in the same way, whether
 /// the first reading has it or a later one.
-pub fn begin(alloc: Global, job: Job, requests: Requests, ordered: bool) -> Result<Intake, NoMemory>
+pub fn begin(
+    alloc: Global,
+    job: Job,
+    requests: Requests,
+    mode: StreamMode,
+) -> Result<Intake, NoMemory>
     requires few { length requests ≤ MAX_STREAM_REQUESTS }
     requires changes { All (λ (request : Request). length request.changes ≤ MAX_CHANGES) requests }
     ensures job { IfOk result (λ intake. intake.stream.setup.job ≡ job) }
-    ensures ordered { IfOk result (λ intake. intake.stream.setup.ordered ≡ ordered) }
+    ensures ordered { IfOk result (λ intake. intake.stream.setup.ordered ≡ mode.ordered) }
     ensures none { IfOk result (λ intake. intake.stream.setup.judged.accepted ≡ []) }
     ensures first { IfOk result (λ intake.
         intake.stream.start ≡ at_first (setup_view intake.stream.setup)) }
     ensures splits { IfOk result (λ intake. IsMaskOf job.nodes intake.stream.setup.splits) }
     ensures known { IfOk result (λ intake. intake.known.requests ≡ requests) }
     ensures is_known { IfOk result (λ intake. IsKnownTo requests intake.stream) }
+    ensures exact { IfOk result (λ intake. intake.stream.exact
+        ≡ exact_from mode.exact intake.stream.start.turned) }
     ensures pending { IfOk result (λ intake.
         intake.stream.pending ≡ (judged_in intake.stream requests).accepted) }
     ensures refused { IfOk result (λ intake.
         intake.refused ≡ (judged_in intake.stream requests).refused) }
 {
-    let stream = Stream::begin(alloc, job, none(alloc), ordered)?;
+    let stream = Stream::begin(alloc, job, none(alloc), mode)?;
     let mut known = Known::none(alloc);
     let Taken { stream, refused } = learn(alloc, stream, &mut known, requests)?;
     Ok(Intake {

@@ -6,6 +6,7 @@ ghost use Rattle.versions.specs.Judged.{judged_within};
 ghost use Rattle.versions.specs.declared.request.Request.{Request};
 ghost use Rattle.flow_model.specs.Setup.{setup_view};
 ghost use Rattle.stream_save.specs.StreamReading.{CanSaveStream};
+ghost use Rattle.stream_step.specs.Pending.{exact_from};
 ghost use Rattle.stream_step.specs.Resumed.{IsResumed};
 ghost use Rattle.stream_intake.specs.Intake.{IsKnownTo, IsMaskOf, judged_in, refused_after};
 
@@ -17,7 +18,7 @@ use operators::Job;
 use std::alloc::Global;
 use stream_law::{accepted_requests_split_within, later_requests_are_judged_later};
 use stream_save::{StreamSave, StreamSaveFault};
-use stream_step::Stream;
+use stream_step::{Stream, StreamMode};
 use tuple_trace::NoMemory;
 use versions::{
     MAX_CHANGES, MAX_STREAM_REQUESTS, Requests, accepted_requests_stay_accepted, judge_within,
@@ -37,17 +38,19 @@ pub fn resume(
     alloc: Global,
     job: Job,
     requests: Requests,
-    ordered: bool,
+    mode: StreamMode,
     save: StreamSave,
 ) -> Result<Intake, StreamSaveFault>
     requires few { length requests ≤ MAX_STREAM_REQUESTS }
     requires changes { All (λ (request : Request). length request.changes ≤ MAX_CHANGES) requests }
     requires saved { CanSaveStream (job_view job) save }
     ensures resumed { IfOk result (λ intake. IsResumed (job_view job)
-        (judged_in intake.stream (take save.read requests)).accepted ordered save
+        (judged_in intake.stream (take save.read requests)).accepted mode.ordered save
         (setup_view intake.stream.setup)) }
     ensures splits { IfOk result (λ intake. IsMaskOf job.nodes intake.stream.setup.splits) }
     ensures start { IfOk result (λ intake. intake.stream.start ≡ save.start) }
+    ensures exact { IfOk result (λ intake. intake.stream.exact
+        ≡ exact_from mode.exact intake.stream.start.turned) }
     ensures known { IfOk result (λ intake. intake.known.requests ≡ requests) }
     ensures is_known { IfOk result (λ intake. IsKnownTo requests intake.stream) }
     ensures pending { IfOk result (λ intake. intake.stream.pending
@@ -64,7 +67,7 @@ pub fn resume(
     let read = read_of(&save, &requests);
     let (first, later) = parted(requests, read)?;
     let mut known = Known { requests: first };
-    let stream = restored(alloc, job, &known, ordered, save)?;
+    let stream = restored(alloc, job, &known, mode, save)?;
     let Taken { stream, refused } = learn(alloc, stream, &mut known, later)?;
     Ok(Intake {
         stream,
@@ -85,14 +88,16 @@ fn restored(
     alloc: Global,
     job: Job,
     known: &Known,
-    ordered: bool,
+    mode: StreamMode,
     save: StreamSave,
 ) -> Result<Stream, StreamSaveFault>
     requires saved { CanSaveStream (job_view job) save }
     ensures resumed { IfOk result (λ stream. IsResumed (job_view job)
-        (judged_in stream known.now.requests).accepted ordered save (setup_view stream.setup)) }
+        (judged_in stream known.now.requests).accepted mode.ordered save (setup_view stream.setup)) }
     ensures splits { IfOk result (λ stream. IsMaskOf job.nodes stream.setup.splits) }
     ensures start { IfOk result (λ stream. stream.start ≡ save.start) }
+    ensures exact { IfOk result (λ stream. stream.exact
+        ≡ exact_from mode.exact stream.start.turned) }
     ensures is_known { IfOk result (λ stream. IsKnownTo known.now.requests stream) }
     ensures pending { IfOk result (λ stream. stream.pending
         ≡ drop save.start.turned (judged_in stream known.now.requests).accepted) }
@@ -108,7 +113,7 @@ fn restored(
     accepted_requests_split_within();
     let JobMask { job, splits } = with_mask(alloc, job)?;
     let judged = judge_within(alloc, &job, Some(splits), &known.requests)?;
-    Stream::resume(alloc, job, judged, ordered, save)
+    Stream::resume(alloc, job, judged, mode, save)
 }
 
 /// A job with the mask of the nodes that may be splits in a stream of it.

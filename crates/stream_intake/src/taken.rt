@@ -46,6 +46,7 @@ pub fn take(
     ensures is_known { IfOk result (λ taken. IsKnownTo known.new.requests taken.stream) }
     ensures setup { IfOk result (λ taken. taken.stream.setup ≡ stream.setup) }
     ensures start { IfOk result (λ taken. taken.stream.start ≡ stream.start) }
+    ensures exact { IfOk result (λ taken. taken.stream.exact ≡ stream.exact) }
     ensures pending { IfOk result (λ taken. taken.stream.pending ≡ stream.pending
         ++ accepted_after stream known.old.requests (known_after known.old.requests found)) }
     ensures refused { IfOk result (λ taken. taken.refused
@@ -78,6 +79,7 @@ pub(crate) fn learn(
         IsKnownTo (known.old.requests ++ more) taken.stream) }
     ensures setup { IfOk result (λ taken. taken.stream.setup ≡ stream.setup) }
     ensures start { IfOk result (λ taken. taken.stream.start ≡ stream.start) }
+    ensures exact { IfOk result (λ taken. taken.stream.exact ≡ stream.exact) }
     ensures pending { IfOk result (λ taken. taken.stream.pending ≡ stream.pending
         ++ accepted_after stream known.old.requests (known.old.requests ++ more)) }
     ensures refused { IfOk result (λ taken. taken.refused

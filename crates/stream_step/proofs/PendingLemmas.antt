@@ -1,13 +1,15 @@
 -- Requests that wait for a later part.
-use Rattle.std.proofs.Common.{◌≡◌, ◌∙◌, ◌⊎◌, inl, inr, if◌then◌else◌, ◌≤◌, ◌<◌, ◌++◌, ◌&&◌, ◌||◌, ℕ}
-use Rattle.std.proofs.Common.{List, [], ◌∷◌, All, Bool, true, false, filter, map, max, nat_le, not}
-use Rattle.std.proofs.Common.{None, Option, refl, sym, subst, ap, arith, append_assoc}
+use Rattle.std.proofs.Common.{◌≡◌, ◌∙◌, ◌⊎◌, inl, inr, if◌then◌else◌, ◌≤◌, ◌<◌, ◌++◌, ◌&&◌}
+use Rattle.std.proofs.Common.{◌||◌, ℕ, List, [], ◌∷◌, All, Bool, true, false, filter, length, map}
+use Rattle.std.proofs.Common.{max, nat_le, None, Option, Some, not, refl, sym, subst, ap, arith}
+use Rattle.std.proofs.Common.{append_assoc}
 use Rattle.std.specs.List.{list_all, list_any}
 use Rattle.std.proofs.Math.Nat.{le-max_left, le-max_right, max-eq_left, max-le}
 use Rattle.std.proofs.lemmas.Bool.Decides.{nat_tests}
-use Rattle.std.proofs.lemmas.List.{map-append}
+use Rattle.std.proofs.lemmas.List.{append-nil, map-append}
 use Rattle.std.proofs.lemmas.List.Elements.{All-cons, All-nil}
 use Rattle.jobs.specs.JobView.{JobView}
+use Rattle.tuple_trace.specs.declared.row.Row.{Row}
 use Rattle.versions.specs.Judged.{AreAccepted, judged, judged_within}
 use Rattle.versions.specs.Kept.{AreInOrder}
 use Rattle.versions.specs.Waiting.{changes_of}
@@ -17,7 +19,10 @@ use Rattle.versions.specs.declared.request.Request.{Request}
 use Rattle.flow_model.specs.Planned.{is_made_split, makes_split}
 use Rattle.flow_model.specs.Requests.{afters}
 use Rattle.stream_law.specs.Later.{IsJudgedPrefix}
-use Rattle.stream_step.specs.Pending.{AreAsked, SplitWithin, due_by, is_due, left_by, lifted}
+use Rattle.stream_step.specs.Parts.{IsBetweenRows, due_in}
+use Rattle.stream_step.specs.Pending.{AreAsked, SplitWithin, due_by, is_due, is_held, issued_by}
+use Rattle.stream_step.specs.Pending.{kept_by, left_by, lifted}
+use Rattle.stream_step.specs.declared.stream.Stream.{Stream}
 
 -- what the laws of judging say
 abbrev pub KeepOrder : Type 0
@@ -40,11 +45,23 @@ JudgedLater =
 max_first : (a : ℕ) → max a 0 ≡ a
 max_first a = (let h : 0 ≤ a = omega arith in max-eq_left h)
 
+later_wins : (a fed last : ℕ) → fed ≤ last → max (max a fed) last ≡ max a last
+later_wins a fed last le = omega arith
+
 pub lifted_first : (xs : List Request) → map (lifted 0) xs ≡ xs
 lifted_first [] = refl
 lifted_first (x ∷ xs) =
     ap (λ n. (record x { after = n }) ∷ map (lifted 0) xs) (max_first x.after)
     ∙ ap (λ (l : List Request). x ∷ l) (lifted_first xs)
+
+lifted_twice : (fed last : ℕ) (xs : List Request) → fed ≤ last
+    → map (lifted last) (map (lifted fed) xs) ≡ map (lifted last) xs
+lifted_twice fed last [] le = refl
+lifted_twice fed last (x ∷ xs) le =
+    let same : max (max x.after fed) last ≡ max x.after last = later_wins x.after fed last le in
+    ap (λ n. (record x { after = n }) ∷ map (lifted last) (map (lifted fed) xs)) same
+    ∙ ap (λ (l : List Request). (record x { after = max x.after last }) ∷ l)
+    (lifted_twice fed last xs le)
 
 pub changes_lifted : (fed : ℕ) (xs : List Request) → changes_of (map (lifted fed) xs)
     ≡ changes_of xs
@@ -366,3 +383,117 @@ asked_more job taken pending later both all is asked accepted = record {
   same = asked.same;
   accepted = accepted;
 }
+
+-- ---- a part of a stream that may be exact
+
+-- the requests of a part wait for no later row than its last
+pub issued_fed : (exact : Option ℕ) (fed last : ℕ) (taken xs : List Request) → fed ≤ last
+    → are_fed fed taken ≡ true
+    → are_fed last (taken ++ map (lifted fed) (issued_by exact fed last xs)) ≡ true
+issued_fed exact fed last taken xs le e = go (is_held exact fed last)
+  where
+    go : (held : Bool)
+        → are_fed last (taken ++ map (lifted fed) (if held then [] else due_by last xs)) ≡ true
+    go true = fed_both last taken [] (fed_later fed last taken le e) refl
+    go false = part_fed fed last taken xs le e
+
+-- the requests of a part are accepted after those of the setup
+pub issued_accepted : KeepOrder → JudgedLater
+    → (job : JobView) (exact : Option ℕ) (fed last : ℕ) (taken xs : List Request) → fed ≤ last
+    → AreAccepted job taken → AreAccepted job (taken ++ map (lifted fed) xs)
+    → AreAccepted job (taken ++ map (lifted fed) (issued_by exact fed last xs))
+issued_accepted law later job exact fed last taken xs le own is = go (is_held exact fed last)
+  where
+    go : (held : Bool)
+        → AreAccepted job (taken ++ map (lifted fed) (if held then [] else due_by last xs))
+    go true = subst (AreAccepted job) (sym (append-nil taken)) own
+    go false = due_accepted law later job fed last taken xs le is
+
+-- pending requests may wait for a later row
+waiting_accepted : KeepOrder → MayWait
+    → (job : JobView) (fed last : ℕ) (taken xs : List Request) → fed ≤ last
+    → AreAccepted job taken → are_fed fed taken ≡ true
+    → AreAccepted job (taken ++ map (lifted fed) xs)
+    → AreAccepted job (taken ++ map (lifted last) xs)
+waiting_accepted keeps may job fed last taken xs le own fed_is is =
+    let order : AreInOrder 0 (map (lifted fed) xs) =
+    order_back 0 taken (map (lifted fed) xs) (keeps job (taken ++ map (lifted fed) xs) is) in
+    let later : AreInOrder last (map (lifted last) xs) =
+    subst (AreInOrder last) (lifted_twice fed last xs le)
+    (order_lifted last 0 last (map (lifted fed) xs) (le-max_right 0 last) order) in
+    let same : changes_of (taken ++ map (lifted last) xs)
+    ≡ changes_of (taken ++ map (lifted fed) xs) =
+    changes_append taken (map (lifted last) xs)
+    ∙ (ap (λ (l : List (List Change)). changes_of taken ++ l)
+    (changes_lifted last xs ∙ sym (changes_lifted fed xs))
+    ∙ sym (changes_append taken (map (lifted fed) xs))) in
+    may job (taken ++ map (lifted fed) xs) (taken ++ map (lifted last) xs) is same
+    (order_both 0 last taken (map (lifted last) xs) (omega arith) (keeps job taken own)
+    (fed_later fed last taken le fed_is) later)
+
+-- after a part, the requests that it leaves are still accepted after those of the setup
+pub kept_accepted : KeepOrder → MayWait
+    → (job : JobView) (exact : Option ℕ) (fed last : ℕ) (taken xs : List Request) → fed ≤ last
+    → AreAccepted job taken → are_fed fed taken ≡ true
+    → AreAccepted job (taken ++ map (lifted fed) xs)
+    → AreAccepted job ((taken ++ map (lifted fed) (issued_by exact fed last xs))
+    ++ map (lifted last) (kept_by exact fed last xs))
+kept_accepted keeps may job exact fed last taken xs le own fed_is is =
+    go (is_held exact fed last)
+  where
+    go : (held : Bool)
+        → AreAccepted job ((taken ++ map (lifted fed) (if held then [] else due_by last xs))
+        ++ map (lifted last) (if held then xs else left_by last xs))
+    go true =
+        subst (λ (l : List Request). AreAccepted job (l ++ map (lifted last) xs))
+        (sym (append-nil taken))
+        (waiting_accepted keeps may job fed last taken xs le own fed_is is)
+    go false = part_accepted keeps job fed last taken xs le is
+
+pub issued_asked : KeepOrder
+    → (job : JobView) (exact : Option ℕ) (fed last : ℕ) (taken xs all : List Request)
+    → fed ≤ last → AreAccepted job (taken ++ map (lifted fed) xs) → AreAsked job taken xs all
+    → AreAsked job (taken ++ map (lifted fed) (issued_by exact fed last xs))
+    (kept_by exact fed last xs) all
+issued_asked law job exact fed last taken xs all le is asked = go (is_held exact fed last)
+  where
+    go : (held : Bool)
+        → AreAsked job (taken ++ map (lifted fed) (if held then [] else due_by last xs))
+        (if held then xs else left_by last xs) all
+    go true = subst (λ (l : List Request). AreAsked job l xs all) (sym (append-nil taken)) asked
+    go false = part_asked law job fed last taken xs all le is asked
+
+pub issued_within : (mask : ℕ) (exact : Option ℕ) (fed last : ℕ) (xs : List Request)
+    → SplitWithin mask xs → SplitWithin mask (map (lifted fed) (issued_by exact fed last xs))
+issued_within mask exact fed last xs is = go (is_held exact fed last)
+  where
+    go : (held : Bool)
+        → SplitWithin mask (map (lifted fed) (if held then [] else due_by last xs))
+    go true = λ node made. absurd (cc)
+    go false = within_some mask fed (is_due last) xs is
+
+pub kept_within : (mask : ℕ) (exact : Option ℕ) (fed last : ℕ) (xs : List Request)
+    → SplitWithin mask xs → SplitWithin mask (kept_by exact fed last xs)
+kept_within mask exact fed last xs is = go (is_held exact fed last)
+  where
+    go : (held : Bool) → SplitWithin mask (if held then xs else left_by last xs)
+    go true = is
+    go false = within_left mask (λ request. not (is_due last request)) xs is
+
+-- a part of an exact stream has no row, or it issues no request
+pub between_rows : (stream : Stream) (base last : ℕ) (rows : List Row) → stream.exact ≡ Some base
+    → length rows ≡ last → stream.start.row ≤ last
+    → IsBetweenRows stream.start.row
+    (map (lifted stream.start.row) (due_in stream last)) rows
+between_rows stream base last rows is many le =
+    subst (λ (e : Option ℕ). IsBetweenRows stream.start.row
+    (map (lifted stream.start.row) (issued_by e stream.start.row last stream.pending)) rows)
+    (sym is) (go (nat_le last stream.start.row) refl)
+  where
+    go : (b : Bool) → nat_le last stream.start.row ≡ b
+        → IsBetweenRows stream.start.row (map (lifted stream.start.row)
+        (if not b then [] else due_by last stream.pending)) rows
+    go true e =
+        let low : last ≤ stream.start.row = le_of last stream.start.row e in
+        inl (omega (arith, many, le, low))
+    go false e = inr refl

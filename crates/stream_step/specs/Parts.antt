@@ -1,5 +1,6 @@
 -- What a stream has run, and what a part of it is.
-use Rattle.std.specs.Prelude.{◌≡◌, ◌≤◌, All, List, drop, length, take}
+use Rattle.std.specs.Prelude.{◌≡◌, ◌⊎◌, ◌≤◌, ℕ, All, IfSome, List, [], drop}
+use Rattle.std.specs.Prelude.{length, take}
 use Rattle.cover_planner.specs.declared.cover.Plan.{Plan}
 use Rattle.jobs.specs.Nodes.{AreFromSources}
 use Rattle.tuple_trace.specs.Rows.{AreRows}
@@ -13,20 +14,35 @@ use Rattle.flow_model.specs.declared.setup.Setup.{Setup}
 use Rattle.savepoint.specs.Parts.{start_of}
 use Rattle.stream_law.specs.PartRun.{IsPartRun}
 use Rattle.stream_law.specs.Stream.{IsRunSoFar, RunPart, SoFar, with_part}
+use Rattle.border_law.specs.Border.{AreExactAfter}
+use Rattle.stream_step.specs.Pending.{issued_by, kept_by}
 use Rattle.stream_step.specs.declared.stream.Stream.{Stream}
 
 -- ---- what was run so far
 
 -- The stream goes on from where this has ended: one run of numbered rows from sources of the job,
--- under the stream's setup.
+-- under the stream's setup. If the stream is exact, so are the borders since it began to be.
 pub record HasRun (stream : Stream) (so_far : SoFar) : Type 0 where
   pub run : IsRunSoFar so_far
   pub numbered : AreRows so_far.rows
   pub sources : AreFromSources so_far.setup.job so_far.rows
   pub setup_is : so_far.setup ≡ setup_view stream.setup
   pub start_is : stream.start ≡ start_of (length so_far.rows) so_far.ran
+  pub exact : IfSome stream.exact (λ base. AreExactAfter base so_far)
 
 -- ---- a part
+
+-- the pending requests that a part up to this row issues
+abbrev pub due_in : Stream → ℕ → List Request
+due_in stream last = issued_by stream.exact stream.start.row last stream.pending
+
+-- those that it leaves
+abbrev pub left_in : Stream → ℕ → List Request
+left_in stream last = kept_by stream.exact stream.start.row last stream.pending
+
+-- a part has no row after this one, or it issues no request
+abbrev pub IsBetweenRows : ℕ → List Request → List Row → Type 0
+IsBetweenRows fed requests rows = (length rows ≡ fed) ⊎ (requests ≡ [])
 
 -- A part was run from where the stream goes on, with these requests after those of the stream. Of
 -- `rows`, it fed those that the stream hadn't fed.
@@ -51,13 +67,18 @@ pub record IsPartAfter (so_far : SoFar) (requests : List Request) (rows : List R
   pub one_run : IsRunSoFar (with_part so_far part)
   pub numbered : AreRows (with_part so_far part).rows
   pub sources : AreFromSources (with_part so_far part).setup.job (with_part so_far part).rows
+  pub borders : (base : ℕ) → IsBetweenRows (length so_far.rows) requests rows
+      → AreExactAfter base so_far → AreExactAfter base (with_part so_far part)
 
 -- the first part, as all so far
 abbrev pub first_part : Setup → List Row → Ran → SoFar
 first_part setup rows left = record { setup = setup_view setup; rows = rows; ran = left }
 
 -- the first part is one run of numbered rows from sources of the job
-pub record IsFirstRun (setup : Setup) (rows : List Row) (left : Ran) : Type 0 where
+pub record IsFirstRun (requests : List Request) (setup : Setup) (rows : List Row) (left : Ran)
+    : Type 0 where
   pub run : IsRunSoFar (first_part setup rows left)
+  pub borders : (base : ℕ) → IsBetweenRows 0 requests rows
+      → AreExactAfter base (first_part setup rows left)
   pub numbered : AreRows rows
   pub sources : AreFromSources (setup_view setup).job rows

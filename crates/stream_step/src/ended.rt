@@ -17,8 +17,8 @@ impl Stream {
     /// The stream after a part, whose counts are moved into it. Takes no memory.
     ///
     /// `ran` is the record of the part, `last` the number of its last row, and `pending` has the
-    /// requests that wait for a later row.
-    pub fn after_part(ran: RunRecord, last: u64, pending: Requests) -> Stream
+    /// requests that wait for a later part. The stream is exact as before the part.
+    pub fn after_part(ran: RunRecord, last: u64, pending: Requests, exact: Option<u64>) -> Stream
         requires due { IsTrue (list_all (λ (request : Request). nat_le request.after last)
             ran.setup.judged.accepted) }
         requires accepted { AreAccepted (job_view ran.setup.job)
@@ -28,6 +28,7 @@ impl Stream {
         ensures setup { result.setup ≡ ran.setup }
         ensures start { result.start ≡ start_of last (record_view ran) }
         ensures pending { result.pending ≡ pending }
+        ensures exact { result.exact ≡ exact }
     {
         let RunRecord { setup, states, .. } = ran;
         let start = Start {
@@ -39,6 +40,7 @@ impl Stream {
             setup,
             start,
             pending,
+            exact,
         }
     }
 }

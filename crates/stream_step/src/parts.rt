@@ -7,15 +7,18 @@ ghost use Rattle.versions.specs.declared.request.Request.{Request};
 ghost use Rattle.flow_model.specs.Planned.{IsFollowed};
 ghost use Rattle.flow_model.specs.Setup.{setup_view};
 ghost use Rattle.flow_model.specs.Workers.{workers_in};
-ghost use Rattle.stream_step.specs.Pending.{AreAsked, SplitWithin, due_by, left_by, lifted};
+ghost use Rattle.stream_step.specs.Parts.{due_in, left_in};
+ghost use Rattle.stream_step.specs.Pending.{AreAsked, SplitWithin, lifted};
 
-use crate::pending::{Parted, all_lifted, part_at};
+use crate::pending::{Parted, all_lifted, parted_by};
 use crate::stream::Stream;
 use flow_model::{Setup, Start};
 use std::alloc::Global;
 use stream_law::later_requests_are_judged_later;
 use tuple_trace::NoMemory;
-use versions::{Judged, Refusals, Requests, accepted_requests_are_in_order};
+use versions::{
+    Judged, Refusals, Requests, accepted_requests_are_in_order, accepted_requests_may_wait,
+};
 
 /// What the next part of a stream is run by, and what is kept until it has ended.
 ///
@@ -56,29 +59,32 @@ pub struct LastPart {
 
 impl Stream {
     /// The next part of the stream, up to row `last`. It has the pending requests that ask for a
-    /// row up to there. Each of them waits for the last row that was fed, or for a later row that
-    /// it asks for. The one error is out of memory; it gives up the stream.
+    /// row up to there; in an exact stream, only a part without a row has requests. Each of them
+    /// waits for the last row that was fed, or for a later row that it asks for. The one error is
+    /// out of memory; it gives up the stream.
     pub fn next_part(self, alloc: Global, last: u64) -> Result<NextPart, NoMemory>
         requires { self.start.row ≤ last }
         ensures followed { IfOk result (λ part. IsFollowed (setup_view self.setup)
-            (map (lifted self.start.row) (due_by last self.pending)) (setup_view part.setup)) }
+            (map (lifted self.start.row) (due_in self last)) (setup_view part.setup)) }
         ensures refused { IfOk result (λ part.
             part.setup.judged.refused ≡ self.setup.judged.refused) }
         ensures start { IfOk result (λ part. part.start ≡ self.start) }
         ensures last { IfOk result (λ part. part.last ≡ last) }
-        ensures pending { IfOk result (λ part. part.pending ≡ left_by last self.pending) }
+        ensures pending { IfOk result (λ part. part.pending ≡ left_in self last) }
         ensures asked { IfOk result (λ part. (all : List Request)
             → AreAsked (job_view self.setup.job) self.setup.judged.accepted self.pending all
             → AreAsked (job_view part.setup.job) part.setup.judged.accepted part.pending all) }
     {
         later_requests_are_judged_later();
         accepted_requests_are_in_order();
+        accepted_requests_may_wait();
         let Stream {
             setup,
             start,
             pending,
+            exact,
         } = self;
-        let Parted { due, left } = part_at(alloc, pending, last, start.row)?;
+        let Parted { due, left } = parted_by(alloc, exact, pending, last, start.row)?;
         let later = Judged {
             accepted: due,
             refused: Refusals::new(alloc),
@@ -106,6 +112,7 @@ impl Stream {
             setup,
             start,
             pending,
+            ..
         } = self;
         let later = Judged {
             accepted: all_lifted(alloc, pending, start.row)?,

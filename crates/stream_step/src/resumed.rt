@@ -1,5 +1,6 @@
 // A stream that goes on from its savepoint.
-ghost use Rattle.std.specs.Prelude.{◌≡◌, ◌≢◌, ◌<◌, ◌≤◌, ◌+◌, IfErr, IfOk, OnOk, drop, length, take};
+ghost use Rattle.std.specs.Prelude.{◌≡◌, ◌≢◌, ◌<◌, ◌≤◌, ◌+◌, IfErr, IfOk, OnOk, drop};
+ghost use Rattle.std.specs.Prelude.{length, take};
 ghost use Rattle.jobs.specs.Job.{job_view};
 ghost use Rattle.versions.specs.Judged.{AreAccepted};
 ghost use Rattle.versions.specs.Kept.{AreInOrder};
@@ -8,9 +9,10 @@ ghost use Rattle.flow_model.specs.Waiting.{waiting_for, with_afters};
 ghost use Rattle.flow_model.specs.Workers.{workers_in};
 ghost use Rattle.savepoint.specs.Parts.{first_of as first_of_is};
 ghost use Rattle.stream_save.specs.StreamReading.{AreWaits, CanSaveStream};
-ghost use Rattle.stream_step.specs.Pending.{AreAsked};
+ghost use Rattle.stream_step.specs.Pending.{AreAsked, exact_from};
 ghost use Rattle.stream_step.specs.Resumed.{IsResumed};
 
+use crate::mode::{StreamMode, exact_from as from_here};
 use crate::stream::{Stream, copies};
 use flow_model::{Setup, Start};
 use operators::Job;
@@ -38,18 +40,20 @@ impl Stream {
         alloc: Global,
         job: Job,
         judged: Judged,
-        ordered: bool,
+        mode: StreamMode,
         save: StreamSave,
     ) -> Result<Stream, StreamSaveFault>
         requires accepted { AreAccepted (job_view job) judged.accepted }
         requires saved { CanSaveStream (job_view job) save }
-        ensures resumed { IfOk result (λ stream. IsResumed (job_view job) judged.accepted ordered
+        ensures resumed { IfOk result (λ stream. IsResumed (job_view job) judged.accepted mode.ordered
             save (setup_view stream.setup)) }
         ensures refused { IfOk result (λ stream.
             stream.setup.judged.refused ≡ judged.refused) }
         ensures start { IfOk result (λ stream. stream.start ≡ save.start) }
         ensures pending { IfOk result (λ stream.
             stream.pending ≡ drop save.start.turned judged.accepted) }
+        ensures exact { IfOk result (λ stream. stream.exact
+            ≡ exact_from mode.exact stream.start.turned) }
         ensures asked { IfOk result (λ stream. AreAsked (job_view stream.setup.job)
             stream.setup.judged.accepted stream.pending judged.accepted) }
         ensures enough { OnOk result (save.start.turned ≤ length judged.accepted) }
@@ -62,16 +66,24 @@ impl Stream {
         if start.turned > accepted {
             return Err(StreamSaveFault::Count(accepted + 1));
         }
-        let setup = Setup::make_for_stream(alloc, job, judged, ordered)?;
+        let setup = Setup::make_for_stream(alloc, job, judged, mode.ordered)?;
         let later = &setup.judged.accepted.as_slice()[start.turned as usize..];
         let pending = copies(alloc, later)?;
-        Ok(resumed(alloc, setup, start, waits.as_slice(), pending))
+        let exact = from_here(mode.exact, start.turned);
+        Ok(resumed(alloc, setup, start, waits.as_slice(), pending, exact))
     }
 }
 
 // The stream with the first requests of a setup, which wait for these rows, and the others pending.
 // Takes no memory.
-fn resumed(alloc: Global, setup: Setup, start: Start, waits: &[u64], pending: Requests) -> Stream
+fn resumed(
+    alloc: Global,
+    setup: Setup,
+    start: Start,
+    waits: &[u64],
+    pending: Requests,
+    exact: Option<u64>,
+) -> Stream
     requires turned { start.turned ≤ length setup.judged.accepted }
     requires states { length start.states ≡ length (workers_in (job_view setup.job)) }
     requires one_each { start.turned ≡ length waits.now }
@@ -82,6 +94,7 @@ fn resumed(alloc: Global, setup: Setup, start: Start, waits: &[u64], pending: Re
     ensures refused { result.setup.judged.refused ≡ setup.judged.refused }
     ensures start { result.start ≡ start }
     ensures pending { result.pending ≡ pending }
+    ensures exact { result.exact ≡ exact }
     ensures asked { AreAsked (job_view result.setup.job) result.setup.judged.accepted
         result.pending setup.judged.accepted }
 {
@@ -91,6 +104,7 @@ fn resumed(alloc: Global, setup: Setup, start: Start, waits: &[u64], pending: Re
         setup: issued(alloc, setup, start.turned, waits),
         start,
         pending,
+        exact,
     }
 }
 

@@ -1,6 +1,7 @@
-ghost use Rattle.std.specs.Prelude.{◌≡◌, ◌↔◌, ◌++◌, ◌||◌, ℕ, [], IfOk, IsTrue, List, length, map};
-ghost use Rattle.std.specs.Prelude.{nat_le, slice_get};
-ghost use Rattle.std.specs.List.{list_all};
+ghost use Rattle.std.specs.Prelude.{◌≡◌, ◌↔◌, ◌<◌, ◌≤◌, ◌++◌, ◌&&◌, ◌||◌, ℕ, [], IfOk, IfSome};
+ghost use Rattle.std.specs.Prelude.{IsTrue, List, None, Some, is_some, length, map, nat_le};
+ghost use Rattle.std.specs.Prelude.{slice_get};
+ghost use Rattle.std.specs.List.{list_all, list_any};
 ghost use Rattle.flow_dag.specs.Masks.{Has};
 ghost use Rattle.jobs.specs.Job.{job_view};
 ghost use Rattle.versions.specs.Judged.{AreAccepted};
@@ -9,8 +10,12 @@ ghost use Rattle.flow_model.specs.Begin.{at_first};
 ghost use Rattle.flow_model.specs.Planned.{may_become_split, splits_at};
 ghost use Rattle.flow_model.specs.Setup.{setup_view};
 ghost use Rattle.flow_model.specs.Workers.{workers_in};
-ghost use Rattle.stream_step.specs.Pending.{AreAsked, SplitWithin, lifted};
+ghost use Rattle.stream_step.specs.Pending.{AreAsked, SplitWithin, is_due, lifted};
+ghost use Rattle.stream_step.specs.Pending.{exact_from as exact_from_of};
+ghost use Rattle.stream_step.specs.Pending.{first_wait as first_wait_of};
 
+use crate::mode::{StreamMode, exact_from};
+use crate::pending::{first_wait, some_due};
 use flow_model::{Setup, Start};
 use operators::Job;
 use savepoint::first_of;
@@ -34,6 +39,9 @@ pub struct Stream {
     pub start: Start,
     /// The accepted requests that weren't issued yet, as they were asked.
     pub pending: Requests,
+    /// How many requests were issued when the stream became exact; `None` if it isn't. In an exact
+    /// stream, each later request parts the rows: it is issued in a part without a row.
+    pub exact: Option<u64>,
     ghost turned: { start.turned ≡ length setup.judged.accepted },
     ghost states: { length start.states ≡ length (workers_in (job_view setup.job)) },
     ghost due: { IsTrue (list_all (λ (request : RequestIs). nat_le request.after start.row)
@@ -49,27 +57,36 @@ impl Stream {
     ///
     /// The mask of splits is that of a stream: it holds the splits of the job and of these
     /// requests, and the nodes that later requests may make splits.
-    pub fn begin(alloc: Global, job: Job, judged: Judged, ordered: bool) -> Result<Stream, NoMemory>
+    pub fn begin(
+        alloc: Global,
+        job: Job,
+        judged: Judged,
+        mode: StreamMode,
+    ) -> Result<Stream, NoMemory>
         requires { AreAccepted (job_view job) judged.accepted }
         ensures job { IfOk result (λ stream. stream.setup.job ≡ job) }
-        ensures ordered { IfOk result (λ stream. stream.setup.ordered ≡ ordered) }
+        ensures ordered { IfOk result (λ stream. stream.setup.ordered ≡ mode.ordered) }
         ensures refused { IfOk result (λ stream.
             stream.setup.judged.refused ≡ judged.refused) }
         ensures none { IfOk result (λ stream. stream.setup.judged.accepted ≡ []) }
         ensures first { IfOk result (λ stream.
             stream.start ≡ at_first (setup_view stream.setup)) }
         ensures pending { IfOk result (λ stream. stream.pending ≡ judged.accepted) }
+        ensures exact { IfOk result (λ stream. stream.exact
+            ≡ exact_from_of mode.exact stream.start.turned) }
         ensures splits { IfOk result (λ stream. (node : ℕ) → Has stream.setup.splits node
             ↔ IsTrue (splits_at job.nodes judged.accepted node
             || may_become_split (slice_get job.nodes node))) }
     {
-        let setup = Setup::make_for_stream(alloc, job, judged, ordered)?;
+        let setup = Setup::make_for_stream(alloc, job, judged, mode.ordered)?;
         let pending = copies(alloc, setup.judged.accepted.as_slice())?;
         let start = Start::first(alloc, &setup)?;
+        let exact = exact_from(mode.exact, start.turned);
         Ok(Stream {
             setup: first_of(setup, 0),
             start,
             pending,
+            exact,
         })
     }
 
@@ -85,6 +102,7 @@ impl Stream {
         ensures setup { IfOk result (λ stream. stream.setup ≡ self.setup) }
         ensures start { IfOk result (λ stream. stream.start ≡ self.start) }
         ensures pending { IfOk result (λ stream. stream.pending ≡ self.pending ++ later) }
+        ensures exact { IfOk result (λ stream. stream.exact ≡ self.exact) }
         ensures asked { IfOk result (λ stream. (all : List RequestIs)
             → AreAsked (job_view self.setup.job) self.setup.judged.accepted self.pending all
             → AreAccepted (job_view self.setup.job) (all ++ later)
@@ -97,13 +115,39 @@ impl Stream {
             setup,
             start,
             pending,
+            exact,
         } = self;
         let pending = appended(pending, later)?;
         Ok(Stream {
             setup,
             start,
             pending,
+            exact,
         })
+    }
+
+    /// Whether the next part has to be without a row: the stream is exact, and a pending request
+    /// asks for no later row than the last that was fed.
+    pub fn has_due(&self) -> bool
+        ensures { result ≡ (is_some self.now.exact
+            && list_any (is_due self.now.start.row) self.now.pending) }
+    {
+        self.exact.is_some() && some_due(self.pending.as_slice(), self.start.row)
+    }
+
+    /// The row up to which the next part goes, of rows up to `last`. In an exact stream it ends at
+    /// the first later row that a pending request asks for.
+    pub fn part_end(&self, last: u64) -> u64
+        ensures any { self.now.exact ≡ None → result ≡ last }
+        ensures exact { IfSome self.now.exact (λ base.
+            result ≡ first_wait_of self.now.start.row last self.now.pending) }
+        ensures later { self.now.start.row < last → self.now.start.row < result }
+        ensures within { result ≤ last }
+    {
+        if self.exact.is_none() {
+            return last;
+        }
+        first_wait(self.pending.as_slice(), self.start.row, last)
     }
 }
 

@@ -56,3 +56,8 @@ returns-clause-refused c =
     ∙ sym (ap (λ (j : Judged). j.refused)
     (judged_alike first c.in_ok-stream-2.field-0.stream c.args.requests
     c.in_ok-stream-2.ensures.setup))))
+
+pub returns-clause-exact : goal.returns-clause-exact
+returns-clause-exact c =
+    rw (c.in_ok-stream-2.ensures.exact, c.in_ok-stream-2.ensures.start)
+    c.in_ok-stream.ensures.exact

@@ -12,7 +12,7 @@ pub returns-clause-resumed : goal.returns-clause-resumed
 returns-clause-resumed c =
     map_ok _ _ c.resume.result
     (told_resumed c.accepted_requests_split_within.ensures c.args.job c.in_ok-job.field-0.job
-    c.in_ok-job.field-0.splits c.args.known.now.requests c.args.ordered c.args.save
+    c.in_ok-job.field-0.splits c.args.known.now.requests c.args.mode.ordered c.args.save
     c.in_ok-judged.judged
     c.in_ok-job.ensures.splits c.in_ok-job.ensures.job c.in_ok-judged.ensures)
     c.resume.ensures.resumed
@@ -21,7 +21,7 @@ pub returns-clause-splits : goal.returns-clause-splits
 returns-clause-splits c =
     map_ok _ _ c.resume.result
     (told_mask c.accepted_requests_split_within.ensures c.args.job c.in_ok-job.field-0.job
-    c.in_ok-job.field-0.splits c.args.known.now.requests c.args.ordered c.args.save
+    c.in_ok-job.field-0.splits c.args.known.now.requests c.args.mode.ordered c.args.save
     c.in_ok-judged.judged
     c.in_ok-job.ensures.splits c.in_ok-job.ensures.job c.in_ok-judged.ensures)
     c.resume.ensures.resumed
@@ -30,7 +30,7 @@ pub returns-clause-is_known : goal.returns-clause-is_known
 returns-clause-is_known c =
     let alike =
     told_alike c.accepted_requests_split_within.ensures c.args.job c.in_ok-job.field-0.job
-    c.in_ok-job.field-0.splits c.args.known.now.requests c.args.ordered c.args.save
+    c.in_ok-job.field-0.splits c.args.known.now.requests c.args.mode.ordered c.args.save
     c.in_ok-judged.judged
     c.in_ok-job.ensures.splits c.in_ok-job.ensures.job c.in_ok-judged.ensures in
     both_ok _ _ _ c.resume.result
@@ -42,7 +42,7 @@ pub returns-clause-pending : goal.returns-clause-pending
 returns-clause-pending c =
     let alike =
     told_alike c.accepted_requests_split_within.ensures c.args.job c.in_ok-job.field-0.job
-    c.in_ok-job.field-0.splits c.args.known.now.requests c.args.ordered c.args.save
+    c.in_ok-job.field-0.splits c.args.known.now.requests c.args.mode.ordered c.args.save
     c.in_ok-judged.judged
     c.in_ok-job.ensures.splits c.in_ok-job.ensures.job c.in_ok-judged.ensures in
     both_ok _ _ _ c.resume.result (λ s is pending. pending ∙ ap
@@ -53,7 +53,7 @@ pub returns-clause-enough : goal.returns-clause-enough
 returns-clause-enough c =
     let alike =
     told_alike c.accepted_requests_split_within.ensures c.args.job c.in_ok-job.field-0.job
-    c.in_ok-job.field-0.splits c.args.known.now.requests c.args.ordered c.args.save
+    c.in_ok-job.field-0.splits c.args.known.now.requests c.args.mode.ordered c.args.save
     c.in_ok-judged.judged
     c.in_ok-job.ensures.splits c.in_ok-job.ensures.job c.in_ok-judged.ensures in
     enough_ok _ _ _ c.resume.result
@@ -67,7 +67,7 @@ returns-clause-fault c =
     (λ (d : Judged). (length d.accepted < c.args.save.start.turned)
     × (error ≡ fault.Count (length d.accepted + 1)))
     (told_fault c.accepted_requests_split_within.ensures c.args.job c.in_ok-job.field-0.job
-    c.in_ok-job.field-0.splits c.args.known.now.requests c.args.ordered c.args.save
+    c.in_ok-job.field-0.splits c.args.known.now.requests c.args.mode.ordered c.args.save
     c.in_ok-judged.judged
     c.in_ok-job.ensures.splits c.in_ok-job.ensures.job c.in_ok-judged.ensures splits mask)
     (is other))

@@ -56,10 +56,10 @@ returns-clause-resumed c =
     c.in_ok-first.ensures.first ∙ (ap (λ n. take n c.args.requests) c.read_of-read.ensures
     ∙ take_min c.args.save.read c.args.requests) in
     subst (λ (l : List Request). IsResumed (job_view c.args.job)
-    (judged_in c.in_ok-stream-2.field-0.stream l).accepted c.args.ordered c.args.save
+    (judged_in c.in_ok-stream-2.field-0.stream l).accepted c.args.mode.ordered c.args.save
     (setup_view c.in_ok-stream-2.field-0.stream.setup)) first_is
     (subst (λ (s : Setup). IsResumed (job_view c.args.job)
-    (judged_within (Some s.splits) (job_view s.job) c.in_ok-first.first).accepted c.args.ordered
+    (judged_within (Some s.splits) (job_view s.job) c.in_ok-first.first).accepted c.args.mode.ordered
     c.args.save (setup_view s)) (sym c.in_ok-stream-2.ensures.setup)
     c.in_ok-stream.ensures.resumed)
 
@@ -105,3 +105,8 @@ returns-clause-refused c =
     (take c.args.save.read c.args.requests)).refused)
     (judged_within (Some s.splits) (job_view s.job) c.args.requests).refused)
     (sym c.in_ok-stream-2.ensures.setup)))
+
+pub returns-clause-exact : goal.returns-clause-exact
+returns-clause-exact c =
+    rw (c.in_ok-stream-2.ensures.exact, c.in_ok-stream-2.ensures.start)
+    c.in_ok-stream.ensures.exact

@@ -1,5 +1,4 @@
-use Rattle.std.proofs.Common.{◌≡◌, ◌∙◌, ◌≤◌, ◌++◌, List, ap, arith, length, map, not, subst, sym}
-use Rattle.std.proofs.Common.{true}
+use Rattle.std.proofs.Common.{◌≡◌, ◌∙◌, ◌≤◌, ◌++◌, List, ap, arith, length, map, subst, sym, true}
 use Rattle.std.proofs.lemmas.List.{length-append}
 use Rattle.jobs.specs.Job.{job_view}
 use Rattle.versions.specs.Judged.{AreAccepted}
@@ -9,9 +8,10 @@ use Rattle.flow_model.specs.Planned.{IsFollowed}
 use Rattle.flow_model.specs.Setup.{setup_view}
 use Rattle.flow_model.specs.SetupView.{SetupView}
 use Rattle.flow_model.specs.Workers.{workers_in}
-use Rattle.stream_step.specs.Pending.{AreAsked, SplitWithin, due_by, is_due, left_by, lifted}
-use Rattle.stream_step.proofs.PendingLemmas.{are_fed, due_accepted, part_accepted, part_asked}
-use Rattle.stream_step.proofs.PendingLemmas.{part_fed, within_left, within_some}
+use Rattle.stream_step.specs.Parts.{due_in, left_in}
+use Rattle.stream_step.specs.Pending.{AreAsked, SplitWithin, issued_by, kept_by, lifted}
+use Rattle.stream_step.proofs.PendingLemmas.{are_fed, issued_accepted, issued_asked, issued_fed}
+use Rattle.stream_step.proofs.PendingLemmas.{issued_within, kept_accepted, kept_within}
 use Rattle.stream_step.proofs.stream.Stream.next_part.Goals as goal
 
 pub follow-requires-clause-accepted : goal.follow-requires-clause-accepted
@@ -20,30 +20,33 @@ follow-requires-clause-accepted c =
     subst (λ (l : List Request). AreAccepted (job_view self.setup.job)
     (self.setup.judged.accepted ++ l))
     (sym (c.in_ok-due.ensures.due ∙ ap (λ (b : Begin). map (lifted b.row)
-    (due_by c.args.last self.pending)) c.start.view_is))
-    (due_accepted c.accepted_requests_are_in_order.ensures c.later_requests_are_judged_later.ensures
-    (job_view self.setup.job) self.start.row c.args.last self.setup.judged.accepted self.pending
-    c.requires self.accepted)
+    (issued_by self.exact b.row c.args.last self.pending)) c.start.view_is))
+    (issued_accepted c.accepted_requests_are_in_order.ensures
+    c.later_requests_are_judged_later.ensures (job_view self.setup.job) self.exact self.start.row
+    c.args.last self.setup.judged.accepted self.pending c.requires self.setup.accepted
+    self.accepted)
 
 pub follow-requires-clause-splits : goal.follow-requires-clause-splits
 follow-requires-clause-splits c =
     let self = c.args.self in
     subst (λ (l : List Request). SplitWithin self.setup.splits l)
     (sym (c.in_ok-due.ensures.due ∙ ap (λ (b : Begin). map (lifted b.row)
-    (due_by c.args.last self.pending)) c.start.view_is))
-    (within_some self.setup.splits self.start.row (is_due c.args.last) self.pending self.within)
+    (issued_by self.exact b.row c.args.last self.pending)) c.start.view_is))
+    (issued_within self.setup.splits self.exact self.start.row c.args.last self.pending
+    self.within)
 
 pub invariant_of-result : goal.invariant_of-result
 invariant_of-result c =
     let self = c.args.self in
     let setup = c.in_ok-setup.setup in
     let taken : List Request = self.setup.judged.accepted in
-    let due : List Request = map (lifted self.start.row) (due_by c.args.last self.pending) in
+    let due : List Request = map (lifted self.start.row) (due_in self c.args.last) in
     let due_is : c.in_ok-due.field-0.due ≡ due =
     c.in_ok-due.ensures.due ∙ ap (λ (b : Begin). map (lifted b.row)
-    (due_by c.args.last self.pending)) c.start.view_is in
-    let left_is : c.in_ok-due.field-0.left ≡ left_by c.args.last self.pending =
-    c.in_ok-due.ensures.left in
+    (issued_by self.exact b.row c.args.last self.pending)) c.start.view_is in
+    let left_is : c.in_ok-due.field-0.left ≡ left_in self c.args.last =
+    c.in_ok-due.ensures.left ∙ ap (λ (b : Begin). kept_by self.exact b.row c.args.last
+    self.pending) c.start.view_is in
     let is = c.in_ok-setup.ensures.followed.extended_is in
     let all_are : setup.judged.accepted ≡ taken ++ due =
     ap (λ (s : SetupView). s.requests) is ∙ ap (λ (l : List Request). taken ++ l) due_is in
@@ -61,50 +64,61 @@ invariant_of-result c =
       );
       states = self.states ∙ sym (ap (λ j. length (workers_in j)) job_is);
       due = subst (λ (l : List Request). are_fed c.args.last l ≡ true) (sym all_are)
-          (part_fed self.start.row c.args.last taken self.pending le self.due);
+          (issued_fed self.exact self.start.row c.args.last taken self.pending le self.due);
       accepted =
           subst (λ (l : List Request). AreAccepted (job_view setup.job)
           (setup.judged.accepted ++ map (lifted c.args.last) l)) (sym left_is)
           (subst (λ (l : List Request). AreAccepted (job_view setup.job)
-          (l ++ map (lifted c.args.last) (left_by c.args.last self.pending))) (sym all_are)
+          (l ++ map (lifted c.args.last) (left_in self c.args.last))) (sym all_are)
           (subst (λ j. AreAccepted j ((taken ++ due) ++ map (lifted c.args.last)
-          (left_by c.args.last self.pending))) (sym job_is)
-          (part_accepted c.accepted_requests_are_in_order.ensures
-          (job_view self.setup.job) self.start.row c.args.last taken self.pending le
+          (left_in self c.args.last))) (sym job_is)
+          (kept_accepted c.accepted_requests_are_in_order.ensures
+          c.accepted_requests_may_wait.ensures (job_view self.setup.job) self.exact
+          self.start.row c.args.last taken self.pending le self.setup.accepted self.due
           self.accepted)));
       splits =
           subst (λ k. SplitWithin k c.in_ok-due.field-0.left) (sym splits_are)
           (subst (λ (l : List Request). SplitWithin self.setup.splits l) (sym left_is)
-          (within_left self.setup.splits (λ request. not (is_due c.args.last request)) self.pending
+          (kept_within self.setup.splits self.exact self.start.row c.args.last self.pending
           self.within));
     }
 
 pub returns-clause-followed : goal.returns-clause-followed
 returns-clause-followed c =
+    let self = c.args.self in
     let due_is =
     c.in_ok-due.ensures.due ∙ ap (λ (b : Begin). map (lifted b.row)
-    (due_by c.args.last c.args.self.pending)) c.start.view_is in
-    subst (λ (l : List Request). IsFollowed (setup_view c.args.self.setup) l
+    (issued_by self.exact b.row c.args.last self.pending)) c.start.view_is in
+    subst (λ (l : List Request). IsFollowed (setup_view self.setup) l
     (setup_view c.in_ok-setup.setup)) due_is c.in_ok-setup.ensures.followed
+
+pub returns-clause-pending : goal.returns-clause-pending
+returns-clause-pending c =
+    let self = c.args.self in
+    c.in_ok-due.ensures.left ∙ ap (λ (b : Begin). kept_by self.exact b.row c.args.last
+    self.pending) c.start.view_is
 
 pub returns-clause-asked : goal.returns-clause-asked
 returns-clause-asked c all asked =
     let self = c.args.self in
     let setup = c.in_ok-setup.setup in
     let is = c.in_ok-setup.ensures.followed.extended_is in
+    let left_is : c.in_ok-due.field-0.left ≡ left_in self c.args.last =
+    c.in_ok-due.ensures.left ∙ ap (λ (b : Begin). kept_by self.exact b.row c.args.last
+    self.pending) c.start.view_is in
     let all_are : setup.judged.accepted ≡ self.setup.judged.accepted
-    ++ map (lifted self.start.row) (due_by c.args.last self.pending) =
+    ++ map (lifted self.start.row) (due_in self c.args.last) =
     ap (λ (s : SetupView). s.requests) is
     ∙ ap (λ (l : List Request). self.setup.judged.accepted ++ l)
     (c.in_ok-due.ensures.due ∙ ap (λ (b : Begin). map (lifted b.row)
-    (due_by c.args.last self.pending)) c.start.view_is) in
+    (issued_by self.exact b.row c.args.last self.pending)) c.start.view_is) in
     let job_is : job_view setup.job ≡ job_view self.setup.job = ap (λ (s : SetupView). s.job) is in
     subst (λ (l : List Request). AreAsked (job_view setup.job) setup.judged.accepted l all)
-    (sym c.in_ok-due.ensures.left)
+    (sym left_is)
     (subst (λ (l : List Request). AreAsked (job_view setup.job) l
-    (left_by c.args.last self.pending) all) (sym all_are)
+    (left_in self c.args.last) all) (sym all_are)
     (subst (λ j. AreAsked j (self.setup.judged.accepted ++ map (lifted self.start.row)
-    (due_by c.args.last self.pending)) (left_by c.args.last self.pending) all) (sym job_is)
-    (part_asked c.accepted_requests_are_in_order.ensures
-    (job_view self.setup.job) self.start.row c.args.last self.setup.judged.accepted self.pending all
-    c.requires self.accepted asked)))
+    (due_in self c.args.last)) (left_in self c.args.last) all) (sym job_is)
+    (issued_asked c.accepted_requests_are_in_order.ensures (job_view self.setup.job) self.exact
+    self.start.row c.args.last self.setup.judged.accepted self.pending all c.requires
+    self.accepted asked)))
