@@ -1,2 +1,3 @@
 pub mod RowLemmas
 mod EndLemmas
+mod TimeLemmas

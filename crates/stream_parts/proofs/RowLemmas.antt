@@ -27,7 +27,7 @@ get-take (suc n) [] i x is = is
 get-take (suc n) (y ∷ xs) zero x is = is
 get-take (suc n) (y ∷ xs) (suc i) x is = get-take n xs i x is
 
-length-take : {X : Type 0} (n : ℕ) (xs : List X) → n ≤ length xs → length (take n xs) ≡ n
+pub length-take : {X : Type 0} (n : ℕ) (xs : List X) → n ≤ length xs → length (take n xs) ≡ n
 length-take n xs within = grind (arith, common_steps)
 
 pub after-take : (fed n : ℕ) (rows : List Row) → AreRowsAfter fed rows
@@ -67,7 +67,8 @@ after-done row next n rest within is are =
     (after-take (row + n) (length rest - n) (drop n rest) (after-drop row n rest are))
 
 pub kept-none : (a : Stream) → KeepsAsked a a
-kept-none a = record { asked = λ all of. of; job_is = refl; splits_are = refl }
+kept-none a =
+    record { asked = λ all of. of; job_is = refl; splits_are = refl; exact_is = refl }
 
 pub kept-then : (a b c : Stream) → KeepsAsked a b → KeepsAsked b c → KeepsAsked a c
 kept-then a b c one two =
@@ -76,4 +77,5 @@ kept-then a b c one two =
       job_is = two.job_is
           ∙ one.job_is;
       splits_are = two.splits_are ∙ one.splits_are;
+      exact_is = two.exact_is ∙ one.exact_is;
     }

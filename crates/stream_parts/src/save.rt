@@ -1,5 +1,5 @@
 ghost use Rattle.std.specs.Prelude.{◌≡◌, ◌<◌, [], IfErr, IfOk, IfSome, None, OnErr, OnOk, max};
-ghost use Rattle.stream_run.specs.Growing.{Goes};
+ghost use Rattle.stream_run.specs.Growing.{Goes, IsBooked};
 ghost use Rattle.stream_run.specs.Standing.{Holds, Stands, saved_text};
 ghost use Rattle.stream_run.specs.Unwritten.{IsUnwritten};
 
@@ -21,8 +21,9 @@ pub fn save_if_due<R, L, G, S: GrowingShelf, W: Watch>(
     requires closed { (S.state shelf.old).draft ≡ None }
     requires stands { Stands call.now.behind call.now.names stream (S.state shelf.old).files }
     ensures same { IfOk result (λ next. next ≡ stream) }
-    ensures goes { IfOk result (λ next. Goes call.now.names [] stream
-        (S.state shelf.old).files next (S.state shelf.new).files) }
+    ensures goes { IfOk result (λ next. (goes : Goes call.now.names [] stream
+        (S.state shelf.old).files next (S.state shelf.new).files)
+        × IsBooked goes.written books.old books.new) }
     ensures due { OnOk result (IfSome call.now.every (λ every.
         books.new.tally.unsaved < max every 1)) }
     ensures stopped { OnErr result ((S.state shelf.new).files ≡ (S.state shelf.old).files) }
@@ -54,8 +55,9 @@ pub fn save_if_asked<R, L, G, S: GrowingShelf, W: Watch>(
     requires closed { (S.state shelf.old).draft ≡ None }
     requires stands { Stands call.now.behind call.now.names stream (S.state shelf.old).files }
     ensures same { IfOk result (λ next. next ≡ stream) }
-    ensures goes { IfOk result (λ next. Goes call.now.names [] stream
-        (S.state shelf.old).files next (S.state shelf.new).files) }
+    ensures goes { IfOk result (λ next. (goes : Goes call.now.names [] stream
+        (S.state shelf.old).files next (S.state shelf.new).files)
+        × IsBooked goes.written books.old books.new) }
     ensures saved { IfOk result (λ next. IfSome call.now.every (λ every.
         Holds (S.state shelf.new).files call.now.names.save (saved_text next
         books.new.read books.new.tally.alerts books.new.tally.audit))) }

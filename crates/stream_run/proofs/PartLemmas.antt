@@ -1,6 +1,6 @@
 -- What a stream has run, part by part.
 use Rattle.std.proofs.Common.{◌≡◌, ◌∙◌, ◌≤◌, ◌+◌, ◌++◌, ℕ, zero, suc, List, [], ◌∷◌, Option, None}
-use Rattle.std.proofs.Common.{Some, drop, length, map, refl, sym, subst, ap, arith}
+use Rattle.std.proofs.Common.{IfSome, Some, drop, length, map, refl, sym, subst, ap, arith}
 use Rattle.std.specs.List.{range_with_len}
 use Rattle.std.proofs.Math.Seq.{drop-append_seam}
 use Rattle.std.proofs.lemmas.List.{length-append}
@@ -17,9 +17,11 @@ use Rattle.flow_model.specs.Setup.{setup_view}
 use Rattle.flow_model.specs.declared.setup.Setup.{Setup}
 use Rattle.savepoint.specs.Parts.{start_of}
 use Rattle.stream_law.specs.Stream.{RunPart, SoFar, with_part}
-use Rattle.stream_step.specs.Parts.{HasRun, IsFirstRun, IsPartAfter, IsRunOn}
+use Rattle.border_law.specs.Border.{AreExactAfter}
+use Rattle.stream_step.specs.Parts.{HasRun, IsBetweenRows, IsFirstRun, IsPartAfter, IsRunOn}
+use Rattle.stream_step.specs.Parts.{first_part}
 use Rattle.stream_step.specs.declared.stream.Stream.{Stream}
-use Rattle.stream_step.proofs.PartLemmas.{goes_on_after}
+use Rattle.stream_step.proofs.PartLemmas.{exact_first, goes_on_after}
 use Rattle.stream_run.specs.Parts.{HasCome, HaveRun, Part, with_all, with_one}
 
 -- ---- parts one after another
@@ -36,14 +38,16 @@ have_run-then a b c xs ys f g before come =
     (g (with_all before xs) (f before come))
 
 -- what a stream has run stays, while requests are added to it
-pub have_run-none : (a b : Stream) → b.setup ≡ a.setup → b.start ≡ a.start → HaveRun a [] b
-have_run-none a b s t None come = t ∙ come ∙ ap (λ (x : Setup). at_first (setup_view x)) (sym s)
-have_run-none a b s t (Some so_far) come = record {
+pub have_run-none : (a b : Stream) → b.setup ≡ a.setup → b.start ≡ a.start → b.exact ≡ a.exact
+    → HaveRun a [] b
+have_run-none a b s t e None come = t ∙ come ∙ ap (λ (x : Setup). at_first (setup_view x)) (sym s)
+have_run-none a b s t e (Some so_far) come = record {
   run = come.run;
   numbered = come.numbered;
   sources = come.sources;
   setup_is = come.setup_is ∙ ap setup_view (sym s);
   start_is = t ∙ come.start_is;
+  exact = subst (λ o. IfSome o (λ base. AreExactAfter base so_far)) (sym e) come.exact;
 }
 
 -- ---- a part that was run
@@ -72,23 +76,33 @@ Later = (stream : Stream) (so_far : SoFar) (requests : List Request) (rows : Lis
 abbrev pub First : Type 0
 First = (stream : Stream) (requests : List Request) (rows : List Row) (setup : Setup) (left : Ran)
     → stream.start ≡ at_first (setup_view stream.setup) → IsRunOn stream requests rows setup left
-    → IsFirstRun setup rows left
+    → IsFirstRun requests setup rows left
 
 -- where the stream goes on after the part
 abbrev GoesOnAt : ℕ → Stream → Ran → Type 0
 GoesOnAt row next left = next.start ≡ start_of row left
 
+pub length-fed : (stream : Stream) (source : ℕ) (rows : List Row)
+    → length (blanks source stream.start.row ++ rows) ≡ stream.start.row + length rows
+length-fed stream source rows =
+    length-append (blanks source stream.start.row) rows
+    ∙ ap (λ k. k + length rows) (length-blanks source stream.start.row)
+
+-- what holds of a value, if there is one
+pub if_some : (o : Option ℕ) (P : ℕ → Type 0) → ((n : ℕ) → o ≡ Some n → P n) → IfSome o P
+if_some None P so = tt
+if_some (Some n) P so = so n refl
+
 module _ (later : Later) (first : First) (stream next : Stream) (requests : List Request)
-    (source : ℕ) (rows : List Row) (left : Ran) where
+    (source : ℕ) (rows : List Row) (left : Ran) (exact_is : next.exact ≡ stream.exact) where
   abbrev fed : List Row
   fed = blanks source stream.start.row ++ rows
 
-  length-fed : length fed ≡ stream.start.row + length rows
-  length-fed =
-      length-append (blanks source stream.start.row) rows
-      ∙ ap (λ k. k + length rows) (length-blanks source stream.start.row)
+  -- if the stream is exact, the part has no row or no request
+  abbrev IsBetween : Type 0
+  IsBetween = IfSome stream.exact (λ base. IsBetweenRows stream.start.row requests fed)
 
-  first_part_run : IsRunOn stream requests fed next.setup left
+  first_part_run : IsBetween → IsRunOn stream requests fed next.setup left
       → GoesOnAt (stream.start.row + length rows) next left
       → stream.start ≡ at_first (setup_view stream.setup)
       → HasCome next (Some (with_one None (record {
@@ -96,10 +110,10 @@ module _ (later : Later) (first : First) (stream next : Stream) (requests : List
         rows = rows;
         left = left;
       })))
-  first_part_run on start_is come =
+  first_part_run between on start_is come =
       let none : stream.start.row ≡ 0 = ap (λ (b : Begin). b.row) come in
       let rows_are : fed ≡ rows = ap (λ k. blanks source k ++ rows) none in
-      let is = subst (λ r. IsFirstRun next.setup r left) rows_are
+      let is = subst (λ r. IsFirstRun requests next.setup r left) rows_are
       (first stream requests fed next.setup left come on) in
       record {
         run = is.run;
@@ -110,20 +124,28 @@ module _ (later : Later) (first : First) (stream next : Stream) (requests : List
             start_is ∙ (ap (λ k. start_of (k + length rows) left) none
             ∙ (let same : 0 + length rows ≡ length rows = omega arith in ap (λ k. start_of k left)
             same));
+        exact =
+            subst (λ o. IfSome o (λ base. AreExactAfter base (first_part next.setup rows left)))
+            (sym exact_is)
+            (exact_first stream.exact requests next.setup rows left is
+            (subst (λ r. IfSome stream.exact (λ base. IsBetweenRows 0 requests r)) rows_are
+            (subst (λ k. IfSome stream.exact (λ base. IsBetweenRows k requests fed)) none
+            between)));
       }
 
-  later_part_run : IsRunOn stream requests fed next.setup left
+  later_part_run : IsBetween → IsRunOn stream requests fed next.setup left
       → GoesOnAt (stream.start.row + length rows) next left → left.setup ≡ setup_view next.setup
       → (so_far : SoFar) → HasRun stream so_far
       → HasCome next (Some (with_one (Some so_far)
       (record { setup = next.setup; rows = rows; left = left })))
-  later_part_run on start_is setup_is so_far has =
+  later_part_run between on start_is setup_is so_far has =
       let both = later stream so_far requests fed next.setup left has on in
       let row_is : stream.start.row ≡ length so_far.rows = ap (λ (b : Begin). b.row) has.start_is in
-      let le : length so_far.rows ≤ length fed = omega (arith, row_is, length-fed) in
+      let le : length so_far.rows ≤ length fed = omega (arith, row_is, length-fed stream source rows) in
       let run =
-      goes_on_after so_far requests fed next left both.0 both.1 le
-      (start_is ∙ ap (λ k. start_of k left) (sym length-fed)) setup_is in
+      goes_on_after stream so_far requests fed next left both.0 has both.1 le
+      (start_is ∙ ap (λ k. start_of k left) (sym (length-fed stream source rows))) setup_is
+      exact_is between in
       let rows_are : both.0.rows ≡ so_far.rows ++ rows =
       both.1.is_run.rows_are ∙ ap (λ r. so_far.rows ++ r)
       (rows_behind source stream.start.row (length so_far.rows) rows (sym row_is)) in
@@ -131,12 +153,12 @@ module _ (later : Later) (first : First) (stream next : Stream) (requests : List
       (part_as both.0 next.setup (so_far.rows ++ rows) left both.1.setup_is rows_are
       both.1.left_is) run
 
-  pub have_run-one : IsRunOn stream requests fed next.setup left
+  pub have_run-one : IsBetween → IsRunOn stream requests fed next.setup left
       → GoesOnAt (stream.start.row + length rows) next left → left.setup ≡ setup_view next.setup
       → HaveRun stream (record { setup = next.setup; rows = rows; left = left } ∷ []) next
-  have_run-one on start_is setup_is None come = first_part_run on start_is come
-  have_run-one on start_is setup_is (Some so_far) come =
-      later_part_run on start_is setup_is so_far come
+  have_run-one between on start_is setup_is None come = first_part_run between on start_is come
+  have_run-one between on start_is setup_is (Some so_far) come =
+      later_part_run between on start_is setup_is so_far come
 
 -- ---- what is fed
 

@@ -1,5 +1,6 @@
 -- How the files of a stream grow.
-use Rattle.std.specs.Prelude.{◌≡◌, ◌⊎◌, ◌+◌, ℕ, List, [], ◌∷◌, Option, length}
+use Rattle.std.specs.Prelude.{◌≡◌, ◌⊎◌, ◌+◌, ◌++◌, ℕ, List, [], ◌∷◌, Option}
+use Rattle.std.specs.Prelude.{length}
 use Rattle.std.specs.List.{flat_map}
 use Rattle.flow_model.specs.Begin.{at_first}
 use Rattle.flow_model.specs.Run.{Ran}
@@ -8,10 +9,12 @@ use Rattle.payments.specs.Files.{Files, with_bytes}
 use Rattle.payments.specs.Growing.{with_text}
 use Rattle.sink_journal.specs.declared.audit.Noted.{Noted}
 use Rattle.tuple_trace.specs.declared.row.Row.{Row}
+use Rattle.report.specs.Lines.{alert_count}
 use Rattle.stream_run.specs.Files.{GrowInTurn, alerts_text, audit_text}
 use Rattle.stream_step.specs.declared.stream.Stream.{Stream}
 use Rattle.stream_run.specs.Parts.{HaveRun, Part}
 use Rattle.stream_run.specs.declared.books.Books.{Books}
+use Rattle.stream_run.specs.declared.books.Tally.{Tally}
 
 -- The names of the files of a stream: that of its requests, and those that it writes.
 pub record Names : Type 0 where
@@ -62,12 +65,18 @@ part_in (Save text) = []
 abbrev pub parts_in : List Written → List Part
 parts_in written = flat_map part_in written
 
+-- the refused requests that its audit tells, if it is a part
+abbrev pub told_in : Written → List Noted
+told_in (End ended) = ended.refused
+told_in (Save text) = []
+
 -- the rows of these parts
 abbrev pub rows_in : List Part → List Row
 rows_in parts = flat_map (λ (part : Part). part.rows) parts
 
 -- From the first stream and these files, a stream has come to the second and those files: the rows
--- were run in parts, and each part was written once it had ended.
+-- were run in parts, and each part was written once it had ended. Its job stays, and so do the nodes
+-- that may be splits, and whether it is exact.
 pub record Goes (names : Names) (rows : List Row) (old : Stream) (before : Option Files)
     (new : Stream) (after : Option Files) : Type 0 where
   pub written : List Written
@@ -75,20 +84,41 @@ pub record Goes (names : Names) (rows : List Row) (old : Stream) (before : Optio
   pub have_run : HaveRun old (parts_in written) new
   pub files_are : after ≡ with_all_written names before written
   pub job_is : job_view new.setup.job ≡ job_view old.setup.job
+  pub splits_are : new.setup.splits ≡ old.setup.splits
+  pub exact_is : new.exact ≡ old.exact
 
--- The rows were run as one part. Its audit tells the requests that the books had as refused. The
--- books count the bytes by which both files have grown, and the rows.
-pub record IsOnePart (names : Names) (books : Books) (rows : List Row) (old : Stream)
-    (before : Option Files) (new : Stream) (after : Option Files) (booked : Books) : Type 0 where
-  pub left : Ran
-  pub have_run : HaveRun old (record { setup = new.setup; rows = rows; left = left } ∷ []) new
-  pub files_are : after ≡ with_text (with_text before names.alerts (alerts_text left)) names.audit
-      (audit_text books.refused.items (uncounted left))
-  pub alerts_are : booked.tally.alerts ≡ books.tally.alerts + length (alerts_text left)
-  pub audit_are : booked.tally.audit
-      ≡ books.tally.audit + length (audit_text books.refused.items (uncounted left))
-  pub unsaved_are : booked.tally.unsaved ≡ books.tally.unsaved + length rows
-  pub none_refused : booked.refused.items ≡ []
+-- ---- the books
+
+-- the counts once one of this is written
+abbrev pub counted : Tally → Written → Tally
+counted tally (End ended) = record {
+  alerts = tally.alerts + length (alerts_text ended.part.left);
+  audit = tally.audit + length (audit_text ended.refused (uncounted ended.part.left));
+  unsaved = tally.unsaved + length ended.part.rows;
+  shown = tally.shown + alert_count ended.part.left.setup.job.nodes ended.part.left.journals;
+}
+counted tally (Save text) = record tally { unsaved = 0 }
+
+-- the counts once all of this is written
+abbrev pub all_counted : Tally → List Written → Tally
+all_counted tally [] = tally
+all_counted tally (first ∷ later) = all_counted (counted tally first) later
+
+-- the refused requests that the audits of the written parts tell
+abbrev pub refused_in : List Written → List Noted
+refused_in written = flat_map told_in written
+
+-- The books count all that was written. The requests that they had as refused are told in it, and
+-- then they have the others.
+pub record IsBooked (written : List Written) (old new : Books) : Type 0 where
+  pub tally : new.tally ≡ all_counted old.tally written
+  pub told : refused_in written ++ new.refused.items ≡ old.refused.items
+
+-- one part was written, and nothing else
+abbrev pub IsOnePart : List Written → Type 0
+IsOnePart written = (ended : Ended) × (written ≡ End ended ∷ [])
+
+-- ---- a stream that stops
 
 -- A part that was run after all that the stream wrote. Of its texts the files have the first bytes:
 -- first of its alerts, and then of its audit.

@@ -8,8 +8,8 @@ use Rattle.flow_model.specs.Run.{Ran}
 use Rattle.flow_model.specs.Setup.{setup_view}
 use Rattle.flow_model.specs.declared.setup.Setup.{Setup}
 use Rattle.stream_law.specs.Stream.{SoFar, with_part}
-use Rattle.stream_step.specs.Parts.{HasRun, first_part}
-use Rattle.stream_step.specs.Pending.{AreAsked, due_by, left_by, lifted}
+use Rattle.stream_step.specs.Parts.{HasRun, due_in, first_part, left_in}
+use Rattle.stream_step.specs.Pending.{AreAsked, lifted}
 use Rattle.stream_step.specs.declared.stream.Stream.{Stream}
 
 -- The stream goes on from where this has ended: from the beginning of all if it is nothing.
@@ -35,21 +35,23 @@ abbrev pub with_all : Option SoFar → List Part → Option SoFar
 with_all before [] = before
 with_all before (part ∷ later) = with_all (Some (with_one before part)) later
 
--- All accepted requests, as they were asked, stay those of the stream; and so do its job and the
--- nodes that may be splits.
+-- All accepted requests, as they were asked, stay those of the stream; and so do its job, the nodes
+-- that may be splits, and whether it is exact.
 pub record KeepsAsked (old new : Stream) : Type 0 where
   pub asked : (all : List Request)
       → AreAsked (job_view old.setup.job) old.setup.judged.accepted old.pending all
       → AreAsked (job_view new.setup.job) new.setup.judged.accepted new.pending all
   pub job_is : job_view new.setup.job ≡ job_view old.setup.job
   pub splits_are : new.setup.splits ≡ old.setup.splits
+  pub exact_is : new.exact ≡ old.exact
 
 -- A part up to row `last` issued the requests that ask for a row up to there, each after the last
--- row that was fed before it, or after the later row that it asks for. The others stay pending.
+-- row that was fed before it, or after the later row that it asks for. In an exact stream, a part
+-- with rows issued none. The others stay pending.
 pub record Issues (old : Stream) (last : ℕ) (new : Stream) : Type 0 where
   pub issued : new.setup.judged.accepted
-      ≡ old.setup.judged.accepted ++ map (lifted old.start.row) (due_by last old.pending)
-  pub left : new.pending ≡ left_by last old.pending
+      ≡ old.setup.judged.accepted ++ map (lifted old.start.row) (due_in old last)
+  pub left : new.pending ≡ left_in old last
 
 -- whatever the first stream has come from, the second goes on from that and then these parts
 abbrev pub HaveRun : Stream → List Part → Stream → Type 0

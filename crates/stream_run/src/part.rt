@@ -11,8 +11,8 @@ ghost use Rattle.flow_model.specs.Record.{record_view};
 ghost use Rattle.flow_model.specs.Setup.{setup_view};
 ghost use Rattle.flow_model.specs.Workers.{workers_in};
 ghost use Rattle.savepoint.specs.Parts.{start_of};
-ghost use Rattle.stream_step.specs.Parts.{IsRunOn};
-ghost use Rattle.stream_step.specs.Pending.{AreAsked, SplitWithin, due_by, left_by, lifted};
+ghost use Rattle.stream_step.specs.Parts.{IsRunOn, due_in, left_in};
+ghost use Rattle.stream_step.specs.Pending.{AreAsked, SplitWithin, lifted};
 
 use flow_engine::{Engine, run_from};
 use flow_model::RunRecord;
@@ -30,6 +30,8 @@ pub struct PartRan {
     /// The number of the part's last row, in the stream.
     pub last: u64,
     pub pending: Requests,
+    /// How many requests were issued when the stream became exact, if it is.
+    pub exact: Option<u64>,
     ghost due: { IsTrue (list_all (λ (request : Request). nat_le request.after last)
         ran.setup.judged.accepted) },
     ghost accepted: { AreAccepted (job_view ran.setup.job)
@@ -45,9 +47,15 @@ impl PartRan {
         ensures setup { result.setup ≡ self.ran.setup }
         ensures start { result.start ≡ start_of self.last (record_view self.ran) }
         ensures pending { result.pending ≡ self.pending }
+        ensures exact { result.exact ≡ self.exact }
     {
-        let PartRan { ran, last, pending } = self;
-        Stream::after_part(ran, last, pending)
+        let PartRan {
+            ran,
+            last,
+            pending,
+            exact,
+        } = self;
+        Stream::after_part(ran, last, pending, exact)
     }
 }
 
@@ -69,11 +77,12 @@ where
     requires sources { AreFromSources (job_view stream.setup.job) rows.now }
     requires source { IsSourceOf (job_view stream.setup.job) source }
     ensures run { IfOk result (λ part. IsRunOn stream
-        (map (lifted stream.start.row) (due_by part.last stream.pending))
+        (map (lifted stream.start.row) (due_in stream part.last))
         (blanks source stream.start.row ++ rows.now) part.ran.setup (record_view part.ran)) }
     ensures last { IfOk result (λ part. part.last ≡ stream.start.row + length rows.now) }
     ensures pending { IfOk result (λ part.
-        part.pending ≡ left_by part.last stream.pending) }
+        part.pending ≡ left_in stream part.last) }
+    ensures exact { IfOk result (λ part. part.exact ≡ stream.exact) }
     ensures refused { IfOk result (λ part.
         part.ran.setup.judged.refused ≡ stream.setup.judged.refused) }
     ensures asked { IfOk result (λ part. (all : List Request)
@@ -82,6 +91,7 @@ where
         all) }
 {
     let fed = stream.start.row;
+    let exact = stream.exact;
     let last = fed + rows.len() as u64;
     let NextPart {
         setup,
@@ -93,5 +103,10 @@ where
     rows.are_numbered();
     let flown = run_from(engine, setup, &rows, start)?;
     let ran = flown.record(engine.alloc)?;
-    Ok(PartRan { ran, last, pending })
+    Ok(PartRan {
+        ran,
+        last,
+        pending,
+        exact,
+    })
 }

@@ -1,7 +1,7 @@
 // The savepoint of a stream.
 ghost use Rattle.std.specs.Prelude.{◌≡◌, [], IfErr, IfOk, None, OnErr, OnOk};
 ghost use Rattle.flow_model.specs.Requests.{afters};
-ghost use Rattle.stream_run.specs.Growing.{Goes};
+ghost use Rattle.stream_run.specs.Growing.{Goes, IsBooked};
 ghost use Rattle.stream_run.specs.Standing.{Holds, Stands, saved_text};
 ghost use Rattle.stream_run.specs.Unwritten.{IsUnwritten};
 
@@ -30,8 +30,9 @@ pub fn save_stream<R, L, G, S: GrowingShelf, W: Watch>(
     requires closed { (S.state shelf.old).draft ≡ None }
     requires stands { Stands call.now.behind call.now.names stream (S.state shelf.old).files }
     ensures same { IfOk result (λ next. next ≡ stream) }
-    ensures goes { IfOk result (λ next. Goes call.now.names [] stream
-        (S.state shelf.old).files next (S.state shelf.new).files) }
+    ensures goes { IfOk result (λ next. (goes : Goes call.now.names [] stream
+        (S.state shelf.old).files next (S.state shelf.new).files)
+        × IsBooked goes.written books.old books.new) }
     ensures saved { IfOk result (λ next. Holds (S.state shelf.new).files call.now.names.save
         (saved_text next books.new.read books.new.tally.alerts books.new.tally.audit)) }
     ensures unsaved { OnOk result (books.new.tally.unsaved ≡ 0) }
@@ -67,6 +68,7 @@ fn saved_by(alloc: Global, stream: Stream, books: &Books) -> Result<Saved, NoMem
         setup,
         start,
         pending,
+        exact,
     } = stream;
     let save = StreamSave {
         start,
@@ -81,6 +83,7 @@ fn saved_by(alloc: Global, stream: Stream, books: &Books) -> Result<Saved, NoMem
         setup,
         start,
         pending,
+        exact,
     };
     Ok(Saved { stream, text })
 }

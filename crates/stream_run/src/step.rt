@@ -4,8 +4,9 @@ ghost use Rattle.jobs.specs.Job.{job_view};
 ghost use Rattle.jobs.specs.Nodes.{AreFromSources, IsSourceOf};
 ghost use Rattle.tuple_trace.specs.FeedRows.{AreRowsAfter};
 ghost use Rattle.flow_model.specs.Record.{record_view};
+ghost use Rattle.report.specs.Lines.{alert_count as alert_count_of};
 ghost use Rattle.stream_run.specs.Files.{alerts_text, audit_text};
-ghost use Rattle.stream_run.specs.Growing.{Goes, GoesAndStops, IsOnePart, uncounted};
+ghost use Rattle.stream_run.specs.Growing.{Goes, GoesAndStops, IsBooked, IsOnePart, uncounted};
 ghost use Rattle.stream_run.specs.Parts.{Issues, KeepsAsked};
 ghost use Rattle.stream_run.specs.Standing.{Stands};
 ghost use Rattle.stream_run.specs.Unwritten.{IsUnwritten};
@@ -46,10 +47,9 @@ where
     requires source { IsSourceOf (job_view stream.setup.job) call.now.source }
     requires closed { (S.state shelf.old).draft ≡ None }
     requires stands { Stands call.now.behind call.now.names stream (S.state shelf.old).files }
-    ensures goes { IfOk result (λ next. Goes call.now.names rows.now stream
-        (S.state shelf.old).files next (S.state shelf.new).files) }
-    ensures part { IfOk result (λ next. IsOnePart call.now.names books.old rows.now stream
-        (S.state shelf.old).files next (S.state shelf.new).files books.new) }
+    ensures goes { IfOk result (λ next. (goes : Goes call.now.names rows.now stream
+        (S.state shelf.old).files next (S.state shelf.new).files)
+        × IsOnePart goes.written × IsBooked goes.written books.old books.new) }
     ensures row { IfOk result (λ next.
         next.start.row ≡ stream.start.row + length rows.now) }
     ensures issued { IfOk result (λ next.
@@ -93,6 +93,9 @@ fn texts_of(alloc: Global, part: &PartRan, books: &Books, rows: usize) -> Result
         ≡ books.now.tally.audit + length made.texts.audit) }
     ensures unsaved { IfOk result (λ made. made.tally.unsaved
         ≡ books.now.tally.unsaved + rows) }
+    ensures shown { IfOk result (λ made. made.tally.shown
+        ≡ books.now.tally.shown + alert_count_of part.now.ran.setup.job.nodes
+        part.now.ran.journals) }
 {
     let ran = &part.ran;
     let texts = PartTexts::of_part(alloc, ran, books.refused.as_slice())?;

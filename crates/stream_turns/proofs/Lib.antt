@@ -1,3 +1,4 @@
+mod BookLemmas
 mod FaultLemmas
 mod ReadyLemmas
 mod TakenLemmas

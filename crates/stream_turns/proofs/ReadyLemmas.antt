@@ -1,5 +1,6 @@
 -- A stream stays ready while it runs rows.
-use Rattle.std.proofs.Common.{◌≡◌, ◌+◌, ◌-◌, ◌<◌, ◌++◌, ℕ, List, [], Option, append-nil, arith}
+use Rattle.std.proofs.Common.{◌≡◌, ◌+◌, ◌-◌, ◌<◌, ◌∙◌, ◌++◌, ℕ, List, [], Option, append-nil}
+use Rattle.std.proofs.Common.{arith}
 use Rattle.std.proofs.Common.{drop, length, subst, sym}
 use Rattle.std.proofs.lemmas.List.{length-drop}
 use Rattle.std.specs.Prelude.{IfSome, Some, max}
@@ -17,9 +18,10 @@ use Rattle.stream_rows.specs.Rows.{and_then, stream_rows}
 use Rattle.stream_rows.specs.declared.reader.RowReader.{RowReader}
 use Rattle.stream_rows.specs.declared.sound.SoundRows.{SoundRows}
 use Rattle.stream_rows.specs.declared.limits.TheConstants.{MAX_ROWS}
-use Rattle.stream_run.specs.Growing.{Goes, Names}
+use Rattle.stream_run.specs.Growing.{Goes, IsBooked, Names}
+use Rattle.stream_run.specs.declared.books.Books.{Books}
 use Rattle.stream_run.specs.Parts.{KeepsAsked}
-use Rattle.stream_run.proofs.GoesLemmas.{goes-then}
+use Rattle.stream_run.proofs.GoesLemmas.{goes-then, goes_booked-then}
 use Rattle.stream_step.specs.Pending.{AreAsked}
 use Rattle.stream_step.specs.declared.stream.Stream.{Stream}
 use Rattle.stream_turns.specs.Turns.{CanTakeTurn}
@@ -58,11 +60,15 @@ goes-without names rows a b c f g h one two =
     subst (λ (r : List Row). Goes names r a f c h) (append-nil rows)
     (goes-then names rows [] a b c f g h one two)
 
--- equal rows
-pub goes-rows : (names : Names) (xs ys : List Row) (a b : Stream) (f g : Option Files) → xs ≡ ys
-    → Goes names xs a f b g → Goes names ys a f b g
-goes-rows names xs ys a b f g same goes =
-    subst (λ (r : List Row). Goes names r a f b g) same goes
+-- equal rows, and what goes on without rows
+pub booked-rows : (names : Names) (xs ys : List Row) (a b c : Stream) (f g h : Option Files)
+    (r s t : Books) → xs ≡ ys → (one : Goes names xs a f b g) × IsBooked one.written r s
+    → (two : Goes names [] b g c h) × IsBooked two.written s t
+    → (both : Goes names ys a f c h) × IsBooked both.written r t
+booked-rows names xs ys a b c f g h r s t same one two =
+    subst (λ (l : List Row). (both : Goes names l a f c h) × IsBooked both.written r t)
+    (append-nil xs ∙ same)
+    (goes_booked-then names xs [] a b c f g h r s t one two)
 
 -- equal streams have one job
 pub read-alike : (skipped : ℕ) (text : List ℕ) (reader : RowReader) (a b : Stream) → a ≡ b

@@ -24,10 +24,10 @@ use Rattle.stream_rows.specs.Rows.{stream_rows}
 use Rattle.stream_rows.specs.declared.reader.RowReader.{RowReader}
 use Rattle.stream_rows.specs.declared.sound.SoundRows.{SoundRows}
 use Rattle.stream_rows.proofs.ReadLemmas.{IsCut-append, stream_rows-append}
-use Rattle.stream_run.specs.Growing.{Names}
-use Rattle.stream_run.proofs.GoesLemmas.{goes-same, goes-then}
+use Rattle.stream_run.specs.Growing.{Goes, Names, Written}
+use Rattle.stream_run.proofs.GoesLemmas.{goes_both, goes_none}
 use Rattle.stream_turns.specs.Taken.{EndsAs, HasGone, HasGoneOn, HasRunRows, HasRunText}
-use Rattle.stream_turns.specs.Taken.{HasReadText}
+use Rattle.stream_turns.specs.Taken.{HasBooked, HasReadText}
 use Rattle.stream_turns.specs.Taken.{HasTakenTurn, IsAllTaken, StreamState, end_for, fault_in}
 use Rattle.stream_turns.specs.Taken.{job_at}
 use Rattle.stream_turns.specs.Taken.{rows_to_run}
@@ -35,6 +35,9 @@ use Rattle.stream_turns.specs.Turns.{GivesPiece, IsDrained, IsPiece, IsUnreadabl
 use Rattle.stream_turns.specs.declared.turns.End.{End}
 use Rattle.stream_turns.specs.declared.turns.End.TheVariants as end
 use Rattle.stream_turns.specs.declared.turns.Piece.{Piece}
+use Rattle.stream_step.specs.declared.stream.Stream.{Stream}
+use Rattle.stream_step.proofs.PendingLemmas.{JudgedLater}
+use Rattle.stream_turns.proofs.BookLemmas.{booked-none, booked-then}
 use Rattle.stream_turns.proofs.TextLemmas.{left-both, none-left}
 
 -- ---- the input
@@ -51,51 +54,82 @@ gathers-then a b c kept mid keeps first second (x, p, e) (y, q, f) = (
 
 -- ---- rows that were run
 
-run-then : (names : Names) (xs ys : List Row) (a b c : StreamState) → HasRunRows names xs a b
-    → HasRunRows names ys b c → HasRunRows names (xs ++ ys) a c
-run-then names xs ys a b c one two = record {
-  goes = goes-then names xs ys a.stream b.stream c.stream a.files b.files c.files one.goes
-      two.goes;
-  row = omega (arith, one.row, two.row, length-append xs ys);
-}
+-- no row was run between two places: at most requests were read
+pub record IsBetween (a m : StreamState) : Type 0 where
+  pub setup : m.stream.setup ≡ a.stream.setup
+  pub start : m.stream.start ≡ a.stream.start
+  pub exact : m.stream.exact ≡ a.stream.exact
+  pub files : m.files ≡ a.files
+  pub reader : m.inputs.reader ≡ a.inputs.reader
+  pub booked : HasBooked a.stream [] a.inputs m.inputs
 
-run-none : (names : Names) (a b : StreamState) → b.stream.setup ≡ a.stream.setup
-    → b.stream.start ≡ a.stream.start → b.files ≡ a.files → HasRunRows names [] a b
-run-none names a b setup start files =
-    let row : b.stream.start.row ≡ a.stream.start.row = ap (λ (s : Begin). s.row) start in
+run-then : JudgedLater → (names : Names) (xs ys : List Row) (a b c : StreamState)
+    → HasRunRows names xs a b → HasRunRows names ys b c → HasRunRows names (xs ++ ys) a c
+run-then law names xs ys a b c one two = record {
+  goes = both.0;
+  row = omega (arith, one.row, two.row, length-append xs ys);
+  booked = subst (λ (w : List Written). HasBooked a.stream w a.inputs c.inputs) (sym both.1)
+      (booked-then law a.stream b.stream one.goes.written two.goes.written a.inputs b.inputs
+      c.inputs one.goes.splits_are one.goes.job_is one.booked two.booked);
+}
+  where
+    both : (goes : Goes names (xs ++ ys) a.stream a.files c.stream c.files)
+        × (goes.written ≡ one.goes.written ++ two.goes.written)
+    both =
+        goes_both names xs ys a.stream b.stream c.stream a.files b.files c.files one.goes two.goes
+
+run-none : (names : Names) (a b : StreamState) → IsBetween a b → HasRunRows names [] a b
+run-none names a b is =
+    let row : b.stream.start.row ≡ a.stream.start.row = ap (λ (s : Begin). s.row) is.start in
+    let none =
+    goes_none names a.stream b.stream a.files b.files is.setup is.start is.exact is.files in
     record {
-      goes = goes-same names a.stream b.stream a.files b.files setup start files;
+      goes = none.0;
       row = omega (arith, row);
+      booked = subst (λ (w : List Written). HasBooked a.stream w a.inputs b.inputs) (sym none.1)
+          is.booked;
     }
 
--- what is run from a place is run from one with the same setup and start
-run-from : (names : Names) (skipped : ℕ) (text : List ℕ) (a m b : StreamState)
-    → m.stream.setup ≡ a.stream.setup → m.stream.start ≡ a.stream.start → m.files ≡ a.files
+-- what is run from a place is run from one before which no row was run since
+run-from : JudgedLater → (names : Names) (skipped : ℕ) (text : List ℕ) (a m b : StreamState)
+    → IsBetween a m
     → HasRunRows names (rows_to_run (job_at m) skipped text m.stream.start.row) m b
     → HasRunRows names (rows_to_run (job_at a) skipped text a.stream.start.row) a b
-run-from names skipped text a m b setup start files run =
-    let job : job_at m ≡ job_at a = ap (λ (s : Setup). job_view s.job) setup in
-    let row : m.stream.start.row ≡ a.stream.start.row = ap (λ (s : Begin). s.row) start in
+run-from law names skipped text a m b is run =
+    let job : job_at m ≡ job_at a = ap (λ (s : Setup). job_view s.job) is.setup in
+    let row : m.stream.start.row ≡ a.stream.start.row = ap (λ (s : Begin). s.row) is.start in
     let rows = rows_to_run (job_at m) skipped text m.stream.start.row in
     let same : rows ≡ rows_to_run (job_at a) skipped text a.stream.start.row =
     ap (λ (j : JobView). rows_to_run j skipped text m.stream.start.row) job
     ∙ ap (λ (r : ℕ). rows_to_run (job_at a) skipped text r) row in
     subst (λ (r : List Row). HasRunRows names r a b) same
-    (run-then names [] rows a m b (run-none names a m setup start files) run)
+    (run-then law names [] rows a m b (run-none names a m is) run)
 
 -- ---- nothing was taken
 
 ran-nothing : (names : Names) (skipped : ℕ) (text : List ℕ) (a b : StreamState)
-    → HasReadText skipped text a → fed_of a.inputs.reader ≤ a.stream.start.row
-    → b.stream.setup ≡ a.stream.setup → b.stream.start ≡ a.stream.start → b.files ≡ a.files
+    → HasReadText skipped text a → fed_of a.inputs.reader ≤ a.stream.start.row → IsBetween a b
     → HasRunRows names (rows_to_run (job_at a) skipped (text ++ []) a.stream.start.row) a b
-ran-nothing names skipped text a b has le setup start files =
+ran-nothing names skipped text a b has le is =
     let none : [] ≡ rows_to_run (job_at a) skipped (text ++ []) a.stream.start.row =
     sym
     (ap (λ (t : List ℕ). rows_to_run (job_at a) skipped t a.stream.start.row)
     (append-nil text)
     ∙ none-left (job_at a) skipped text a.inputs.reader a.stream.start.row has.read le) in
-    subst (λ (r : List Row). HasRunRows names r a b) none (run-none names a b setup start files)
+    subst (λ (r : List Row). HasRunRows names r a b) none (run-none names a b is)
+
+-- only pieces were read
+pub between-pieces : (a b : StreamState) → b.stream ≡ a.stream → b.files ≡ a.files
+    → b.inputs.reader ≡ a.inputs.reader → b.inputs.known ≡ a.inputs.known
+    → b.inputs.refused ≡ a.inputs.refused → b.inputs.books ≡ a.inputs.books → IsBetween a b
+between-pieces a b stream files reader known refused books = record {
+  setup = ap (λ (s : Stream). s.setup) stream;
+  start = ap (λ (s : Stream). s.start) stream;
+  exact = ap (λ (s : Stream). s.exact) stream;
+  files = files;
+  reader = reader;
+  booked = booked-none a.stream a.inputs b.inputs known refused books;
+}
 
 -- a stream that has done nothing
 pub gone-nothing : (names : Names) (skipped : ℕ) (text : List ℕ) (a : StreamState)
@@ -106,7 +140,7 @@ gone-nothing names skipped text a has le = record {
     given = [];
     gathered = ([], Consumes-nil a.tap.left, append-nil (kept_of a.inputs.pieces));
     over = λ is. (refl, is);
-    ran = ran-nothing names skipped text a a has le refl refl refl;
+    ran = ran-nothing names skipped text a a has le (between-pieces a a refl refl refl refl refl refl);
   };
   taken = subst (λ (t : List ℕ). HasReadText skipped t a) (sym (append-nil text)) has;
   faults = refl;
@@ -116,15 +150,14 @@ gone-nothing names skipped text a has le = record {
 pub turned-end : (names : Names) (skipped : ℕ) (text : List ℕ) (a b : StreamState) (why : End)
     → HasReadText skipped text a → fed_of a.inputs.reader ≤ a.stream.start.row
     → Gathers a.tap.left b.tap.left (kept_of a.inputs.pieces) [] (kept_of b.inputs.pieces)
-    → (is_over a.inputs.pieces ≡ true → is_over b.inputs.pieces ≡ true)
-    → b.stream.setup ≡ a.stream.setup → b.stream.start ≡ a.stream.start → b.files ≡ a.files
+    → (is_over a.inputs.pieces ≡ true → is_over b.inputs.pieces ≡ true) → IsBetween a b
     → EndsAs why skipped text a b → HasTakenTurn names skipped text a (Some why) b
-turned-end names skipped text a b why has le gathered over setup start files is = (
+turned-end names skipped text a b why has le gathered over same is = (
   record {
     given = [];
     gathered = gathered;
     over = λ o. (refl, over o);
-    ran = ran-nothing names skipped text a b has le setup start files;
+    ran = ran-nothing names skipped text a b has le same;
   },
   subst (λ (t : List ℕ). EndsAs why skipped t a b) (sym (append-nil text)) is,
 )
@@ -153,7 +186,7 @@ rows-on skipped text given b has over = go (is_over b.inputs.pieces) refl
           (stream_rows-append (job_at b) skipped b.inputs.reader text given has.read (has.cut is)),
     )
 
-module _ (names : Names) (skipped : ℕ) (text : List ℕ) (a b c : StreamState)
+module _ (law : JudgedLater) (names : Names) (skipped : ℕ) (text : List ℕ) (a b c : StreamState)
     (within : skipped ≤ a.stream.start.row) (on : HasGoneOn names skipped text a b) where
   longer : (more : List ℕ) → (text ++ on.gone.given) ++ more ≡ text ++ (on.gone.given ++ more)
   longer more = append_assoc text on.gone.given more
@@ -185,7 +218,7 @@ module _ (names : Names) (skipped : ℕ) (text : List ℕ) (a b c : StreamState)
       ∙ ap (λ (t : List ℕ). rows_to_run (job_at a) skipped t a.stream.start.row)
       (longer gone.given) in
       subst (λ (r : List Row). HasRunRows names r a c) same
-      (run-then names (rows_to_run (job_at a) skipped first a.stream.start.row) later a b c
+      (run-then law names (rows_to_run (job_at a) skipped first a.stream.start.row) later a b c
       on.gone.ran gone.ran)
 
   over-then : (gone : HasGone names skipped (text ++ on.gone.given) b c)
@@ -286,14 +319,8 @@ pub none_ends : (o : Option PFault) → end_for o ≡ None → o ≡ None
 none_ends None same = refl
 none_ends (Some is) same = absurd (cc same)
 
--- nothing was taken or run between two places: only requests were
-pub record IsBetween (a m : StreamState) : Type 0 where
-  pub setup : m.stream.setup ≡ a.stream.setup
-  pub start : m.stream.start ≡ a.stream.start
-  pub files : m.files ≡ a.files
-  pub reader : m.inputs.reader ≡ a.inputs.reader
-
-module _ (names : Names) (skipped : ℕ) (text piece : List ℕ) (a m b : StreamState) (p : Pieces)
+module _ (law : JudgedLater) (names : Names) (skipped : ℕ) (text piece : List ℕ)
+    (a m b : StreamState) (p : Pieces)
     (has : HasReadText skipped text a) (between : IsBetween a m)
     (read : GivesPiece a.tap b.tap a.inputs.pieces p piece) (same : m.inputs.pieces ≡ p)
     (goes_on : is_over a.inputs.pieces ≡ false) where
@@ -318,8 +345,7 @@ module _ (names : Names) (skipped : ℕ) (text piece : List ℕ) (a m b : Stream
     ran : HasRunRows names
         (rows_to_run (job_at a) skipped (text ++ piece) a.stream.start.row) a b
     ran =
-        run-from names skipped (text ++ piece) a m b between.setup between.start between.files
-        run.ran
+        run-from law names skipped (text ++ piece) a m b between run.ran
 
     over : is_over a.inputs.pieces ≡ true → (piece ≡ []) × (is_over b.inputs.pieces ≡ true)
     over is = absurd (cc (is, goes_on))
@@ -396,10 +422,9 @@ ends-so skipped text a b why read all is = go b.inputs.reader.has_header read.he
 pub turned-unread : (names : Names) (skipped : ℕ) (text : List ℕ) (a b : StreamState)
     (why : Fault) → HasReadText skipped text a → fed_of a.inputs.reader ≤ a.stream.start.row
     → Gathers a.tap.left b.tap.left (kept_of a.inputs.pieces) [] (kept_of b.inputs.pieces)
-    → (is_over a.inputs.pieces ≡ true → is_over b.inputs.pieces ≡ true)
-    → b.stream.setup ≡ a.stream.setup → b.stream.start ≡ a.stream.start → b.files ≡ a.files
+    → (is_over a.inputs.pieces ≡ true → is_over b.inputs.pieces ≡ true) → IsBetween a b
     → IsUnreadable b.inputs.pieces a.tap.faults b.tap.faults why
     → HasTakenTurn names skipped text a (Some (end.Fault why)) b
-turned-unread names skipped text a b why has le gathered over setup start files unreadable =
-    turned-end names skipped text a b (end.Fault why) has le gathered over setup start files
+turned-unread names skipped text a b why has le gathered over same unreadable =
+    turned-end names skipped text a b (end.Fault why) has le gathered over same
     (inr (has.read.sound, inr unreadable))

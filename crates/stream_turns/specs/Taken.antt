@@ -1,6 +1,6 @@
 -- What a stream has taken of its input, which rows of that it has run, and why it ends.
 use Rattle.std.specs.Prelude.{◌≡◌, ◌⊎◌, ◌<◌, ◌+◌, ◌-◌, ◌++◌, ℕ, List, [], Option, None, Some}
-use Rattle.std.specs.Prelude.{drop, false, length, true}
+use Rattle.std.specs.Prelude.{drop, false, length, map, true}
 use Rattle.std.specs.Io.KnownBytes.{IsAtEnd}
 use Rattle.csv.specs.Reading.{default_config, records, strip_bom}
 use Rattle.input_pieces.specs.Cut.{IsCut}
@@ -12,10 +12,13 @@ use Rattle.payments.specs.Files.{Files}
 use Rattle.payments.specs.declared.read.PFault.{PFault}
 use Rattle.payments.specs.declared.read.PFault.TheVariants as payments
 use Rattle.tuple_trace.specs.declared.row.Row.{Row}
+use Rattle.versions.specs.declared.request.Request.{Request}
+use Rattle.report.specs.Lines.{noted}
 use Rattle.report.specs.declared.fault.Fault.TheVariants as fault
 use Rattle.stream_rows.specs.Reader.{IsReadTo, has_items}
 use Rattle.stream_rows.specs.Rows.{stream_rows}
-use Rattle.stream_run.specs.Growing.{Goes, Names}
+use Rattle.stream_intake.specs.Intake.{refused_after}
+use Rattle.stream_run.specs.Growing.{Goes, Names, Written, all_counted, refused_in}
 use Rattle.stream_step.specs.declared.stream.Stream.{Stream}
 use Rattle.stream_turns.specs.Turns.{IsUnreadable, IsDrained}
 use Rattle.stream_turns.specs.declared.inputs.StreamInputs.{StreamInputs}
@@ -62,10 +65,26 @@ pub record HasReadText (skipped : ℕ) (text : List ℕ) (place : StreamState) :
 
 -- ---- what a stream runs of a text
 
--- Just these rows were run and written.
+-- The books count all that was written. The requests that were known come first in those that are
+-- known. Those of the others that the stream refuses are noted: they are told by what was written,
+-- or the books still have them.
+pub record HasBooked (stream : Stream) (written : List Written) (old new : StreamInputs)
+    : Type 0 where
+  pub tally : new.books.tally ≡ all_counted old.books.tally written
+  pub more : List Request
+  pub known : new.known.requests ≡ old.known.requests ++ more
+  pub refused : new.refused
+      ≡ old.refused ++ refused_after stream old.known.requests new.known.requests
+  pub told : refused_in written ++ new.books.refused.items ≡ old.books.refused.items
+      ++ map noted (refused_after stream old.known.requests new.known.requests)
+  pub read : old.books.read ≡ length old.known.requests
+      → new.books.read ≡ length new.known.requests
+
+-- Just these rows were run and written, and all is in the books.
 pub record HasRunRows (names : Names) (rows : List Row) (old new : StreamState) : Type 0 where
   pub goes : Goes names rows old.stream old.files new.stream new.files
   pub row : new.stream.start.row ≡ old.stream.start.row + length rows
+  pub booked : HasBooked old.stream goes.written old.inputs new.inputs
 
 -- The bytes `given` were taken of the input, none if it was over. Of the text with them, just the
 -- rows were run that come after the last row.

@@ -35,6 +35,7 @@ pub fn take_later<R, L, G, S: GrowingShelf, W: Watch>(
     ensures known { IfOk result (λ next. IsKnownTo inputs.new.known.requests next) }
     ensures setup { IfOk result (λ next. next.setup ≡ stream.setup) }
     ensures start { IfOk result (λ next. next.start ≡ stream.start) }
+    ensures exact { IfOk result (λ next. next.exact ≡ stream.exact) }
     ensures pieces { inputs.new.pieces ≡ inputs.old.pieces }
     ensures reader { inputs.new.reader ≡ inputs.old.reader }
     ensures tally { inputs.new.books.tally ≡ inputs.old.books.tally }
@@ -66,6 +67,7 @@ fn take_bytes<W: Watch>(
     ensures known { IfOk result (λ next. IsKnownTo inputs.new.known.requests next) }
     ensures setup { IfOk result (λ next. next.setup ≡ stream.setup) }
     ensures start { IfOk result (λ next. next.start ≡ stream.start) }
+    ensures exact { IfOk result (λ next. next.exact ≡ stream.exact) }
     ensures pieces { inputs.new.pieces ≡ inputs.old.pieces }
     ensures reader { inputs.new.reader ≡ inputs.old.reader }
     ensures tally { inputs.new.books.tally ≡ inputs.old.books.tally }
@@ -103,6 +105,7 @@ fn take_found(
     ensures known { IfOk result (λ next. IsKnownTo inputs.new.known.requests next) }
     ensures setup { IfOk result (λ next. next.setup ≡ stream.setup) }
     ensures start { IfOk result (λ next. next.start ≡ stream.start) }
+    ensures exact { IfOk result (λ next. next.exact ≡ stream.exact) }
     ensures pieces { inputs.new.pieces ≡ inputs.old.pieces }
     ensures reader { inputs.new.reader ≡ inputs.old.reader }
     ensures tally { inputs.new.books.tally ≡ inputs.old.books.tally }

@@ -13,6 +13,7 @@ use payments::GrowingShelf;
 use report::Fault;
 use std::sync::Wait;
 use std::thread::Threads;
+use stream_law::later_requests_are_judged_later;
 use stream_run::{StreamCall, Watch};
 use stream_step::Stream;
 use tuple_trace::Gate;
@@ -55,6 +56,7 @@ where
     ensures cause { IfErr result (IsGivenUp call.now.names
         (S.state shelf.old).faults (S.state shelf.new).faults) }
 {
+    later_requests_are_judged_later();
     let mut stream = stream;
     for _ in 0..u64::MAX {
         let turned = turn(call, stream, inputs, tap, shelf, watch)?;

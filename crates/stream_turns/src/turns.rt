@@ -20,6 +20,7 @@ use payments::{GrowingShelf, PFault};
 use report::{Fault, FileIs};
 use std::sync::Wait;
 use std::thread::Threads;
+use stream_law::later_requests_are_judged_later;
 use stream_parts::{rows_after, run_all, save_if_due};
 use stream_rows::{RowReader, SoundRows};
 use stream_run::{StreamCall, Watch};
@@ -77,6 +78,7 @@ where
     ensures cause { IfErr result (IsGivenUp call.now.names
         (S.state shelf.old).faults (S.state shelf.new).faults) }
 {
+    later_requests_are_judged_later();
     match read_piece(&mut inputs.pieces, tap)? {
         Piece::Bytes(bytes) => {
             let stream = take_later(call, stream, inputs, shelf, watch)?;

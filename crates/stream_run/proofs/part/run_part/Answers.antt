@@ -15,7 +15,8 @@ use Rattle.flow_model.specs.SetupView.{SetupView}
 use Rattle.flow_model.specs.declared.record.RunRecord.{RunRecord}
 use Rattle.flow_model.specs.declared.setup.Setup.{Setup}
 use Rattle.flow_model.proofs.WorkerListLemmas.{length-workers_from}
-use Rattle.stream_step.specs.Pending.{SplitWithin, due_by, lifted}
+use Rattle.stream_step.specs.Parts.{due_in}
+use Rattle.stream_step.specs.Pending.{SplitWithin, lifted}
 use Rattle.stream_step.specs.declared.stream.Stream.{Stream}
 use Rattle.stream_run.proofs.PartLemmas.{sources_fed}
 use Rattle.stream_run.proofs.PartRunLemmas.{run_on, run_since}
@@ -82,10 +83,10 @@ returns-clause-run g c =
     c.in_ok-flown.ensures.setup c.in_ok-flown.ensures.run c.in_ok-ran.ensures in
     let followed =
     subst (λ k. IsFollowed (setup_view c.args.stream.setup)
-    (map (lifted c.args.stream.start.row) (due_by k c.args.stream.pending))
+    (map (lifted c.args.stream.start.row) (due_in c.args.stream k))
     (setup_view c.in_ok-setup.field-0.setup)) (sym c.in_ok-setup.ensures.last)
     c.in_ok-setup.ensures.followed in
-    run_on c.args.stream (due_by c.in_ok-setup.field-0.last c.args.stream.pending) c.args.source
+    run_on c.args.stream (due_in c.args.stream c.in_ok-setup.field-0.last) c.args.source
     c.args.rows.now c.in_ok-setup.field-0.setup c.in_ok-ran.ran
     (subst (λ (r : List Row). AreRows r) rows_are c.are_numbered.ensures)
     (sources_fed (job_view c.args.stream.setup.job) c.args.source c.args.stream.start.row

@@ -10,7 +10,8 @@ loop-init g c = record {
   ready = c.requires.ready;
   closed = c.requires.closed;
   rows = [];
-  goes = goes-same c.args.call.now.names c.args.stream c.args.stream _ _ refl refl refl;
+  goes = goes-same c.args.call.now.names c.args.stream c.args.stream _ _ refl refl refl
+      refl;
   stands = c.requires.stands;
   taken = λ skipped text has. gone-nothing c.args.call.now.names skipped text _ has
       c.requires.ready.fed;
@@ -38,7 +39,7 @@ returns-in-Some-clause-taken g c skipped text has =
     let on = c.loop.invariant.taken skipped text has in
     let turned = c.in_ok-turned.turned in
     turned-is c.args.call.now.names skipped text _ _ turned.end (Some c.in-Some.end) c.in-Some.is
-    (turned-then c.args.call.now.names skipped text _ _ _
+    (turned-then c.later_requests_are_judged_later.ensures c.args.call.now.names skipped text _ _ _
     (omega (arith, has.read.fed, c.requires.ready.fed)) on turned.end
     (c.in_ok-turned.ensures.taken skipped (text ++ on.gone.given) on.taken))
 
@@ -57,7 +58,7 @@ loop-preserved g c =
       taken = λ skipped text has.
           let on = inv.taken skipped text has in
           (turned-is c.args.call.now.names skipped text _ _ turned.end None c.in_default.is
-          (turned-then c.args.call.now.names skipped text _ _ _
+          (turned-then c.later_requests_are_judged_later.ensures c.args.call.now.names skipped text _ _ _
           (omega (arith, has.read.fed, c.requires.ready.fed)) on turned.end
           (next.taken skipped (text ++ on.gone.given) on.taken))).0;
       writes = next.writes ∙ inv.writes;

@@ -10,7 +10,8 @@ use Rattle.stream_rows.specs.declared.sound.SoundRows.{SoundRows}
 use Rattle.stream_run.proofs.GoesLemmas.{stands-then, stops-between, stops-then}
 use Rattle.stream_step.specs.declared.stream.Stream.{Stream}
 use Rattle.stream_turns.specs.Taken.{end_for, rows_to_run}
-use Rattle.stream_turns.proofs.ReadyLemmas.{goes-rows, goes-without, read-alike, ready-ran}
+use Rattle.stream_turns.proofs.BookLemmas.{booked-by}
+use Rattle.stream_turns.proofs.ReadyLemmas.{booked-rows, goes-without, read-alike, ready-ran}
 use Rattle.stream_turns.proofs.ReadyLemmas.{rows-alike}
 use Rattle.stream_turns.proofs.TakenLemmas.{none_ends}
 use Rattle.stream_turns.proofs.TextLemmas.{left-piece}
@@ -42,7 +43,7 @@ run_all-requires-clause-sources g c κs within =
 pub save_if_due-requires-clause-stands : goal.save_if_due-requires-clause-stands
 save_if_due-requires-clause-stands g c =
     stands-then c.args.call.now.behind c.args.call.now.names c.rows_after-rows.result.now
-    c.args.stream c.in_ok-stream.stream _ _ c.requires.stands c.in_ok-stream.ensures.goes
+    c.args.stream c.in_ok-stream.stream _ _ c.requires.stands c.in_ok-stream.ensures.goes.0
 
 pub returns-in_err-stream-2-clause-stopped : goal.returns-in_err-stream-2-clause-stopped
 returns-in_err-stream-2-clause-stopped g c =
@@ -51,7 +52,7 @@ returns-in_err-stream-2-clause-stopped g c =
     c.from_residual-in_err-stream-2.ensures.1 in
     rw fault.1
     (stops-then c.args.call.now.names c.rows_after-rows.result.now c.args.stream
-    c.in_ok-stream.stream _ _ _ c.in_ok-stream.ensures.goes
+    c.in_ok-stream.stream _ _ _ c.in_ok-stream.ensures.goes.0
     (stops-between c.args.call.now.names c.in_ok-stream.stream _ _
     c.in_err-stream-2.ensures.stopped))
 
@@ -75,7 +76,7 @@ returns-clause-goes g c = (
   c.rows_after-rows.result.now,
   goes-without c.args.call.now.names c.rows_after-rows.result.now
       c.args.stream c.in_ok-stream.stream c.in_ok-stream-2.stream _ _ _
-      c.in_ok-stream.ensures.goes c.in_ok-stream-2.ensures.goes,
+      c.in_ok-stream.ensures.goes.0 c.in_ok-stream-2.ensures.goes.0,
 )
 
 pub returns-clause-stands : goal.returns-clause-stands
@@ -83,8 +84,8 @@ returns-clause-stands g c =
     stands-then c.args.call.now.behind c.args.call.now.names c.rows_after-rows.result.now
     c.args.stream c.in_ok-stream-2.stream _ _ c.requires.stands
     (goes-without c.args.call.now.names c.rows_after-rows.result.now c.args.stream
-    c.in_ok-stream.stream c.in_ok-stream-2.stream _ _ _ c.in_ok-stream.ensures.goes
-    c.in_ok-stream-2.ensures.goes)
+    c.in_ok-stream.stream c.in_ok-stream-2.stream _ _ _ c.in_ok-stream.ensures.goes.0
+    c.in_ok-stream-2.ensures.goes.0)
 
 pub returns-clause-ran : goal.returns-clause-ran
 returns-clause-ran g c tap skipped text read cut =
@@ -108,11 +109,13 @@ returns-clause-ran g c tap skipped text read cut =
     ∙ left-piece job skipped text piece reader stream.start.row sound read c.requires.ready.fed
     all_are in
     let goes =
-    goes-without names rows stream c.in_ok-stream.stream c.in_ok-stream-2.stream _ _ _
+    booked-rows names rows _ stream c.in_ok-stream.stream c.in_ok-stream-2.stream _ _ _ _ _ _ run
     c.in_ok-stream.ensures.goes c.in_ok-stream-2.ensures.goes in
     record {
       ran = record {
-        goes = goes-rows names _ _ stream c.in_ok-stream-2.stream _ _ run goes;
+        goes = goes.0;
+        booked = booked-by stream goes.0.written c.args.inputs.now _ refl refl
+            (c.in_ok-stream-2.ensures.read ∙ c.in_ok-stream.ensures.read) goes.1;
         row =
             ap (λ (s : Stream). s.start.row) c.in_ok-stream-2.ensures.same
             ∙ c.in_ok-stream.ensures.row
