@@ -17,7 +17,9 @@ use Rattle.stream_rows.specs.Reader.{fed_of}
 use Rattle.stream_save.specs.declared.fault.StreamSaveFault.TheVariants as save
 use Rattle.stream_step.specs.declared.stream.Stream.{Stream}
 use Rattle.stream_run.specs.Files.{alerts_text, audit_text}
-use Rattle.stream_run.specs.Growing.{Goes, GoesAndStops, Names, parts_in}
+use Rattle.border_law.specs.Border.{AreExactAfter}
+use Rattle.stream_intake.specs.Intake.{IsKnownTo}
+use Rattle.stream_run.specs.Growing.{Goes, GoesAndStops, IsBooked, Names, parts_in}
 use Rattle.stream_run.specs.Parts.{HasCome, Part, with_all, with_one}
 use Rattle.stream_run.specs.Standing.{Holds, saved_text}
 use Rattle.stream_run.specs.Unwritten.{IsUnwritten}
@@ -94,15 +96,30 @@ pub record Left : Type 0 where
 abbrev pub leaves : StreamInputs → TapState → ShelfState → Left
 leaves inputs tap shelf = record { inputs = inputs; tap = tap; shelf = shelf }
 
--- All of the input was taken, all its rows were run, and the stream was ended. Whatever it had run
--- before, that and all parts since are one run.
+-- The inputs are as before, but for the books; and these have read as many requests.
+pub record AreKept (old new : StreamInputs) : Type 0 where
+  pub reader : new.reader ≡ old.reader
+  pub known : new.known ≡ old.known
+  pub refused : new.refused ≡ old.refused
+  pub read : new.books.read ≡ old.books.read
+
+-- All of the input was taken, all its rows were run, and the stream was ended. All known requests
+-- that were accepted are the stream's. Whatever it had run before, that and all parts since are one
+-- run; if it is exact, each request issued since it began to be has its border at its row.
 pub record EndsWhole (terms : Terms) (begin : StreamState) (left : Left) : Type 0 where
   pub turned : HasTurned terms.names begin end.Input left.tap
   pub all_run : fed_of left.inputs.reader ≡ turned.stream.start.row
   pub ended : HasEndedAt terms turned.stream left.inputs.books turned.files left.shelf.files
+  pub kept : AreKept turned.inputs left.inputs
+  pub booked : IsBooked ended.is_saved.goes.written turned.inputs.books left.inputs.books
+  pub known : IsKnownTo left.inputs.known.requests turned.stream
   pub one_run : (before : Option SoFar) → HasCome begin.stream before
       → IsRunSoFar (with_one (with_all before (parts_in turned.took.0.ran.goes.written))
       (last_part ended.setup ended.left))
+  pub exact : (before : Option SoFar) → HasCome begin.stream before
+      → IfSome begin.stream.exact (λ base. AreExactAfter base
+      (with_one (with_all before (parts_in turned.took.0.ran.goes.written))
+      (last_part ended.setup ended.left)))
 
 -- ---- why it ends early
 
@@ -115,13 +132,17 @@ IsGivenUpIn names begin faults after (stream.Call why) =
 IsGivenUpIn names begin faults after (stream.Save why) = ⊥
 IsGivenUpIn names begin faults after (stream.Ahead row) = ⊥
 
--- The input has this fault. All rows before it were run, and the savepoint was written.
+-- The input has this fault. All rows before it were run, and the savepoint was written. All known
+-- requests that were accepted are the stream's.
 pub record EndsByInput (terms : Terms) (begin : StreamState) (left : Left) (why : StreamFault)
     : Type 0 where
   pub fault : Fault
   pub why_is : why ≡ stream.Call fault
   pub turned : HasTurned terms.names begin (end.Fault fault) left.tap
   pub is_saved : IsSavedAt terms turned.stream left.inputs.books turned.files left.shelf.files
+  pub kept : AreKept turned.inputs left.inputs
+  pub booked : IsBooked is_saved.goes.written turned.inputs.books left.inputs.books
+  pub known : IsKnownTo left.inputs.known.requests turned.stream
 
 -- The savepoint was written, and the last part was run. The files may have first bytes of its
 -- texts.
@@ -151,6 +172,7 @@ pub record EndsNot (terms : Terms) (begin : StreamState) (faults : Faults) (left
   pub shelf : ShelfState
   pub files_are : shelf.files ≡ turned.files
   pub writes : shelf.faults.writes ≡ faults.writes
+  pub kept : AreKept turned.inputs left.inputs
   pub unended : IsUnended terms turned.stream shelf left.shelf left.inputs why
 
 -- why a stream has this fault, which was begun with files of which so many reads and writes had

@@ -1,6 +1,6 @@
 -- A stream that is to be run, and what it was opened from.
 use Rattle.std.specs.Prelude.{◌≡◌, ◌≤◌, ℕ, List, [], IfSome, Ok, Option, None, Some, false, length}
-use Rattle.std.specs.Prelude.{option_map, take}
+use Rattle.std.specs.Prelude.{map, option_map, take}
 use Rattle.payments.specs.Files.{Files, told_bytes, with_bytes}
 use Rattle.payments.specs.Growing.{with_cut}
 use Rattle.payments.specs.World.{ShelfState}
@@ -14,11 +14,13 @@ use Rattle.sink_journal.specs.Records.{record_text}
 use Rattle.versions.specs.declared.limits.TheConstants.{MAX_STREAM_REQUESTS}
 use Rattle.versions.specs.declared.request.Request.{Request}
 use Rattle.flow_model.specs.Setup.{setup_view}
+use Rattle.report.specs.Lines.{noted}
 use Rattle.report.specs.declared.fault.FileIs.TheVariants as file
 use Rattle.call_steps.specs.Reading.{HasRead, IsJobOf}
 use Rattle.stream_rows.specs.Reader.{IsReadTo, fed_of}
 use Rattle.stream_save.specs.StreamReading.{stream_save_of}
 use Rattle.stream_save.specs.StreamText.{StreamSave}
+use Rattle.stream_step.specs.Pending.{exact_from}
 use Rattle.stream_step.specs.Resumed.{IsResumed}
 use Rattle.stream_intake.specs.Intake.{IsMaskOf, judged_in, refused_after}
 use Rattle.stream_run.specs.Growing.{Names}
@@ -66,13 +68,18 @@ resume_of (Some saving) =
 -- ---- a stream that can be run
 
 -- The stream begins anew, with files that hold their headers alone, or behind a row. It can take a
--- turn, and nothing of its input is read.
+-- turn, and nothing of its input is read. It is exact from here on, if that is asked. The books have
+-- how many requests were read, and those that were refused; no tuple has reached a sink.
 pub record IsOpened (asked : StreamFiles) (opened : Opened) (files : Option Files) : Type 0 where
   pub begins : Begins opened.behind (names_of asked) opened.stream files
   pub ready : CanTakeTurn opened.source (every_of asked.saving) opened.stream opened.inputs
   pub unread : (job : JobView) → IsReadTo job (fed_of opened.inputs.reader) opened.inputs.reader []
   pub kept : kept_of opened.inputs.pieces ≡ []
   pub goes_on : is_over opened.inputs.pieces ≡ false
+  pub exact : opened.stream.exact ≡ exact_from asked.exact opened.stream.start.turned
+  pub read : opened.inputs.books.read ≡ length opened.inputs.known.requests
+  pub noted_are : opened.inputs.books.refused.items ≡ map noted opened.inputs.refused
+  pub none_shown : opened.inputs.books.tally.shown ≡ 0
 
 -- ---- what it was opened from
 
@@ -95,7 +102,7 @@ pub record IsOfFiles (asked : StreamFiles) (files : Option Files) (opened : Open
   pub splits : IsMaskOf opened.stream.setup.job.nodes opened.stream.setup.splits
 
 -- The stream begins anew: its input leaves out no row, and none of its requests was issued. Both
--- files were made, each with its header alone.
+-- files were made, each with its header alone, whose length the books have.
 pub record IsAnew (asked : StreamFiles) (before after : Option Files) (opened : Opened)
     : Type 0 where
   pub behind : opened.behind ≡ None
@@ -104,6 +111,9 @@ pub record IsAnew (asked : StreamFiles) (before after : Option Files) (opened : 
   pub none_issued : opened.stream.setup.judged.accepted ≡ []
   pub refused : opened.inputs.refused
       ≡ (judged_in opened.stream opened.inputs.known.requests).refused
+  pub alerts_counted : opened.inputs.books.tally.alerts
+      ≡ length (record_text (header opened.stream.setup.job.columns))
+  pub audit_counted : opened.inputs.books.tally.audit ≡ length (record_text audit_header)
   pub files_are : after ≡ with_bytes (with_bytes before asked.alerts
       (record_text (header opened.stream.setup.job.columns))) asked.audit
       (record_text audit_header)
@@ -120,7 +130,7 @@ AreCutTo asked alerts audit before after = (mid : Option Files)
 
 -- The stream goes on from the savepoint of this file: from its row, with the requests that were
 -- issued before. Its input leaves out so many rows. Both files were cut to the lengths that the
--- savepoint has.
+-- savepoint has, and so have the books.
 pub record GoesOnFrom (resume : Resume) (asked : StreamFiles) (before after : Option Files)
     (opened : Opened) : Type 0 where
   pub save : StreamSave
@@ -134,6 +144,8 @@ pub record GoesOnFrom (resume : Resume) (asked : StreamFiles) (before after : Op
   pub refused : opened.inputs.refused
       ≡ refused_after opened.stream (take save.read opened.inputs.known.requests)
       opened.inputs.known.requests
+  pub alerts_counted : opened.inputs.books.tally.alerts ≡ save.alerts
+  pub audit_counted : opened.inputs.books.tally.audit ≡ save.audit
   pub cut : AreCutTo asked save.alerts save.audit before after
 
 -- the stream begins anew, unless it is to go on

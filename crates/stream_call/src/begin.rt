@@ -1,5 +1,6 @@
 // A stream that begins anew.
 ghost use Rattle.std.specs.Prelude.{◌≡◌, ◌⊎◌, IfErr, IfOk, None, OnErr, OnOk, false};
+ghost use Rattle.std.specs.Prelude.{length};
 ghost use Rattle.std.specs.Str.{bytes_eq};
 ghost use Rattle.payments.specs.Files.{with_bytes};
 ghost use Rattle.sink_journal.specs.Alerts.{header};
@@ -10,7 +11,7 @@ ghost use Rattle.stream_call.specs.Opened.{IsAnew, IsOfFiles, IsOpened, names_of
 ghost use Rattle.stream_call.specs.Unopened.{HasOnlyAlerts, IsUnopened};
 
 use crate::fault::StreamFault;
-use crate::opened::{Asked, Opened, Origin, asked_in, make_opened, source_of};
+use crate::opened::{Asked, Opened, Origin, asked_in, make_opened, mode_of, source_of};
 use call_steps::job_in;
 use command_line::StreamFiles;
 use jobs::Job;
@@ -45,7 +46,7 @@ pub(crate) fn begin_files<S: GrowingShelf>(
     let Asked { bytes, requests } = asked_in(alloc, &job, files, shelf)?;
     let source = source_of(&job)?;
     let headers = headers_of(alloc, &job)?;
-    let intake = begin(alloc, job, requests, files.plan.ordered)?;
+    let intake = begin(alloc, job, requests, mode_of(files))?;
     let opened = make_opened(alloc, intake, bytes, source, headers.origin())?;
     write_headers(files, &headers, shelf)?;
     Ok(opened)
@@ -73,6 +74,8 @@ impl Headers {
     fn origin(&self) -> Origin
         ensures left_out { result.left_out ≡ 0 }
         ensures behind { result.behind ≡ None }
+        ensures alerts { result.alerts ≡ length self.now.alerts }
+        ensures audit { result.audit ≡ length self.now.audit }
     {
         Origin {
             left_out: 0,

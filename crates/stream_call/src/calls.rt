@@ -3,15 +3,16 @@ ghost use Rattle.std.specs.Prelude.{OnOk, Some};
 ghost use Rattle.command_line.specs.Asked.{IsSize};
 ghost use Rattle.stream_run.specs.Standing.{Stands};
 ghost use Rattle.stream_call.specs.Faults.{status_for};
-ghost use Rattle.stream_call.specs.Ended.{EndsWhole, HasEndedAt, HasStreamed, IsLeftBy, IsUnended};
-ghost use Rattle.stream_call.specs.Ended.{HasStopped, IsUnprinted, end_lines, leaves, terms};
-ghost use Rattle.stream_call.specs.Ended.{terms_of};
+ghost use Rattle.stream_call.specs.Ended.{AreKept, EndsWhole, HasEndedAt, HasStreamed, IsLeftBy};
+ghost use Rattle.stream_call.specs.Ended.{HasStopped, IsUnended, IsUnprinted, end_lines, leaves};
+ghost use Rattle.stream_call.specs.Ended.{terms, terms_of};
 ghost use Rattle.stream_call.specs.Opened.{IsOpened, Opens, every_of as every_in, names_of};
 ghost use Rattle.stream_call.specs.Unopened.{IsUnopened};
 ghost use Rattle.jobs.specs.Job.{job_view};
 ghost use Rattle.jobs.specs.Nodes.{IsSourceOf};
 ghost use Rattle.call_steps.specs.Effects.{Prints};
 ghost use Rattle.payments.specs.World.{world};
+ghost use Rattle.stream_run.specs.Growing.{IsBooked};
 ghost use Rattle.stream_rows.specs.Reader.{fed_of};
 ghost use Rattle.stream_turns.specs.Taken.{HasReadText, at};
 ghost use Rattle.stream_turns.specs.Turns.{CanTakeTurn};
@@ -315,12 +316,14 @@ where
     requires closed { (S.state shelf.old).draft ≡ None }
     requires stands { Stands call.now.behind call.now.names stream (S.state shelf.old).files }
     ensures enough { OnOk result (stream.start.row ≤ fed_of inputs.new.reader) }
-    ensures ended { OnOk result (HasEndedAt (terms call.now.names call.now.every call.now.source)
-        stream inputs.new.books (S.state shelf.old).files (S.state shelf.new).files) }
+    ensures ended { OnOk result ((ended : HasEndedAt
+        (terms call.now.names call.now.every call.now.source) stream inputs.new.books
+        (S.state shelf.old).files (S.state shelf.new).files)
+        × IsBooked ended.is_saved.goes.written inputs.old.books inputs.new.books) }
     ensures left { IfErr result (IsUnended
         (terms call.now.names call.now.every call.now.source) stream (S.state shelf.old)
         (S.state shelf.new) inputs.new) }
-    ensures reader { inputs.new.reader ≡ inputs.old.reader }
+    ensures kept { AreKept inputs.old inputs.new }
 {
     let row = stream.start.row;
     if inputs.reader.fed() < row {

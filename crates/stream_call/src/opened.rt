@@ -1,10 +1,11 @@
 // What a stream begins with, anew or behind its savepoint.
-ghost use Rattle.std.specs.Prelude.{◌≡◌, ◌<◌, [], IfErr, IfOk, OnOk, false};
+ghost use Rattle.std.specs.Prelude.{◌≡◌, ◌<◌, [], IfErr, IfOk, OnOk, false, length, map};
 ghost use Rattle.input_pieces.specs.Gathering.{is_over, kept_of};
 ghost use Rattle.job_file.specs.RequestSizes.{AreUpTo};
 ghost use Rattle.jobs.specs.Job.{job_view};
 ghost use Rattle.jobs.specs.JobView.{JobView};
 ghost use Rattle.jobs.specs.Nodes.{IsSourceOf};
+ghost use Rattle.report.specs.Lines.{noted as noted_as};
 ghost use Rattle.stream_rows.specs.Reader.{IsReadTo, fed_of};
 ghost use Rattle.stream_rows.specs.declared.limits.TheConstants.{MAX_ROWS};
 ghost use Rattle.versions.specs.declared.limits.TheConstants.{MAX_STREAM_REQUESTS};
@@ -22,7 +23,7 @@ use std::alloc::Global;
 use stream_intake::Intake;
 use stream_rows::RowReader;
 use stream_run::{Books, Tally};
-use stream_step::Stream;
+use stream_step::{Stream, StreamMode};
 use stream_turns::StreamInputs;
 use tuple_trace::{Bytes, NoMemory};
 use versions::{MAX_STREAM_REQUESTS, Requests};
@@ -96,6 +97,17 @@ pub(crate) fn source_of(job: &Job) -> Result<u32, Fault>
     }
 }
 
+/// How the stream is run.
+pub(crate) fn mode_of(files: &StreamFiles) -> StreamMode
+    ensures ordered { result.ordered ≡ files.now.plan.ordered }
+    ensures exact { result.exact ≡ files.now.exact }
+{
+    StreamMode {
+        ordered: files.plan.ordered,
+        exact: files.exact,
+    }
+}
+
 /// A stream whose file of requests has these bytes, and with the books as they are there. The one
 /// error is out of memory.
 pub(crate) fn make_opened(
@@ -114,7 +126,16 @@ pub(crate) fn make_opened(
     ensures fed { IfOk result (λ opened. fed_of opened.inputs.reader ≡ origin.left_out) }
     ensures unread { IfOk result (λ opened. (job : JobView)
         → IsReadTo job origin.left_out opened.inputs.reader []) }
-    ensures unsaved { IfOk result (λ opened. opened.inputs.books.tally.unsaved ≡ 0) }
+    ensures read { IfOk result (λ opened.
+        opened.inputs.books.read ≡ length intake.known.requests) }
+    ensures noted { IfOk result (λ opened.
+        opened.inputs.books.refused.items ≡ map noted_as intake.refused) }
+    ensures tally { IfOk result (λ opened. opened.inputs.books.tally ≡ record {
+      alerts = origin.alerts;
+      audit = origin.audit;
+      unsaved = 0;
+      shown = 0;
+    }) }
     ensures kept { IfOk result (λ opened. kept_of opened.inputs.pieces ≡ []) }
     ensures goes_on { IfOk result (λ opened. is_over opened.inputs.pieces ≡ false) }
 {

@@ -13,7 +13,7 @@ ghost use Rattle.stream_call.specs.Unopened.{AreUnmade, HasOnlyAlerts, IsNoStrea
 ghost use Rattle.stream_call.specs.Unopened.{IsUncut, IsUnopened, Misfits};
 
 use crate::fault::StreamFault;
-use crate::opened::{Asked, Opened, Origin, asked_in, make_opened, source_of};
+use crate::opened::{Asked, Opened, Origin, asked_in, make_opened, mode_of, source_of};
 use call_steps::{job_in, read_file};
 use command_line::StreamFiles;
 use flow_model::Setup;
@@ -55,7 +55,7 @@ pub(crate) fn resume_files<S: GrowingShelf>(
     let source = source_of(&job)?;
     let Saved { job, save } = saved_in(alloc, job, &requests, save, shelf)?;
     let origin = origin_of(&save, left_out)?;
-    let intake = resume(alloc, job, requests, files.plan.ordered, save)?;
+    let intake = resume(alloc, job, requests, mode_of(files), save)?;
     let opened = make_opened(alloc, intake, bytes, source, origin)?;
     cut_files(files, origin, shelf)?;
     Ok(opened)

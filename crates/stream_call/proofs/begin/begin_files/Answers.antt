@@ -1,4 +1,5 @@
-use Rattle.std.proofs.Common.{◌≡◌, ◌∙◌, ℕ, Option, List, [], ap, arith, inl, inr, subst, sym}
+use Rattle.std.proofs.Common.{◌≡◌, ◌∙◌, ℕ, Option, List, [], ap, arith, inl, inr, length, map}
+use Rattle.std.proofs.Common.{subst, sym}
 use Rattle.std.proofs.lemmas.Result.{err_from_is_err_and}
 use Rattle.jobs.specs.Job.{job_view}
 use Rattle.jobs.specs.Nodes.{IsSourceOf}
@@ -11,7 +12,10 @@ use Rattle.sink_journal.specs.Records.{record_text}
 use Rattle.flow_model.specs.Begin.{Begin}
 use Rattle.versions.specs.declared.request.Request.{Request}
 use Rattle.stream_rows.specs.Reader.{IsReadTo}
+use Rattle.report.specs.Lines.{noted}
+use Rattle.stream_step.specs.Pending.{exact_from}
 use Rattle.stream_step.specs.declared.stream.Stream.{Stream}
+use Rattle.stream_run.specs.declared.books.Tally.{Tally}
 use Rattle.stream_intake.specs.Intake.{IsKnownTo}
 use Rattle.stream_intake.specs.declared.known.Known.{Known}
 use Rattle.stream_run.specs.Standing.{Begins, Holds, IsNew}
@@ -73,12 +77,18 @@ returns-clause-opened g c =
             (sym c.in_ok-intake.ensures.known) c.in_ok-intake.ensures.is_known));
         fed = omega (arith, is.fed, c.origin.ensures.left_out);
         few = omega (arith, row);
-        none_due = none-due (every_of c.args.files.now.saving) _ is.unsaved;
+        none_due = none-due (every_of c.args.files.now.saving) _
+            (ap (λ (t : Tally). t.unsaved) is.tally);
       };
       unread = λ job. subst (λ (n : ℕ). IsReadTo job n made.inputs.reader []) (sym is.fed)
           (is.unread job);
       kept = is.kept;
       goes_on = is.goes_on;
+      exact = rw is.stream (c.in_ok-intake.ensures.exact
+          ∙ ap (λ b. exact_from b intake.stream.start.turned) c.mode_of.ensures.exact);
+      read = is.read ∙ ap (λ (k : Known). length k.requests) (sym is.known);
+      noted_are = is.noted ∙ ap (map noted) (sym is.refused);
+      none_shown = ap (λ (t : Tally). t.shown) is.tally;
     }
 
 pub returns-clause-of : goal.returns-clause-of
@@ -100,9 +110,13 @@ returns-clause-anew g c =
     record {
       behind = is.behind ∙ c.origin.ensures.behind;
       none_left_out = is.fed ∙ c.origin.ensures.left_out;
-      ordered = rw is.stream intake.ordered;
+      ordered = rw is.stream (intake.ordered ∙ c.mode_of.ensures.ordered);
       none_issued = rw is.stream intake.none;
       refused = rw (is.stream, is.known, is.refused, intake.known) intake.refused;
+      alerts_counted = rw (is.stream, intake.job) (ap (λ (t : Tally). t.alerts) is.tally
+          ∙ (c.origin.ensures.alerts ∙ ap length headers.alerts));
+      audit_counted = ap (λ (t : Tally). t.audit) is.tally
+          ∙ (c.origin.ensures.audit ∙ ap length headers.audit);
       files_are = rw (
         is.stream,
         intake.job,

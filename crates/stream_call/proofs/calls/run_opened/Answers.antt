@@ -13,7 +13,7 @@ run_to_end-requires-clause-stands g c κs within =
       before = (g.S.Shelf.state c.args.shelf.now).files;
       begins = c.requires.opened.begins;
       rows = [];
-      goes = goes-same _ c.args.opened.stream c.args.opened.stream _ _ refl refl refl;
+      goes = goes-same _ c.args.opened.stream c.args.opened.stream _ _ refl refl refl refl;
     })
 
 pub run_to_end-requires-clause-ready : goal.run_to_end-requires-clause-ready

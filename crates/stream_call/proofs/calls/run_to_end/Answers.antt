@@ -1,4 +1,4 @@
-use Rattle.std.proofs.Common.{[], ap, arith}
+use Rattle.std.proofs.Common.{[], ap, arith, refl}
 use Rattle.std.proofs.lemmas.Result.{IfErr-weaker, err_from_is_err_and}
 use Rattle.csv.proofs.WriteFacts.{on_ok_both}
 use Rattle.stream_run.proofs.GoesLemmas.{stops-between, stops-then}
@@ -18,7 +18,8 @@ returns-in-Input-clause-whole g c =
     (g.S.Shelf.state c.run_stream.new.shelf).files c.run_stream.new.inputs _
     (rw c.in-Input.is at (ran.ensures.taken (fed_of c.args.inputs.now.reader) []
     c.requires.unread))
-    (omega (arith, enough, ran.ensures.ready.fed, ap fed_of c.end_whole.ensures.reader)) ended)
+    (omega (arith, enough, ran.ensures.ready.fed, ap fed_of c.end_whole.ensures.kept.reader))
+    ran.ensures.ready.known c.end_whole.ensures.kept ended)
     c.end_whole.ensures.enough c.end_whole.ensures.ended
 
 pub returns-in-Input-clause-left : goal.returns-in-Input-clause-left
@@ -29,7 +30,7 @@ returns-in-Input-clause-left g c =
     (λ why un. ends-not (terms call.names call.every call.source) _ _ _ why ran.field-0.stream
     (g.S.Shelf.state c.run_stream.new.shelf) c.run_stream.new.inputs
     (rw c.in-Input.is at (ran.ensures.taken (fed_of c.args.inputs.now.reader) []
-    c.requires.unread)) ran.ensures.writes un) c.end_whole.ensures.left
+    c.requires.unread)) ran.ensures.writes c.end_whole.ensures.kept un) c.end_whole.ensures.left
 
 pub returns-in_err-save_if_asked-in-Fault-clause-left :
     goal.returns-in_err-save_if_asked-in-Fault-clause-left
@@ -55,7 +56,8 @@ returns-in_ok-save_if_asked-in-Fault-clause-left g c =
     ends-by (terms call.names call.every call.source) _ _ _ c.in-Fault.fault ran.field-0.stream
     (g.S.Shelf.state c.run_stream.new.shelf).files c.run_stream.new.inputs
     (rw c.in-Fault.is at (ran.ensures.taken (fed_of c.args.inputs.now.reader) []
-    c.requires.unread))
+    c.requires.unread)) ran.ensures.ready.known
+    (record { reader = refl; known = refl; refused = refl; read = saved.ensures.read })
     (saved-at (terms call.names call.every call.source) ran.field-0.stream saved.field-0
-    c.save_if_asked.new.books _ _ saved.ensures.same saved.ensures.goes
+    c.run_stream.new.inputs.books c.save_if_asked.new.books _ _ saved.ensures.same saved.ensures.goes
     saved.ensures.saved)

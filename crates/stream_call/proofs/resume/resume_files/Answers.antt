@@ -1,4 +1,5 @@
-use Rattle.std.proofs.Common.{◌≡◌, ◌∙◌, ℕ, Option, List, [], ap, arith, inl, inr, subst}
+use Rattle.std.proofs.Common.{◌≡◌, ◌∙◌, ℕ, Bool, Option, List, [], ap, arith, inl, inr}
+use Rattle.std.proofs.Common.{length, map, subst}
 use Rattle.std.proofs.Common.{sym, take}
 use Rattle.std.proofs.lemmas.Result.{err_from_is_err_and}
 use Rattle.jobs.specs.Job.{job_view}
@@ -12,7 +13,10 @@ use Rattle.flow_model.specs.SetupView.{SetupView}
 use Rattle.versions.specs.declared.request.Request.{Request}
 use Rattle.stream_rows.specs.Reader.{IsReadTo}
 use Rattle.stream_step.specs.Resumed.{IsResumed}
+use Rattle.report.specs.Lines.{noted}
+use Rattle.stream_step.specs.Pending.{exact_from}
 use Rattle.stream_step.specs.declared.stream.Stream.{Stream}
+use Rattle.stream_run.specs.declared.books.Tally.{Tally}
 use Rattle.stream_intake.specs.Intake.{IsKnownTo, judged_in}
 use Rattle.stream_intake.specs.declared.known.Known.{Known}
 use Rattle.stream_run.specs.Standing.{Begins}
@@ -55,12 +59,18 @@ returns-clause-opened g c =
             (sym c.in_ok-intake.ensures.known) c.in_ok-intake.ensures.is_known));
         fed = omega (arith, is.fed, origin.left_out, origin.within, row);
         few = omega (arith, row, origin.few);
-        none_due = none-due (every_of c.args.files.now.saving) _ is.unsaved;
+        none_due = none-due (every_of c.args.files.now.saving) _
+            (ap (λ (t : Tally). t.unsaved) is.tally);
       };
       unread = λ job. subst (λ (n : ℕ). IsReadTo job n made.inputs.reader []) (sym is.fed)
           (is.unread job);
       kept = is.kept;
       goes_on = is.goes_on;
+      exact = rw is.stream (c.in_ok-intake.ensures.exact
+          ∙ ap (λ b. exact_from b intake.stream.start.turned) c.mode_of.ensures.exact);
+      read = is.read ∙ ap (λ (k : Known). length k.requests) (sym is.known);
+      noted_are = is.noted ∙ ap (map noted) (sym is.refused);
+      none_shown = ap (λ (t : Tally). t.shown) is.tally;
     }
 
 pub returns-clause-of : goal.returns-clause-of
@@ -94,8 +104,11 @@ returns-clause-from g c =
     let resumed : IsResumed (job_view stream.setup.job)
     (judged_in stream (take save.read requests)).accepted asked.plan.ordered save
     (setup_view stream.setup) =
-    subst (λ (j : JobView). IsResumed j (judged_in stream (take save.read requests)).accepted
-    asked.plan.ordered save (setup_view stream.setup)) (sym second) intake.resumed in
+    subst (λ (b : Bool). IsResumed (job_view stream.setup.job)
+    (judged_in stream (take save.read requests)).accepted b save (setup_view stream.setup))
+    c.mode_of.ensures.ordered
+    (subst (λ (j : JobView). IsResumed j (judged_in stream (take save.read requests)).accepted
+    c.mode_of.result.ordered save (setup_view stream.setup)) (sym second) intake.resumed) in
     record {
       save = save;
       read = rw (
@@ -109,6 +122,8 @@ returns-clause-from g c =
       start = rw is.stream intake.start;
       resumed = rw (is.stream, is.known, intake.known) resumed;
       refused = rw (is.stream, is.known, is.refused, intake.known) intake.refused;
+      alerts_counted = ap (λ (t : Tally). t.alerts) is.tally ∙ origin.alerts;
+      audit_counted = ap (λ (t : Tally). t.audit) is.tally ∙ origin.audit;
       cut = rw (
         sym c.in_ok-job.ensures.files,
         sym c.in_ok-bytes.ensures.files,
