@@ -3,6 +3,7 @@ ghost use Rattle.std.specs.Prelude.{◌≡◌, None};
 ghost use Rattle.payments.specs.Memory.{draft_of};
 
 mod cuts;
+mod exact;
 mod keys;
 mod killed;
 mod left;

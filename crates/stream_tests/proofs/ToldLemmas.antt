@@ -15,5 +15,5 @@ stands_first behind names stream files at row =
       before = files;
       begins = row;
       rows = [];
-      goes = goes-same names stream stream files files refl refl refl;
+      goes = goes-same names stream stream files files refl refl refl refl;
     })

@@ -4,7 +4,7 @@ ghost use Rattle.job_file.specs.RequestSizes.{AreUpTo};
 ghost use Rattle.stream_save.specs.StreamReading.{CanSaveStream};
 ghost use Rattle.stream_intake.specs.Intake.{IsKnownTo};
 
-use crate::tests::parts::{JOB, REQUESTS};
+use crate::tests::parts::{JOB, PLAIN, REQUESTS};
 use flow_model::Setup;
 use job_file::{read_job, read_requests_up_to};
 use jobs::Job;
@@ -60,7 +60,7 @@ fn begun(rt: &impl Abort, alloc: Global, requests: &str) -> Intake
 {
     let job = read_job(alloc, JOB.as_bytes()).expect(rt, "a job");
     let requests = requests_of(rt, alloc, &job, requests);
-    begin(alloc, job, requests, false).expect(rt, "memory")
+    begin(alloc, job, requests, PLAIN).expect(rt, "memory")
 }
 
 /// The place of the first request that was refused.
@@ -130,7 +130,7 @@ type Gone = Result<(Option<u64>, usize), StreamSaveFault>;
 fn after_resume(rt: &impl Abort, alloc: Global, save: &str, requests: &str) -> Gone {
     let (job, save) = saved(rt, alloc, save);
     let requests = requests_of(rt, alloc, &job, requests);
-    match resume(alloc, job, requests, false, save) {
+    match resume(alloc, job, requests, PLAIN, save) {
         Ok(intake) => Ok((
             first_wait(&intake.stream.setup),
             intake.stream.pending.len(),

@@ -5,7 +5,7 @@ use flow_model::Setup;
 use job_file::{read_job, read_requests};
 use std::alloc::Global;
 use std::process::Abort;
-use stream_step::{NextPart, Stream};
+use stream_step::{NextPart, Stream, StreamMode};
 use versions::{accepted_requests_stay_accepted, judge_all};
 
 /// A map with a roof of 3 before a sink.
@@ -49,6 +49,12 @@ by = ";"
 most = 3
 "#;
 
+/// A stream that is neither in ordered mode nor exact.
+pub(crate) const PLAIN: StreamMode = StreamMode {
+    ordered: false,
+    exact: false,
+};
+
 /// The stream of a job, with the requests of its first reading.
 pub(crate) fn begun(rt: &impl Abort, alloc: Global, job: &str, requests: &str) -> Stream
     ensures { result.start.row ≡ 0 }
@@ -57,7 +63,7 @@ pub(crate) fn begun(rt: &impl Abort, alloc: Global, job: &str, requests: &str) -
     let requests = read_requests(alloc, &job, requests.as_bytes()).expect(rt, "requests");
     let judged = judge_all(alloc, &job, &requests).expect(rt, "memory");
     accepted_requests_stay_accepted();
-    Stream::begin(alloc, job, judged, false).expect(rt, "memory")
+    Stream::begin(alloc, job, judged, PLAIN).expect(rt, "memory")
 }
 
 /// The row after which the only request of a setup is issued.

@@ -22,4 +22,4 @@ save_stream-requires-clause-stands g c =
     c.expect-ran.result before (shelf_state_of c.run_rows.new.shelf).files
     (stands_first c.args.call.now.behind c.args.call.now.names c.args.stream before
     c.requires.behind c.requires.first)
-    (IfOk-at_ok _ c.expect-ran.ensures c.run_rows.ensures.goes)
+    (IfOk-at_ok _ c.expect-ran.ensures c.run_rows.ensures.goes).0
