@@ -1,6 +1,6 @@
 -- What is printed of a fault.
 use Rattle.std.specs.Prelude.{ℕ, List, ◌++◌, codes, decimal}
-use Rattle.audit_laws.specs.FaultWords.{audit_words}
+use Rattle.audit_fault.specs.FaultWords.{audit_words}
 use Rattle.job_file.specs.FaultWords.{job_words, requests_words}
 use Rattle.payments.specs.FaultWords.{payments_words}
 use Rattle.savepoint.specs.FaultWords.{save_words}

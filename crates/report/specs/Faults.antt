@@ -1,7 +1,7 @@
 -- Faults and their statuses, and the files that they speak of.
 use Rattle.std.specs.Prelude.{ℕ, List, [], ◌∷◌, Option, None, Some}
-use Rattle.audit_laws.specs.declared.fault.AuditFault.{AuditFault}
-use Rattle.audit_laws.specs.declared.fault.AuditFault.TheVariants as audit
+use Rattle.audit_fault.specs.declared.fault.AuditFault.{AuditFault}
+use Rattle.audit_fault.specs.declared.fault.AuditFault.TheVariants as audit
 use Rattle.job_file.specs.declared.fault.JobFault.{JobFault}
 use Rattle.job_file.specs.declared.fault.JobFault.TheVariants as job
 use Rattle.job_file.specs.declared.fault.ReqFileFault.{ReqFileFault}

@@ -5,7 +5,7 @@ ghost use Rattle.report.specs.Faults.{status_of as status_of_fault};
 ghost use Rattle.report.specs.Faults.{limit_of};
 ghost use Rattle.report.specs.declared.fault.Fault.TheVariants.{NoMemory as OutOfMemory};
 
-use audit_laws::AuditFault;
+use audit_fault::AuditFault;
 use job_file::{JobFault, ReqFileFault};
 use payments::PFault;
 use savepoint::SaveFault;

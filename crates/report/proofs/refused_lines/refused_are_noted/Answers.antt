@@ -2,7 +2,7 @@ use Rattle.std.proofs.Common.{◌≡◌, ◌<◌, ◌≤◌, List, length, take,
 use Rattle.std.specs.Prelude.{All}
 use Rattle.std.proofs.lemmas.List.{take_all}
 use Rattle.std.proofs.lemmas.List.Elements.{All-more}
-use Rattle.audit_laws.specs.Lines.{IsNoted}
+use Rattle.audit_fault.specs.Noting.{IsNoted}
 use Rattle.versions.specs.declared.in_order.Refused.{Refused}
 use Rattle.report.specs.Lines.{noted}
 use Rattle.report.proofs.refused_lines.refused_are_noted.Goals as goal

@@ -1,6 +1,6 @@
 use Rattle.std.proofs.Common.{take}
 use Rattle.std.specs.Prelude.{All}
-use Rattle.audit_laws.specs.Lines.{IsNoted}
+use Rattle.audit_fault.specs.Noting.{IsNoted}
 use Rattle.report.specs.Lines.{noted}
 use Rattle.report.proofs.refused_lines.refused_are_noted.Given as goal
 
