@@ -8,5 +8,3 @@ pub mod AcceptedLemmas
 pub mod PartLemmas
 pub mod OneRunLemmas
 pub mod LiveLemmas
-pub mod AuditLemmas
-pub mod AlertLemmas

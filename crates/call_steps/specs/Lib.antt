@@ -8,4 +8,3 @@ pub mod Parts
 pub mod OneRun
 pub mod Live
 pub mod inner
-pub mod Audits

@@ -14,7 +14,6 @@
 #![tactic(auto)]
 
 mod answer;
-mod audits;
 mod host;
 mod job;
 mod laws;
@@ -27,7 +26,6 @@ mod setup;
 mod writing;
 
 pub use answer::Answer;
-pub use audits::{audited_run, check_alerts, verified_lines};
 pub use host::Host;
 pub use job::{first_job, first_requests};
 pub use laws::{files_end_whole, same_requests_have_one_setup, saved_runs_go_on};
@@ -35,5 +33,7 @@ pub use live::{LiveDone, leave_live, run_live};
 pub use parts::{run_first_part, run_later_part};
 pub use printing::{print, print_made};
 pub use reading::{job_in, read_file, requests_in, rows_in, start_in};
-pub use running::{Done, Outputs, leave_run, made_lines, run_in_order, run_on_threads};
+pub use running::{
+    Done, Outputs, done_of, leave_run, made_lines, run_in_order, run_on_threads, summary_of,
+};
 pub use setup::setup_of;

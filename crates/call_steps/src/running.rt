@@ -110,8 +110,9 @@ where
     done_of(alloc, ran, requests, rows)
 }
 
-// What was run, with the refused requests, and in ordered mode the number of each row.
-pub(crate) fn done_of(
+/// What was run, with the refused requests, and in ordered mode the number of each row. The one
+/// error is out of memory.
+pub fn done_of(
     alloc: Global,
     ran: RunRecord,
     requests: &Requests,
@@ -333,7 +334,8 @@ fn serial_lines(alloc: Global, done: &Done) -> Result<Bytes, NoMemory>
     Ok(lines)
 }
 
-pub(crate) fn summary_of(done: &Done) -> Result<Summary, NoMemory>
+/// The numbers of a run's summary. The one error is out of memory.
+pub fn summary_of(done: &Done) -> Result<Summary, NoMemory>
     requires { length done.now.ran.journals ≡ worker_count done.now.ran.setup.job.nodes }
     ensures { IfOk result (λ summary. summary ≡ summary_of_done done.now) }
 {
