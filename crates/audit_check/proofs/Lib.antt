@@ -7,4 +7,5 @@ pub mod ReadingLemmas
 pub mod PartLemmas
 pub mod RefusedLemmas
 pub mod FeedLemmas
+pub mod IssueLemmas
 pub mod TellingLemmas

@@ -11,7 +11,8 @@ use Rattle.flow_model.proofs.WorkerLemmas.{item_at}
 use Rattle.audit_laws.specs.declared.audit.AuditEntry.{AuditEntry}
 use Rattle.audit_laws.specs.declared.audit.Line.{Line}
 use Rattle.audit_laws.specs.declared.audit.Line.TheVariants as line
-use Rattle.audit_laws.specs.Lines.{IsEntryAt, IsLine, IsNoted, IsStep, count_fields, fields_by, kept_fields, line_fields}
+use Rattle.audit_fault.specs.Noting.{IsNoted}
+use Rattle.audit_laws.specs.Lines.{IsEntryAt, IsLine, IsStep, count_fields, fields_by, kept_fields, line_fields}
 use Rattle.audit_laws.specs.Names.{Named, named_workers}
 use Rattle.audit_laws.proofs.LineLemmas.{entry_node, field}
 use Rattle.audit_laws.proofs.NamedLemmas.{are_told}

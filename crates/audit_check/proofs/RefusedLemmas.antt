@@ -8,7 +8,8 @@ use Rattle.sink_journal.specs.Audit.{audit_header, refused_fields}
 use Rattle.sink_journal.specs.declared.audit.Noted.{Noted}
 use Rattle.audit_laws.specs.declared.audit.Line.{Line}
 use Rattle.audit_laws.specs.declared.audit.Line.TheVariants as line
-use Rattle.audit_laws.specs.Lines.{IsNoted, group_of, refusal_in, refusals_in}
+use Rattle.audit_fault.specs.Noting.{IsNoted}
+use Rattle.audit_laws.specs.Lines.{group_of, refusal_in, refusals_in}
 use Rattle.audit_laws.specs.Verdict.{AreInShape, DifferFirst, fields_of}
 use Rattle.audit_laws.proofs.NamedLemmas.{are_told}
 use Rattle.audit_laws.proofs.ShapeLemmas.{behind}

@@ -1,3 +1,4 @@
+pub mod Issuing
 pub mod Cells
 pub mod Parts
 pub mod Reading

@@ -4,6 +4,8 @@ ghost use Rattle.std.specs.Prelude.{◌+◌, ◌^◌, IsTrue, List, OnOk, Some, 
 ghost use Rattle.csv.specs.Records.{fields_of};
 ghost use Rattle.sink_journal.specs.Audit.{feed_fields};
 ghost use Rattle.sink_journal.specs.declared.journal.Feed.{Feed as FeedIs};
+ghost use Rattle.tuple_trace.specs.declared.row.Row.{Row as RowIs};
+ghost use Rattle.flow_model.specs.Begin.{Begin};
 ghost use Rattle.flow_model.specs.Setup.{setup_view};
 ghost use Rattle.audit_laws.specs.Delivered.{feed_of};
 ghost use Rattle.audit_laws.specs.declared.audit.Line.{Line as LineIs};
@@ -13,16 +15,16 @@ ghost use Rattle.audit_laws.specs.Verdict.{AreInShape, IsFaultOf};
 
 use crate::feeds::step_in;
 use crate::records::six_of;
-use audit_laws::AuditFault;
+use audit_fault::AuditFault;
 use csv::ByteRecord;
 use flow_model::Setup;
 use payments::TextRecords;
 use sink_journal::{Feed, Noted};
 use std::alloc::Global;
-use tuple_trace::{NoMemory, Rows};
+use tuple_trace::NoMemory;
 
-/// Whether the feeder's steps in a text are `wanted`, which is the feed of these rows. The records
-/// are in shape, and the refused requests are these.
+/// Whether the feeder's steps in a text are `wanted`, the feed of some rows. The records are in
+/// shape, and the refused requests are these.
 ///
 /// # Errors
 ///
@@ -31,25 +33,23 @@ pub fn check_feed(
     alloc: Global,
     setup: &Setup,
     refused: &[Noted],
-    rows: &Rows,
     wanted: &[Feed],
     bytes: &[u8],
 ) -> Result<(), AuditFault>
-    requires shape { (lines : List LineIs) ×
+    requires { (lines : List LineIs) ×
         AreInShape (setup_view setup.now).job (records_of bytes.now) lines
         × (refusals_in lines ≡ refused.now) }
-    requires wanted { wanted.now ≡ feed_of (setup_view setup.now) rows.now }
     ensures ok { OnOk result ((lines : List LineIs) →
         AreInShape (setup_view setup.now).job (records_of bytes.now) lines →
-        refusals_in lines ≡ refused.now → feeds_in lines
-        ≡ feed_of (setup_view setup.now) rows.now) }
-    ensures fault { IfErr result
-        (IsFaultOf (setup_view setup.now) setup.now.job.dag.order refused.now rows.now
+        refusals_in lines ≡ refused.now → feeds_in lines ≡ wanted.now) }
+    ensures fault { (begin : Begin) (rows : List RowIs) →
+        wanted.now ≡ feed_of begin (setup_view setup.now) rows → IfErr result
+        (IsFaultOf begin (setup_view setup.now) setup.now.job.dag.order refused.now rows
         (records_of bytes.now)) }
 {
     let mut records = TextRecords::of(alloc, bytes);
     let mut cells = ByteRecord::new(alloc);
-    check_records(setup, refused, rows, wanted, &mut records, &mut cells)
+    check_records(setup, refused, wanted, &mut records, &mut cells)
 }
 
 // Whether the feeder's steps in these records are `wanted`. The header and the refused requests are
@@ -57,21 +57,19 @@ pub fn check_feed(
 fn check_records(
     setup: &Setup,
     refused: &[Noted],
-    rows: &Rows,
     wanted: &[Feed],
     records: &mut TextRecords<'_>,
     cells: &mut ByteRecord,
 ) -> Result<(), AuditFault>
-    requires shape { (lines : List LineIs) ×
+    requires { (lines : List LineIs) ×
         AreInShape (setup_view setup.now).job records.old lines
         × (refusals_in lines ≡ refused.now) }
-    requires wanted { wanted.now ≡ feed_of (setup_view setup.now) rows.now }
     ensures ok { OnOk result ((lines : List LineIs) →
         AreInShape (setup_view setup.now).job records.old lines →
-        refusals_in lines ≡ refused.now → feeds_in lines
-        ≡ feed_of (setup_view setup.now) rows.now) }
-    ensures fault { IfErr result
-        (IsFaultOf (setup_view setup.now) setup.now.job.dag.order refused.now rows.now
+        refusals_in lines ≡ refused.now → feeds_in lines ≡ wanted.now) }
+    ensures fault { (begin : Begin) (rows : List RowIs) →
+        wanted.now ≡ feed_of begin (setup_view setup.now) rows → IfErr result
+        (IsFaultOf begin (setup_view setup.now) setup.now.job.dag.order refused.now rows
         records.old) }
 {
     if !records.next(cells)? {

@@ -4,12 +4,13 @@ ghost use Rattle.std.specs.Prelude.{decimal};
 ghost use Rattle.sink_journal.specs.Audit.{code_word, feed_fields, refused_fields};
 ghost use Rattle.sink_journal.specs.declared.audit.Noted.{Noted as NotedIs};
 ghost use Rattle.sink_journal.specs.declared.journal.Feed.{Feed as FeedIs};
-ghost use Rattle.audit_laws.specs.Lines.{IsNoted, IsStep};
+ghost use Rattle.audit_fault.specs.Noting.{IsNoted};
+ghost use Rattle.audit_laws.specs.Lines.{IsStep};
 ghost use Rattle.audit_check.specs.Cells.{AreEmpty, cells_of};
 
 use crate::records::Six;
 use crate::spelling::{narrow, number_up_to, wide};
-use audit_laws::LAST_REFUSAL_CODE;
+use audit_fault::LAST_REFUSAL_CODE;
 use sink_journal::{Feed, Noted};
 
 /// The refused request that a record tells.

@@ -1,8 +1,9 @@
-//! The first passes of a checker of audits: the shape of a text, the refused requests, and the feed.
-//! `journal_law` and `audit_replay` have the later ones.
+//! The first passes of a checker of audits: the shape of a text, the refused requests, and the
+//! feed. `journal_law` and `audit_replay` have the later ones.
 //!
 //! ```text
-//! let feeds = check_text(alloc, &setup, refused.as_slice(), &rows, text.as_slice())?;
+//! let start = Start::first(alloc, &setup)?;
+//! let both = check_text(alloc, &setup, &start, refused.as_slice(), &rows, text.as_slice())?;
 //! ```
 #![tactic(auto)]
 

@@ -5,15 +5,17 @@ ghost use Rattle.csv.specs.Records.{fields_of};
 ghost use Rattle.sink_journal.specs.Audit.{refused_fields};
 ghost use Rattle.sink_journal.specs.declared.audit.Noted.{Noted as NotedIs};
 ghost use Rattle.tuple_trace.specs.declared.row.Row.{Row as RowIs};
+ghost use Rattle.flow_model.specs.Begin.{Begin};
 ghost use Rattle.flow_model.specs.Setup.{setup_view};
 ghost use Rattle.audit_laws.specs.declared.audit.Line.{Line as LineIs};
 ghost use Rattle.audit_laws.specs.Fits.{records_of};
-ghost use Rattle.audit_laws.specs.Lines.{IsNoted, refusals_in};
+ghost use Rattle.audit_fault.specs.Noting.{IsNoted};
+ghost use Rattle.audit_laws.specs.Lines.{refusals_in};
 ghost use Rattle.audit_laws.specs.Verdict.{AreInShape, IsFaultOf};
 
 use crate::feeds::refused_in;
 use crate::records::six_of;
-use audit_laws::AuditFault;
+use audit_fault::AuditFault;
 use csv::ByteRecord;
 use flow_model::Setup;
 use payments::TextRecords;
@@ -37,8 +39,8 @@ pub fn check_refused(
     ensures ok { OnOk result ((lines : List LineIs) →
         AreInShape (setup_view setup.now).job (records_of bytes.now) lines →
         refusals_in lines ≡ refused.now) }
-    ensures fault { (rows : List RowIs) → IfErr result
-        (IsFaultOf (setup_view setup.now) setup.now.job.dag.order refused.now rows
+    ensures fault { (begin : Begin) (rows : List RowIs) → IfErr result
+        (IsFaultOf begin (setup_view setup.now) setup.now.job.dag.order refused.now rows
         (records_of bytes.now)) }
 {
     let mut records = TextRecords::of(alloc, bytes);
@@ -59,8 +61,9 @@ fn check_records(
     ensures ok { OnOk result ((lines : List LineIs) →
         AreInShape (setup_view setup.now).job records.old lines →
         refusals_in lines ≡ refused.now) }
-    ensures fault { (rows : List RowIs) → IfErr result
-        (IsFaultOf (setup_view setup.now) setup.now.job.dag.order refused.now rows records.old) }
+    ensures fault { (begin : Begin) (rows : List RowIs) → IfErr result
+        (IsFaultOf begin (setup_view setup.now) setup.now.job.dag.order refused.now rows
+        records.old) }
 {
     if !records.next(cells)? {
         return Err(AuditFault::NoMemory);

@@ -4,6 +4,7 @@ ghost use Rattle.csv.specs.Records.{fields_of};
 ghost use Rattle.sink_journal.specs.Audit.{audit_header};
 ghost use Rattle.sink_journal.specs.declared.audit.Noted.{Noted as NotedIs};
 ghost use Rattle.tuple_trace.specs.declared.row.Row.{Row as RowIs};
+ghost use Rattle.flow_model.specs.Begin.{Begin};
 ghost use Rattle.flow_model.specs.Setup.{setup_view};
 ghost use Rattle.flow_model.specs.Workers.{workers_in};
 ghost use Rattle.audit_laws.specs.declared.audit.Line.{Line as LineIs};
@@ -16,7 +17,8 @@ ghost use Rattle.audit_check.specs.Telling.{Tells};
 use crate::lines::line_of;
 use crate::records::{Six, six_of};
 use crate::told::Told;
-use audit_laws::{AuditFault, Line};
+use audit_fault::AuditFault;
+use audit_laws::Line;
 use csv::ByteRecord;
 use flow_model::Setup;
 use payments::TextRecords;
@@ -34,8 +36,8 @@ pub fn read_audit(alloc: Global, setup: &Setup, bytes: &[u8]) -> Result<Told, Au
     ensures ok { IfOk result (λ told. (lines : List LineIs) ×
         AreInShape (setup_view setup.now).job (records_of bytes.now) lines
         × Tells (length (workers_in (setup_view setup.now).job)) lines told) }
-    ensures fault { (refused : List NotedIs) (rows : List RowIs) → IfErr result
-        (IsFaultOf (setup_view setup.now) setup.now.job.dag.order refused rows
+    ensures fault { (begin : Begin) (refused : List NotedIs) (rows : List RowIs) → IfErr result
+        (IsFaultOf begin (setup_view setup.now) setup.now.job.dag.order refused rows
         (records_of bytes.now)) }
 {
     let mut records = TextRecords::of(alloc, bytes);
@@ -53,8 +55,9 @@ fn read_records(
     ensures ok { IfOk result (λ told. (lines : List LineIs) ×
         AreInShape (setup_view setup.now).job records.old lines
         × Tells (length (workers_in (setup_view setup.now).job)) lines told) }
-    ensures fault { (refused : List NotedIs) (rows : List RowIs) → IfErr result
-        (IsFaultOf (setup_view setup.now) setup.now.job.dag.order refused rows records.old) }
+    ensures fault { (begin : Begin) (refused : List NotedIs) (rows : List RowIs) → IfErr result
+        (IsFaultOf begin (setup_view setup.now) setup.now.job.dag.order refused rows
+        records.old) }
 {
     if !records.next(cells)? {
         return Err(AuditFault::Shape(0));
@@ -79,8 +82,8 @@ fn read_lines(
     ensures ok { OnOk result ((lines : List LineIs) ×
         AreInShape (setup_view setup.now).job (audit_header ∷ records.old) lines
         × Tells (length (workers_in (setup_view setup.now).job)) lines told.new) }
-    ensures fault { (refused : List NotedIs) (rows : List RowIs) → IfErr result
-        (IsFaultOf (setup_view setup.now) setup.now.job.dag.order refused rows
+    ensures fault { (begin : Begin) (refused : List NotedIs) (rows : List RowIs) → IfErr result
+        (IsFaultOf begin (setup_view setup.now) setup.now.job.dag.order refused rows
         (audit_header ∷ records.old)) }
 {
     let mut group = 0;

@@ -6,7 +6,7 @@ use Rattle.jobs.specs.Nodes.{is_source_node}
 use Rattle.jobs.specs.JobView.{JobView}
 use Rattle.sink_journal.specs.declared.journal.Entry.{Entry}
 use Rattle.tuple_trace.specs.declared.row.Row.{Row}
-use Rattle.flow_model.specs.Begin.{at_first}
+use Rattle.flow_model.specs.Begin.{Begin}
 use Rattle.flow_model.specs.Lanes.{lanes, lanes_in, senders}
 use Rattle.flow_model.specs.SetupView.{SetupView, Worker}
 use Rattle.flow_model.specs.declared.topology.Lane.{Lane}
@@ -23,11 +23,11 @@ use Rattle.audit_laws.specs.Trimmed.{trimmed}
 use Rattle.audit_laws.proofs.TrimLemmas.{MetOn, ShowSame, same_journal}
 
 -- the journal of a worker shows what its lanes bring
-pub record IsConservedAt (setup : SetupView) (rows : List Row) (journals : List (List Entry)) (w : ℕ) : Type 0 where
+pub record IsConservedAt (begin : Begin) (setup : SetupView) (rows : List Row) (journals : List (List Entry)) (w : ℕ) : Type 0 where
   pub journal : List Entry
   pub there : slice_get journals w ≡ Some journal
   pub met : MetOn (lanes_in setup.job w) journal
-  pub conserved : ShowsDelivered setup rows journals w journal
+  pub conserved : ShowsDelivered begin setup rows journals w journal
 
 -- the sender of a lane is the feeder, or a worker of the node that the lane leaves
 pub sender_stands : (job : JobView) (node : ℕ) (sender : Option ℕ) → IsIn sender (senders job node)
@@ -50,16 +50,16 @@ IsClosed setup connected Done =
     (w s : ℕ) (who sender : Worker) → slice_get (workers_in setup.job) w ≡ Some who → slice_get (workers_in setup.job) s ≡ Some sender → connected.rank sender.node < connected.rank who.node
     → Done w → Done s
 
-module _ (setup : SetupView) (connected : IsConnected setup.job) (rows : List Row) (A B : List (List Entry)) (Done : ℕ → Type 0) (closed : IsClosed setup connected Done)
-    (a : (w : ℕ) → Done w → IsConservedAt setup rows A w) (b : (w : ℕ) → Done w → IsConservedAt setup rows B w)
+module _ (begin : Begin) (setup : SetupView) (connected : IsConnected setup.job) (rows : List Row) (A B : List (List Entry)) (Done : ℕ → Type 0) (closed : IsClosed setup connected Done)
+    (a : (w : ℕ) → Done w → IsConservedAt begin setup rows A w) (b : (w : ℕ) → Done w → IsConservedAt begin setup rows B w)
     (same : (w : ℕ) → Done w → option_map trimmed (slice_get A w) ≡ option_map trimmed (slice_get B w))
   where
     -- a lane brings the same, where its sender's journal is the same
     brings : (lane : Lane) (o : Option ℕ) → ((s : ℕ) → o ≡ Some s → slice_get A s ≡ slice_get B s)
-        → put_by (at_first setup) rows (ran_as setup (feed_of setup rows) A []) lane o ≡ put_by (at_first setup) rows (ran_as setup (feed_of setup rows) B []) lane o
+        → put_by begin rows (ran_as setup (feed_of begin setup rows) A []) lane o ≡ put_by begin rows (ran_as setup (feed_of begin setup rows) B []) lane o
     brings lane None h = refl
     brings lane (Some s) h =
-        ap (λ (j : Option (List Entry)). sent_by setup (at_first setup) lane (slice_get (workers_in setup.job) s) (slice_get (at_first setup).states s) j) (h s refl)
+        ap (λ (j : Option (List Entry)). sent_by setup begin lane (slice_get (workers_in setup.job) s) (slice_get begin.states s) j) (h s refl)
 
     -- what is so of each worker of an earlier node that is among them
     abbrev Before : ℕ → Type 0
@@ -86,21 +86,21 @@ module _ (setup : SetupView) (connected : IsConnected setup.job) (rows : List Ro
         by_sender bound k.edge.from s k.lane.sender h (sender_stands setup.job k.edge.from k.lane.sender k.sends) (sym (ap (λ (l : Lane). l.sender) one) ∙ e)
         (λ sender there node. closed w s who sender p there (let same : connected.rank sender.node ≡ connected.rank k.edge.from = ap connected.rank node in omega arith) d) (omega arith)
 
-    shows : (w : ℕ) (x : IsConservedAt setup rows A w) (y : IsConservedAt setup rows B w)
+    shows : (w : ℕ) (x : IsConservedAt begin setup rows A w) (y : IsConservedAt begin setup rows B w)
         → ((n : ℕ) (lane : Lane) → slice_get (lanes setup.job) n ≡ Some lane → lane.receiver ≡ w → (s : ℕ) → lane.sender ≡ Some s → slice_get A s ≡ slice_get B s)
         → ShowSame setup (lanes_in setup.job w) x.journal y.journal
     shows w x y senders n i =
         let l = in_lanes_that (λ (lane : Lane). lane.receiver == w) setup.job n i in
         let r : l.0.receiver ≡ w = eqb-true l.0.receiver w l.2 in
-        let u : delivered setup rows A l.0 ≡ Some (shown setup n x.journal) = x.conserved n l.0 l.1 r in
-        let v : delivered setup rows B l.0 ≡ Some (shown setup n y.journal) = y.conserved n l.0 l.1 r in
+        let u : delivered begin setup rows A l.0 ≡ Some (shown setup n x.journal) = x.conserved n l.0 l.1 r in
+        let v : delivered begin setup rows B l.0 ≡ Some (shown setup n y.journal) = y.conserved n l.0 l.1 r in
         same_Some (shown setup n x.journal) (shown setup n y.journal) (sym u ∙ (brings l.0 l.0.sender (senders n l.0 l.1 r) ∙ v))
 
     below : (bound w : ℕ) (who : Worker) → slice_get (workers_in setup.job) w ≡ Some who → Done w → connected.rank who.node < bound → slice_get A w ≡ slice_get B w
     below zero w who p d lt = absurd (omega arith)
     below (suc bound) w who p d lt =
-        let x : IsConservedAt setup rows A w = a w d in
-        let y : IsConservedAt setup rows B w = b w d in
+        let x : IsConservedAt begin setup rows A w = a w d in
+        let y : IsConservedAt begin setup rows B w = b w d in
         let e : Some (trimmed x.journal) ≡ Some (trimmed y.journal) = sym (ap (option_map trimmed) x.there) ∙ (same w d ∙ ap (option_map trimmed) y.there) in
         let t : trimmed x.journal ≡ trimmed y.journal = same_Some (trimmed x.journal) (trimmed y.journal) e in
         let s : ShowSame setup (lanes_in setup.job w) x.journal y.journal = shows w x y (earlier bound w who p d lt (λ s q. below bound s q)) in

@@ -18,19 +18,19 @@ bare (entry.Turned r) = entry.Turned r
 bare (entry.Ended l) = entry.Ended l
 
 -- every tuple was issued as the feed says of its row
-abbrev pub IssuedRight : List Feed → List Entry → Type 0
-IssuedRight feeds xs = (l : ℕ) (t : Tuple) → IsIn (entry.Met l t) xs → t.issued ≡ issued_before t.row 0 feeds
+abbrev pub IssuedRight : ℕ → List Feed → List Entry → Type 0
+IssuedRight issued feeds xs = (l : ℕ) (t : Tuple) → IsIn (entry.Met l t) xs → t.issued ≡ issued_before t.row issued feeds
 
-draft_bare : (feeds : List Feed) (x : Entry) → ((l : ℕ) (t : Tuple) → entry.Met l t ≡ x → t.issued ≡ issued_before t.row 0 feeds) → draft feeds (trim x) ≡ bare x
-draft_bare feeds (entry.Met l t) h = λ i. entry.Met l (record { row = t.row; birth = t.birth; issued = sym (h l t refl) i; fields = []; trace = [] })
-draft_bare feeds (entry.Marked l r) h = refl
-draft_bare feeds (entry.Turned r) h = refl
-draft_bare feeds (entry.Ended l) h = refl
+draft_bare : (issued : ℕ) (feeds : List Feed) (x : Entry) → ((l : ℕ) (t : Tuple) → entry.Met l t ≡ x → t.issued ≡ issued_before t.row issued feeds) → draft issued feeds (trim x) ≡ bare x
+draft_bare issued feeds (entry.Met l t) h = λ i. entry.Met l (record { row = t.row; birth = t.birth; issued = sym (h l t refl) i; fields = []; trace = [] })
+draft_bare issued feeds (entry.Marked l r) h = refl
+draft_bare issued feeds (entry.Turned r) h = refl
+draft_bare issued feeds (entry.Ended l) h = refl
 
-drafted_bare : (feeds : List Feed) (xs : List Entry) → IssuedRight feeds xs → drafted feeds (trimmed xs) ≡ map bare xs
-drafted_bare feeds [] h = refl
-drafted_bare feeds (x ∷ xs) h =
-    ap₂ (λ (y : Entry) (ys : List Entry). y ∷ ys) (draft_bare feeds x (λ l t e. h l t (inl e))) (drafted_bare feeds xs (λ l t i. h l t (inr i)))
+drafted_bare : (issued : ℕ) (feeds : List Feed) (xs : List Entry) → IssuedRight issued feeds xs → drafted issued feeds (trimmed xs) ≡ map bare xs
+drafted_bare issued feeds [] h = refl
+drafted_bare issued feeds (x ∷ xs) h =
+    ap₂ (λ (y : Entry) (ys : List Entry). y ∷ ys) (draft_bare issued feeds x (λ l t e. h l t (inl e))) (drafted_bare issued feeds xs (λ l t i. h l t (inr i)))
 
 in_time : (duties : Duties) (t u : Tuple) (o : Option ℕ) → t.issued ≡ u.issued → IsInTime duties t o → IsInTime duties u o
 in_time duties t u None e h = tt
@@ -85,8 +85,8 @@ bare_finished duties xs h =
     }
 
 -- a journal is finished exactly if its draft is
-pub draft_finished : (duties : Duties) (feeds : List Feed) (xs : List Entry) → IssuedRight feeds xs → IsFinished duties xs → IsFinished duties (drafted feeds (trimmed xs))
-draft_finished duties feeds xs right h = subst (IsFinished duties) (sym (drafted_bare feeds xs right)) (finished_bare duties xs h)
+pub draft_finished : (duties : Duties) (issued : ℕ) (feeds : List Feed) (xs : List Entry) → IssuedRight issued feeds xs → IsFinished duties xs → IsFinished duties (drafted issued feeds (trimmed xs))
+draft_finished duties issued feeds xs right h = subst (IsFinished duties) (sym (drafted_bare issued feeds xs right)) (finished_bare duties xs h)
 
-pub finished_draft : (duties : Duties) (feeds : List Feed) (xs : List Entry) → IssuedRight feeds xs → IsFinished duties (drafted feeds (trimmed xs)) → IsFinished duties xs
-finished_draft duties feeds xs right h = bare_finished duties xs (subst (IsFinished duties) (drafted_bare feeds xs right) h)
+pub finished_draft : (duties : Duties) (issued : ℕ) (feeds : List Feed) (xs : List Entry) → IssuedRight issued feeds xs → IsFinished duties (drafted issued feeds (trimmed xs)) → IsFinished duties xs
+finished_draft duties issued feeds xs right h = bare_finished duties xs (subst (IsFinished duties) (drafted_bare issued feeds xs right) h)

@@ -1,6 +1,7 @@
 -- A feed names rows and requests that there are.
-use Rattle.std.proofs.Common.{◌≡◌, ◌≤◌, ◌+◌, ◌-◌, ◌++◌, ◌==◌, ℕ, zero, suc, List, [], ◌∷◌, inl, inr, sym, subst, arith, true, false, Bool, cond, length}
-use Rattle.std.specs.Prelude.{min, nat_le}
+use Rattle.std.proofs.Common.{◌<◌, ◌≤◌, ◌+◌, ◌-◌, ◌==◌, ℕ, zero, suc, List, [], ◌∷◌, inl, inr, sym, subst, arith, true, false, Bool, cond, length}
+use Rattle.std.specs.Prelude.{drop, min, nat_le}
+use Rattle.std.proofs.lemmas.List.{length-drop}
 use Rattle.sink_journal.specs.declared.journal.Feed.{Feed}
 use Rattle.sink_journal.specs.declared.journal.Feed.TheVariants as feed
 use Rattle.flow_model.specs.Feeding.{feed_after, feed_from, issued_after, issued_at_first, issued_where}
@@ -12,19 +13,26 @@ IsAmong rows requests (feed.Fed row) = row ≤ rows
 IsAmong rows requests (feed.Issued request) = request ≤ requests
 IsAmong rows requests feed.Stopped = Unit {0}
 
-issued_among : (test : ℕ → Bool) (rows total r requests : ℕ) (waits : List ℕ) (x : Feed) → r + length waits ≤ requests + 1
+-- the requests from this one on that wait are among so many
+abbrev FewWait : ℕ → ℕ → List ℕ → Type 0
+FewWait r requests waits = (k : ℕ) → k < length waits → r + k ≤ requests
+
+fewer_wait : (r requests wait : ℕ) (waits : List ℕ) → FewWait r requests (wait ∷ waits) → FewWait (r + 1) requests waits
+fewer_wait r requests wait waits few k lt = let le = few (suc k) (omega (arith, lt)) in omega (arith, le)
+
+issued_among : (test : ℕ → Bool) (rows total r requests : ℕ) (waits : List ℕ) (x : Feed) → FewWait r requests waits
     → IsIn x (issued_where test total r waits) → IsAmong rows requests x
-issued_among test rows total r requests [] x le i = absurd i
-issued_among test rows total r requests (wait ∷ waits) x le i =
-    go (test (min wait total)) i (λ j. issued_among test rows total (r + 1) requests waits x (omega (arith, le)) j)
+issued_among test rows total r requests [] x few i = absurd i
+issued_among test rows total r requests (wait ∷ waits) x few i =
+    go (test (min wait total)) i (λ j. issued_among test rows total (r + 1) requests waits x (fewer_wait r requests wait waits few) j)
   where
     go : (b : Bool) → IsIn x (cond b (feed.Issued r ∷ issued_where test total (r + 1) waits) (issued_where test total (r + 1) waits))
         → (IsIn x (issued_where test total (r + 1) waits) → IsAmong rows requests x) → IsAmong rows requests x
-    go true (inl e) later = subst (IsAmong rows requests) (sym e) (omega (arith, le))
+    go true (inl e) later = subst (IsAmong rows requests) (sym e) (let le = few 0 (omega arith) in omega (arith, le))
     go true (inr j) later = later j
     go false j later = later j
 
-after_among : (waits : List ℕ) (r row rows total left requests : ℕ) (x : Feed) → row + left ≤ rows → r + length waits ≤ requests + 1
+after_among : (waits : List ℕ) (r row rows total left requests : ℕ) (x : Feed) → left ≤ rows - row → FewWait r requests waits
     → IsIn x (feed_after waits r row total left) → IsAmong rows requests x
 after_among waits r row rows total zero requests x le few (inl e) = subst (IsAmong rows requests) (sym e) tt
 after_among waits r row rows total zero requests x le few (inr n) = absurd n
@@ -36,12 +44,14 @@ after_among waits r row rows total (suc left) requests x le few (inr i) =
     ]
 
 -- the feed of so many rows feeds only these, and issues only the requests that wait
-pub feed_among : (waits : List ℕ) (rows : ℕ) (x : Feed) → IsIn x (feed_from 0 0 waits rows) → IsAmong rows (length waits) x
-feed_among waits rows x i =
-    let less : rows - 0 ≡ rows = omega arith in
-    let j : IsIn x (issued_at_first 0 rows 1 waits ++ feed_after waits 1 0 rows rows) =
-    subst (λ left. IsIn x (issued_at_first 0 rows 1 waits ++ feed_after waits 1 0 rows left)) less i in
-    elim (in_cases x (issued_at_first 0 rows 1 waits) (feed_after waits 1 0 rows rows) j) [
-      | inl a ↦ issued_among (λ after. nat_le after 0) rows rows 1 (length waits) waits x (omega arith) a
-      | inr b ↦ after_among waits 1 0 rows rows rows (length waits) x (omega arith) (omega arith) b
+pub feed_among : (row issued : ℕ) (waits : List ℕ) (rows : ℕ) (x : Feed) → IsIn x (feed_from row issued waits rows)
+    → IsAmong rows (length waits) x
+feed_among row issued waits rows x i =
+    let left = drop issued waits in
+    elim (in_cases x (issued_at_first row rows (issued + 1) left) (feed_after left (issued + 1) row rows (rows - row)) i) [
+      | inl a ↦ issued_among (λ after. nat_le after row) rows rows (issued + 1) (length waits) left x few a
+      | inr b ↦ after_among left (issued + 1) row rows rows (rows - row) (length waits) x (omega arith) few b
     ]
+  where
+    few : FewWait (issued + 1) (length waits) (drop issued waits)
+    few k lt = omega (arith, lt, length-drop issued waits)

@@ -1,6 +1,6 @@
 -- The lines of a run have their form.
 use Rattle.std.proofs.Common.{◌≡◌, ◌∙◌, ◌<◌, ◌+◌, ◌^◌, ◌++◌, ℕ, suc, List, [], ◌∷◌, inl, inr, refl, sym, ap, subst, arith, All, length, map, Some, slice_get, option_map}
-use Rattle.std.specs.FinMap.{empty, entries}
+use Rattle.std.specs.FinMap.{entries}
 use Rattle.std.proofs.lemmas.List.{length-map}
 use Rattle.std.proofs.lemmas.Option.{same_Some, slice_get-map, slice_get_within}
 use Rattle.jobs.specs.Law.{IsLawful}
@@ -13,7 +13,7 @@ use Rattle.sink_journal.specs.declared.journal.Feed.TheVariants as feed
 use Rattle.tuple_trace.specs.Rows.{AreRows}
 use Rattle.tuple_trace.specs.declared.row.Row.{Row}
 use Rattle.versions.specs.Kept.{KeepKinds}
-use Rattle.flow_model.specs.Begin.{at_first, view_at}
+use Rattle.flow_model.specs.Begin.{Begin, view_at}
 use Rattle.flow_model.specs.Law.{initial}
 use Rattle.flow_model.specs.SetupView.{SetupView}
 use Rattle.flow_model.specs.Requests.{afters}
@@ -28,15 +28,17 @@ use Rattle.audit_laws.specs.declared.audit.Line.{Line}
 use Rattle.audit_laws.specs.declared.audit.Line.TheVariants as line
 use Rattle.audit_laws.specs.Delivered.{feed_of}
 use Rattle.audit_laws.specs.Faults.{Listed}
-use Rattle.audit_laws.specs.Lines.{IsEntryAt, IsLine, IsNoted, IsStep, lines_from, lines_of, worker_lines}
+use Rattle.audit_fault.specs.Noting.{IsNoted}
+use Rattle.audit_laws.specs.Lines.{IsEntryAt, IsLine, IsStep, lines_from, lines_of, worker_lines}
 use Rattle.audit_laws.specs.Names.{named_workers}
+use Rattle.audit_laws.specs.Range.{BeginsInRange}
 use Rattle.audit_laws.specs.Trimmed.{trim, trimmed}
 use Rattle.audit_laws.proofs.EachTupleLemmas.{HasEach}
 use Rattle.audit_laws.proofs.FedLemmas.{IsAmong, feed_among}
 use Rattle.audit_laws.proofs.LawfulLemmas.{Names, law_names}
 use Rattle.audit_laws.proofs.NarrowLemmas.{IsNarrow, each_narrow}
 use Rattle.audit_laws.proofs.OneRunLemmas.{Left, left_of, conserved_by_run}
-use Rattle.audit_laws.proofs.RangeLemmas.{AreInRange, all_range, empty_range}
+use Rattle.audit_laws.proofs.RangeLemmas.{EachInRange, all_range, begin_range}
 use Rattle.audit_laws.proofs.TextLemmas.{length-named}
 
 -- ---- where a line stands
@@ -62,9 +64,9 @@ of_image f xs k y g =
     let x = item_at xs k (omega (arith, lt, length-map xs f)) in
     (x.0, x.1, same_Some y (f x.0) (sym g ∙ (slice_get-map f xs k ∙ ap (option_map f) x.1)))
 
-module _ (setup : SetupView) (law : IsLawful setup.job) (connected : IsConnected setup.job) (kinds : KeepKinds setup.job setup.requests)
+module _ (begin : Begin) (begins : BeginsInRange begin) (setup : SetupView) (law : IsLawful setup.job) (connected : IsConnected setup.job) (kinds : KeepKinds setup.job setup.requests)
     (few_plans : length setup.plans < 2 ^ 64) (few_requests : length setup.requests < 2 ^ 64) (rows : List Row) (are : AreRows rows) (few_rows : length rows < 2 ^ 64)
-    (journals : List (List Entry)) (states : List Counts) (run : IsRunFrom (at_first setup) rows (ran_as setup (feed_of setup rows) journals states))
+    (journals : List (List Entry)) (states : List Counts) (run : IsRunFrom begin rows (ran_as setup (feed_of begin setup rows) journals states))
   where
     feed_form : (x : Feed) → IsAmong (length rows) (length (afters setup.requests)) x → IsStep x
     feed_form (feed.Fed row) among = let le = among in omega arith
@@ -85,7 +87,7 @@ module _ (setup : SetupView) (law : IsLawful setup.job) (connected : IsConnected
     worker_form w journal state y j s i =
         let lt : w < length (workers_in setup.job) = let l = slice_get_within journals w journal j in omega (arith, l, run.one_journal_each) in
         let p = item_at (workers_in setup.job) w lt in
-        let here : Left setup rows journals states run w p.0 = left_of setup rows journals states run w p.0 p.1 in
+        let here : Left begin setup rows journals states run w p.0 = left_of begin setup rows journals states run w p.0 p.1 in
         let number : p.0.number ≡ w = (worker_with setup.job w p.0 p.1).0 in
         let one : here.journal ≡ journal = same_Some here.journal journal (sym here.journal_there ∙ j) in
         let two : here.state ≡ state = same_Some here.state state (sym here.state_there ∙ s) in
@@ -96,32 +98,33 @@ module _ (setup : SetupView) (law : IsLawful setup.job) (connected : IsConnected
               let x = in_map trim e.0 journal e.1 in
               let names : Names setup w x.0 =
               subst (λ v. Names setup v x.0) number
-              (law_names setup p.0 (initial (duties setup 0 p.0)) here.journal x.0 law here.worked.finished.lawful.execution (λ r k. k) (subst (λ (l : List Entry). IsIn x.0 l) (sym one) x.1)) in
+              (law_names setup begin.turned p.0 (initial (duties setup begin.turned p.0)) here.journal x.0 law here.worked.finished.lawful.execution (λ r k. k) (subst (λ (l : List Entry). IsIn x.0 l) (sym one) x.1)) in
               let narrow : HasEach (IsNarrow (length rows)) journal =
-              each_narrow setup law connected kinds rows are journals (conserved_by_run setup rows journals states run) w p.0 journal p.1 j in
+              each_narrow begin setup law connected kinds rows are journals (conserved_by_run begin setup rows journals states run) w p.0 journal p.1 j in
               let form : IsEntryAt setup.job w e.0 = subst (IsEntryAt setup.job w) (sym x.2) (entry_form w journal x.0 names narrow x.1) in
               subst (IsLine setup.job) (sym e.2) (named, form)
           | inr b ↦
               let c = in_map (λ counted. line.State w counted.0 counted.1) y (entries state) b in
-              let last : state ≡ final_counts setup (at_first setup) p.0 empty here.journal = sym two ∙ here.worked.state_is in
-              let range : AreInRange (entries state) =
-              subst (λ (counts : Counts). AreInRange (entries counts)) (sym last) (all_range setup p.0 (view_at setup 0 p.0 empty) here.journal empty_range) in
+              let last : state ≡ final_counts setup begin p.0 here.counts here.journal = sym two ∙ here.worked.state_is in
+              let range : EachInRange (entries state) =
+              subst (λ (counts : Counts). EachInRange (entries counts)) (sym last)
+              (all_range setup p.0 (view_at setup begin.turned p.0 here.counts) here.journal (begin_range begin.states w here.counts begins here.begins)) in
               subst (IsLine setup.job) (sym c.2) (named, range c.0 c.1)
         ]
 
     -- the lines of a run have their form, if the refused requests are noted as they are to be
-    pub run_form : (refused : List Noted) → All IsNoted refused → All (IsLine setup.job) (lines_of refused (feed_of setup rows) (map trimmed journals) (map entries states))
+    pub run_form : (refused : List Noted) → All IsNoted refused → All (IsLine setup.job) (lines_of refused (feed_of begin setup rows) (map trimmed journals) (map entries states))
     run_form refused noted =
-        all_of_at (IsLine setup.job) (lines_of refused (feed_of setup rows) (map trimmed journals) (map entries states)) (λ y i.
-        elim (in_cases y (map line.Refused refused) (map line.Feed (feed_of setup rows) ++ lines_from 0 (map trimmed journals) (map entries states)) i) [
+        all_of_at (IsLine setup.job) (lines_of refused (feed_of begin setup rows) (map trimmed journals) (map entries states)) (λ y i.
+        elim (in_cases y (map line.Refused refused) (map line.Feed (feed_of begin setup rows) ++ lines_from 0 (map trimmed journals) (map entries states)) i) [
           | inl a ↦
               let r = in_map line.Refused y refused a in
               subst (IsLine setup.job) (sym r.2) (at_of_all IsNoted r.0 refused noted r.1)
           | inr b ↦
-              elim (in_cases y (map line.Feed (feed_of setup rows)) (lines_from 0 (map trimmed journals) (map entries states)) b) [
+              elim (in_cases y (map line.Feed (feed_of begin setup rows)) (lines_from 0 (map trimmed journals) (map entries states)) b) [
                 | inl c ↦
-                    let r = in_map line.Feed y (feed_of setup rows) c in
-                    subst (IsLine setup.job) (sym r.2) (feed_form r.0 (feed_among (afters setup.requests) (length rows) r.0 r.1))
+                    let r = in_map line.Feed y (feed_of begin setup rows) c in
+                    subst (IsLine setup.job) (sym r.2) (feed_form r.0 (feed_among begin.row begin.turned (afters setup.requests) (length rows) r.0 r.1))
                 | inr d ↦
                     let r = in_workers 0 (map trimmed journals) (map entries states) y d in
                     let j = of_image trimmed journals r.0 r.1 r.3 in

@@ -1,6 +1,5 @@
 -- In journals that are tied to those of their senders every tuple was issued as the feed says of its row.
 use Rattle.std.proofs.Common.{◌≡◌, ◌∙◌, ◌<◌, ◌+◌, ◌++◌, ◌==◌, ℕ, List, [], ◌∷◌, inl, inr, refl, sym, ap, arith, cond, length, Some, None, Option, slice_get}
-use Rattle.std.specs.FinMap.{empty}
 use Rattle.std.proofs.lemmas.Bool.{eq-eqb, ne_eqb}
 use Rattle.jobs.specs.JobView.{JobView}
 use Rattle.operators.specs.Laws.{IsMadeOf}
@@ -14,7 +13,7 @@ use Rattle.tuple_trace.specs.Rows.{AreRows}
 use Rattle.tuple_trace.specs.declared.row.Row.{Row}
 use Rattle.tuple_trace.specs.declared.tuple.Item.TheVariants as item
 use Rattle.tuple_trace.specs.declared.tuple.Tuple.{Tuple}
-use Rattle.flow_model.specs.Begin.{view_at}
+use Rattle.flow_model.specs.Begin.{Begin, view_at}
 use Rattle.flow_model.specs.Feeding.{fed, fed_put, fed_puts, fed_tuple, row_at}
 use Rattle.flow_model.specs.SetupView.{SetupView, Worker}
 use Rattle.flow_model.specs.declared.topology.Lane.{Lane}
@@ -108,21 +107,21 @@ carried_sent setup who view lane (x ∷ xs) t i =
 
 -- ---- all workers
 
-module _ (setup : SetupView) (connected : IsConnected setup.job) (rows : List Row) (are : AreRows rows) (journals : List (List Entry))
-    (conserved : (w : ℕ) (who : Worker) → slice_get (workers_in setup.job) w ≡ Some who → IsConservedAt setup rows journals w)
+module _ (begin : Begin) (setup : SetupView) (connected : IsConnected setup.job) (rows : List Row) (are : AreRows rows) (journals : List (List Entry))
+    (conserved : (w : ℕ) (who : Worker) → slice_get (workers_in setup.job) w ≡ Some who → IsConservedAt begin setup rows journals w)
   where
     abbrev IsRight : Tuple → Type 0
-    IsRight t = t.issued ≡ issued_before t.row 0 (feed_of setup rows)
+    IsRight t = t.issued ≡ issued_before t.row begin.turned (feed_of begin setup rows)
 
-    right_fed : (lane : Lane) (t : Tuple) → IsIn (item.Carry t) (fed setup.job rows 0 lane (feed_of setup rows)) → IsRight t
+    right_fed : (lane : Lane) (t : Tuple) → IsIn (item.Carry t) (fed setup.job rows begin.turned lane (feed_of begin setup rows)) → IsRight t
     right_fed lane t i =
-        let p = in_items lane (fed_puts setup.job rows 0 (feed_of setup rows)) (item.Carry t) i in
-        (put_issued setup.job rows 0 0 (feed_of setup rows) p.0 t are (feed_rises 0 0 (afters setup.requests) (length rows)) p.1 (sym p.3)).1
+        let p = in_items lane (fed_puts setup.job rows begin.turned (feed_of begin setup rows)) (item.Carry t) i in
+        (put_issued setup.job rows begin.row begin.turned (feed_of begin setup rows) p.0 t are (feed_rises begin.row begin.turned (afters setup.requests) (length rows)) p.1 (sym p.3)).1
 
-    right_sent : (who : Worker) (journal : List Entry) → SendsEach setup IsRight who journal
-    right_sent who journal h lane t i =
-        let k : IsSentOf journal t = carried_sent setup who (view_at setup 0 who empty) lane journal t i in
-        k.issued ∙ (h k.lane k.tuple k.met ∙ ap (λ n. issued_before n 0 (feed_of setup rows)) (sym k.row))
+    right_sent : (who : Worker) (journal : List Entry) → SendsEach begin setup IsRight who journal
+    right_sent who journal h counts lane t i =
+        let k : IsSentOf journal t = carried_sent setup who (view_at setup begin.turned who counts) lane journal t i in
+        k.issued ∙ (h k.lane k.tuple k.met ∙ ap (λ n. issued_before n begin.turned (feed_of begin setup rows)) (sym k.row))
 
-    pub issued_right : (w : ℕ) (who : Worker) (journal : List Entry) → slice_get (workers_in setup.job) w ≡ Some who → slice_get journals w ≡ Some journal → IssuedRight (feed_of setup rows) journal
-    issued_right = each_tuple setup connected rows journals conserved IsRight right_fed (λ w who journal p j. right_sent who journal)
+    pub issued_right : (w : ℕ) (who : Worker) (journal : List Entry) → slice_get (workers_in setup.job) w ≡ Some who → slice_get journals w ≡ Some journal → IssuedRight begin.turned (feed_of begin setup rows) journal
+    issued_right = each_tuple begin setup connected rows journals conserved IsRight right_fed (λ w who journal p j. right_sent who journal)

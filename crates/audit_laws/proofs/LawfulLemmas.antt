@@ -42,16 +42,16 @@ Names setup w (entry.Marked l r) = LeadsTo setup.job w l × (r ≤ length setup.
 Names setup w (entry.Turned r) = r ≤ length setup.plans
 Names setup w (entry.Ended l) = LeadsTo setup.job w l
 
-numbers_below : (first count r : ℕ) → IsIn r (numbers_from first count) → r < first + count
+numbers_below : (first count r : ℕ) → IsIn r (numbers_from first count) → (0 < count) × (r < first + count)
 numbers_below first zero r i = absurd i
-numbers_below first (suc count) r (inl e) = omega arith
-numbers_below first (suc count) r (inr i) = let lt = numbers_below (first + 1) count r i in omega arith
+numbers_below first (suc count) r (inl e) = (omega arith, omega arith)
+numbers_below first (suc count) r (inr i) = let lt = (numbers_below (first + 1) count r i).1 in (omega arith, omega arith)
 
-due_within : (setup : SetupView) (node r : ℕ) → IsIn r (dues_after setup 0 node) → r ≤ length setup.plans
-due_within setup node r i =
-    let j = (in_filter (λ r. covers setup r node) r (numbers_from (0 + 1) (length setup.plans - 0)) i).0 in
-    let lt = numbers_below (0 + 1) (length setup.plans - 0) r j in
-    omega arith
+due_within : (setup : SetupView) (turned node r : ℕ) → IsIn r (dues_after setup turned node) → r ≤ length setup.plans
+due_within setup turned node r i =
+    let j = (in_filter (λ r. covers setup r node) r (numbers_from (turned + 1) (length setup.plans - turned)) i).0 in
+    let few = numbers_below (turned + 1) (length setup.plans - turned) r j in
+    omega (arith, few.0, few.1)
 
 lane_leads : (job : JobView) (w l : ℕ) → IsLawful job → IsIn l (lanes_in job w) → LeadsTo job w l
 lane_leads job w l law i =
@@ -68,13 +68,13 @@ marked_leads setup w r l law i =
     (omega arith, k.0, k.1, eqb-true k.0.receiver w (and_parts (k.0.receiver == w) (covers_edge setup r k.0.edge) k.2).0)
 
 -- the entries of a lawful journal name lanes into their worker, and requests of the setup
-pub law_names : (setup : SetupView) (who : Worker) (progress : Progress) (xs : List Entry) (x : Entry) → IsLawful setup.job
-    → IsExecution (duties setup 0 who) progress xs → ((r : ℕ) → IsIn r progress.dues → IsIn r (dues_after setup 0 who.node)) → IsIn x xs → Names setup who.number x
-law_names setup who progress xs x law f due i =
-    let q = enabled_at (duties setup 0 who) progress xs x f i in
-    go x q.0 q.1 (λ r j. due_within setup who.node r (due r (q.2 r j)))
+pub law_names : (setup : SetupView) (turned : ℕ) (who : Worker) (progress : Progress) (xs : List Entry) (x : Entry) → IsLawful setup.job
+    → IsExecution (duties setup turned who) progress xs → ((r : ℕ) → IsIn r progress.dues → IsIn r (dues_after setup turned who.node)) → IsIn x xs → Names setup who.number x
+law_names setup turned who progress xs x law f due i =
+    let q = enabled_at (duties setup turned who) progress xs x f i in
+    go x q.0 q.1 (λ r j. due_within setup turned who.node r (due r (q.2 r j)))
   where
-    go : (x : Entry) (p : Progress) → IsEnabled (duties setup 0 who) p x → ((r : ℕ) → IsIn r p.dues → r ≤ length setup.plans) → Names setup who.number x
+    go : (x : Entry) (p : Progress) → IsEnabled (duties setup turned who) p x → ((r : ℕ) → IsIn r p.dues → r ≤ length setup.plans) → Names setup who.number x
     go (entry.Met l t) p h few = lane_leads setup.job who.number l law (in_of_contains l (lanes_in setup.job who.number) h.0)
     go (entry.Marked l r) p h few = (
       marked_leads setup who.number r l law (in_of_contains l (marked_lanes setup who.number r) h.1),

@@ -1,6 +1,5 @@
 -- The rows and births of the tuples of a run are in the ranges of their types.
-use Rattle.std.proofs.Common.{◌≡◌, ◌∙◌, ◌≤◌, ℕ, zero, suc, List, [], inl, refl, sym, ap, subst, arith, length, true, false, Bool, cond, ◌==◌, Some, slice_get}
-use Rattle.std.specs.FinMap.{empty}
+use Rattle.std.proofs.Common.{◌≡◌, ◌∙◌, ◌≤◌, ℕ, zero, suc, List, [], inl, inr, refl, sym, ap, subst, arith, length, true, false, Bool, cond, ◌==◌, None, Option, Some, slice_get}
 use Rattle.std.proofs.lemmas.Option.{slice_get_within}
 use Rattle.jobs.specs.Law.{IsLawful}
 use Rattle.jobs.specs.Nodes.{fan_out, most_roof}
@@ -20,11 +19,13 @@ use Rattle.tuple_trace.specs.declared.tuple.Item.{Item}
 use Rattle.tuple_trace.specs.declared.tuple.Item.TheVariants as item
 use Rattle.tuple_trace.specs.declared.tuple.Tuple.{Tuple}
 use Rattle.versions.specs.Kept.{KeepKinds}
+use Rattle.versions.specs.declared.request.Change.{Change}
 use Rattle.flow_model.specs.declared.topology.Lane.{Lane}
-use Rattle.flow_model.specs.Begin.{view_at}
+use Rattle.flow_model.specs.Begin.{Begin, view_at}
 use Rattle.flow_model.specs.Feeding.{fed, fed_puts, fed_tuple, row_at}
 use Rattle.flow_model.specs.SetupView.{SetupView, Worker}
 use Rattle.flow_model.specs.Replay.{StateView, Put, put_out, puts, visit_at}
+use Rattle.flow_model.specs.Requests.{change_of, func_after, func_with}
 use Rattle.flow_model.specs.Workers.{workers_in}
 use Rattle.flow_model.proofs.ElementLemmas.{IsIn, all_of_at, in_flat_map, in_map, place_of_in}
 use Rattle.flow_model.proofs.JobLemmas.{IsConnected}
@@ -48,10 +49,10 @@ row_within : (rows : List Row) (number : ℕ) (row : Row) → row_at rows number
 row_within rows zero row g = absurd (cc)
 row_within rows (suc place) row g = let lt = slice_get_within rows place row g in omega arith
 
-narrow_fed : (setup : SetupView) (rows : List Row) → AreRows rows → (lane : Lane) (t : Tuple) → IsIn (item.Carry t) (fed setup.job rows 0 lane (feed_of setup rows)) → IsNarrow (length rows) t
-narrow_fed setup rows are lane t i =
-    let p = in_items lane (fed_puts setup.job rows 0 (feed_of setup rows)) (item.Carry t) i in
-    let r = in_fed_puts setup.job rows 0 (feed_of setup rows) p.0 p.1 in
+narrow_fed : (begin : Begin) (setup : SetupView) (rows : List Row) → AreRows rows → (lane : Lane) (t : Tuple) → IsIn (item.Carry t) (fed setup.job rows begin.turned lane (feed_of begin setup rows)) → IsNarrow (length rows) t
+narrow_fed begin setup rows are lane t i =
+    let p = in_items lane (fed_puts setup.job rows begin.turned (feed_of begin setup rows)) (item.Carry t) i in
+    let r = in_fed_puts setup.job rows begin.turned (feed_of begin setup rows) p.0 p.1 in
     let c : item.Carry t ≡ item.Carry (fed_tuple r.2 r.1) = p.3 ∙ ap (λ (p : Put). p.item) r.4 in
     let same : t ≡ fed_tuple r.2 r.1 = cc in
     let is : IsRow r.0 r.1 = row_is rows r.0 r.1 are r.3 in
@@ -100,7 +101,17 @@ narrow_put rows setup who view (entry.Marked l r) p t fits h i e = absurd i
 narrow_put rows setup who view (entry.Turned r) p t fits h i e = let m = (puts_come setup who view (entry.Turned r) p i).2 in absurd (cc)
 narrow_put rows setup who view (entry.Ended l) p t fits h i e = let m = puts_come setup who view (entry.Ended l) p i in absurd (cc)
 
-module _ (setup : SetupView) (law : IsLawful setup.job) (connected : IsConnected setup.job) (kinds : KeepKinds setup.job setup.requests) where
+-- what is in force at a node that has turned the first requests, it was given
+given_turned : (setup : SetupView) (node : ℕ) (first : Func) (turned : ℕ) → IsGiven setup node first (func_after setup node first turned)
+given_turned setup node first zero = inl refl
+given_turned setup node first (suc r) = go (change_of setup (suc r) node) refl (given_turned setup node first r)
+  where
+    go : (o : Option Change) → change_of setup (suc r) node ≡ o → IsGiven setup node first (func_after setup node first r)
+        → IsGiven setup node first (func_with o (func_after setup node first r))
+    go None e a = a
+    go (Some change) e a = inr (suc r, change, e, refl)
+
+module _ (begin : Begin) (setup : SetupView) (law : IsLawful setup.job) (connected : IsConnected setup.job) (kinds : KeepKinds setup.job setup.requests) where
   fits_given : (node : ℕ) (def : NodeDef) (f : Func) → slice_get setup.job.nodes node ≡ Some def → IsGiven setup node def.func f → Fits setup node f
   fits_given node def f there given =
       let roof = given_roof setup node def f law kinds there given in
@@ -109,14 +120,14 @@ module _ (setup : SetupView) (law : IsLawful setup.job) (connected : IsConnected
       let alike : AreAlike setup.job.edges node def.func f = alike_given setup node def f kinds there given in
       record { pieces = omega arith; ports = alike.ports (connected.ports node def there) }
 
-  narrow_sent : (rows : ℕ) (w : ℕ) (who : Worker) (journal : List Entry) → slice_get (workers_in setup.job) w ≡ Some who → SendsEach setup (IsNarrow rows) who journal
-  narrow_sent rows w who journal p h lane t i =
-      let view : StateView = view_at setup 0 who empty in
+  narrow_sent : (rows : ℕ) (w : ℕ) (who : Worker) (journal : List Entry) → slice_get (workers_in setup.job) w ≡ Some who → SendsEach begin setup (IsNarrow rows) who journal
+  narrow_sent rows w who journal p h counts lane t i =
+      let view : StateView = view_at setup begin.turned who counts in
       let is : IsWorker setup.job who = (worker_with setup.job w who p).1 in
       let j : IsIn (item.Carry t) _ = subst (λ (l : List Item). IsIn (item.Carry t) l) (sent-story setup who view lane journal) i in
       let m = in_flat_map (put_then setup who lane) (item.Carry t) (story setup who view journal) j in
       let k = place_of_in m.0 (story setup who view journal) m.1 in
-      let given : IsGiven setup who.node who.func m.0.view.func = given_then setup who who.func view journal k.0 m.0 (inl refl) k.1 in
+      let given : IsGiven setup who.node who.func m.0.view.func = given_then setup who who.func view journal k.0 m.0 (given_turned setup who.node who.func begin.turned) k.1 in
       let q = in_items lane (puts setup who m.0.view m.0.entry) (item.Carry t) m.2 in
       narrow_put rows setup who m.0.view m.0.entry q.0 t
       (fits_given who.node is.def m.0.view.func is.node_is (subst (λ (f : Func). IsGiven setup who.node f m.0.view.func) is.func_is given))
@@ -124,7 +135,7 @@ module _ (setup : SetupView) (law : IsLawful setup.job) (connected : IsConnected
 
   -- in journals that are tied to their senders every tuple is of one of the rows, and its births are in range
   pub each_narrow : (rows : List Row) → AreRows rows → (journals : List (List Entry))
-      → ((w : ℕ) (who : Worker) → slice_get (workers_in setup.job) w ≡ Some who → IsConservedAt setup rows journals w)
+      → ((w : ℕ) (who : Worker) → slice_get (workers_in setup.job) w ≡ Some who → IsConservedAt begin setup rows journals w)
       → (w : ℕ) (who : Worker) (journal : List Entry) → slice_get (workers_in setup.job) w ≡ Some who → slice_get journals w ≡ Some journal → HasEach (IsNarrow (length rows)) journal
   each_narrow rows are journals conserved =
-      each_tuple setup connected rows journals conserved (IsNarrow (length rows)) (narrow_fed setup rows are) (λ w who journal p j. narrow_sent (length rows) w who journal p)
+      each_tuple begin setup connected rows journals conserved (IsNarrow (length rows)) (narrow_fed begin setup rows are) (λ w who journal p j. narrow_sent (length rows) w who journal p)

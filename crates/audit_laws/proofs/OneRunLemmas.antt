@@ -1,17 +1,16 @@
 -- Runs whose journals are the same once trimmed are the same.
 use Rattle.std.proofs.Common.{◌≡◌, ◌∙◌, ◌<◌, ℕ, suc, List, [], ◌∷◌, refl, sym, ap, ap₂, subst, arith, length, map, Some, None, Option, slice_get, option_map}
-use Rattle.std.specs.FinMap.{empty}
 use Rattle.std.proofs.lemmas.Option.{same_Some, slice_get-map, slice_get_within}
 use Rattle.keyed_state.specs.Counts.{Counts}
 use Rattle.sink_journal.specs.declared.journal.Entry.{Entry}
 use Rattle.sink_journal.specs.declared.journal.Feed.{Feed}
 use Rattle.tuple_trace.specs.declared.row.Row.{Row}
-use Rattle.flow_model.specs.Begin.{at_first}
+use Rattle.flow_model.specs.Begin.{Begin}
 use Rattle.flow_model.specs.Lanes.{lanes_in}
 use Rattle.flow_model.specs.Law.{initial}
 use Rattle.flow_model.specs.SetupView.{SetupView, Worker}
 use Rattle.flow_model.specs.declared.topology.Lane.{Lane}
-use Rattle.flow_model.specs.Run.{IsRun, IsRunFrom, IsWorked, Ran, final_counts, put_by, ran_as}
+use Rattle.flow_model.specs.Run.{IsRunSince, IsRunFrom, IsWorked, Ran, final_counts, put_by, ran_as}
 use Rattle.flow_model.specs.Duties.{duties}
 use Rattle.flow_model.specs.Workers.{workers_in}
 use Rattle.flow_model.proofs.JobLemmas.{IsConnected}
@@ -33,40 +32,41 @@ same_list {A} (x ∷ xs) (y ∷ ys) e h =
     ap₂ (λ (z : A) (zs : List A). z ∷ zs) first (same_list xs ys (omega (arith, e)) (λ k lt. h (suc k) (omega (arith, lt))))
 
 -- what is put on a lane doesn't depend on the counts at the end
-pub put_by-states : (setup : SetupView) (rows : List Row) (journals : List (List Entry)) (states : List Counts) (lane : Lane) (o : Option ℕ)
-    → put_by (at_first setup) rows (ran_as setup (feed_of setup rows) journals states) lane o ≡ put_by (at_first setup) rows (ran_as setup (feed_of setup rows) journals []) lane o
-put_by-states setup rows journals states lane None = refl
-put_by-states setup rows journals states lane (Some s) = refl
+pub put_by-states : (begin : Begin) (setup : SetupView) (rows : List Row) (journals : List (List Entry)) (states : List Counts) (lane : Lane) (o : Option ℕ)
+    → put_by begin rows (ran_as setup (feed_of begin setup rows) journals states) lane o ≡ put_by begin rows (ran_as setup (feed_of begin setup rows) journals []) lane o
+put_by-states begin setup rows journals states lane None = refl
+put_by-states begin setup rows journals states lane (Some s) = refl
 
--- no worker has counts at first
-pub none_counted : (setup : SetupView) (w : ℕ) (who : Worker) → slice_get (workers_in setup.job) w ≡ Some who → slice_get (at_first setup).states w ≡ Some empty
-none_counted setup w who p = slice_get-map (λ (who : Worker). empty) (workers_in setup.job) w ∙ ap (option_map (λ (who : Worker). empty)) p
-
-module _ (setup : SetupView) (rows : List Row) (journals : List (List Entry)) (states : List Counts)
-    (run : IsRunFrom (at_first setup) rows (ran_as setup (feed_of setup rows) journals states))
+module _ (begin : Begin) (setup : SetupView) (rows : List Row) (journals : List (List Entry)) (states : List Counts)
+    (run : IsRunFrom begin rows (ran_as setup (feed_of begin setup rows) journals states))
   where
-    -- what a run leaves of a worker
+    -- what a run begins with at a worker, and what it leaves of it
     pub record Left (w : ℕ) (who : Worker) : Type 0 where
+      pub counts : Counts
+      pub begins : slice_get begin.states w ≡ Some counts
       pub journal : List Entry
       pub journal_there : slice_get journals w ≡ Some journal
       pub state : Counts
       pub state_there : slice_get states w ≡ Some state
-      pub worked : IsWorked setup (at_first setup) who empty journal state
+      pub worked : IsWorked setup begin who counts journal state
 
     pub left_of : (w : ℕ) (who : Worker) → slice_get (workers_in setup.job) w ≡ Some who → Left w who
     left_of w who p =
         let lt : w < length (workers_in setup.job) = slice_get_within (workers_in setup.job) w who p in
+        let c = item_at begin.states w (omega (arith, lt, run.one_start_each)) in
         let j = item_at journals w (omega (arith, lt, run.one_journal_each)) in
         let s = item_at states w (omega (arith, lt, run.one_state_each)) in
         record {
+          counts = c.0;
+          begins = c.1;
           journal = j.0;
           journal_there = j.1;
           state = s.0;
           state_there = s.1;
-          worked = run.worked w who empty j.0 s.0 p (none_counted setup w who p) j.1 s.1;
+          worked = run.worked w who c.0 j.0 s.0 p c.1 j.1 s.1;
         }
 
-    pub conserved_by_run : (w : ℕ) (who : Worker) → slice_get (workers_in setup.job) w ≡ Some who → IsConservedAt setup rows journals w
+    pub conserved_by_run : (w : ℕ) (who : Worker) → slice_get (workers_in setup.job) w ≡ Some who → IsConservedAt begin setup rows journals w
     conserved_by_run w who p =
         let l : Left w who = left_of w who p in
         let number : who.number ≡ w = (worker_with setup.job w who p).0 in
@@ -74,9 +74,9 @@ module _ (setup : SetupView) (rows : List Row) (journals : List (List Entry)) (s
           journal = l.journal;
           there = l.journal_there;
           met = subst (λ v. MetOn (lanes_in setup.job v) l.journal) number
-              (λ n t i. met_on_lane (duties setup 0 who) (initial (duties setup 0 who)) l.journal n t l.worked.finished.lawful.execution i);
+              (λ n t i. met_on_lane (duties setup begin.turned who) (initial (duties setup begin.turned who)) l.journal n t l.worked.finished.lawful.execution i);
           conserved = λ n lane g r.
-              sym (put_by-states setup rows journals states lane lane.sender)
+              sym (put_by-states begin setup rows journals states lane lane.sender)
               ∙ run.conserved n lane l.journal g (subst (λ v. slice_get journals v ≡ Some l.journal) (sym r) l.journal_there);
         }
 
@@ -88,16 +88,16 @@ pub length_trimmed : (A : List (List Entry)) → length (map trimmed A) ≡ leng
 length_trimmed [] = refl
 length_trimmed (j ∷ A) = ap suc (length_trimmed A)
 
-module _ (setup : SetupView) (connected : IsConnected setup.job) (rows : List Row) (A B : List (List Entry)) (S T : List Counts)
-    (a : IsRunFrom (at_first setup) rows (ran_as setup (feed_of setup rows) A S)) (b : IsRunFrom (at_first setup) rows (ran_as setup (feed_of setup rows) B T)) (same : map trimmed A ≡ map trimmed B)
+module _ (begin : Begin) (setup : SetupView) (connected : IsConnected setup.job) (rows : List Row) (A B : List (List Entry)) (S T : List Counts)
+    (a : IsRunFrom begin rows (ran_as setup (feed_of begin setup rows) A S)) (b : IsRunFrom begin rows (ran_as setup (feed_of begin setup rows) B T)) (same : map trimmed A ≡ map trimmed B)
   where
     abbrev IsThere : ℕ → Type 0
     IsThere w = (who : Worker) × (slice_get (workers_in setup.job) w ≡ Some who)
 
     by_worker : (w : ℕ) (who : Worker) → slice_get (workers_in setup.job) w ≡ Some who → slice_get A w ≡ slice_get B w
     by_worker w who p =
-        same_journals setup connected rows A B IsThere (λ w s who sender p there lt d. (sender, there))
-        (λ w d. conserved_by_run setup rows A S a w d.0 d.1) (λ w d. conserved_by_run setup rows B T b w d.0 d.1)
+        same_journals begin setup connected rows A B IsThere (λ w s who sender p there lt d. (sender, there))
+        (λ w d. conserved_by_run begin setup rows A S a w d.0 d.1) (λ w d. conserved_by_run begin setup rows B T b w d.0 d.1)
         (λ w d. trimmed_there A B w same) w who p (who, p)
 
     one_journals : A ≡ B
@@ -109,29 +109,30 @@ module _ (setup : SetupView) (connected : IsConnected setup.job) (rows : List Ro
     one_states =
         same_list S T (a.one_state_each ∙ sym b.one_state_each) (λ w lt.
         let p = item_at (workers_in setup.job) w (omega (arith, lt, a.one_state_each)) in
-        let x : Left setup rows A S a w p.0 = left_of setup rows A S a w p.0 p.1 in
-        let y : Left setup rows B T b w p.0 = left_of setup rows B T b w p.0 p.1 in
+        let x : Left begin setup rows A S a w p.0 = left_of begin setup rows A S a w p.0 p.1 in
+        let y : Left begin setup rows B T b w p.0 = left_of begin setup rows B T b w p.0 p.1 in
         let j : x.journal ≡ y.journal = same_Some x.journal y.journal (sym x.journal_there ∙ (by_worker w p.0 p.1 ∙ y.journal_there)) in
-        let s : x.state ≡ y.state = x.worked.state_is ∙ (ap (final_counts setup (at_first setup) p.0 empty) j ∙ sym y.worked.state_is) in
+        let c : x.counts ≡ y.counts = same_Some x.counts y.counts (sym x.begins ∙ y.begins) in
+        let s : x.state ≡ y.state = x.worked.state_is ∙ (ap₂ (final_counts setup begin p.0) c j ∙ sym y.worked.state_is) in
         x.state_there ∙ (ap Some s ∙ sym y.state_there))
 
 -- a run is that of its parts
 parts : (setup : SetupView) (ran : Ran) → ran.setup ≡ setup → ran ≡ ran_as setup ran.feeds ran.journals ran.states
 parts setup ran e = λ i. record { setup = e i; feeds = ran.feeds; journals = ran.journals; states = ran.states }
 
-pub by_parts : (setup : SetupView) (rows : List Row) (ran : Ran) → IsRun setup rows ran
-    → (ran ≡ ran_as setup (feed_of setup rows) ran.journals ran.states) × IsRunFrom (at_first setup) rows (ran_as setup (feed_of setup rows) ran.journals ran.states)
-by_parts setup rows ran is =
+pub by_parts : (begin : Begin) (setup : SetupView) (rows : List Row) (ran : Ran) → IsRunSince begin setup rows ran
+    → (ran ≡ ran_as setup (feed_of begin setup rows) ran.journals ran.states) × IsRunFrom begin rows (ran_as setup (feed_of begin setup rows) ran.journals ran.states)
+by_parts begin setup rows ran is =
     let e : ran ≡ ran_as setup ran.feeds ran.journals ran.states = parts setup ran is.setup_is in
-    let r : IsRunFrom (at_first setup) rows (ran_as setup ran.feeds ran.journals ran.states) = subst (IsRunFrom (at_first setup) rows) e is.run in
-    let f : ran_as setup ran.feeds ran.journals ran.states ≡ ran_as setup (feed_of setup rows) ran.journals ran.states =
+    let r : IsRunFrom begin rows (ran_as setup ran.feeds ran.journals ran.states) = subst (IsRunFrom begin rows) e is.run in
+    let f : ran_as setup ran.feeds ran.journals ran.states ≡ ran_as setup (feed_of begin setup rows) ran.journals ran.states =
     ap (λ (feeds : List Feed). ran_as setup feeds ran.journals ran.states) r.feed in
-    (e ∙ f, subst (IsRunFrom (at_first setup) rows) f r)
+    (e ∙ f, subst (IsRunFrom begin rows) f r)
 
-pub one_run : (setup : SetupView) → IsConnected setup.job → (rows : List Row) (a b : Ran) → IsRun setup rows a → IsRun setup rows b → map trimmed a.journals ≡ map trimmed b.journals → a ≡ b
-one_run setup connected rows a b x y same =
-    let p = by_parts setup rows a x in
-    let q = by_parts setup rows b y in
-    let j : a.journals ≡ b.journals = one_journals setup connected rows a.journals b.journals a.states b.states p.1 q.1 same in
-    let s : a.states ≡ b.states = one_states setup connected rows a.journals b.journals a.states b.states p.1 q.1 same in
-    p.0 ∙ (ap₂ (λ (journals : List (List Entry)) (states : List Counts). ran_as setup (feed_of setup rows) journals states) j s ∙ sym q.0)
+pub one_run : (begin : Begin) (setup : SetupView) → IsConnected setup.job → (rows : List Row) (a b : Ran) → IsRunSince begin setup rows a → IsRunSince begin setup rows b → map trimmed a.journals ≡ map trimmed b.journals → a ≡ b
+one_run begin setup connected rows a b x y same =
+    let p = by_parts begin setup rows a x in
+    let q = by_parts begin setup rows b y in
+    let j : a.journals ≡ b.journals = one_journals begin setup connected rows a.journals b.journals a.states b.states p.1 q.1 same in
+    let s : a.states ≡ b.states = one_states begin setup connected rows a.journals b.journals a.states b.states p.1 q.1 same in
+    p.0 ∙ (ap₂ (λ (journals : List (List Entry)) (states : List Counts). ran_as setup (feed_of begin setup rows) journals states) j s ∙ sym q.0)

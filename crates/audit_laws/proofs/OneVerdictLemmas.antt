@@ -8,12 +8,13 @@ use Rattle.sink_journal.specs.Audit.{audit_header}
 use Rattle.sink_journal.specs.declared.audit.Noted.{Noted}
 use Rattle.sink_journal.specs.declared.journal.Feed.{Feed}
 use Rattle.tuple_trace.specs.declared.row.Row.{Row}
+use Rattle.flow_model.specs.Begin.{Begin}
 use Rattle.flow_model.specs.SetupView.{SetupView}
 use Rattle.flow_model.proofs.ElementLemmas.{all_of_at, at_of_all, before_both, in_left, in_right, pair_of_all}
 use Rattle.flow_model.proofs.JobLemmas.{IsConnected}
 use Rattle.audit_laws.specs.declared.audit.Line.{Line}
-use Rattle.audit_laws.specs.declared.fault.AuditFault.{AuditFault}
-use Rattle.audit_laws.specs.declared.fault.AuditFault.TheVariants as fault
+use Rattle.audit_fault.specs.declared.fault.AuditFault.{AuditFault}
+use Rattle.audit_fault.specs.declared.fault.AuditFault.TheVariants as fault
 use Rattle.audit_laws.specs.Delivered.{feed_of}
 use Rattle.audit_laws.specs.Faults.{IsFaultOfWorkers}
 use Rattle.audit_laws.specs.Lines.{IsLine, StandInOrder, counts_in, feeds_in, group_of, journal_in, line_fields, refusals_in}
@@ -82,7 +83,7 @@ one_shape job told records i j a b =
 
 -- ---- the six codes
 
-module _ (setup : SetupView) (dag : DagView) (connected : IsConnected setup.job) (lawful : IsLawful setup.job) (edges : dag.edges ≡ setup.job.edges) (nodes : dag.nodes ≡ length setup.job.nodes)
+module _ (begin : Begin) (setup : SetupView) (dag : DagView) (connected : IsConnected setup.job) (lawful : IsLawful setup.job) (edges : dag.edges ≡ setup.job.edges) (nodes : dag.nodes ≡ length setup.job.nodes)
     (rows : List Row) (refused : List Noted) (records : List (List (List ℕ)))
   where
     -- the fault is one of the shape, of the refused requests, of the feed, or of the workers
@@ -90,20 +91,20 @@ module _ (setup : SetupView) (dag : DagView) (connected : IsConnected setup.job)
     OfShape f = (i : ℕ) × (f ≡ fault.Shape i) × (((i ≡ 0) × HasNoHeader records) ⊎ HasBadShape setup.job records i)
 
     abbrev OfRefused : AuditFault → Type 0
-    OfRefused f = (i : ℕ) × (f ≡ fault.Refused i) × IsFaultOf setup dag.order refused rows records (fault.Refused i)
+    OfRefused f = (i : ℕ) × (f ≡ fault.Refused i) × IsFaultOf begin setup dag.order refused rows records (fault.Refused i)
 
     abbrev OfFeed : AuditFault → Type 0
-    OfFeed f = (i : ℕ) × (f ≡ fault.Feed i) × IsFaultOf setup dag.order refused rows records (fault.Feed i)
+    OfFeed f = (i : ℕ) × (f ≡ fault.Feed i) × IsFaultOf begin setup dag.order refused rows records (fault.Feed i)
 
     abbrev OfWorkers : AuditFault → Type 0
     OfWorkers f =
-        (lines : List Line) × AreInShape setup.job records lines × (refusals_in lines ≡ refused) × (feeds_in lines ≡ feed_of setup rows)
-        × IsFaultOfWorkers setup dag.order rows (by_worker setup (journal_in lines)) (by_worker setup (counts_in lines)) f
+        (lines : List Line) × AreInShape setup.job records lines × (refusals_in lines ≡ refused) × (feeds_in lines ≡ feed_of begin setup rows)
+        × IsFaultOfWorkers begin setup dag.order rows (by_worker setup (journal_in lines)) (by_worker setup (counts_in lines)) f
 
     abbrev Sorted : AuditFault → Type 0
     Sorted f = OfShape f ⊎ (OfRefused f ⊎ (OfFeed f ⊎ OfWorkers f))
 
-    sort : (f : AuditFault) → (f ≡ fault.NoMemory → ⊥) → IsFaultOf setup dag.order refused rows records f → Sorted f
+    sort : (f : AuditFault) → (f ≡ fault.NoMemory → ⊥) → IsFaultOf begin setup dag.order refused rows records f → Sorted f
     sort (fault.Shape i) some h = inl (i, refl, h)
     sort (fault.Refused i) some h = inr (inl (i, refl, h))
     sort (fault.Feed i) some h = inr (inr (inl (i, refl, h)))
@@ -126,31 +127,31 @@ module _ (setup : SetupView) (dag : DagView) (connected : IsConnected setup.job)
     shapes i j (inr h) (inr k) = one_shape setup.job told records i j h k
 
     -- the refused requests differ, where a later code needs them equal
-    refused_first : (i : ℕ) (lines : List Line) → IsFaultOf setup dag.order refused rows records (fault.Refused i) → AreInShape setup.job records lines → refusals_in lines ≡ refused → ⊥
+    refused_first : (i : ℕ) (lines : List Line) → IsFaultOf begin setup dag.order refused rows records (fault.Refused i) → AreInShape setup.job records lines → refusals_in lines ≡ refused → ⊥
     refused_first i lines h s e =
         no_difference (refusals_in h.0) refused h.1 (ap refusals_in (one_reading setup.job told records h.0 lines h.2 s) ∙ e) h.4
 
-    feed_first : (i : ℕ) (lines : List Line) → IsFaultOf setup dag.order refused rows records (fault.Feed i) → AreInShape setup.job records lines → feeds_in lines ≡ feed_of setup rows → ⊥
+    feed_first : (i : ℕ) (lines : List Line) → IsFaultOf begin setup dag.order refused rows records (fault.Feed i) → AreInShape setup.job records lines → feeds_in lines ≡ feed_of begin setup rows → ⊥
     feed_first i lines h s e =
-        no_difference (feeds_in h.0) (feed_of setup rows) h.1 (ap feeds_in (one_reading setup.job told records h.0 lines h.2 s) ∙ e) h.5
+        no_difference (feeds_in h.0) (feed_of begin setup rows) h.1 (ap feeds_in (one_reading setup.job told records h.0 lines h.2 s) ∙ e) h.5
 
-    refusals : (i j : ℕ) → IsFaultOf setup dag.order refused rows records (fault.Refused i) → IsFaultOf setup dag.order refused rows records (fault.Refused j) → i ≡ j
+    refusals : (i j : ℕ) → IsFaultOf begin setup dag.order refused rows records (fault.Refused i) → IsFaultOf begin setup dag.order refused rows records (fault.Refused j) → i ≡ j
     refusals i j h k =
         let e : refusals_in h.0 ≡ refusals_in k.0 = ap refusals_in (one_reading setup.job told records h.0 k.0 h.2 k.2) in
         let at : h.1 ≡ k.1 = one_place (refusals_in k.0) refused h.1 k.1 (subst (λ (l : List Noted). DifferFirst l refused h.1) e h.4) k.4 in
         h.3 ∙ (ap (λ n. 1 + n) at ∙ sym k.3)
 
-    steps : (i j : ℕ) → IsFaultOf setup dag.order refused rows records (fault.Feed i) → IsFaultOf setup dag.order refused rows records (fault.Feed j) → i ≡ j
+    steps : (i j : ℕ) → IsFaultOf begin setup dag.order refused rows records (fault.Feed i) → IsFaultOf begin setup dag.order refused rows records (fault.Feed j) → i ≡ j
     steps i j h k =
         let e : feeds_in h.0 ≡ feeds_in k.0 = ap feeds_in (one_reading setup.job told records h.0 k.0 h.2 k.2) in
-        let at : h.1 ≡ k.1 = one_place (feeds_in k.0) (feed_of setup rows) h.1 k.1 (subst (λ (l : List Feed). DifferFirst l (feed_of setup rows) h.1) e h.5) k.5 in
+        let at : h.1 ≡ k.1 = one_place (feeds_in k.0) (feed_of begin setup rows) h.1 k.1 (subst (λ (l : List Feed). DifferFirst l (feed_of begin setup rows) h.1) e h.5) k.5 in
         h.4 ∙ (ap (λ n. 1 + length refused + n) at ∙ sym k.4)
 
     workers : (f g : AuditFault) → (f ≡ fault.NoMemory → ⊥) → (g ≡ fault.NoMemory → ⊥) → OfWorkers f → OfWorkers g → f ≡ g
     workers f g a b h k =
         let e : h.0 ≡ k.0 = one_reading setup.job told records h.0 k.0 h.1 k.1 in
-        one_fault setup dag connected edges nodes rows (by_worker setup (journal_in k.0)) (by_worker setup (counts_in k.0)) f g a b
-        (subst (λ (ls : List Line). IsFaultOfWorkers setup dag.order rows (by_worker setup (journal_in ls)) (by_worker setup (counts_in ls)) f) e h.4) k.4
+        one_fault begin setup dag connected edges nodes rows (by_worker setup (journal_in k.0)) (by_worker setup (counts_in k.0)) f g a b
+        (subst (λ (ls : List Line). IsFaultOfWorkers begin setup dag.order rows (by_worker setup (journal_in ls)) (by_worker setup (counts_in ls)) f) e h.4) k.4
 
     both : (f g : AuditFault) → (f ≡ fault.NoMemory → ⊥) → (g ≡ fault.NoMemory → ⊥) → Sorted f → Sorted g → f ≡ g
     both f g a b (inl h) (inl k) = h.1 ∙ (ap fault.Shape (shapes h.0 k.0 h.2 k.2) ∙ sym k.1)
@@ -171,5 +172,5 @@ module _ (setup : SetupView) (dag : DagView) (connected : IsConnected setup.job)
     both f g a b (inr (inr (inr h))) (inr (inr (inr k))) = workers f g a b h k
 
     pub one_verdict : (f g : AuditFault) → (f ≡ fault.NoMemory → ⊥) → (g ≡ fault.NoMemory → ⊥)
-        → IsFaultOf setup dag.order refused rows records f → IsFaultOf setup dag.order refused rows records g → f ≡ g
+        → IsFaultOf begin setup dag.order refused rows records f → IsFaultOf begin setup dag.order refused rows records g → f ≡ g
     one_verdict f g a b h k = both f g a b (sort f a h) (sort g b k)

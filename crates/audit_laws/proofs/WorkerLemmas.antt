@@ -10,7 +10,7 @@ use Rattle.sink_journal.specs.declared.journal.Feed.{Feed}
 use Rattle.tuple_trace.specs.declared.row.Row.{Row}
 use Rattle.tuple_trace.specs.declared.tuple.Item.{Item}
 use Rattle.tuple_trace.specs.declared.tuple.Item.TheVariants as item
-use Rattle.flow_model.specs.Begin.{at_first, view_at}
+use Rattle.flow_model.specs.Begin.{Begin, view_at}
 use Rattle.flow_model.specs.Covers.{covers_edge, plan_of}
 use Rattle.flow_model.specs.Feeding.{fed, fed_puts}
 use Rattle.flow_model.specs.Lanes.{lanes, lanes_in, marked_lanes}
@@ -43,15 +43,15 @@ marked_in setup w r n i =
     let l = in_lanes_that (λ (lane : Lane). (lane.receiver == w) && covers_edge setup r lane.edge) setup.job n i in
     lanes_that_in (λ (lane : Lane). lane.receiver == w) setup.job n l.0 l.1 (and_parts (l.0.receiver == w) (covers_edge setup r l.0.edge) l.2).0
 
-pub come_by : (setup : SetupView) (feeds : List Feed) (who : Worker) (progress : Progress) (journal : List AuditEntry) → IsExecution (duties setup 0 who) progress (drafted feeds journal)
+pub come_by : (setup : SetupView) (turned : ℕ) (feeds : List Feed) (who : Worker) (progress : Progress) (journal : List AuditEntry) → IsExecution (duties setup turned who) progress (drafted turned feeds journal)
     → ComeBy (lanes_in setup.job who.number) journal
-come_by setup feeds who progress [] law = tt
-come_by setup feeds who progress (kept.Met l row birth ∷ more) law = (in_of_contains l (lanes_in setup.job who.number) law.0.0, come_by setup feeds who progress more law.1)
-come_by setup feeds who progress (kept.Marked l r ∷ more) law =
-    (marked_in setup who.number r l (in_of_contains l (marked_lanes setup who.number r) law.0.1), come_by setup feeds who (after_entry progress (entry.Marked l r)) more law.1)
-come_by setup feeds who progress (kept.Turned r ∷ more) law = come_by setup feeds who (after_entry progress (entry.Turned r)) more law.1
-come_by setup feeds who progress (kept.Ended l ∷ more) law =
-    (in_of_contains l (lanes_in setup.job who.number) law.0.0, come_by setup feeds who (after_entry progress (entry.Ended l)) more law.1)
+come_by setup turned feeds who progress [] law = tt
+come_by setup turned feeds who progress (kept.Met l row birth ∷ more) law = (in_of_contains l (lanes_in setup.job who.number) law.0.0, come_by setup turned feeds who progress more law.1)
+come_by setup turned feeds who progress (kept.Marked l r ∷ more) law =
+    (marked_in setup who.number r l (in_of_contains l (marked_lanes setup who.number r) law.0.1), come_by setup turned feeds who (after_entry progress (entry.Marked l r)) more law.1)
+come_by setup turned feeds who progress (kept.Turned r ∷ more) law = come_by setup turned feeds who (after_entry progress (entry.Turned r)) more law.1
+come_by setup turned feeds who progress (kept.Ended l ∷ more) law =
+    (in_of_contains l (lanes_in setup.job who.number) law.0.0, come_by setup turned feeds who (after_entry progress (entry.Ended l)) more law.1)
 
 -- ---- which markers are brought
 
@@ -79,62 +79,62 @@ right_sent setup who lane view (x ∷ xs) y i =
       | inr b ↦ right_sent setup who lane (after setup who view x) xs y b
     ]
 
-right_fed : (setup : SetupView) (rows : List Row) (feeds : List Feed) (lane : Lane) (y : Item) → IsIn y (fed setup.job rows 0 lane feeds ++ item.Last ∷ []) → IsRightMark setup y
-right_fed setup rows feeds lane (item.Carry t) i = tt
-right_fed setup rows feeds lane item.Last i = tt
-right_fed setup rows feeds lane (item.Mark r c) i =
-    elim (in_cases (item.Mark r c) (fed setup.job rows 0 lane feeds) (item.Last ∷ []) i) [
+right_fed : (setup : SetupView) (issued : ℕ) (rows : List Row) (feeds : List Feed) (lane : Lane) (y : Item) → IsIn y (fed setup.job rows issued lane feeds ++ item.Last ∷ []) → IsRightMark setup y
+right_fed setup issued rows feeds lane (item.Carry t) i = tt
+right_fed setup issued rows feeds lane item.Last i = tt
+right_fed setup issued rows feeds lane (item.Mark r c) i =
+    elim (in_cases (item.Mark r c) (fed setup.job rows issued lane feeds) (item.Last ∷ []) i) [
       | inl a ↦
-          let p = in_items lane (fed_puts setup.job rows 0 feeds) (item.Mark r c) a in
-          let f = in_fed_puts setup.job rows 0 feeds p.0 p.1 in
+          let p = in_items lane (fed_puts setup.job rows issued feeds) (item.Mark r c) a in
+          let f = in_fed_puts setup.job rows issued feeds p.0 p.1 in
           let e : item.Mark r c ≡ item.Carry _ = p.3 ∙ ap (λ p. p.item) f.4 in
           absurd (cc)
       | inr (inl e) ↦ absurd (cc)
       | inr (inr n) ↦ absurd n
     ]
 
-pub right_delivered : (setup : SetupView) (rows : List Row) (journals : List (List Entry)) (lane : Lane) (items : List Item) (y : Item) → delivered setup rows journals lane ≡ Some items → IsIn y items
+pub right_delivered : (begin : Begin) (setup : SetupView) (rows : List Row) (journals : List (List Entry)) (lane : Lane) (items : List Item) (y : Item) → delivered begin setup rows journals lane ≡ Some items → IsIn y items
     → IsRightMark setup y
-right_delivered setup rows journals lane items y e i = by_sender lane.sender e
+right_delivered begin setup rows journals lane items y e i = by_sender lane.sender e
   where
-    by_parts : (a : Option Worker) (b : Option Counts) (c : Option (List Entry)) → sent_by setup (at_first setup) lane a b c ≡ Some items → IsRightMark setup y
+    by_parts : (a : Option Worker) (b : Option Counts) (c : Option (List Entry)) → sent_by setup begin lane a b c ≡ Some items → IsRightMark setup y
     by_parts None b c e = absurd (cc)
     by_parts (Some q) None c e = absurd (cc)
     by_parts (Some q) (Some counts) None e = absurd (cc)
     by_parts (Some q) (Some counts) (Some journal) e =
-        right_sent setup q lane (view_at setup 0 q counts) journal y
-        (subst (λ (l : List Item). IsIn y l) (sym (same_Some (sent setup q (view_at setup 0 q counts) lane journal) items e)) i)
+        right_sent setup q lane (view_at setup begin.turned q counts) journal y
+        (subst (λ (l : List Item). IsIn y l) (sym (same_Some (sent setup q (view_at setup begin.turned q counts) lane journal) items e)) i)
 
-    by_sender : (o : Option ℕ) → put_by (at_first setup) rows (ran_as setup (feed_of setup rows) journals []) lane o ≡ Some items → IsRightMark setup y
+    by_sender : (o : Option ℕ) → put_by begin rows (ran_as setup (feed_of begin setup rows) journals []) lane o ≡ Some items → IsRightMark setup y
     by_sender None e =
-        right_fed setup rows (feed_of setup rows) lane y
-        (subst (λ (l : List Item). IsIn y l) (sym (same_Some (fed setup.job rows 0 lane (feed_of setup rows) ++ item.Last ∷ []) items e)) i)
-    by_sender (Some s) e = by_parts (slice_get (workers_in setup.job) s) (slice_get (at_first setup).states s) (slice_get journals s) e
+        right_fed setup begin.turned rows (feed_of begin setup rows) lane y
+        (subst (λ (l : List Item). IsIn y l) (sym (same_Some (fed setup.job rows begin.turned lane (feed_of begin setup rows) ++ item.Last ∷ []) items e)) i)
+    by_sender (Some s) e = by_parts (slice_get (workers_in setup.job) s) (slice_get begin.states s) (slice_get journals s) e
 
 -- ---- a worker
 
-pub worker_restored : (setup : SetupView) (rows : List Row) (journals : List (List Entry)) (w : ℕ) (who : Worker) (journal : List AuditEntry) → slice_get (workers_in setup.job) w ≡ Some who
-    → IsFinishedDraft setup rows who journal → LanesAgree setup rows journals w journal
-    → (trimmed (restored (delivered_on setup rows journals) journal) ≡ journal) × ShowsDelivered setup rows journals w (restored (delivered_on setup rows journals) journal)
-worker_restored setup rows journals w who journal p law agree =
+pub worker_restored : (begin : Begin) (setup : SetupView) (rows : List Row) (journals : List (List Entry)) (w : ℕ) (who : Worker) (journal : List AuditEntry) → slice_get (workers_in setup.job) w ≡ Some who
+    → IsFinishedDraft begin setup rows who journal → LanesAgree begin setup rows journals w journal
+    → (trimmed (restored (delivered_on begin setup rows journals) journal) ≡ journal) × ShowsDelivered begin setup rows journals w (restored (delivered_on begin setup rows journals) journal)
+worker_restored begin setup rows journals w who journal p law agree =
     let number : who.number ≡ w = (worker_with setup.job w who p).0 in
     let come : ComeBy (lanes_in setup.job w) journal =
-    subst (λ v. ComeBy (lanes_in setup.job v) journal) number (come_by setup (feed_of setup rows) who (initial (duties setup 0 who)) journal law.lawful.execution) in
-    let sought = restored_sought setup (lanes_in setup.job w) (delivered_on setup rows journals) journal come (λ n i. (on n i).3)
-    (λ n x i j. let o = on n i in right_delivered setup rows journals o.0 o.1 x o.2 (subst (λ (l : List Item). IsIn x l) o.4 j)) in (
+    subst (λ v. ComeBy (lanes_in setup.job v) journal) number (come_by setup begin.turned (feed_of begin setup rows) who (initial (duties setup begin.turned who)) journal law.lawful.execution) in
+    let sought = restored_sought setup (lanes_in setup.job w) (delivered_on begin setup rows journals) journal come (λ n i. (on n i).3)
+    (λ n x i j. let o = on n i in right_delivered begin setup rows journals o.0 o.1 x o.2 (subst (λ (l : List Item). IsIn x l) o.4 j)) in (
       sought.0,
       λ n lane g r.
           let a = agree n lane g r in
           a.1 ∙ ap Some (sym (sought.1 n (lanes_that_in (λ (lane : Lane). lane.receiver == w) setup.job n lane g (eq-eqb lane.receiver w r)) ∙ at n lane a.0 g a.1)),
     )
   where
-    at : (n : ℕ) (lane : Lane) (items : List Item) → slice_get (lanes setup.job) n ≡ Some lane → delivered setup rows journals lane ≡ Some items → delivered_on setup rows journals n ≡ items
-    at n lane items g e = ap (delivered_by setup rows journals) g ∙ ap items_of e
+    at : (n : ℕ) (lane : Lane) (items : List Item) → slice_get (lanes setup.job) n ≡ Some lane → delivered begin setup rows journals lane ≡ Some items → delivered_on begin setup rows journals n ≡ items
+    at n lane items g e = ap (delivered_by begin setup rows journals) g ∙ ap items_of e
 
     on : (n : ℕ) → IsIn n (lanes_in setup.job w)
-        → (lane : Lane) × (items : List Item) × (delivered setup rows journals lane ≡ Some items) × AreItems n (delivered_on setup rows journals n) journal × (delivered_on setup rows journals n ≡ items)
+        → (lane : Lane) × (items : List Item) × (delivered begin setup rows journals lane ≡ Some items) × AreItems n (delivered_on begin setup rows journals n) journal × (delivered_on begin setup rows journals n ≡ items)
     on n i =
         let l = in_lanes_that (λ (lane : Lane). lane.receiver == w) setup.job n i in
         let a = agree n l.0 l.1 (eqb-true l.0.receiver w l.2) in
-        let e : delivered_on setup rows journals n ≡ a.0 = at n l.0 a.0 l.1 a.1 in
+        let e : delivered_on begin setup rows journals n ≡ a.0 = at n l.0 a.0 l.1 a.1 in
         (l.0, a.0, a.1, subst (λ x. AreItems n x journal) (sym e) a.2, e)

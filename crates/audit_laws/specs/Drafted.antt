@@ -17,23 +17,24 @@ issued_before row issued (feed.Fed number ∷ more) =
 issued_before row issued (feed.Issued request ∷ more) = issued_before row (issued + 1) more
 issued_before row issued (feed.Stopped ∷ more) = issued_before row issued more
 
--- A tuple of which only its row, its births and the number of requests issued before are known.
-abbrev pub known : List Feed → ℕ → List ℕ → Tuple
-known feeds row birth = record {
+-- A tuple of which only its row, its births and the number of requests issued before are known. The
+-- feed follows so many issued requests.
+abbrev pub known : ℕ → List Feed → ℕ → List ℕ → Tuple
+known issued feeds row birth = record {
   row = row;
   birth = birth;
-  issued = issued_before row 0 feeds;
+  issued = issued_before row issued feeds;
   fields = [];
   trace = [];
 }
 
 -- The entry with such a tuple. The law of journals reads no more of a tuple.
-abbrev pub draft : List Feed → AuditEntry → Entry
-draft feeds (kept.Met lane row birth) = entry.Met lane (known feeds row birth)
-draft feeds (kept.Marked lane request) = entry.Marked lane request
-draft feeds (kept.Turned request) = entry.Turned request
-draft feeds (kept.Ended lane) = entry.Ended lane
+abbrev pub draft : ℕ → List Feed → AuditEntry → Entry
+draft issued feeds (kept.Met lane row birth) = entry.Met lane (known issued feeds row birth)
+draft issued feeds (kept.Marked lane request) = entry.Marked lane request
+draft issued feeds (kept.Turned request) = entry.Turned request
+draft issued feeds (kept.Ended lane) = entry.Ended lane
 
 -- The journal of these kept entries, with such tuples.
-abbrev pub drafted : List Feed → List AuditEntry → List Entry
-drafted feeds journal = map (draft feeds) journal
+abbrev pub drafted : ℕ → List Feed → List AuditEntry → List Entry
+drafted issued feeds journal = map (draft issued feeds) journal

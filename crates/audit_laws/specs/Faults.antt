@@ -1,22 +1,23 @@
 -- What is wrong with an audit that is the audit of no run.
 use Rattle.std.specs.Prelude.{◌≡◌, ◌≢◌, ◌<◌, ◌==◌, ◌⊎◌, ⊤, ℕ, ℤ, Bool, false, List, map, filter}
 use Rattle.std.specs.Prelude.{Some, slice_get}
-use Rattle.std.specs.FinMap.{empty, entries}
+use Rattle.std.specs.FinMap.{entries}
 use Rattle.flow_dag.specs.Order.{place_of}
+use Rattle.keyed_state.specs.Counts.{Counts}
 use Rattle.sink_journal.specs.declared.journal.Entry.{Entry}
 use Rattle.tuple_trace.specs.declared.row.Row.{Row}
 use Rattle.tuple_trace.specs.declared.tuple.Item.{Item}
 use Rattle.tuple_trace.specs.declared.tuple.Item.TheVariants as item
 use Rattle.flow_model.specs.declared.topology.Lane.{Lane}
-use Rattle.flow_model.specs.Begin.{at_first}
+use Rattle.flow_model.specs.Begin.{Begin}
 use Rattle.flow_model.specs.Lanes.{lanes}
 use Rattle.flow_model.specs.SetupView.{SetupView, Worker}
 use Rattle.flow_model.specs.Run.{final_counts}
 use Rattle.flow_model.specs.Workers.{workers_in}
 use Rattle.audit_laws.specs.declared.audit.AuditEntry.{AuditEntry}
 use Rattle.audit_laws.specs.declared.audit.AuditEntry.TheVariants as kept
-use Rattle.audit_laws.specs.declared.fault.AuditFault.{AuditFault}
-use Rattle.audit_laws.specs.declared.fault.AuditFault.TheVariants as fault
+use Rattle.audit_fault.specs.declared.fault.AuditFault.{AuditFault}
+use Rattle.audit_fault.specs.declared.fault.AuditFault.TheVariants as fault
 use Rattle.audit_laws.specs.Delivered.{delivered}
 use Rattle.audit_laws.specs.Checked.{IsFinishedDraft, ShowsDelivered}
 use Rattle.audit_laws.specs.Trimmed.{trimmed}
@@ -24,24 +25,24 @@ use Rattle.audit_laws.specs.Trimmed.{trimmed}
 -- ---- the law
 
 -- The trimmed journal of this worker isn't finished. Those of the workers before it are finished.
-pub record HasBadLaw (setup : SetupView) (rows : List Row) (audit : List (List AuditEntry))
-    (w : ℕ) : Type 0 where
+pub record HasBadLaw (begin : Begin) (setup : SetupView) (rows : List Row)
+    (audit : List (List AuditEntry)) (w : ℕ) : Type 0 where
   pub who : Worker
   pub works : slice_get (workers_in setup.job) w ≡ Some who
   pub journal : List AuditEntry
   pub there : slice_get audit w ≡ Some journal
-  pub unfinished : ¬ IsFinishedDraft setup rows who journal
+  pub unfinished : ¬ IsFinishedDraft begin setup rows who journal
   pub least :
       (v : ℕ) (p : Worker) (j : List AuditEntry) → v < w
       → slice_get (workers_in setup.job) v ≡ Some p →
-      slice_get audit v ≡ Some j → IsFinishedDraft setup rows p j
+      slice_get audit v ≡ Some j → IsFinishedDraft begin setup rows p j
 
 -- The trimmed journal of each worker is finished.
-abbrev pub AreFinished : SetupView → List Row → List (List AuditEntry) → Type 0
-AreFinished setup rows audit =
+abbrev pub AreFinished : Begin → SetupView → List Row → List (List AuditEntry) → Type 0
+AreFinished begin setup rows audit =
     (w : ℕ) (who : Worker) (journal : List AuditEntry)
     → slice_get (workers_in setup.job) w ≡ Some who →
-    slice_get audit w ≡ Some journal → IsFinishedDraft setup rows who journal
+    slice_get audit w ≡ Some journal → IsFinishedDraft begin setup rows who journal
 
 -- ---- the lanes
 
@@ -65,20 +66,21 @@ AreItems n items journal = map (seen n) items ≡ filter (comes_by n) journal
 -- The trimmed journal of a lane's receiver shows what the lane brings if the workers have these
 -- journals.
 abbrev pub LaneAgrees :
-    SetupView → List Row → List (List AuditEntry) → List (List Entry) → ℕ → Lane → Type 0
-LaneAgrees setup rows audit journals n lane =
+    Begin → SetupView → List Row → List (List AuditEntry) → List (List Entry) → ℕ → Lane
+    → Type 0
+LaneAgrees begin setup rows audit journals n lane =
     (items : List Item) (journal : List AuditEntry) →
-    delivered setup rows journals lane ≡ Some items → slice_get audit lane.receiver ≡ Some journal →
-    AreItems n items journal
+    delivered begin setup rows journals lane ≡ Some items →
+    slice_get audit lane.receiver ≡ Some journal → AreItems n items journal
 
 -- The journal of a worker is restored: its trimmed form is the audit's, and its lanes show what
 -- they bring.
-pub record IsRestored (setup : SetupView) (rows : List Row) (audit : List (List AuditEntry))
-    (journals : List (List Entry)) (w : ℕ) : Type 0 where
+pub record IsRestored (begin : Begin) (setup : SetupView) (rows : List Row)
+    (audit : List (List AuditEntry)) (journals : List (List Entry)) (w : ℕ) : Type 0 where
   pub journal : List Entry
   pub there : slice_get journals w ≡ Some journal
   pub kept_there : slice_get audit w ≡ Some (trimmed journal)
-  pub shows : ShowsDelivered setup rows journals w journal
+  pub shows : ShowsDelivered begin setup rows journals w journal
 
 -- A worker comes before another if its node stands earlier in the order of the nodes. At one node
 -- it comes before if its number is less.
@@ -88,7 +90,7 @@ ComesBefore order a b =
 
 -- The journals of all workers before one are restored. The entries of this lane into that worker
 -- aren't the items that the lane brings. Those of its lanes with lesser numbers are.
-pub record HasBadLane (setup : SetupView) (order : List ℕ) (rows : List Row)
+pub record HasBadLane (begin : Begin) (setup : SetupView) (order : List ℕ) (rows : List Row)
     (audit : List (List AuditEntry)) (n : ℕ) : Type 0 where
   pub journals : List (List Entry)
   pub lane : Lane
@@ -97,15 +99,15 @@ pub record HasBadLane (setup : SetupView) (order : List ℕ) (rows : List Row)
   pub receives : slice_get (workers_in setup.job) lane.receiver ≡ Some who
   pub restored :
       (w : ℕ) (p : Worker) → slice_get (workers_in setup.job) w ≡ Some p → ComesBefore order p who →
-      IsRestored setup rows audit journals w
+      IsRestored begin setup rows audit journals w
   pub items : List Item
-  pub brings : delivered setup rows journals lane ≡ Some items
+  pub brings : delivered begin setup rows journals lane ≡ Some items
   pub journal : List AuditEntry
   pub there : slice_get audit lane.receiver ≡ Some journal
   pub differ : ¬ AreItems n items journal
   pub least :
       (k : ℕ) (other : Lane) → k < n → slice_get (lanes setup.job) k ≡ Some other →
-      other.receiver ≡ lane.receiver → LaneAgrees setup rows audit journals k other
+      other.receiver ≡ lane.receiver → LaneAgrees begin setup rows audit journals k other
 
 -- ---- the counts
 
@@ -115,35 +117,40 @@ Listed = List (List ℕ × ℤ)
 
 -- All journals are restored. The counts of this worker aren't those of its replay. Those of the
 -- workers before it are.
-pub record HasBadState (setup : SetupView) (rows : List Row) (audit : List (List AuditEntry))
-    (states : List Listed) (w : ℕ) : Type 0 where
+pub record HasBadState (begin : Begin) (setup : SetupView) (rows : List Row)
+    (audit : List (List AuditEntry)) (states : List Listed) (w : ℕ) : Type 0 where
   pub journals : List (List Entry)
   pub restored :
       (v : ℕ) (p : Worker) → slice_get (workers_in setup.job) v ≡ Some p →
-      IsRestored setup rows audit journals v
+      IsRestored begin setup rows audit journals v
   pub who : Worker
   pub works : slice_get (workers_in setup.job) w ≡ Some who
+  pub counts : Counts
+  pub begins : slice_get begin.states w ≡ Some counts
   pub journal : List Entry
   pub there : slice_get journals w ≡ Some journal
   pub differ :
-      slice_get states w ≢ Some (entries (final_counts setup (at_first setup) who empty journal))
+      slice_get states w ≢ Some (entries (final_counts setup begin who counts journal))
   pub least :
-      (v : ℕ) (p : Worker) (j : List Entry) → v < w → slice_get (workers_in setup.job) v ≡ Some p →
+      (v : ℕ) (p : Worker) (c : Counts) (j : List Entry) → v < w →
+      slice_get (workers_in setup.job) v ≡ Some p → slice_get begin.states v ≡ Some c →
       slice_get journals v ≡ Some j →
-      slice_get states v ≡ Some (entries (final_counts setup (at_first setup) p empty j))
+      slice_get states v ≡ Some (entries (final_counts setup begin p c j))
 
 -- ---- the first code that holds, of those that look at the workers
 
 -- The fault is the first that the workers have: of the law, then of a lane, then of the counts. Out
 -- of memory says nothing.
 abbrev pub IsFaultOfWorkers :
-    SetupView → List ℕ → List Row → List (List AuditEntry) → List Listed → AuditFault → Type 0
-IsFaultOfWorkers setup order rows audit states (fault.Shape i) = ⊥
-IsFaultOfWorkers setup order rows audit states (fault.Refused i) = ⊥
-IsFaultOfWorkers setup order rows audit states (fault.Feed i) = ⊥
-IsFaultOfWorkers setup order rows audit states (fault.Law w) = HasBadLaw setup rows audit w
-IsFaultOfWorkers setup order rows audit states (fault.Lane n) =
-    AreFinished setup rows audit × HasBadLane setup order rows audit n
-IsFaultOfWorkers setup order rows audit states (fault.State w) =
-    AreFinished setup rows audit × HasBadState setup rows audit states w
-IsFaultOfWorkers setup order rows audit states fault.NoMemory = ⊤
+    Begin → SetupView → List ℕ → List Row → List (List AuditEntry) → List Listed → AuditFault
+    → Type 0
+IsFaultOfWorkers begin setup order rows audit states (fault.Shape i) = ⊥
+IsFaultOfWorkers begin setup order rows audit states (fault.Refused i) = ⊥
+IsFaultOfWorkers begin setup order rows audit states (fault.Feed i) = ⊥
+IsFaultOfWorkers begin setup order rows audit states (fault.Law w) =
+    HasBadLaw begin setup rows audit w
+IsFaultOfWorkers begin setup order rows audit states (fault.Lane n) =
+    AreFinished begin setup rows audit × HasBadLane begin setup order rows audit n
+IsFaultOfWorkers begin setup order rows audit states (fault.State w) =
+    AreFinished begin setup rows audit × HasBadState begin setup rows audit states w
+IsFaultOfWorkers begin setup order rows audit states fault.NoMemory = ⊤

@@ -3,10 +3,10 @@ pub mod Drafted
 pub mod Delivered
 pub mod Checked
 pub mod Faults
+pub mod Range
 pub mod Restoring
 pub mod Names
 pub mod Lines
 pub mod Verdict
 pub mod Fits
 pub mod Examples
-pub mod FaultWords

@@ -18,13 +18,13 @@ use Rattle.audit_laws.specs.declared.audit.Line.TheVariants as line
 use Rattle.audit_laws.specs.Drafted.{draft}
 use Rattle.audit_laws.specs.Faults.{Listed}
 use Rattle.audit_laws.specs.Names.{Named, named_workers}
-use Rattle.audit_laws.specs.declared.limits.TheConstants.{LAST_REFUSAL_CODE}
+use Rattle.audit_fault.specs.Noting.{IsNoted}
 
 -- ---- their fields
 
 -- The fields of a step. They are those of each entry that an audit keeps this of.
 abbrev pub kept_fields : Named → AuditEntry → List (List ℕ)
-kept_fields worker entry = entry_fields worker.node worker.place (draft [] entry)
+kept_fields worker entry = entry_fields worker.node worker.place (draft 0 [] entry)
 
 -- The fields of the count of a key at a worker.
 abbrev pub count_fields : Named → List ℕ × ℤ → List (List ℕ)
@@ -64,10 +64,6 @@ abbrev pub IsStep : Feed → Type 0
 IsStep (feed.Fed row) = row < 2 ^ 64
 IsStep (feed.Issued request) = request < 2 ^ 64
 IsStep feed.Stopped = ⊤
-
--- A refused request is noted by its place and by one of the codes.
-abbrev pub IsNoted : Noted → Type 0
-IsNoted noted = (noted.place < 2 ^ 32) × (1 ≤ noted.code) × (noted.code ≤ LAST_REFUSAL_CODE)
 
 -- The worker and the lane of a line are those of the job. Its numbers are in the ranges of their
 -- types.

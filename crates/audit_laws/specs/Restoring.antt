@@ -7,6 +7,7 @@ use Rattle.tuple_trace.specs.declared.row.Row.{Row}
 use Rattle.tuple_trace.specs.declared.tuple.Item.{Item}
 use Rattle.tuple_trace.specs.declared.tuple.Item.TheVariants as item
 use Rattle.flow_model.specs.declared.topology.Lane.{Lane}
+use Rattle.flow_model.specs.Begin.{Begin}
 use Rattle.flow_model.specs.Lanes.{lanes}
 use Rattle.flow_model.specs.SetupView.{SetupView}
 use Rattle.audit_laws.specs.declared.audit.AuditEntry.{AuditEntry}
@@ -48,23 +49,28 @@ abbrev pub items_of : Option (List Item) → List Item
 items_of None = []
 items_of (Some items) = items
 
-abbrev pub delivered_by : SetupView → List Row → List (List Entry) → Option Lane → List Item
-delivered_by setup rows journals None = []
-delivered_by setup rows journals (Some lane) = items_of (delivered setup rows journals lane)
+abbrev pub delivered_by :
+    Begin → SetupView → List Row → List (List Entry) → Option Lane → List Item
+delivered_by begin setup rows journals None = []
+delivered_by begin setup rows journals (Some lane) =
+    items_of (delivered begin setup rows journals lane)
 
 -- What each lane brings if the workers have these journals.
-abbrev pub delivered_on : SetupView → List Row → List (List Entry) → ℕ → List Item
-delivered_on setup rows journals n = delivered_by setup rows journals
-    (slice_get (lanes setup.job) n)
+abbrev pub delivered_on : Begin → SetupView → List Row → List (List Entry) → ℕ → List Item
+delivered_on begin setup rows journals n =
+    delivered_by begin setup rows journals (slice_get (lanes setup.job) n)
 
 -- Each lane into the worker brings items if the workers have these journals. They are the lane's
 -- entries of the trimmed journal.
-abbrev pub LanesAgree : SetupView → List Row → List (List Entry) → ℕ → List AuditEntry → Type 0
-LanesAgree setup rows journals w journal =
+abbrev pub LanesAgree :
+    Begin → SetupView → List Row → List (List Entry) → ℕ → List AuditEntry → Type 0
+LanesAgree begin setup rows journals w journal =
     (n : ℕ) (lane : Lane) → slice_get (lanes setup.job) n ≡ Some lane → lane.receiver ≡ w →
-    (items : List Item) × (delivered setup rows journals lane ≡ Some items)
+    (items : List Item) × (delivered begin setup rows journals lane ≡ Some items)
     × AreItems n items journal
 
 -- The journal of a worker, restored from the trimmed one and from what its lanes bring.
-abbrev pub restored_by : SetupView → List Row → List (List Entry) → List AuditEntry → List Entry
-restored_by setup rows journals journal = restored (delivered_on setup rows journals) journal
+abbrev pub restored_by :
+    Begin → SetupView → List Row → List (List Entry) → List AuditEntry → List Entry
+restored_by begin setup rows journals journal =
+    restored (delivered_on begin setup rows journals) journal

@@ -5,12 +5,13 @@ use Rattle.jobs.specs.JobView.{JobView}
 use Rattle.sink_journal.specs.Audit.{audit_header}
 use Rattle.sink_journal.specs.declared.audit.Noted.{Noted}
 use Rattle.tuple_trace.specs.declared.row.Row.{Row}
+use Rattle.flow_model.specs.Begin.{Begin}
 use Rattle.flow_model.specs.SetupView.{SetupView}
 use Rattle.flow_model.specs.Duties.{numbers_from}
 use Rattle.flow_model.specs.Workers.{workers_in}
 use Rattle.audit_laws.specs.declared.audit.Line.{Line}
-use Rattle.audit_laws.specs.declared.fault.AuditFault.{AuditFault}
-use Rattle.audit_laws.specs.declared.fault.AuditFault.TheVariants as fault
+use Rattle.audit_fault.specs.declared.fault.AuditFault.{AuditFault}
+use Rattle.audit_fault.specs.declared.fault.AuditFault.TheVariants as fault
 use Rattle.audit_laws.specs.Delivered.{feed_of}
 use Rattle.audit_laws.specs.Faults.{IsFaultOfWorkers}
 use Rattle.audit_laws.specs.Lines.{IsLine, StandInOrder, counts_in, feeds_in, group_of}
@@ -61,19 +62,20 @@ by_worker setup f = map f (numbers_from 0 (length (workers_in setup.job)))
 -- The fault is the first that these records have, in the order of the codes. Out of memory is
 -- always allowed.
 abbrev pub IsFaultOf :
-    SetupView → List ℕ → List Noted → List Row → List (List (List ℕ)) → AuditFault → Type 0
-IsFaultOf setup order refused rows records (fault.Shape i) =
+    Begin → SetupView → List ℕ → List Noted → List Row → List (List (List ℕ)) → AuditFault
+    → Type 0
+IsFaultOf begin setup order refused rows records (fault.Shape i) =
     ((i ≡ 0) × HasNoHeader records) ⊎ HasBadShape setup.job records i
-IsFaultOf setup order refused rows records (fault.Refused i) =
+IsFaultOf begin setup order refused rows records (fault.Refused i) =
     (lines : List Line) × (k : ℕ) × AreInShape setup.job records lines × (i ≡ 1 + k)
     × DifferFirst (refusals_in lines) refused k
-IsFaultOf setup order refused rows records (fault.Feed i) =
+IsFaultOf begin setup order refused rows records (fault.Feed i) =
     (lines : List Line) × (k : ℕ) × AreInShape setup.job records lines
     × (refusals_in lines ≡ refused) × (i ≡ 1 + length refused + k)
-    × DifferFirst (feeds_in lines) (feed_of setup rows) k
-IsFaultOf setup order refused rows records fault.NoMemory = ⊤
-IsFaultOf setup order refused rows records other =
+    × DifferFirst (feeds_in lines) (feed_of begin setup rows) k
+IsFaultOf begin setup order refused rows records fault.NoMemory = ⊤
+IsFaultOf begin setup order refused rows records other =
     (lines : List Line) × AreInShape setup.job records lines × (refusals_in lines ≡ refused)
-    × (feeds_in lines ≡ feed_of setup rows)
-    × IsFaultOfWorkers setup order rows (by_worker setup (journal_in lines))
+    × (feeds_in lines ≡ feed_of begin setup rows)
+    × IsFaultOfWorkers begin setup order rows (by_worker setup (journal_in lines))
     (by_worker setup (counts_in lines)) other

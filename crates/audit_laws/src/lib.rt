@@ -2,7 +2,7 @@
 //! laws of both.
 //!
 //! An audit has only the row and the births of a tuple. It determines the run all the same: no two
-//! runs of one setup and the same rows have the same audit.
+//! runs of one setup, one beginning and the same rows have the same audit.
 //!
 //! ```
 //! let lines = records_of(text);
@@ -14,16 +14,12 @@
 
 mod audit;
 mod examples;
-mod fault;
 mod laws;
-mod limits;
 
 pub use audit::{AuditEntry, Line};
 pub use examples::the_audit_of_no_payments;
-pub use fault::AuditFault;
 pub use laws::{
     audits_have_one_fault, audits_of_runs_have_no_fault, checked_journals_are_a_run,
     journals_are_restored, journals_tell_the_run, lines_of_runs_have_form, runs_fit_their_lines,
     texts_have_one_fault, texts_of_runs_have_no_fault, texts_tell_the_run, written_audits_fit,
 };
-pub use limits::LAST_REFUSAL_CODE;

@@ -1,7 +1,7 @@
 use Rattle.audit_check.proofs.feed.check_feed.Goals as goal
 
-pub check_records-requires-clause-shape : goal.check_records-requires-clause-shape
-check_records-requires-clause-shape c = rw c.of-records.ensures c.requires.shape
+pub check_records-requires : goal.check_records-requires
+check_records-requires c = rw c.of-records.ensures c.requires
 
 pub returns-clause-ok : goal.returns-clause-ok
 returns-clause-ok c = rw c.of-records.ensures at c.check_records.ensures.ok

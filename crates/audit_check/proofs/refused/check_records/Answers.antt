@@ -5,7 +5,7 @@ use Rattle.audit_check.proofs.RefusedLemmas.{none_past, other_refused, refused_a
 use Rattle.audit_check.proofs.refused.check_records.Goals as goal
 
 pub returns-in_default-clause-fault : goal.returns-in_default-clause-fault
-returns-in_default-clause-fault c rows =
+returns-in_default-clause-fault c begin rows =
     let job = c.args.setup.now.job in
     let s = c.requires in
     let k = c.loop-place.place in
@@ -19,7 +19,7 @@ returns-in_default-clause-fault c rows =
     )
 
 pub returns-then-not-is_at-clause-fault : goal.returns-then-not-is_at-clause-fault
-returns-then-not-is_at-clause-fault c rows =
+returns-then-not-is_at-clause-fault c begin rows =
     let job = c.args.setup.now.job in
     let s = c.requires in
     let k = c.loop-place.place in
@@ -34,7 +34,7 @@ returns-then-not-is_at-clause-fault c rows =
     )
 
 pub returns-in-Some-2-clause-fault : goal.returns-in-Some-2-clause-fault
-returns-in-Some-2-clause-fault c rows =
+returns-in-Some-2-clause-fault c begin rows =
     let job = c.args.setup.now.job in
     let s = c.requires in
     let k = c.loop-place.place in

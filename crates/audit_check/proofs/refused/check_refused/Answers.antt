@@ -7,4 +7,4 @@ pub returns-clause-ok : goal.returns-clause-ok
 returns-clause-ok c = rw c.of-records.ensures at c.check_records.ensures.ok
 
 pub returns-clause-fault : goal.returns-clause-fault
-returns-clause-fault c rows = rw c.of-records.ensures at c.check_records.ensures.fault rows
+returns-clause-fault c begin rows = rw c.of-records.ensures at c.check_records.ensures.fault begin rows

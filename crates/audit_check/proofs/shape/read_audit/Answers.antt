@@ -4,4 +4,4 @@ pub returns-clause-ok : goal.returns-clause-ok
 returns-clause-ok c = rw c.of-records.ensures at c.read_records.ensures.ok
 
 pub returns-clause-fault : goal.returns-clause-fault
-returns-clause-fault c refused rows = rw c.of-records.ensures at c.read_records.ensures.fault refused rows
+returns-clause-fault c begin refused rows = rw c.of-records.ensures at c.read_records.ensures.fault begin refused rows

@@ -19,7 +19,7 @@ loop-number-init c =
     )
 
 pub returns-in_default-clause-fault : goal.returns-in_default-clause-fault
-returns-in_default-clause-fault c refused rows =
+returns-in_default-clause-fault c begin refused rows =
     let job = job_view c.args.setup.now.job in
     let records = audit_header ∷ c.args.records.now in
     let n = c.loop-number.number in
@@ -28,7 +28,7 @@ returns-in_default-clause-fault c refused rows =
     inr (no_such_line job records (fields_of c.next.new.cells) c.next.new.self n c.loop-number.group read (rw c.in_default.is at c.in_ok-line.ensures.none))
 
 pub returns-then-next-group-clause-fault : goal.returns-then-next-group-clause-fault
-returns-then-next-group-clause-fault c refused rows =
+returns-then-next-group-clause-fault c begin refused rows =
     let job = job_view c.args.setup.now.job in
     let records = audit_header ∷ c.args.records.now in
     let n = c.loop-number.number in

@@ -1,13 +1,18 @@
-use Rattle.std.proofs.Common.{◌≡◌, ◌∙◌, ◌<◌, ◌≤◌, ◌++◌, ◌+◌, ◌-◌, arith, length, min, subst}
-use Rattle.std.specs.Prelude.{Some, slice_get}
-use Rattle.std.proofs.lemmas.List.{length-map}
-use Rattle.versions.specs.declared.request.Request.{Request}
+use Rattle.std.proofs.Common.{◌≡◌, ◌<◌, ◌≤◌, ◌+◌, ◌-◌, ◌++◌, Some, arith, min, subst}
+use Rattle.std.specs.Prelude.{slice_get}
+use Rattle.jobs.specs.Job.{job_view}
+use Rattle.versions.specs.Kept.{AreInOrder}
+use Rattle.versions.proofs.KeptLemmas.{accepted-order}
 use Rattle.flow_model.specs.Requests.{afters}
 use Rattle.flow_model.specs.Setup.{setup_view}
-use Rattle.flow_replay.specs.inner.SoFar.{AreIssuedBefore, issues}
-use Rattle.flow_replay.proofs.IssueLemmas.{due_ends, due_next, due_stops, issues-end, issues-next, issues-stop}
-use Rattle.flow_replay.proofs.SetupLemmas.{in_order}
+use Rattle.flow_model.specs.declared.setup.Setup.{Setup}
+use Rattle.audit_check.specs.Issuing.{issues}
+use Rattle.audit_check.proofs.IssueLemmas.{due_next, due_stops, issues-next, issues-stop}
 use Rattle.audit_check.proofs.steps.push_due.Goals as goal
+
+-- the requests of a setup stand in the order of the rows that they wait for
+in_order : (setup : Setup) → AreInOrder 0 (setup_view setup).requests
+in_order setup = accepted-order (job_view setup.job) setup.judged.accepted setup.accepted
 
 pub returns-then-min-row-clause-waits : goal.returns-then-min-row-clause-waits
 returns-then-min-row-clause-waits c =
@@ -15,8 +20,10 @@ returns-then-min-row-clause-waits c =
     let here : c.loop-place.place + 1 - 1 ≡ c.loop-place.place = omega arith in
     let after = subst (λ k. slice_get (afters setup.requests) k ≡ Some c.after.result) here
     c.after.ensures in
-    let later : c.args.row < min c.after.result c.args.rows = omega (arith, c.if-min-row.true, c.min.ensures) in
-    due_stops setup.requests c.args.rows c.args.row c.loop-place.place c.after.result (in_order c.args.setup.now) after later c.loop-place.invariant.due
+    let later : c.args.row < min c.after.result c.args.rows =
+    omega (arith, c.if-min-row.true, c.min.ensures) in
+    due_stops setup.requests c.args.rows c.args.row c.args.issued c.loop-place.place c.after.result
+    (in_order c.args.setup.now) after later c.loop-place.invariant.more c.loop-place.invariant.past
 
 pub returns-then-min-row-clause-feeds : goal.returns-then-min-row-clause-feeds
 returns-then-min-row-clause-feeds c =
@@ -24,9 +31,14 @@ returns-then-min-row-clause-feeds c =
     let here : c.loop-place.place + 1 - 1 ≡ c.loop-place.place = omega arith in
     let after = subst (λ k. slice_get (afters setup.requests) k ≡ Some c.after.result) here
     c.after.ensures in
-    let later : c.args.row < min c.after.result c.args.rows = omega (arith, c.if-min-row.true, c.min.ensures) in
-    issues-stop setup c.args.rows c.args.row c.loop-place.place c.after.result c.loop-place.feeds (c.args.feeds.now ++ issues setup c.args.rows c.args.row c.args.issued) (in_order c.args.setup.now)
-    after later c.loop-place.invariant.feeds
+    let later : c.args.row < min c.after.result c.args.rows =
+    omega (arith, c.if-min-row.true, c.min.ensures) in
+    let stops = due_stops setup.requests c.args.rows c.args.row c.args.issued c.loop-place.place
+    c.after.result (in_order c.args.setup.now) after later c.loop-place.invariant.more
+    c.loop-place.invariant.past in
+    issues-stop (afters setup.requests) c.args.rows c.args.row c.args.issued c.loop-place.place
+    c.loop-place.feeds (c.args.feeds.now ++ issues (afters setup.requests) c.args.rows c.args.row
+    c.args.issued) stops c.loop-place.invariant.feeds
 
 pub loop-place-preserved : goal.loop-place-preserved
 loop-place-preserved c =
@@ -34,19 +46,17 @@ loop-place-preserved c =
     let here : c.loop-place.place + 1 - 1 ≡ c.loop-place.place = omega arith in
     let after = subst (λ k. slice_get (afters setup.requests) k ≡ Some c.after.result) here
     c.after.ensures in
-    let due : min c.after.result c.args.rows ≤ c.args.row = omega (arith, c.if-min-row.false, c.min.ensures) in
+    let due : min c.after.result c.args.rows ≤ c.args.row =
+    omega (arith, c.if-min-row.false, c.min.ensures) in
+    let more = c.loop-place.invariant.more in
     record {
-      due = due_next (afters setup.requests) c.args.rows c.args.row c.loop-place.place c.after.result after due c.loop-place.invariant.due;
-      feeds = issues-next setup c.args.rows c.args.row c.loop-place.place c.after.result c.loop-place.feeds c.push.new.self (c.args.feeds.now ++ issues setup c.args.rows c.args.row c.args.issued)
-          after due c.in_ok-push.ensures.ok c.loop-place.invariant.feeds;
+      more = omega (arith, more);
+      past =
+          due_next (afters setup.requests) c.args.rows c.args.row c.args.issued c.loop-place.place
+          c.after.result after due c.loop-place.invariant.past;
+      feeds =
+          issues-next (afters setup.requests) c.args.rows c.args.row c.loop-place.place
+          c.after.result c.loop-place.feeds c.push.new.self (c.args.feeds.now
+          ++ issues (afters setup.requests) c.args.rows c.args.row c.args.issued) after due
+          c.in_ok-push.ensures.ok c.loop-place.invariant.feeds;
     }
-
-pub returns-clause-waits : goal.returns-clause-waits
-returns-clause-waits c =
-    let setup = setup_view c.args.setup.now in
-    let place = c.loop-place.place in
-    let long = length-map setup.requests (λ (request : Request). request.after) in
-    let few = c.loop-place.invariant.due.few in
-    let end : length (afters setup.requests) ≤ place = omega (arith, c.loop-place-test.false, c.request_count-count.ensures, long) in
-    let same : place ≡ c.request_count-count.result = omega (arith, end, few, c.request_count-count.ensures, long) in
-    subst (λ n. AreIssuedBefore (afters setup.requests) c.args.rows (c.args.row + 1) n) same (due_ends (afters setup.requests) c.args.rows c.args.row place end c.loop-place.invariant.due)

@@ -3,7 +3,7 @@ use Rattle.audit_check.proofs.text.check_text.Goals as goal
 
 pub returns-in_err-told-clause-fault : goal.returns-in_err-told-clause-fault
 returns-in_err-told-clause-fault c =
-    let fault = c.in_err-told.ensures.fault c.args.refused.now c.args.rows.now in
+    let fault = c.in_err-told.ensures.fault c.args.start.now c.args.refused.now c.args.rows.now in
     search (rules, fault)
 
 pub checked_feed-requires : goal.checked_feed-requires

@@ -6,6 +6,6 @@ use Rattle.audit_laws.proofs.OneFaultLemmas.{one_fault}
 use Rattle.audit_laws.proofs.laws.audits_have_one_fault.Goals as goal
 
 pub returns : goal.returns
-returns c rows audit states f g a b h k =
+returns c begin rows audit states f g a b h k =
     let job = c.args.setup.now.job in
-    one_fault (setup_view c.args.setup.now) job.dag (connected (job_view job) job.dag job.lawful refl job.drawn) refl job.drawn rows audit states f g a b h k
+    one_fault begin (setup_view c.args.setup.now) job.dag (connected (job_view job) job.dag job.lawful refl job.drawn) refl job.drawn rows audit states f g a b h k

@@ -8,9 +8,9 @@ use Rattle.audit_laws.proofs.OneRunLemmas.{by_parts}
 use Rattle.audit_laws.proofs.laws.audits_of_runs_have_no_fault.Goals as goal
 
 pub returns : goal.returns
-returns c ran fault is some stands =
+returns c begin ran fault is some stands =
     let rows = c.args.rows.now in
     let are : AreRows rows = subst AreRows c.as_slice-numbered.ensures.value c.as_slice-numbered.ensures.rows in
     let job = c.args.setup.now.job in
-    no_fault (setup_view c.args.setup.now) job.dag (connected (job_view job) job.dag job.lawful refl job.drawn) refl job.drawn rows are ran.journals ran.states
-    (by_parts (setup_view c.args.setup.now) rows ran is).1 fault some stands
+    no_fault begin (setup_view c.args.setup.now) job.dag (connected (job_view job) job.dag job.lawful refl job.drawn) refl job.drawn rows are ran.journals ran.states
+    (by_parts begin (setup_view c.args.setup.now) rows ran is).1 fault some stands

@@ -3,4 +3,4 @@ use Rattle.audit_laws.proofs.WorkerLemmas.{worker_restored}
 use Rattle.audit_laws.proofs.laws.journals_are_restored.Goals as goal
 
 pub returns : goal.returns
-returns c rows journals w who journal there law agree = worker_restored (setup_view c.args.setup.now) rows journals w who journal there law agree
+returns c begin rows journals w who journal there law agree = worker_restored begin (setup_view c.args.setup.now) rows journals w who journal there law agree

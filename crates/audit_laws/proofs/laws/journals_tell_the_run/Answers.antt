@@ -6,6 +6,6 @@ use Rattle.audit_laws.proofs.OneRunLemmas.{one_run}
 use Rattle.audit_laws.proofs.laws.journals_tell_the_run.Goals as goal
 
 pub returns : goal.returns
-returns c rows a b x y same =
+returns c begin rows a b x y same =
     let job = c.args.setup.now.job in
-    one_run (setup_view c.args.setup.now) (connected (job_view job) job.dag job.lawful refl job.drawn) rows a b x y same
+    one_run begin (setup_view c.args.setup.now) (connected (job_view job) job.dag job.lawful refl job.drawn) rows a b x y same

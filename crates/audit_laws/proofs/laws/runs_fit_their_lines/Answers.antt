@@ -4,6 +4,6 @@ use Rattle.audit_laws.proofs.VerdictLemmas.{fits_lines}
 use Rattle.audit_laws.proofs.laws.runs_fit_their_lines.Goals as goal
 
 pub returns : goal.returns
-returns c rows refused text ran is =
-    let e = fits_lines (setup_view c.args.setup.now) rows refused ran is in
+returns c begin rows refused text ran is =
+    let e = fits_lines begin (setup_view c.args.setup.now) rows refused ran is in
     ((λ h. h ∙ sym e), (λ h. h ∙ e))

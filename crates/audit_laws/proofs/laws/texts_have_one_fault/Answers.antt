@@ -7,6 +7,6 @@ use Rattle.audit_laws.proofs.OneVerdictLemmas.{one_verdict}
 use Rattle.audit_laws.proofs.laws.texts_have_one_fault.Goals as goal
 
 pub returns : goal.returns
-returns c rows refused text f g a b h k =
+returns c begin rows refused text f g a b h k =
     let job = c.args.setup.now.job in
-    one_verdict (setup_view c.args.setup.now) job.dag (connected (job_view job) job.dag job.lawful refl job.drawn) job.lawful refl job.drawn rows refused (records_of text) f g a b h k
+    one_verdict begin (setup_view c.args.setup.now) job.dag (connected (job_view job) job.dag job.lawful refl job.drawn) job.lawful refl job.drawn rows refused (records_of text) f g a b h k

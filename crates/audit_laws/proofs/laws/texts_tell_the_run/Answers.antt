@@ -10,13 +10,13 @@ use Rattle.audit_laws.proofs.VerdictLemmas.{in_shape, same_trims}
 use Rattle.audit_laws.proofs.laws.texts_tell_the_run.Goals as goal
 
 pub returns : goal.returns
-returns c refused text a b noted x y p q =
+returns c begin refused text a b begins noted x y p q =
     let rows = c.args.rows.now in
-    let v = c.lines_of_runs_have_form.ensures refused a noted x in
-    let w = c.lines_of_runs_have_form.ensures refused b noted y in
+    let v = c.lines_of_runs_have_form.ensures begin refused a begins noted x in
+    let w = c.lines_of_runs_have_form.ensures begin refused b begins noted y in
     let job = c.args.setup.now.job in
     let here : SetupView = setup_view c.args.setup.now in
-    one_run here (connected (job_view job) job.dag job.lawful refl job.drawn) rows a b x y (
+    one_run begin here (connected (job_view job) job.dag job.lawful refl job.drawn) rows a b x y (
     same_trims here job.lawful refused (records_of text) a.feeds b.feeds a.journals b.journals a.states b.states
     (x.run.one_journal_each ∙ ap (λ (s : SetupView). length (workers_in s.job)) x.setup_is) (x.run.one_state_each ∙ ap (λ (s : SetupView). length (workers_in s.job)) x.setup_is)
-    (y.run.one_journal_each ∙ ap (λ (s : SetupView). length (workers_in s.job)) y.setup_is) (y.run.one_state_each ∙ ap (λ (s : SetupView). length (workers_in s.job)) y.setup_is) (in_shape here rows refused text a x p v) (in_shape here rows refused text b y q w))
+    (y.run.one_journal_each ∙ ap (λ (s : SetupView). length (workers_in s.job)) y.setup_is) (y.run.one_state_each ∙ ap (λ (s : SetupView). length (workers_in s.job)) y.setup_is) (in_shape begin here rows refused text a x p v) (in_shape begin here rows refused text b y q w))
