@@ -2,14 +2,14 @@
 use Rattle.std.proofs.Common.{◌≡◌, ◌≢◌, ◌∙◌, ◌<◌, ◌≤◌, ◌+◌, ◌^◌, ℕ, zero, suc, List, [], ◌∷◌, refl, sym, ap, ap₂, subst, arith, All, length, map, take, Some, slice_get, option_map}
 use Rattle.std.specs.FinMap.{empty, entries}
 use Rattle.std.proofs.lemmas.List.{length-map}
-use Rattle.std.proofs.lemmas.Option.{same_Some, slice_get-map, slice_get_within}
+use Rattle.std.proofs.lemmas.Option.{same_Some, slice_get-get_or, slice_get-map, slice_get_within}
 use Rattle.keyed_state.specs.Counts.{Counts}
 use Rattle.sink_journal.specs.declared.audit.Noted.{Noted}
 use Rattle.sink_journal.specs.declared.journal.Entry.{Entry}
 use Rattle.sink_journal.specs.declared.journal.Feed.{Feed}
 use Rattle.tuple_trace.specs.declared.row.Row.{Row}
 use Rattle.jobs.specs.JobView.{JobView}
-use Rattle.flow_model.specs.Begin.{at_first}
+use Rattle.flow_model.specs.Begin.{Begin}
 use Rattle.flow_model.specs.SetupView.{SetupView, Worker}
 use Rattle.flow_model.specs.Replay.{shown}
 use Rattle.flow_model.specs.Run.{final_counts, ran_as}
@@ -17,15 +17,16 @@ use Rattle.flow_model.specs.Workers.{nth_worker, workers_in}
 use Rattle.flow_model.proofs.WorkerPlaces.{get-nth_worker}
 use Rattle.audit_laws.specs.declared.audit.AuditEntry.{AuditEntry}
 use Rattle.audit_laws.specs.declared.audit.Line.{Line}
-use Rattle.audit_laws.specs.declared.fault.AuditFault.{AuditFault}
-use Rattle.audit_laws.specs.declared.fault.AuditFault.TheVariants as fault
+use Rattle.audit_fault.specs.declared.fault.AuditFault.{AuditFault}
+use Rattle.audit_fault.specs.declared.fault.AuditFault.TheVariants as fault
 use Rattle.audit_laws.specs.Delivered.{delivered, feed_of}
 use Rattle.audit_laws.specs.Checked.{IsChecked}
 use Rattle.audit_laws.specs.Faults.{AreFinished, HasBadState, IsFaultOfWorkers, Listed}
 use Rattle.audit_laws.specs.Fits.{kept_lines}
 use Rattle.audit_laws.specs.Lines.{counts_in, feeds_in, journal_in, lines_of, refusals_in}
 use Rattle.audit_laws.specs.declared.audit.Line.TheVariants as line
-use Rattle.audit_laws.specs.Lines.{IsLine, IsNoted, group_of}
+use Rattle.audit_fault.specs.Noting.{IsNoted}
+use Rattle.audit_laws.specs.Lines.{IsLine, group_of}
 use Rattle.audit_laws.specs.Trimmed.{trimmed}
 use Rattle.audit_laws.proofs.TextLemmas.{length-named}
 use Rattle.flow_model.proofs.ElementLemmas.{all_of_at, at_of_all, in_map, pair_of_all}
@@ -40,28 +41,29 @@ use Rattle.audit_laws.proofs.ShapeLemmas.{mapped_numbers}
 use Rattle.journal_law.specs.Course.{IsFaultOfLaw}
 use Rattle.audit_check.specs.Telling.{Tells}
 use Rattle.audit_check.specs.declared.told.Told.{Told}
+use Rattle.flow_replay.specs.Sent.{begun_counts}
 use Rattle.audit_replay.specs.Restored.{AllRestored, IsFaultOfLanes, IsFirstOther}
 
 -- ---- the first fault
 
-pub law_fault : (setup : SetupView) (order : List ℕ) (rows : List Row) (audit : List (List AuditEntry)) (told : List Listed) (f : AuditFault) → IsFaultOfLaw setup rows audit f → IsFaultOfWorkers setup order rows audit told f
-law_fault setup order rows audit told (fault.Shape i) h = h
-law_fault setup order rows audit told (fault.Refused i) h = h
-law_fault setup order rows audit told (fault.Feed i) h = h
-law_fault setup order rows audit told (fault.Law w) h = h
-law_fault setup order rows audit told (fault.Lane n) h = absurd h
-law_fault setup order rows audit told (fault.State w) h = absurd h
-law_fault setup order rows audit told fault.NoMemory h = tt
+pub law_fault : (begin : Begin) (setup : SetupView) (order : List ℕ) (rows : List Row) (audit : List (List AuditEntry)) (told : List Listed) (f : AuditFault) → IsFaultOfLaw begin setup rows audit f → IsFaultOfWorkers begin setup order rows audit told f
+law_fault begin setup order rows audit told (fault.Shape i) h = h
+law_fault begin setup order rows audit told (fault.Refused i) h = h
+law_fault begin setup order rows audit told (fault.Feed i) h = h
+law_fault begin setup order rows audit told (fault.Law w) h = h
+law_fault begin setup order rows audit told (fault.Lane n) h = absurd h
+law_fault begin setup order rows audit told (fault.State w) h = absurd h
+law_fault begin setup order rows audit told fault.NoMemory h = tt
 
-pub lanes_fault : (setup : SetupView) (order : List ℕ) (rows : List Row) (audit : List (List AuditEntry)) (told : List Listed) → AreFinished setup rows audit → (f : AuditFault) → IsFaultOfLanes setup order rows audit f
-    → IsFaultOfWorkers setup order rows audit told f
-lanes_fault setup order rows audit told law (fault.Shape i) h = h
-lanes_fault setup order rows audit told law (fault.Refused i) h = h
-lanes_fault setup order rows audit told law (fault.Feed i) h = h
-lanes_fault setup order rows audit told law (fault.Law w) h = absurd h
-lanes_fault setup order rows audit told law (fault.Lane n) h = (law, h)
-lanes_fault setup order rows audit told law (fault.State w) h = absurd h
-lanes_fault setup order rows audit told law fault.NoMemory h = tt
+pub lanes_fault : (begin : Begin) (setup : SetupView) (order : List ℕ) (rows : List Row) (audit : List (List AuditEntry)) (told : List Listed) → AreFinished begin setup rows audit → (f : AuditFault) → IsFaultOfLanes begin setup order rows audit f
+    → IsFaultOfWorkers begin setup order rows audit told f
+lanes_fault begin setup order rows audit told law (fault.Shape i) h = h
+lanes_fault begin setup order rows audit told law (fault.Refused i) h = h
+lanes_fault begin setup order rows audit told law (fault.Feed i) h = h
+lanes_fault begin setup order rows audit told law (fault.Law w) h = absurd h
+lanes_fault begin setup order rows audit told law (fault.Lane n) h = (law, h)
+lanes_fault begin setup order rows audit told law (fault.State w) h = absurd h
+lanes_fault begin setup order rows audit told law fault.NoMemory h = tt
 
 get_take : {A : Type 0} (xs ys : List A) (n k : ℕ) → take n xs ≡ take n ys → k < n → slice_get xs k ≡ slice_get ys k
 get_take xs ys zero k e lt = absurd (omega (arith, lt))
@@ -71,38 +73,42 @@ get_take (x ∷ xs) [] (suc n) k e lt = absurd (cc)
 get_take (x ∷ xs) (y ∷ ys) (suc n) zero e lt = let same : x ≡ y = cc in ap Some same
 get_take (x ∷ xs) (y ∷ ys) (suc n) (suc k) e lt = let rest : take n xs ≡ take n ys = cc in get_take xs ys n k rest (omega (arith, lt))
 
-bad_state : (setup : SetupView) (rows : List Row) (audit : List (List AuditEntry)) (told : List Listed) (journals : List (List Entry)) (states : List Counts) (w : ℕ) → AllRestored setup rows audit journals states
-    → (w < length states) × (take w told ≡ take w (map entries states)) × (slice_get told w ≢ slice_get (map entries states) w) → HasBadState setup rows audit told w
-bad_state setup rows audit told journals states w all (lt, same, differ) =
+bad_state : (begin : Begin) (setup : SetupView) → length begin.states ≡ length (workers_in setup.job) → (rows : List Row) (audit : List (List AuditEntry)) (told : List Listed) (journals : List (List Entry)) (states : List Counts) (w : ℕ) → AllRestored begin setup rows audit journals states
+    → (w < length states) × (take w told ≡ take w (map entries states)) × (slice_get told w ≢ slice_get (map entries states) w) → HasBadState begin setup rows audit told w
+bad_state begin setup starts rows audit told journals states w all (lt, same, differ) =
     let within : w < length (workers_in setup.job) = let long = all.states_long in omega (arith, lt, long) in
     let works = get-nth_worker setup.job w within in
     let r = all.restored w within in
+    let begins = slice_get-get_or begin.states w empty (omega (arith, within, starts)) in
     record {
       journals = journals;
       restored = λ v p q. all.restored v (slice_get_within (workers_in setup.job) v p q);
       who = nth_worker setup.job w;
       works = works;
+      counts = begun_counts begin w;
+      begins = begins;
       journal = r.journal;
       there = r.there;
-      differ = λ e. differ (e ∙ sym (counted w (nth_worker setup.job w) r.journal within works r.there));
-      least = λ v p j less q h.
+      differ = λ e. differ (e
+          ∙ sym (counted w (nth_worker setup.job w) (begun_counts begin w) r.journal within works begins r.there));
+      least = λ v p c j less q b h.
           let inside = slice_get_within (workers_in setup.job) v p q in
-          get_take told (map entries states) w v same less ∙ counted v p j inside q h;
+          get_take told (map entries states) w v same less ∙ counted v p c j inside q b h;
     }
   where
-    counted : (v : ℕ) (p : Worker) (j : List Entry) → v < length (workers_in setup.job) → slice_get (workers_in setup.job) v ≡ Some p → slice_get journals v ≡ Some j
-        → slice_get (map entries states) v ≡ Some (entries (final_counts setup (at_first setup) p empty j))
-    counted v p j inside q h = slice_get-map entries states v ∙ ap (option_map entries) (all.counted v p j inside q h)
+    counted : (v : ℕ) (p : Worker) (c : Counts) (j : List Entry) → v < length (workers_in setup.job) → slice_get (workers_in setup.job) v ≡ Some p → slice_get begin.states v ≡ Some c → slice_get journals v ≡ Some j
+        → slice_get (map entries states) v ≡ Some (entries (final_counts setup begin p c j))
+    counted v p c j inside q b h = slice_get-map entries states v ∙ ap (option_map entries) (all.counted v p c j inside q b h)
 
-pub states_fault : (setup : SetupView) (order : List ℕ) (rows : List Row) (audit : List (List AuditEntry)) (told : List Listed) (journals : List (List Entry)) (states : List Counts) → AreFinished setup rows audit
-    → AllRestored setup rows audit journals states → (f : AuditFault) → IsFirstOther told states f → IsFaultOfWorkers setup order rows audit told f
-states_fault setup order rows audit told journals states law all (fault.Shape i) h = h
-states_fault setup order rows audit told journals states law all (fault.Refused i) h = h
-states_fault setup order rows audit told journals states law all (fault.Feed i) h = h
-states_fault setup order rows audit told journals states law all (fault.Law w) h = absurd h
-states_fault setup order rows audit told journals states law all (fault.Lane n) h = absurd h
-states_fault setup order rows audit told journals states law all (fault.State w) h = (law, bad_state setup rows audit told journals states w all h)
-states_fault setup order rows audit told journals states law all fault.NoMemory h = tt
+pub states_fault : (begin : Begin) (setup : SetupView) → length begin.states ≡ length (workers_in setup.job) → (order : List ℕ) (rows : List Row) (audit : List (List AuditEntry)) (told : List Listed) (journals : List (List Entry)) (states : List Counts) → AreFinished begin setup rows audit
+    → AllRestored begin setup rows audit journals states → (f : AuditFault) → IsFirstOther told states f → IsFaultOfWorkers begin setup order rows audit told f
+states_fault begin setup starts order rows audit told journals states law all (fault.Shape i) h = h
+states_fault begin setup starts order rows audit told journals states law all (fault.Refused i) h = h
+states_fault begin setup starts order rows audit told journals states law all (fault.Feed i) h = h
+states_fault begin setup starts order rows audit told journals states law all (fault.Law w) h = absurd h
+states_fault begin setup starts order rows audit told journals states law all (fault.Lane n) h = absurd h
+states_fault begin setup starts order rows audit told journals states law all (fault.State w) h = (law, bad_state begin setup starts rows audit told journals states w all h)
+states_fault begin setup starts order rows audit told journals states law all fault.NoMemory h = tt
 
 -- ---- of the text
 
@@ -115,36 +121,37 @@ pub told_states : (setup : SetupView) (lines : List Line) (told : Told) → Tell
 told_states setup lines told tells =
     mapped_numbers (counts_in lines) 0 (length (workers_in setup.job)) told.states.items tells.states_long (λ i lt. let z : i ≡ 0 + i = omega arith in tells.states_are i lt ∙ ap (λ k. Some (counts_in lines k)) z)
 
-pub text_fault : (setup : SetupView) (order : List ℕ) (refused : List Noted) (rows : List Row) (records : List (List (List ℕ))) (lines : List Line) (told : Told) → AreInShape setup.job records lines → refusals_in lines ≡ refused
-    → feeds_in lines ≡ feed_of setup rows → Tells (length (workers_in setup.job)) lines told → (f : AuditFault) → IsFaultOfWorkers setup order rows told.journals.items told.states.items f → IsFaultOf setup order refused rows records f
-text_fault setup order refused rows records lines told shape r s tells (fault.Shape i) h = absurd h
-text_fault setup order refused rows records lines told shape r s tells (fault.Refused i) h = absurd h
-text_fault setup order refused rows records lines told shape r s tells (fault.Feed i) h = absurd h
-text_fault setup order refused rows records lines told shape r s tells (fault.Law w) h =
+pub text_fault : (begin : Begin) (setup : SetupView) (order : List ℕ) (refused : List Noted) (rows : List Row) (records : List (List (List ℕ))) (lines : List Line) (told : Told) → AreInShape setup.job records lines → refusals_in lines ≡ refused
+    → feeds_in lines ≡ feed_of begin setup rows → Tells (length (workers_in setup.job)) lines told → (f : AuditFault) → IsFaultOfWorkers begin setup order rows told.journals.items told.states.items f → IsFaultOf begin setup order refused rows records f
+text_fault begin setup order refused rows records lines told shape r s tells (fault.Shape i) h = absurd h
+text_fault begin setup order refused rows records lines told shape r s tells (fault.Refused i) h = absurd h
+text_fault begin setup order refused rows records lines told shape r s tells (fault.Feed i) h = absurd h
+text_fault begin setup order refused rows records lines told shape r s tells (fault.Law w) h =
     (lines, shape, r, s, back (fault.Law w) h)
   where
-    back : (f : AuditFault) → IsFaultOfWorkers setup order rows told.journals.items told.states.items f → IsFaultOfWorkers setup order rows (by_worker setup (journal_in lines)) (by_worker setup (counts_in lines)) f
-    back f h = subst (λ (a : List (List AuditEntry)). IsFaultOfWorkers setup order rows a (by_worker setup (counts_in lines)) f) (sym (told_journals setup lines told tells))
-        (subst (λ (b : List Listed). IsFaultOfWorkers setup order rows told.journals.items b f) (sym (told_states setup lines told tells)) h)
-text_fault setup order refused rows records lines told shape r s tells (fault.Lane n) h =
+    back : (f : AuditFault) → IsFaultOfWorkers begin setup order rows told.journals.items told.states.items f → IsFaultOfWorkers begin setup order rows (by_worker setup (journal_in lines)) (by_worker setup (counts_in lines)) f
+    back f h = subst (λ (a : List (List AuditEntry)). IsFaultOfWorkers begin setup order rows a (by_worker setup (counts_in lines)) f) (sym (told_journals setup lines told tells))
+        (subst (λ (b : List Listed). IsFaultOfWorkers begin setup order rows told.journals.items b f) (sym (told_states setup lines told tells)) h)
+text_fault begin setup order refused rows records lines told shape r s tells (fault.Lane n) h =
     (lines, shape, r, s, back (fault.Lane n) h)
   where
-    back : (f : AuditFault) → IsFaultOfWorkers setup order rows told.journals.items told.states.items f → IsFaultOfWorkers setup order rows (by_worker setup (journal_in lines)) (by_worker setup (counts_in lines)) f
-    back f h = subst (λ (a : List (List AuditEntry)). IsFaultOfWorkers setup order rows a (by_worker setup (counts_in lines)) f) (sym (told_journals setup lines told tells))
-        (subst (λ (b : List Listed). IsFaultOfWorkers setup order rows told.journals.items b f) (sym (told_states setup lines told tells)) h)
-text_fault setup order refused rows records lines told shape r s tells (fault.State w) h =
+    back : (f : AuditFault) → IsFaultOfWorkers begin setup order rows told.journals.items told.states.items f → IsFaultOfWorkers begin setup order rows (by_worker setup (journal_in lines)) (by_worker setup (counts_in lines)) f
+    back f h = subst (λ (a : List (List AuditEntry)). IsFaultOfWorkers begin setup order rows a (by_worker setup (counts_in lines)) f) (sym (told_journals setup lines told tells))
+        (subst (λ (b : List Listed). IsFaultOfWorkers begin setup order rows told.journals.items b f) (sym (told_states setup lines told tells)) h)
+text_fault begin setup order refused rows records lines told shape r s tells (fault.State w) h =
     (lines, shape, r, s, back (fault.State w) h)
   where
-    back : (f : AuditFault) → IsFaultOfWorkers setup order rows told.journals.items told.states.items f → IsFaultOfWorkers setup order rows (by_worker setup (journal_in lines)) (by_worker setup (counts_in lines)) f
-    back f h = subst (λ (a : List (List AuditEntry)). IsFaultOfWorkers setup order rows a (by_worker setup (counts_in lines)) f) (sym (told_journals setup lines told tells))
-        (subst (λ (b : List Listed). IsFaultOfWorkers setup order rows told.journals.items b f) (sym (told_states setup lines told tells)) h)
-text_fault setup order refused rows records lines told shape r s tells fault.NoMemory h = tt
+    back : (f : AuditFault) → IsFaultOfWorkers begin setup order rows told.journals.items told.states.items f → IsFaultOfWorkers begin setup order rows (by_worker setup (journal_in lines)) (by_worker setup (counts_in lines)) f
+    back f h = subst (λ (a : List (List AuditEntry)). IsFaultOfWorkers begin setup order rows a (by_worker setup (counts_in lines)) f) (sym (told_journals setup lines told tells))
+        (subst (λ (b : List Listed). IsFaultOfWorkers begin setup order rows told.journals.items b f) (sym (told_states setup lines told tells)) h)
+text_fault begin setup order refused rows records lines told shape r s tells fault.NoMemory h = tt
 
 -- ---- the run
 
-pub is_checked : (setup : SetupView) (rows : List Row) (audit : List (List AuditEntry)) (journals : List (List Entry)) (states : List Counts) → AreFinished setup rows audit → length audit ≡ length (workers_in setup.job)
-    → AllRestored setup rows audit journals states → IsChecked setup rows audit journals states
-is_checked setup rows audit journals states law long all = record {
+pub is_checked : (begin : Begin) (setup : SetupView) → length begin.states ≡ length (workers_in setup.job) → (rows : List Row) (audit : List (List AuditEntry)) (journals : List (List Entry)) (states : List Counts) → AreFinished begin setup rows audit → length audit ≡ length (workers_in setup.job)
+    → AllRestored begin setup rows audit journals states → IsChecked begin setup rows audit journals states
+is_checked begin setup starts rows audit journals states law long all = record {
+  one_start_each = starts;
   one_journal_each = long;
   one_state_each = all.states_long;
   restored = same_list (map trimmed journals) audit (length-map journals trimmed ∙ (all.journals_long ∙ sym long)) (λ w lt.
@@ -158,8 +165,8 @@ is_checked setup rows audit journals states law long all = record {
       let within : w < length (workers_in setup.job) = let k = all.journals_long in omega (arith, lt, k) in
       let r = all.restored w within in
       let same : r.journal ≡ journal = same_Some r.journal journal (sym r.there ∙ j) in
-      subst (λ (x : List Entry). delivered setup rows journals lane ≡ Some (shown setup n x)) same (r.shows n lane g e);
-  states_are = λ w who journal p j. all.counted w who journal (slice_get_within (workers_in setup.job) w who p) p j;
+      subst (λ (x : List Entry). delivered begin setup rows journals lane ≡ Some (shown setup n x)) same (r.shows n lane g e);
+  states_are = λ w who counts journal p b j. all.counted w who counts journal (slice_get_within (workers_in setup.job) w who p) p b j;
 }
 
 -- ---- the lines of the run

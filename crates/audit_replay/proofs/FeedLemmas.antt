@@ -1,5 +1,5 @@
 -- What the feeder puts on its lanes.
-use Rattle.std.proofs.Common.{◌≡◌, ◌≢◌, ◌∙◌, ◌<◌, ◌≤◌, ◌+◌, ◌==◌, ◌++◌, ℕ, zero, suc, List, [], ◌∷◌, inl, inr, refl, sym, ap, subst, arith, true, false, Bool, cond, drop, get_or, length, replicate, append_assoc, Option, Some, None, slice_get}
+use Rattle.std.proofs.Common.{◌≡◌, ◌≢◌, ◌∙◌, ◌<◌, ◌≤◌, ◌+◌, ◌^◌, ◌==◌, ◌++◌, ℕ, zero, suc, List, [], ◌∷◌, inl, inr, refl, sym, ap, subst, arith, true, false, Bool, cond, drop, get_or, length, replicate, append_assoc, Option, Some, None, slice_get}
 use Rattle.std.specs.Prelude.{slice_set}
 use Rattle.std.proofs.lemmas.Bool.{cases_lt, eq-eqb, eqb-true}
 use Rattle.std.proofs.lemmas.List.{append-nil, drop_all, drop_more, length-set}
@@ -17,6 +17,7 @@ use Rattle.flow_model.specs.Lanes.{is_same_lane, lanes}
 use Rattle.flow_model.specs.Replay.{Put, item_on, items_on}
 use Rattle.flow_model.proofs.LaneLemmas.{lane_self, same_lane, same_number}
 use Rattle.audit_replay.specs.Standing.{AreAtTheirEnd, Holds, HoldsFeed, end_of, left_on}
+use Rattle.audit_replay.proofs.IssueLemmas.{issues_in}
 use Rattle.audit_replay.proofs.StandingLemmas.{left_elsewhere, left_get, left_here}
 
 length_none : (n : ℕ) → length (replicate {A = List Item} n []) ≡ n
@@ -81,48 +82,64 @@ holds_same job standing puts more holds e = subst (Holds job standing) (sym (ap 
 -- ---- step by step
 
 -- what was put, and what the later steps put, is what the whole feed puts
-pub record AreFed (job : JobView) (rows : List Row) (feeds : List Feed) (i issued : ℕ) (standing : List (List Item)) : Type 0 where
+pub record AreFed (job : JobView) (rows : List Row) (begun : ℕ) (feeds : List Feed) (i issued : ℕ) (standing : List (List Item)) : Type 0 where
   pub puts : List Put
   pub holds : Holds job standing puts
-  pub all : puts ++ fed_puts job rows issued (drop i feeds) ≡ fed_puts job rows 0 feeds
-  pub few : issued ≤ i
+  pub all : puts ++ fed_puts job rows issued (drop i feeds) ≡ fed_puts job rows begun feeds
+  pub few : issued + issues_in (drop i feeds) < 2 ^ 64
 
-pub fed_first : (job : JobView) (rows : List Row) (feeds : List Feed) (standing : List (List Item)) → Holds job standing [] → AreFed job rows feeds 0 0 standing
-fed_first job rows feeds standing holds = record { puts = []; holds = holds; all = refl; few = omega arith }
+pub fed_first : (job : JobView) (rows : List Row) (begun issued : ℕ) (feeds : List Feed) (standing : List (List Item)) → Holds job standing [] → issued ≡ begun → begun + issues_in feeds < 2 ^ 64
+    → AreFed job rows begun feeds 0 issued standing
+fed_first job rows begun issued feeds standing holds is few = record {
+  puts = [];
+  holds = holds;
+  all = ap (λ (n : ℕ). fed_puts job rows n feeds) is;
+  few = subst (λ (n : ℕ). n + issues_in feeds < 2 ^ 64) (sym is) few;
+}
 
-module _ (job : JobView) (rows : List Row) (feeds : List Feed) (i issued : ℕ) (d : Feed) (old : List (List Item)) (are : AreFed job rows feeds i issued old) (lt : i < length feeds)
+module _ (job : JobView) (rows : List Row) (begun : ℕ) (feeds : List Feed) (i issued : ℕ) (d : Feed) (old : List (List Item)) (are : AreFed job rows begun feeds i issued old) (lt : i < length feeds)
   where
+    -- the issues that are left, by the next step
+    left : (x : Feed) → get_or feeds i d ≡ x → issued + issues_in (x ∷ drop (i + 1) feeds) < 2 ^ 64
+    left x e =
+        subst (λ (l : List Feed). issued + issues_in l < 2 ^ 64)
+        (drop_more feeds i d lt ∙ ap (λ (y : Feed). y ∷ drop (i + 1) feeds) e) are.few
+
+    -- the count of issued requests stays in range
+    pub may_issue : (request : ℕ) → get_or feeds i d ≡ feed.Issued request → issued + 1 < 2 ^ 64
+    may_issue request e = let few = left (feed.Issued request) e in omega (arith, few)
+
     next : fed_puts job rows issued (drop i feeds) ≡ fed_puts job rows issued (get_or feeds i d ∷ drop (i + 1) feeds)
     next = ap (fed_puts job rows issued) (drop_more feeds i d lt)
 
-    pub fed_row : (row : ℕ) (new : List (List Item)) → get_or feeds i d ≡ feed.Fed row → Holds job new (are.puts ++ fed_put job issued (row_at rows row)) → AreFed job rows feeds (i + 1) issued new
+    pub fed_row : (row : ℕ) (new : List (List Item)) → get_or feeds i d ≡ feed.Fed row → Holds job new (are.puts ++ fed_put job issued (row_at rows row)) → AreFed job rows begun feeds (i + 1) issued new
     fed_row row new e holds = record {
       puts = are.puts ++ fed_put job issued (row_at rows row);
       holds = holds;
       all =
           append_assoc are.puts (fed_put job issued (row_at rows row)) (fed_puts job rows issued (drop (i + 1) feeds))
           ∙ (ap (λ (l : List Put). are.puts ++ l) (sym (next ∙ ap (λ (x : Feed). fed_puts job rows issued (x ∷ drop (i + 1) feeds)) e)) ∙ are.all);
-      few = let le = are.few in omega (arith, le);
+      few = left (feed.Fed row) e;
     }
 
-    pub fed_request : (request : ℕ) → get_or feeds i d ≡ feed.Issued request → AreFed job rows feeds (i + 1) (issued + 1) old
+    pub fed_request : (request : ℕ) → get_or feeds i d ≡ feed.Issued request → AreFed job rows begun feeds (i + 1) (issued + 1) old
     fed_request request e = record {
       puts = are.puts;
       holds = are.holds;
       all = ap (λ (l : List Put). are.puts ++ l) (sym (next ∙ ap (λ (x : Feed). fed_puts job rows issued (x ∷ drop (i + 1) feeds)) e)) ∙ are.all;
-      few = let le = are.few in omega (arith, le);
+      few = let few = left (feed.Issued request) e in omega (arith, few);
     }
 
-    pub fed_stopped : get_or feeds i d ≡ feed.Stopped → AreFed job rows feeds (i + 1) issued old
+    pub fed_stopped : get_or feeds i d ≡ feed.Stopped → AreFed job rows begun feeds (i + 1) issued old
     fed_stopped e = record {
       puts = are.puts;
       holds = are.holds;
       all = ap (λ (l : List Put). are.puts ++ l) (sym (next ∙ ap (λ (x : Feed). fed_puts job rows issued (x ∷ drop (i + 1) feeds)) e)) ∙ are.all;
-      few = let le = are.few in omega (arith, le);
+      few = left feed.Stopped e;
     }
 
-pub fed_last : (job : JobView) (rows : List Row) (feeds : List Feed) (i issued : ℕ) (old new : List (List Item)) → AreFed job rows feeds i issued old → length feeds ≤ i → AreAtTheirEnd job old new → HoldsFeed job rows feeds new
-fed_last job rows feeds i issued old new are past ends = record {
+pub fed_last : (job : JobView) (rows : List Row) (begun : ℕ) (feeds : List Feed) (i issued : ℕ) (old new : List (List Item)) → AreFed job rows begun feeds i issued old → length feeds ≤ i → AreAtTheirEnd job old new → HoldsFeed job rows begun feeds new
+fed_last job rows begun feeds i issued old new are past ends = record {
   long = ends.long ∙ are.holds.long;
   each = λ n lane g none.
       ends.each n lane g
@@ -133,7 +150,7 @@ fed_last job rows feeds i issued old new are past ends = record {
     rest : drop i feeds ≡ []
     rest = drop_all i feeds past
 
-    puts : are.puts ≡ fed_puts job rows 0 feeds
+    puts : are.puts ≡ fed_puts job rows begun feeds
     puts = sym (append-nil are.puts) ∙ (ap (λ (l : List Feed). are.puts ++ fed_puts job rows issued l) (sym rest) ∙ are.all)
 
 -- ---- the ends

@@ -1,6 +1,7 @@
 pub mod StandingLemmas
 pub mod TakingLemmas
 pub mod ByLaneLemmas
+pub mod IssueLemmas
 pub mod FeedLemmas
 pub mod SendingLemmas
 pub mod OrderLemmas

@@ -3,14 +3,14 @@ use Rattle.std.proofs.Common.{◌≡◌, ◌≢◌, ◌∙◌, ◌<◌, ◌≤�
 use Rattle.std.specs.FinMap.{empty}
 use Rattle.std.proofs.lemmas.Bool.{cases_lt, eqb-true}
 use Rattle.std.proofs.lemmas.List.{length-set}
-use Rattle.std.proofs.lemmas.Option.{same_Some, slice_get_within}
+use Rattle.std.proofs.lemmas.Option.{same_Some, slice_get-get_or, slice_get_within}
 use Rattle.flow_dag.specs.Dag.{DagView}
 use Rattle.flow_dag.specs.Order.{place_of}
 use Rattle.keyed_state.specs.Counts.{Counts}
 use Rattle.sink_journal.specs.declared.journal.Entry.{Entry}
 use Rattle.tuple_trace.specs.declared.row.Row.{Row}
 use Rattle.tuple_trace.specs.declared.tuple.Item.{Item}
-use Rattle.flow_model.specs.Begin.{at_first}
+use Rattle.flow_model.specs.Begin.{Begin}
 use Rattle.flow_model.specs.Lanes.{lanes, lanes_in}
 use Rattle.flow_model.specs.declared.topology.Lane.{Lane}
 use Rattle.flow_model.specs.SetupView.{SetupView, Worker}
@@ -24,8 +24,8 @@ use Rattle.flow_model.proofs.LaneLemmas.{LaneIn, in_lanes_that, lane_into}
 use Rattle.flow_model.proofs.WorkerLemmas.{worker_with}
 use Rattle.flow_model.proofs.WorkerPlaces.{get-nth_worker, nth_worker-get}
 use Rattle.audit_laws.specs.declared.audit.AuditEntry.{AuditEntry}
-use Rattle.audit_laws.specs.declared.fault.AuditFault.{AuditFault}
-use Rattle.audit_laws.specs.declared.fault.AuditFault.TheVariants as fault
+use Rattle.audit_fault.specs.declared.fault.AuditFault.{AuditFault}
+use Rattle.audit_fault.specs.declared.fault.AuditFault.TheVariants as fault
 use Rattle.audit_laws.specs.Delivered.{delivered, feed_of}
 use Rattle.audit_laws.specs.Checked.{IsFinishedDraft, ShowsDelivered}
 use Rattle.audit_laws.specs.Faults.{AreFinished, AreItems, ComesBefore, HasBadLane, IsRestored}
@@ -36,6 +36,7 @@ use Rattle.audit_laws.proofs.RestoringLemmas.{ComeBy}
 use Rattle.audit_laws.proofs.ConservedLemmas.{sender_stands}
 use Rattle.audit_laws.proofs.WorkerLemmas.{come_by, worker_restored}
 use Rattle.audit_check.proofs.TellingLemmas.{set_elsewhere, set_here}
+use Rattle.flow_replay.specs.Sent.{begun_counts}
 use Rattle.audit_replay.specs.Restored.{AgreeBelow, AllRestored, AreCounted, AreRestored, IsBadLane, IsDone, IsFaultOfLanes, IsLaneFault, IsOrder, IsReady, IsTaken}
 use Rattle.audit_replay.specs.Standing.{HoldsFeed, left_on}
 use Rattle.audit_replay.specs.declared.restore.Restored.{Restored}
@@ -115,8 +116,8 @@ module _ (setup : SetupView) (dag : DagView) (connected : IsConnected setup.job)
 
     -- ---- one worker more
 
-    module _ (rows : List Row) (audit : List (List AuditEntry)) (finished : AreFinished setup rows audit) (k w : ℕ) (at : slice_get workers k ≡ Some w) (t : List AuditEntry)
-        (there : slice_get audit w ≡ Some t) (old new : Restored) (before after : List (List Item)) (far : AreRestored setup rows audit workers k old.journals old.states before)
+    module _ (begin : Begin) (starts : length begin.states ≡ length (workers_in setup.job)) (rows : List Row) (audit : List (List AuditEntry)) (finished : AreFinished begin setup rows audit) (k w : ℕ) (at : slice_get workers k ≡ Some w) (t : List AuditEntry)
+        (there : slice_get audit w ≡ Some t) (old new : Restored) (before after : List (List Item)) (far : AreRestored begin setup rows audit workers k old.journals old.states before)
         (agree : AgreeBelow setup before w t (length (lanes setup.job)))
       where
         within : w < length (workers_in setup.job)
@@ -128,32 +129,35 @@ module _ (setup : SetupView) (dag : DagView) (connected : IsConnected setup.job)
         works : slice_get (workers_in setup.job) w ≡ Some (nth_worker setup.job w)
         works = get-nth_worker setup.job w within
 
-        law : IsFinishedDraft setup rows (nth_worker setup.job w) t
+        begun : slice_get begin.states w ≡ Some (begun_counts begin w)
+        begun = slice_get-get_or begin.states w empty (let lt = within in omega (arith, lt, starts))
+
+        law : IsFinishedDraft begin setup rows (nth_worker setup.job w) t
         law = finished w (nth_worker setup.job w) t works there
 
         come : ComeBy (lanes_in setup.job w) t
         come =
             subst (λ v. ComeBy (lanes_in setup.job v) t) (worker_with setup.job w (nth_worker setup.job w) works).0
-            (come_by setup (feed_of setup rows) (nth_worker setup.job w) (initial (duties setup 0 (nth_worker setup.job w))) t law.lawful.execution)
+            (come_by setup begin.turned (feed_of begin setup rows) (nth_worker setup.job w) (initial (duties setup begin.turned (nth_worker setup.job w))) t law.lawful.execution)
 
-        brings : (n : ℕ) (lane : Lane) → slice_get (lanes setup.job) n ≡ Some lane → lane.receiver ≡ w → delivered setup rows old.journals lane ≡ Some (left_on before n)
+        brings : (n : ℕ) (lane : Lane) → slice_get (lanes setup.job) n ≡ Some lane → lane.receiver ≡ w → delivered begin setup rows old.journals lane ≡ Some (left_on before n)
         brings n lane g r = far.brings n lane g (sender_ready k n lane w at g r within) (λ done. not_done k w at (subst (IsDone workers k) r done))
 
-        agrees : LanesAgree setup rows old.journals w t
+        agrees : LanesAgree begin setup rows old.journals w t
         agrees n lane g r = (left_on before n, brings n lane g r, agree n lane (slice_get_within (lanes setup.job) n lane g) g r)
 
-        same : restored (left_on before) t ≡ restored (delivered_on setup rows old.journals) t
-        same = restored_same (lanes_in setup.job w) (left_on before) (delivered_on setup rows old.journals) t come (λ n i. go n i)
+        same : restored (left_on before) t ≡ restored (delivered_on begin setup rows old.journals) t
+        same = restored_same (lanes_in setup.job w) (left_on before) (delivered_on begin setup rows old.journals) t come (λ n i. go n i)
           where
-            go : (n : ℕ) → IsIn n (lanes_in setup.job w) → left_on before n ≡ delivered_on setup rows old.journals n
+            go : (n : ℕ) → IsIn n (lanes_in setup.job w) → left_on before n ≡ delivered_on begin setup rows old.journals n
             go n i =
                 let l = in_lanes_that (λ (lane : Lane). lane.receiver == w) setup.job n i in
-                sym (ap (delivered_by setup rows old.journals) l.1 ∙ ap items_of (brings n l.0 l.1 (eqb-true l.0.receiver w l.2)))
+                sym (ap (delivered_by begin setup rows old.journals) l.1 ∙ ap items_of (brings n l.0 l.1 (eqb-true l.0.receiver w l.2)))
 
-        whole : (trimmed (restored (left_on before) t) ≡ t) × ShowsDelivered setup rows old.journals w (restored (left_on before) t)
+        whole : (trimmed (restored (left_on before) t) ≡ t) × ShowsDelivered begin setup rows old.journals w (restored (left_on before) t)
         whole =
-            subst (λ (x : List Entry). (trimmed x ≡ t) × ShowsDelivered setup rows old.journals w x) (sym same)
-            (worker_restored setup rows old.journals w (nth_worker setup.job w) t works law agrees)
+            subst (λ (x : List Entry). (trimmed x ≡ t) × ShowsDelivered begin setup rows old.journals w x) (sym same)
+            (worker_restored begin setup rows old.journals w (nth_worker setup.job w) t works law agrees)
 
         -- what is done now was done before, or is this worker
         done_cases : (v : ℕ) → IsDone workers (k + 1) v → IsDone workers k v ⊎ (v ≡ w)
@@ -168,7 +172,7 @@ module _ (setup : SetupView) (dag : DagView) (connected : IsConnected setup.job)
         still_done : (v : ℕ) → IsDone workers k v → IsDone workers (k + 1) v
         still_done v (i, less, here) = (i, omega (arith, less), here)
 
-        module _ (taken : IsTaken setup w t old new before after)
+        module _ (taken : IsTaken begin setup w t old new before after)
           where
             journals_at : (v : ℕ) → v ≢ w → slice_get new.journals v ≡ slice_get old.journals v
             journals_at v ne = ap (λ (l : List (List Entry)). slice_get l v) taken.journals ∙ set_elsewhere old.journals v w (restored (left_on before) t) ne
@@ -178,17 +182,17 @@ module _ (setup : SetupView) (dag : DagView) (connected : IsConnected setup.job)
                 ap (λ (l : List (List Entry)). slice_get l w) taken.journals
                 ∙ set_here old.journals w (restored (left_on before) t) (let long = far.journals_long in let lt = within in omega (arith, long, lt))
 
-            brings_same : (lane : Lane) → (lane.sender ≡ Some w → ⊥) → delivered setup rows new.journals lane ≡ delivered setup rows old.journals lane
+            brings_same : (lane : Lane) → (lane.sender ≡ Some w → ⊥) → delivered begin setup rows new.journals lane ≡ delivered begin setup rows old.journals lane
             brings_same lane ne =
-                ap (λ (l : List (List Entry)). delivered setup rows l lane) taken.journals ∙ delivered_elsewhere setup rows old.journals w (restored (left_on before) t) lane ne
+                ap (λ (l : List (List Entry)). delivered begin setup rows l lane) taken.journals ∙ delivered_elsewhere begin setup rows old.journals w (restored (left_on before) t) lane ne
 
-            restored_now : (v : ℕ) → IsDone workers (k + 1) v → IsRestored setup rows audit new.journals v
+            restored_now : (v : ℕ) → IsDone workers (k + 1) v → IsRestored begin setup rows audit new.journals v
             restored_now v done = go (done_cases v done)
               where
                 lt : v < length (workers_in setup.job)
                 lt = is.within done.0 v done.2
 
-                go : IsDone workers k v ⊎ (v ≡ w) → IsRestored setup rows audit new.journals v
+                go : IsDone workers k v ⊎ (v ≡ w) → IsRestored begin setup rows audit new.journals v
                 go (inl was) =
                     let r = far.restored v was in
                     let apart : v ≢ w = λ e. not_done k w at (subst (IsDone workers k) e was) in
@@ -205,25 +209,27 @@ module _ (setup : SetupView) (dag : DagView) (connected : IsConnected setup.job)
                   shows = λ n lane g r. brings_same lane (other_sender k n lane w v at g r lt (inr e)) ∙ whole.1 n lane g (r ∙ e);
                 }
 
-            counted_now : AreCounted setup new.journals new.states (IsDone workers (k + 1))
-            counted_now v p journal done q j = go (done_cases v done)
+            counted_now : AreCounted begin setup new.journals new.states (IsDone workers (k + 1))
+            counted_now v p at_start journal done q b j = go (done_cases v done)
               where
-                go : IsDone workers k v ⊎ (v ≡ w) → slice_get new.states v ≡ Some (final_counts setup (at_first setup) p empty journal)
+                go : IsDone workers k v ⊎ (v ≡ w) → slice_get new.states v ≡ Some (final_counts setup begin p at_start journal)
                 go (inl was) =
                     let apart : v ≢ w = λ e. not_done k w at (subst (IsDone workers k) e was) in
                     ap (λ (l : List Counts). slice_get l v) taken.states
-                    ∙ (set_elsewhere old.states v w (final_counts setup (at_first setup) (nth_worker setup.job w) empty (restored (left_on before) t)) apart
-                    ∙ far.counted v p journal was q (sym (journals_at v apart) ∙ j))
+                    ∙ (set_elsewhere old.states v w (final_counts setup begin (nth_worker setup.job w) (begun_counts begin w) (restored (left_on before) t)) apart
+                    ∙ far.counted v p at_start journal was q b (sym (journals_at v apart) ∙ j))
                 go (inr e) =
                     let p_is : nth_worker setup.job w ≡ p = same_Some (nth_worker setup.job w) p (sym works ∙ (ap (slice_get (workers_in setup.job)) (sym e) ∙ q)) in
                     let j_is : restored (left_on before) t ≡ journal = same_Some (restored (left_on before) t) journal (sym journal_here ∙ (ap (slice_get new.journals) (sym e) ∙ j)) in
+                    let c_is : begun_counts begin w ≡ at_start = same_Some (begun_counts begin w) at_start (sym begun ∙ (ap (slice_get begin.states) (sym e) ∙ b)) in
                     ap (slice_get new.states) e
                     ∙ (ap (λ (l : List Counts). slice_get l w) taken.states
-                    ∙ (set_here old.states w (final_counts setup (at_first setup) (nth_worker setup.job w) empty (restored (left_on before) t)) (let long = far.states_long in let lt = within in omega (arith, long, lt))
-                    ∙ ap₂ (λ (x : Worker) (l : List Entry). Some (final_counts setup (at_first setup) x empty l)) p_is j_is))
+                    ∙ (set_here old.states w (final_counts setup begin (nth_worker setup.job w) (begun_counts begin w) (restored (left_on before) t)) (let long = far.states_long in let lt = within in omega (arith, long, lt))
+                    ∙ (ap (λ (c : Counts). Some (final_counts setup begin (nth_worker setup.job w) c (restored (left_on before) t))) c_is
+                    ∙ ap₂ (λ (x : Worker) (l : List Entry). Some (final_counts setup begin x at_start l)) p_is j_is)))
 
             brings_now : (n : ℕ) (lane : Lane) → slice_get (lanes setup.job) n ≡ Some lane → IsReady workers (k + 1) lane.sender → (IsDone workers (k + 1) lane.receiver → ⊥)
-                → delivered setup rows new.journals lane ≡ Some (left_on after n)
+                → delivered begin setup rows new.journals lane ≡ Some (left_on after n)
             brings_now n lane g ready waits = by_sender lane.sender refl ready
               where
                 elsewhere : lane.receiver ≢ w
@@ -237,26 +243,26 @@ module _ (setup : SetupView) (dag : DagView) (connected : IsConnected setup.job)
                 untaken : (lane.sender ≡ Some w → ⊥) → left_on after n ≡ left_on before n
                 untaken ne = taken.others n lane g ne ∙ untouched (left_on before) t n (by_others (lanes_in setup.job w) t n come no_lane_in)
 
-                was : IsReady workers k lane.sender → (lane.sender ≡ Some w → ⊥) → delivered setup rows new.journals lane ≡ Some (left_on after n)
+                was : IsReady workers k lane.sender → (lane.sender ≡ Some w → ⊥) → delivered begin setup rows new.journals lane ≡ Some (left_on after n)
                 was ready ne =
                     brings_same lane ne ∙ (far.brings n lane g ready (λ done. waits (still_done lane.receiver done)) ∙ ap Some (sym (untaken ne)))
 
-                by_sender : (o : Option ℕ) → lane.sender ≡ o → IsReady workers (k + 1) o → delivered setup rows new.journals lane ≡ Some (left_on after n)
+                by_sender : (o : Option ℕ) → lane.sender ≡ o → IsReady workers (k + 1) o → delivered begin setup rows new.journals lane ≡ Some (left_on after n)
                 by_sender None e ready = was (subst (IsReady workers k) (sym e) tt) (λ s. let f = sym e ∙ s in absurd (cc))
                 by_sender (Some s) e done = elim (done_cases s done) [
                   | inl early ↦ was (subst (IsReady workers k) (sym e) early) (λ q.
                       let f : s ≡ w = same_Some s w (sym e ∙ q) in not_done k w at (subst (IsDone workers k) f early))
                   | inr here ↦
                       let sends : lane.sender ≡ Some w = e ∙ ap Some here in
-                      delivered_here setup rows new.journals w (nth_worker setup.job w) (restored (left_on before) t) lane works journal_here sends ∙ ap Some (sym (taken.out n lane g sends))
+                      delivered_here begin setup rows new.journals w (nth_worker setup.job w) (begun_counts begin w) (restored (left_on before) t) lane works begun journal_here sends ∙ ap Some (sym (taken.out n lane g sends))
                 ]
 
-            pub one_more : AreRestored setup rows audit workers (k + 1) new.journals new.states after
+            pub one_more : AreRestored begin setup rows audit workers (k + 1) new.journals new.states after
             one_more = record {
               journals_long = ap length taken.journals ∙ (length-set old.journals w (restored (left_on before) t) ∙ far.journals_long);
               states_long =
                   ap length taken.states
-                  ∙ (length-set old.states w (final_counts setup (at_first setup) (nth_worker setup.job w) empty (restored (left_on before) t)) ∙ far.states_long);
+                  ∙ (length-set old.states w (final_counts setup begin (nth_worker setup.job w) (begun_counts begin w) (restored (left_on before) t)) ∙ far.states_long);
               standing_long = taken.long ∙ far.standing_long;
               restored = restored_now;
               counted = counted_now;
@@ -264,10 +270,10 @@ module _ (setup : SetupView) (dag : DagView) (connected : IsConnected setup.job)
             }
 
     -- a bad lane
-    pub bad_lane : (rows : List Row) (audit : List (List AuditEntry)) (k w n : ℕ) → slice_get workers k ≡ Some w → (t : List AuditEntry) → slice_get audit w ≡ Some t
-        → (journals : List (List Entry)) (states : List Counts) (standing : List (List Item)) → AreRestored setup rows audit workers k journals states standing → IsBadLane setup standing w t n
-        → HasBadLane setup dag.order rows audit n
-    bad_lane rows audit k w n at t there journals states standing far bad =
+    pub bad_lane : (begin : Begin) (rows : List Row) (audit : List (List AuditEntry)) (k w n : ℕ) → slice_get workers k ≡ Some w → (t : List AuditEntry) → slice_get audit w ≡ Some t
+        → (journals : List (List Entry)) (states : List Counts) (standing : List (List Item)) → AreRestored begin setup rows audit workers k journals states standing → IsBadLane setup standing w t n
+        → HasBadLane begin setup dag.order rows audit n
+    bad_lane begin rows audit k w n at t there journals states standing far bad =
         let within = is.within k w at in
         let works = get-nth_worker setup.job w within in
         record {
@@ -291,46 +297,46 @@ module _ (setup : SetupView) (dag : DagView) (connected : IsConnected setup.job)
               subst (λ (x : List Item). AreItems j x journal) items_are (subst (AreItems j (left_on standing j)) journal_is (bad.least j other less g receives));
         }
       where
-        brings : (n : ℕ) (lane : Lane) → slice_get (lanes setup.job) n ≡ Some lane → lane.receiver ≡ w → w < length (workers_in setup.job) → delivered setup rows journals lane ≡ Some (left_on standing n)
+        brings : (n : ℕ) (lane : Lane) → slice_get (lanes setup.job) n ≡ Some lane → lane.receiver ≡ w → w < length (workers_in setup.job) → delivered begin setup rows journals lane ≡ Some (left_on standing n)
         brings n lane g r within = far.brings n lane g (sender_ready k n lane w at g r within) (λ done. not_done k w at (subst (IsDone workers k) r done))
 
-    pub lane_fault : (rows : List Row) (audit : List (List AuditEntry)) (k w : ℕ) → slice_get workers k ≡ Some w → (t : List AuditEntry) → slice_get audit w ≡ Some t
-        → (journals : List (List Entry)) (states : List Counts) (standing : List (List Item)) → AreRestored setup rows audit workers k journals states standing → (f : AuditFault) → IsLaneFault setup standing w t f
-        → IsFaultOfLanes setup dag.order rows audit f
-    lane_fault rows audit k w at t there journals states standing far (fault.Shape i) bad = bad
-    lane_fault rows audit k w at t there journals states standing far (fault.Refused i) bad = bad
-    lane_fault rows audit k w at t there journals states standing far (fault.Feed i) bad = bad
-    lane_fault rows audit k w at t there journals states standing far (fault.Law i) bad = bad
-    lane_fault rows audit k w at t there journals states standing far (fault.Lane n) bad = bad_lane rows audit k w n at t there journals states standing far bad
-    lane_fault rows audit k w at t there journals states standing far (fault.State i) bad = bad
-    lane_fault rows audit k w at t there journals states standing far fault.NoMemory bad = tt
+    pub lane_fault : (begin : Begin) (rows : List Row) (audit : List (List AuditEntry)) (k w : ℕ) → slice_get workers k ≡ Some w → (t : List AuditEntry) → slice_get audit w ≡ Some t
+        → (journals : List (List Entry)) (states : List Counts) (standing : List (List Item)) → AreRestored begin setup rows audit workers k journals states standing → (f : AuditFault) → IsLaneFault setup standing w t f
+        → IsFaultOfLanes begin setup dag.order rows audit f
+    lane_fault begin rows audit k w at t there journals states standing far (fault.Shape i) bad = bad
+    lane_fault begin rows audit k w at t there journals states standing far (fault.Refused i) bad = bad
+    lane_fault begin rows audit k w at t there journals states standing far (fault.Feed i) bad = bad
+    lane_fault begin rows audit k w at t there journals states standing far (fault.Law i) bad = bad
+    lane_fault begin rows audit k w at t there journals states standing far (fault.Lane n) bad = bad_lane begin rows audit k w n at t there journals states standing far bad
+    lane_fault begin rows audit k w at t there journals states standing far (fault.State i) bad = bad
+    lane_fault begin rows audit k w at t there journals states standing far fault.NoMemory bad = tt
 
     -- ---- all workers
 
-    pub nothing_done : (rows : List Row) (audit : List (List AuditEntry)) (journals : List (List Entry)) (states : List Counts) (standing : List (List Item))
-        → length journals ≡ length (workers_in setup.job) → length states ≡ length (workers_in setup.job) → HoldsFeed setup.job rows (feed_of setup rows) standing
-        → AreRestored setup rows audit workers 0 journals states standing
-    nothing_done rows audit journals states standing j s holds = record {
+    pub nothing_done : (begin : Begin) (rows : List Row) (audit : List (List AuditEntry)) (journals : List (List Entry)) (states : List Counts) (standing : List (List Item))
+        → length journals ≡ length (workers_in setup.job) → length states ≡ length (workers_in setup.job) → HoldsFeed setup.job rows begin.turned (feed_of begin setup rows) standing
+        → AreRestored begin setup rows audit workers 0 journals states standing
+    nothing_done begin rows audit journals states standing j s holds = record {
       journals_long = j;
       states_long = s;
       standing_long = holds.long;
       restored = λ w done. let lt = done.1 in absurd (omega (arith, lt));
-      counted = λ w p journal done q h. let lt = done.1 in absurd (omega (arith, lt));
+      counted = λ w p counts journal done q b h. let lt = done.1 in absurd (omega (arith, lt));
       brings = λ n lane g ready waits. by_sender n lane g lane.sender refl ready;
     }
       where
-        by_sender : (n : ℕ) (lane : Lane) → slice_get (lanes setup.job) n ≡ Some lane → (o : Option ℕ) → lane.sender ≡ o → IsReady workers 0 o → delivered setup rows journals lane ≡ Some (left_on standing n)
+        by_sender : (n : ℕ) (lane : Lane) → slice_get (lanes setup.job) n ≡ Some lane → (o : Option ℕ) → lane.sender ≡ o → IsReady workers 0 o → delivered begin setup rows journals lane ≡ Some (left_on standing n)
         by_sender n lane g None e ready =
-            ap (put_by (at_first setup) rows (ran_as setup (feed_of setup rows) journals []) lane) e ∙ ap Some (sym (holds.each n lane g e))
+            ap (put_by begin rows (ran_as setup (feed_of begin setup rows) journals []) lane) e ∙ ap Some (sym (holds.each n lane g e))
         by_sender n lane g (Some s) e done = let lt = done.1 in absurd (omega (arith, lt))
 
-    pub all_done : (rows : List Row) (audit : List (List AuditEntry)) (k : ℕ) (journals : List (List Entry)) (states : List Counts) (standing : List (List Item)) → length workers ≤ k
-        → AreRestored setup rows audit workers k journals states standing → AllRestored setup rows audit journals states
-    all_done rows audit k journals states standing past far = record {
+    pub all_done : (begin : Begin) (rows : List Row) (audit : List (List AuditEntry)) (k : ℕ) (journals : List (List Entry)) (states : List Counts) (standing : List (List Item)) → length workers ≤ k
+        → AreRestored begin setup rows audit workers k journals states standing → AllRestored begin setup rows audit journals states
+    all_done begin rows audit k journals states standing past far = record {
       journals_long = far.journals_long;
       states_long = far.states_long;
       restored = λ w lt. far.restored w (done w lt);
-      counted = λ w p journal lt q j. far.counted w p journal (done w lt) q j;
+      counted = λ w p counts journal lt q b j. far.counted w p counts journal (done w lt) q b j;
     }
       where
         done : (w : ℕ) → w < length (workers_in setup.job) → IsDone workers k w

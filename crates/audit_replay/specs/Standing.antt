@@ -37,13 +37,13 @@ pub record AreAtTheirEnd (job : JobView) (old new : List (List Item)) : Type 0 w
       (n : ℕ) (lane : Lane) → slice_get (lanes job) n ≡ Some lane →
       left_on new n ≡ left_on old n ++ end_of lane.sender
 
--- On each of the feeder's lanes stands what it puts there.
-pub record HoldsFeed (job : JobView) (rows : List Row) (feeds : List Feed)
+-- On each of the feeder's lanes stands what it puts there, after so many issued requests.
+pub record HoldsFeed (job : JobView) (rows : List Row) (issued : ℕ) (feeds : List Feed)
     (standing : List (List Item)) : Type 0 where
   pub long : length standing ≡ length (lanes job)
   pub each :
       (n : ℕ) (lane : Lane) → slice_get (lanes job) n ≡ Some lane → lane.sender ≡ None →
-      left_on standing n ≡ fed job rows 0 lane feeds ++ item.Last ∷ []
+      left_on standing n ≡ fed job rows issued lane feeds ++ item.Last ∷ []
 
 -- Some of what stood on the lane was taken, from its front.
 pub record HasTaken (lane : ℕ) (old new : List (List Item)) : Type 0 where

@@ -5,7 +5,7 @@ ghost use Rattle.std.specs.FinMap.{entries};
 ghost use Rattle.audit_replay.specs.Restored.{IsFirstOther};
 
 use audit_check::Counted;
-use audit_laws::AuditFault;
+use audit_fault::AuditFault;
 use keyed_state::Keyed;
 use tuple_trace::Items;
 

@@ -8,27 +8,33 @@ ghost use Rattle.flow_model.specs.Replay.{Put};
 ghost use Rattle.flow_model.specs.Setup.{setup_view};
 ghost use Rattle.flow_model.specs.declared.topology.Lane.{Lane as LaneIs};
 ghost use Rattle.flow_model.specs.Lanes.{lanes};
+ghost use Rattle.audit_laws.specs.Delivered.{feed_of};
 ghost use Rattle.audit_replay.specs.Standing.{AreAtTheirEnd, Holds, HoldsFeed};
 
 use crate::standing::Standing;
-use flow_model::{Setup, WorkerAt};
+use flow_model::{Setup, Start, WorkerAt};
 use sink_journal::Feed;
 use std::alloc::Global;
 use tuple_trace::{Item, NoMemory, Row, Rows};
 
-/// What stands on the lanes if the feeder does these steps.
+/// What stands on the lanes if the feeder does these steps after a start.
 pub(crate) fn fed_lanes(
     alloc: Global,
     setup: &Setup,
+    start: &Start,
     rows: &Rows,
     feeds: &[Feed],
 ) -> Result<Standing, NoMemory>
-    requires { AreFromSources (setup_view setup.now).job rows.now }
-    ensures { IfOk result (HoldsFeed (setup_view setup.now).job rows.now feeds.now) }
+    requires sources { AreFromSources (setup_view setup.now).job rows.now }
+    requires feeds { feeds.now ≡ feed_of start.now (setup_view setup.now) rows.now }
+    ensures { IfOk result
+        (HoldsFeed (setup_view setup.now).job rows.now start.now.turned feeds.now) }
 {
     let mut standing = Standing::empty(alloc, setup.topology.lanes.len())?;
     let list = rows.as_slice();
-    let mut issued = 0u64;
+    // The feed issues no request twice, so the count stays in range.
+    let _request_count = setup.request_count();
+    let mut issued = start.turned;
     for step in feeds {
         match step {
             Feed::Fed(row) => feed(setup, &mut standing, list, *row, issued)?,

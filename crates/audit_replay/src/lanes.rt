@@ -7,7 +7,8 @@ ghost use Rattle.audit_replay.specs.Restored.{AgreeBelow, IsLaneFault};
 
 use crate::by_lane::{ByLane, are_items};
 use crate::standing::Standing;
-use audit_laws::{AuditEntry, AuditFault};
+use audit_fault::AuditFault;
+use audit_laws::AuditEntry;
 use flow_model::Setup;
 use std::alloc::Global;
 

@@ -2,7 +2,8 @@
 //! wrong with the text.
 //!
 //! ```text
-//! let ran = check_audit(alloc, setup, &rows, text.as_slice())?;
+//! let start = Start::first(alloc, &setup)?;
+//! let ran = check_audit(alloc, setup, &start, &rows, text.as_slice())?;
 //! ```
 #![tactic(auto)]
 
@@ -10,6 +11,7 @@ mod by_lane;
 mod check;
 mod counts;
 mod feed;
+mod in_range;
 mod lanes;
 mod order;
 mod restore;
@@ -18,3 +20,4 @@ mod standing;
 mod taking;
 
 pub use check::check_audit;
+pub use in_range::counts_are_in_range;

@@ -14,8 +14,9 @@ use crate::order::workers_in_order;
 use crate::sending::send;
 use crate::standing::Standing;
 use crate::taking::take_all;
-use audit_laws::{AuditEntry, AuditFault};
-use flow_model::Setup;
+use audit_fault::AuditFault;
+use audit_laws::AuditEntry;
+use flow_model::{Setup, Start};
 use flow_replay::{Replayed, replay};
 use keyed_state::Keyed;
 use sink_journal::{Feed, Journal, Journals, States};
@@ -29,7 +30,7 @@ pub(crate) struct Restored {
     pub(crate) states: States,
 }
 
-/// Restores the journals from the trimmed ones.
+/// Restores the journals from the trimmed ones, from a start on.
 ///
 /// # Errors
 ///
@@ -37,26 +38,28 @@ pub(crate) struct Restored {
 pub(crate) fn restore(
     alloc: Global,
     setup: &Setup,
+    start: &Start,
     rows: &Rows,
     feeds: &[Feed],
     audit: &[Items<AuditEntry>],
 ) -> Result<Restored, AuditFault>
     requires sources { AreFromSources (setup_view setup.now).job rows.now }
-    requires feeds { feeds.now ≡ feed_of (setup_view setup.now) rows.now }
+    requires starts { length start.now.states ≡ length (workers_in (setup_view setup.now).job) }
+    requires feeds { feeds.now ≡ feed_of start.now (setup_view setup.now) rows.now }
     requires long { length audit.now ≡ length (workers_in (setup_view setup.now).job) }
-    requires finished { AreFinished (setup_view setup.now) rows.now audit.now }
-    ensures ok { IfOk result (λ restored. AllRestored (setup_view setup.now) rows.now audit.now
-        restored.journals restored.states) }
-    ensures fault { IfErr result (IsFaultOfLanes (setup_view setup.now) setup.now.job.dag.order
-        rows.now audit.now) }
+    requires finished { AreFinished start.now (setup_view setup.now) rows.now audit.now }
+    ensures ok { IfOk result (λ restored. AllRestored start.now (setup_view setup.now) rows.now
+        audit.now restored.journals restored.states) }
+    ensures fault { IfErr result (IsFaultOfLanes start.now (setup_view setup.now)
+        setup.now.job.dag.order rows.now audit.now) }
 {
-    let mut standing = fed_lanes(alloc, setup, rows, feeds)?;
+    let mut standing = fed_lanes(alloc, setup, start, rows, feeds)?;
     let mut restored = Restored::empty(alloc, setup)?;
     let order = workers_in_order(alloc, setup)?;
     for worker in order.as_slice() {
         let journal = audit[*worker as usize].as_slice();
         check_lanes(alloc, setup, *worker, &standing, journal)?;
-        restored.add(alloc, setup, *worker, &mut standing, journal)?;
+        restored.add(alloc, setup, start, *worker, &mut standing, journal)?;
     }
     Ok(restored)
 }
@@ -82,21 +85,23 @@ impl Restored {
         &mut self,
         alloc: Global,
         setup: &Setup,
+        start: &Start,
         worker: u32,
         standing: &mut Standing,
         journal: &[AuditEntry],
     ) -> Result<(), NoMemory>
         requires worker { worker < length (workers_in (setup_view setup.now).job) }
+        requires starts { length start.now.states ≡ length (workers_in (setup_view setup.now).job) }
         requires journals { length self.old.journals
             ≡ length (workers_in (setup_view setup.now).job) }
         requires states { length self.old.states
             ≡ length (workers_in (setup_view setup.now).job) }
         requires lanes { length standing.old ≡ length (lanes (setup_view setup.now).job) }
-        ensures { OnOk result (IsTaken (setup_view setup.now) worker journal.now self.old self.new
-            standing.old standing.new) }
+        ensures { OnOk result (IsTaken start.now (setup_view setup.now) worker journal.now self.old
+            self.new standing.old standing.new) }
     {
         let journal = take_all(alloc, standing, journal)?;
-        let Replayed { state, sent } = replay(alloc, setup, worker, &journal)?;
+        let Replayed { state, sent } = replay(alloc, setup, start, worker, &journal)?;
         send(setup, worker, standing, sent);
         self.journals.set(worker as usize, journal);
         self.states.set(worker as usize, state);

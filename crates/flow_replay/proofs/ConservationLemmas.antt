@@ -19,8 +19,7 @@ use Rattle.flow_model.specs.Replay.{StateView, Put, after, after_all, items_on, 
 use Rattle.flow_model.proofs.JournalLemmas.{after_all-append, sent-append, shown-append}
 use Rattle.flow_model.proofs.LaneLemmas.{lane_self, same_lane, same_number}
 use Rattle.flow_replay.specs.declared.worker_run.WorkerRun.{WorkerRun}
-use Rattle.flow_replay.specs.Sent.{first_view}
-use Rattle.flow_replay.specs.inner.Runs.{AreInForce, IsConserved, IsQuiescentFrom, IsStep, run_at, from_node, journal_at, run_view, made_at, put_so_far, with_item}
+use Rattle.flow_replay.specs.inner.Runs.{AreInForce, IsConserved, IsQuiescentFrom, IsStep, first_view, from_node, journal_at, made_at, put_so_far, run_at, run_view, with_item}
 use Rattle.flow_model.proofs.LaneNumbers.{is_lane_of}
 use Rattle.flow_replay.proofs.RankLemmas.{from_node-is}
 use Rattle.flow_model.specs.Workers.{nth_worker}

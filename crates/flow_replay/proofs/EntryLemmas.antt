@@ -6,14 +6,11 @@ use Rattle.sink_journal.specs.declared.journal.Entry.TheVariants as entry
 use Rattle.tuple_trace.specs.declared.tuple.Item.{Item}
 use Rattle.flow_model.specs.Lanes.{lanes_out}
 use Rattle.flow_model.specs.declared.topology.Lane.{Lane}
-use Rattle.flow_model.specs.declared.worker_state.WorkerState.{WorkerState}
 use Rattle.flow_model.specs.SetupView.{SetupView, Worker}
-use Rattle.flow_model.specs.Replay.{StateView, after, after_all, items_on, puts, sent, with_change}
+use Rattle.flow_model.specs.Replay.{Put, StateView, after, after_all, items_on, puts, sent, with_change}
 use Rattle.flow_model.specs.Requests.{change_of}
-use Rattle.flow_model.specs.WorkerState.{first_state, state_view}
 use Rattle.versions.specs.declared.request.Change.{Change}
 use Rattle.flow_replay.specs.declared.replaying.Replaying.{Replaying}
-use Rattle.flow_replay.specs.Sent.{first_view}
 use Rattle.flow_replay.specs.inner.Replays.{IsEntered, IsReplayed, replay_view, with_puts}
 use Rattle.flow_model.proofs.JournalLemmas.{after_all-append, sent-append}
 use Rattle.flow_replay.proofs.ListLemmas.{with_puts-map}
@@ -31,51 +28,50 @@ entered setup who w this old new number view lists =
           setup who (replay_view setup who old) this) old.lists.items) (sym number);
     }
 
--- a replay that hasn't begun
-pub replayed_none : (setup : SetupView) (who : Worker) (replay : Replaying) → replay.state
-    ≡ first_state → replay.lists.items ≡ replicate (length (lanes_out setup.job who.number)) []
-    → IsReplayed setup who [] replay
-replayed_none setup who replay state lists = record {
-  view = ap (λ (s : WorkerState). state_view setup who s) state;
-  lists = lists ∙ none (lanes_out setup.job who.number);
+-- a replay that has gone through no entry
+pub replayed_none : (setup : SetupView) (who : Worker) (view : StateView) (replay : Replaying) →
+    replay_view setup who replay ≡ view →
+    replay.lists.items ≡ replicate (length (lanes_out setup.job who.number)) [] →
+    IsReplayed setup who view [] replay
+replayed_none setup who view replay begun lists = record {
+  view_is = begun;
+  lists_are = lists ∙ none (lanes_out setup.job who.number);
 }
   where
     none : (xs : List Lane) → replicate (length xs) []
-        ≡ map (λ (lane : Lane). sent setup who (first_view setup who) lane []) xs
+        ≡ map (λ (lane : Lane). sent setup who view lane []) xs
     none [] = refl
     none (x ∷ xs) = ap (λ (rest : List (List Item)). [] ∷ rest) (none xs)
 
 -- a replay that has gone through one entry more
-pub replayed_more : (setup : SetupView) (who : Worker) (journal : List Entry) (this : Entry) (old new :
-    Replaying) → IsReplayed setup who journal old → IsEntered setup who this old new →
-    IsReplayed setup who (journal ++ this ∷ []) new
-replayed_more setup who journal this old new so_far step = record {
-  view = step.view ∙ (ap (λ (l : StateView). after setup who l this) so_far.view
-      ∙ sym (after_all-append setup who (first_view setup who) journal (this ∷ [])));
-  lists =
-      step.lists ∙ (ap (λ (l : StateView). with_puts (lanes_out setup.job who.number) (puts setup who
-      l this) old.lists.items) so_far.view
-      ∙ (ap (with_puts (lanes_out setup.job who.number) (puts setup who (after_all setup who
-      (first_view setup who) journal) this)) so_far.lists
-      ∙ (with_puts-map (λ (lane : Lane). sent setup who (first_view setup who) lane journal) (puts
-      setup who (after_all setup who (first_view setup who) journal) this) (lanes_out setup.job
-      who.number)
+pub replayed_more : (setup : SetupView) (who : Worker) (view : StateView) (journal : List Entry)
+    (this : Entry) (old new : Replaying) → IsReplayed setup who view journal old →
+    IsEntered setup who this old new → IsReplayed setup who view (journal ++ this ∷ []) new
+replayed_more setup who view journal this old new so_far step = record {
+  view_is = step.view ∙ (ap (λ (l : StateView). after setup who l this) so_far.view_is
+      ∙ sym (after_all-append setup who view journal (this ∷ [])));
+  lists_are =
+      step.lists ∙ (ap (λ (l : StateView). with_puts (lanes_out setup.job who.number)
+      (puts setup who l this) old.lists.items) so_far.view_is
+      ∙ (ap (with_puts (lanes_out setup.job who.number) these) so_far.lists_are
+      ∙ (with_puts-map (λ (lane : Lane). sent setup who view lane journal) these
+      (lanes_out setup.job who.number)
       ∙ more (lanes_out setup.job who.number))));
 }
   where
-    more : (xs : List Lane) → map (λ (lane : Lane). sent setup who (first_view setup who) lane
-        journal ++ items_on lane (puts setup who (after_all setup who (first_view setup who)
-        journal) this)) xs
-        ≡ map (λ (lane : Lane). sent setup who (first_view setup who) lane (journal ++ this ∷ []))
-        xs
+    these : List Put
+    these = puts setup who (after_all setup who view journal) this
+
+    more : (xs : List Lane) →
+        map (λ (lane : Lane). sent setup who view lane journal ++ items_on lane these) xs
+        ≡ map (λ (lane : Lane). sent setup who view lane (journal ++ this ∷ [])) xs
     more [] = refl
     more (x ∷ xs) =
-        rw (more xs) (ap (λ (list : List Item). list ∷ map (λ (lane : Lane). sent setup who
-        (first_view setup who) lane (journal ++ this ∷ [])) xs)
-        (sym (sent-append setup who (first_view setup who) x journal (this ∷ [])
-        ∙ ap (λ (rest : List Item). sent setup who (first_view setup who) x journal ++ rest)
-        (append-nil (items_on x (puts setup who (after_all setup who (first_view setup who)
-        journal) this))))))
+        rw (more xs) (ap (λ (list : List Item).
+        list ∷ map (λ (lane : Lane). sent setup who view lane (journal ++ this ∷ [])) xs)
+        (sym (sent-append setup who view x journal (this ∷ [])
+        ∙ ap (λ (rest : List Item). sent setup who view x journal ++ rest)
+        (append-nil (items_on x these)))))
 
 -- an entry ends at most one lane
 pub ended_grows : (setup : SetupView) (who : Worker) (this : Entry) (old new : Replaying) →

@@ -1,4 +1,5 @@
 pub mod RankLemmas
+pub mod StartLemmas
 pub mod EntryLemmas
 pub mod ListLemmas
 pub mod AloneLemmas

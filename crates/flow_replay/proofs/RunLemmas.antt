@@ -23,8 +23,7 @@ use Rattle.flow_model.specs.Workers.{nth_worker, workers_in}
 use Rattle.flow_model.proofs.JournalLemmas.{IsExecution-append, after_all-append, progress_after-append}
 use Rattle.flow_model.proofs.LaneLemmas.{same_lane}
 use Rattle.flow_replay.specs.declared.worker_run.WorkerRun.{WorkerRun}
-use Rattle.flow_replay.specs.Sent.{first_view}
-use Rattle.flow_replay.specs.inner.Runs.{AllGain, AreInForce, IsConserved, journal_at, run_view, nothing, put_so_far, turn_block, with_item}
+use Rattle.flow_replay.specs.inner.Runs.{AllGain, AreInForce, IsConserved, first_view, journal_at, nothing, put_so_far, run_view, turn_block, with_item}
 use Rattle.flow_replay.specs.inner.SoFar.{AreEmpty, IsSoFar, count_issued, waiting}
 use Rattle.flow_replay.specs.inner.Delivery.{IsFed}
 use Rattle.flow_model.proofs.CoverLemmas.{AreCovering}

@@ -1,5 +1,5 @@
 -- The end of a run.
-use Rattle.std.proofs.Common.{◌≡◌, ◌<◌, ◌+◌, ℕ, List, [], ◌∷◌, ◌++◌, length, map, Option, Some, None, refl, sym, ap, subst, ◌∙◌, arith}
+use Rattle.std.proofs.Common.{◌≡◌, ◌<◌, ℕ, List, [], ◌∷◌, ◌++◌, length, map, Option, Some, None, refl, sym, ap, subst, ◌∙◌, arith}
 use Rattle.std.specs.Prelude.{option_map, slice_get}
 use Rattle.std.specs.FinMap.{empty}
 use Rattle.std.proofs.lemmas.List.{append-nil, length-map}
@@ -26,8 +26,7 @@ use Rattle.flow_model.proofs.EndLemmas.{ended_counts}
 use Rattle.flow_model.proofs.JournalLemmas.{after_all-append}
 use Rattle.flow_model.proofs.PlaceLemmas.{map_place}
 use Rattle.flow_replay.specs.declared.worker_run.WorkerRun.{WorkerRun}
-use Rattle.flow_replay.specs.Sent.{first_view}
-use Rattle.flow_replay.specs.inner.Runs.{AllGain, AreOpen, run_at, empty_run, end_block, journal_at, put_so_far}
+use Rattle.flow_replay.specs.inner.Runs.{AllGain, AreOpen, empty_run, end_block, first_view, journal_at, put_so_far, run_at}
 use Rattle.flow_replay.specs.inner.SoFar.{IsSoFar, count_issued, left_by}
 use Rattle.flow_model.proofs.CoverLemmas.{AreCovering}
 use Rattle.flow_replay.proofs.FollowLemmas.{finishes}

@@ -22,8 +22,7 @@ use Rattle.flow_model.proofs.ElementLemmas.{AreDistinct, IsIn, distinct_filter, 
 use Rattle.flow_model.proofs.JournalLemmas.{sent-append, shown-append}
 use Rattle.flow_model.proofs.LaneLemmas.{LaneIs, in_lanes_that, lane_is, lanes_that_in, sender_source, sender_worker}
 use Rattle.flow_replay.specs.declared.worker_run.WorkerRun.{WorkerRun}
-use Rattle.flow_replay.specs.Sent.{first_view}
-use Rattle.flow_replay.specs.inner.Runs.{AllGain, IsConserved, end_block, journal_at, marks, nothing, put_so_far, turn_block, turn_entries}
+use Rattle.flow_replay.specs.inner.Runs.{AllGain, IsConserved, end_block, first_view, journal_at, marks, nothing, put_so_far, turn_block, turn_entries}
 use Rattle.flow_model.proofs.CoverLemmas.{AreCovering}
 use Rattle.flow_replay.proofs.FollowLemmas.{ended_all, lanes_that-distinct}
 use Rattle.flow_model.proofs.LaneNumbers.{receiver_node}

@@ -6,7 +6,8 @@
 //! ```
 //! let record = plain_run(alloc, setup, &rows)?;
 //! let journal = &record.journals.as_slice()[0];
-//! let done = replay(alloc, &record.setup, 0, journal)?;
+//! let start = Start::first(alloc, &record.setup)?;
+//! let done = replay(alloc, &record.setup, &start, 0, journal)?;
 //! assert!(rt; done.sent.len() == record.setup.lanes_out(0).len());
 //! ```
 #![tactic(auto)]

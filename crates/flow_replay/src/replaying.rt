@@ -1,16 +1,15 @@
 ghost use Rattle.std.specs.Prelude.{◌≡◌, ◌<◌, ◌-◌, ◌^◌, [], IfOk, OnOk, length, map, replicate};
-ghost use Rattle.std.specs.FinMap.{empty};
-ghost use Rattle.flow_model.specs.Begin.{at_first};
 ghost use Rattle.flow_model.specs.Lanes.{lanes, lanes_out, out_numbers};
 ghost use Rattle.flow_model.specs.Replay.{put_out};
 ghost use Rattle.flow_model.specs.Run.{final_counts};
 ghost use Rattle.flow_model.specs.Setup.{setup_view};
+ghost use Rattle.flow_model.specs.WorkerState.{state_view};
 ghost use Rattle.flow_model.specs.Workers.{nth_worker, workers_in};
-ghost use Rattle.flow_replay.specs.Sent.{all_sent};
+ghost use Rattle.flow_replay.specs.Sent.{all_sent, begun_counts, begun_view};
 ghost use Rattle.flow_replay.specs.inner.Replays.{IsBegun, IsEntered, item_if, reaches};
 ghost use Rattle.flow_replay.specs.inner.Replays.{with_item, with_markers, with_puts};
 
-use flow_model::{Setup, WorkerState};
+use flow_model::{Setup, Start, WorkerState};
 use keyed_state::Keyed;
 use operators::Outs;
 use sink_journal::{Entry, Journal};
@@ -32,22 +31,26 @@ pub struct Replayed {
     pub sent: LaneLists,
 }
 
-/// Replays a journal of a worker in one pass: what its functions make of the tuples that it met,
-/// with the changes, markers and ends that the journal says. The journal needn't be lawful.
+/// Replays a journal of a worker in one pass, from a start on: what its functions make of the
+/// tuples that it met, with the changes, markers and ends that the journal says. The journal
+/// needn't be lawful.
 pub fn replay(
     alloc: Global,
     setup: &Setup,
+    start: &Start,
     worker: u32,
     journal: &Journal,
 ) -> Result<Replayed, NoMemory>
-    requires { worker < length (workers_in (setup_view setup.now).job) }
-    ensures state { IfOk result (λ done. done.state ≡ final_counts (setup_view setup.now)
-        (at_first (setup_view setup.now)) (nth_worker (setup_view setup.now).job worker) empty
+    requires worker { worker < length (workers_in (setup_view setup.now).job) }
+    requires start { length start.now.states ≡ length (workers_in (setup_view setup.now).job) }
+    ensures state { IfOk result (λ done. done.state ≡ final_counts (setup_view setup.now) start.now
+        (nth_worker (setup_view setup.now).job worker) (begun_counts start.now worker)
         journal.now) }
     ensures sent { IfOk result (λ done. done.sent ≡ all_sent (setup_view setup.now)
-        (nth_worker (setup_view setup.now).job worker) journal.now) }
+        (nth_worker (setup_view setup.now).job worker)
+        (begun_view (setup_view setup.now) start.now worker) journal.now) }
 {
-    let mut replay = Replaying::new(alloc, setup, worker)?;
+    let mut replay = Replaying::new(alloc, setup, start, worker)?;
     for entry in journal.as_slice() {
         replay.enter(setup, worker, entry)?;
     }
@@ -56,6 +59,23 @@ pub fn replay(
     Ok(Replayed {
         state: counts,
         sent: LaneLists::from_vec(lists),
+    })
+}
+
+// The state of a worker at a start, with a copy of its counts.
+fn begun_state(setup: &Setup, start: &Start, worker: u32) -> Result<WorkerState, NoMemory>
+    requires worker { worker < length (workers_in (setup_view setup.now).job) }
+    requires start { length start.now.states ≡ length (workers_in (setup_view setup.now).job) }
+    ensures { IfOk result (λ state. state_view (setup_view setup.now)
+        (nth_worker (setup_view setup.now).job worker) state
+        ≡ begun_view (setup_view setup.now) start.now worker) }
+{
+    let counts = start.states.as_slice()[worker as usize].copy()?;
+    Ok(WorkerState {
+        func: setup.in_force_after(setup.node_of(worker), start.turned),
+        counts,
+        last: setup.last_covering(worker, start.turned),
+        ended: 0,
     })
 }
 
@@ -69,14 +89,16 @@ struct Replaying {
 }
 
 impl Replaying {
-    fn new(alloc: Global, setup: &Setup, worker: u32) -> Result<Replaying, NoMemory>
-        requires { worker < length (workers_in (setup_view setup.now).job) }
-        ensures { IfOk result (IsBegun (setup_view setup.now) worker) }
+    fn new(alloc: Global, setup: &Setup, start: &Start, worker: u32) -> Result<Replaying, NoMemory>
+        requires worker { worker < length (workers_in (setup_view setup.now).job) }
+        requires start { length start.now.states ≡ length (workers_in (setup_view setup.now).job) }
+        ensures { IfOk result (IsBegun (setup_view setup.now) worker
+            (begun_view (setup_view setup.now) start.now worker)) }
     {
         let lanes = setup.lanes_out(worker).len();
         Ok(Replaying {
             alloc,
-            state: WorkerState::new(alloc),
+            state: begun_state(setup, start, worker)?,
             lists: empty_lists(alloc, lanes)?,
         })
     }

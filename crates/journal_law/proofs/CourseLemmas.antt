@@ -17,7 +17,7 @@ next_is : (setup : SetupView) (node : ℕ) (due : Option ℕ) (request : ℕ) �
 next_is setup node None request = (λ e. e, λ e. e)
 next_is setup node (Some r) request = (λ e. e, λ e. e)
 
-module _ (setup : SetupView) (w : ℕ) (works : w < length (workers_in setup.job)) (feeds : List Feed) (course : Course)
+module _ (setup : SetupView) (w : ℕ) (works : w < length (workers_in setup.job)) (turned : ℕ) (feeds : List Feed) (course : Course)
   where
     abbrev progress : Progress
     progress = progress_of setup (nth_worker setup.job w).node course
@@ -26,40 +26,40 @@ module _ (setup : SetupView) (w : ℕ) (works : w < length (workers_in setup.job
     number = (worker_at setup.job w works).0
 
     pub met_enabled : (lane row : ℕ) (birth : List ℕ)
-        → ((Contains (lanes_in setup.job w) lane × (course.marked ≡ []) × (course.ended ≡ [])) × IsInTime (duties setup 0 (nth_worker setup.job w)) (known feeds row []) (next_due (dues_from setup (nth_worker setup.job w).node course.due)))
-        ↔ IsEnabled (duties setup 0 (nth_worker setup.job w)) (progress_of setup (nth_worker setup.job w).node course) (draft feeds (kept.Met lane row birth))
+        → ((Contains (lanes_in setup.job w) lane × (course.marked ≡ []) × (course.ended ≡ [])) × IsInTime (duties setup turned (nth_worker setup.job w)) (known turned feeds row []) (next_due (dues_from setup (nth_worker setup.job w).node course.due)))
+        ↔ IsEnabled (duties setup turned (nth_worker setup.job w)) (progress_of setup (nth_worker setup.job w).node course) (draft turned feeds (kept.Met lane row birth))
     met_enabled lane row birth =
-        subst (λ v. ((Contains (lanes_in setup.job v) lane × (course.marked ≡ []) × (course.ended ≡ [])) × IsInTime (duties setup 0 (nth_worker setup.job w)) (known feeds row []) (next_due (dues_from setup (nth_worker setup.job w).node course.due)))
-        ↔ IsEnabled (duties setup 0 (nth_worker setup.job w)) (progress_of setup (nth_worker setup.job w).node course) (draft feeds (kept.Met lane row birth))) number
+        subst (λ v. ((Contains (lanes_in setup.job v) lane × (course.marked ≡ []) × (course.ended ≡ [])) × IsInTime (duties setup turned (nth_worker setup.job w)) (known turned feeds row []) (next_due (dues_from setup (nth_worker setup.job w).node course.due)))
+        ↔ IsEnabled (duties setup turned (nth_worker setup.job w)) (progress_of setup (nth_worker setup.job w).node course) (draft turned feeds (kept.Met lane row birth))) number
         (λ h. (h.0.0, h.0.1, h.0.2, h.1), λ h. ((h.0, h.1, h.2), h.3))
 
     pub marked_enabled : (lane request : ℕ)
         → ((course.due ≡ Some request) × Contains (marked_lanes setup w request) lane × (¬ Contains course.marked lane) × (course.ended ≡ []))
-        ↔ IsEnabled (duties setup 0 (nth_worker setup.job w)) (progress_of setup (nth_worker setup.job w).node course) (draft feeds (kept.Marked lane request))
+        ↔ IsEnabled (duties setup turned (nth_worker setup.job w)) (progress_of setup (nth_worker setup.job w).node course) (draft turned feeds (kept.Marked lane request))
     marked_enabled lane request =
         let due = next_is setup (nth_worker setup.job w).node course.due request in
         subst (λ v. ((course.due ≡ Some request) × Contains (marked_lanes setup v request) lane × (¬ Contains course.marked lane) × (course.ended ≡ []))
-        ↔ IsEnabled (duties setup 0 (nth_worker setup.job w)) (progress_of setup (nth_worker setup.job w).node course) (draft feeds (kept.Marked lane request))) number
+        ↔ IsEnabled (duties setup turned (nth_worker setup.job w)) (progress_of setup (nth_worker setup.job w).node course) (draft turned feeds (kept.Marked lane request))) number
         (λ h. (due.0 h.0, h.1, h.2, h.3), λ h. (due.1 h.0, h.1, h.2, h.3))
 
     pub turned_enabled : (request : ℕ)
         → ((course.due ≡ Some request) × All (Contains course.marked) (marked_lanes setup w request) × (course.ended ≡ []))
-        ↔ IsEnabled (duties setup 0 (nth_worker setup.job w)) (progress_of setup (nth_worker setup.job w).node course) (draft feeds (kept.Turned request))
+        ↔ IsEnabled (duties setup turned (nth_worker setup.job w)) (progress_of setup (nth_worker setup.job w).node course) (draft turned feeds (kept.Turned request))
     turned_enabled request =
         let due = next_is setup (nth_worker setup.job w).node course.due request in
         subst (λ v. ((course.due ≡ Some request) × All (Contains course.marked) (marked_lanes setup v request) × (course.ended ≡ []))
-        ↔ IsEnabled (duties setup 0 (nth_worker setup.job w)) (progress_of setup (nth_worker setup.job w).node course) (draft feeds (kept.Turned request))) number
+        ↔ IsEnabled (duties setup turned (nth_worker setup.job w)) (progress_of setup (nth_worker setup.job w).node course) (draft turned feeds (kept.Turned request))) number
         (λ h. (due.0 h.0, h.1, h.2), λ h. (due.1 h.0, h.1, h.2))
 
     pub ended_enabled : (lane : ℕ)
         → (Contains (lanes_in setup.job w) lane × (¬ Contains course.ended lane) × (dues_from setup (nth_worker setup.job w).node course.due ≡ []) × (course.marked ≡ []))
-        ↔ IsEnabled (duties setup 0 (nth_worker setup.job w)) (progress_of setup (nth_worker setup.job w).node course) (draft feeds (kept.Ended lane))
+        ↔ IsEnabled (duties setup turned (nth_worker setup.job w)) (progress_of setup (nth_worker setup.job w).node course) (draft turned feeds (kept.Ended lane))
     ended_enabled lane =
         subst (λ v. (Contains (lanes_in setup.job v) lane × (¬ Contains course.ended lane) × (dues_from setup (nth_worker setup.job w).node course.due ≡ []) × (course.marked ≡ []))
-        ↔ IsEnabled (duties setup 0 (nth_worker setup.job w)) (progress_of setup (nth_worker setup.job w).node course) (draft feeds (kept.Ended lane))) number
+        ↔ IsEnabled (duties setup turned (nth_worker setup.job w)) (progress_of setup (nth_worker setup.job w).node course) (draft turned feeds (kept.Ended lane))) number
         (λ h. h, λ h. h)
 
-    pub done_lanes : ((course.marked ≡ []) × All (Contains course.ended) (lanes_in setup.job w)) ↔ ((course.marked ≡ []) × All (Contains course.ended) (duties setup 0 (nth_worker setup.job w)).lanes)
+    pub done_lanes : ((course.marked ≡ []) × All (Contains course.ended) (lanes_in setup.job w)) ↔ ((course.marked ≡ []) × All (Contains course.ended) (duties setup turned (nth_worker setup.job w)).lanes)
     done_lanes =
-        subst (λ v. ((course.marked ≡ []) × All (Contains course.ended) (lanes_in setup.job v)) ↔ ((course.marked ≡ []) × All (Contains course.ended) (duties setup 0 (nth_worker setup.job w)).lanes)) number
+        subst (λ v. ((course.marked ≡ []) × All (Contains course.ended) (lanes_in setup.job v)) ↔ ((course.marked ≡ []) × All (Contains course.ended) (duties setup turned (nth_worker setup.job w)).lanes)) number
         (λ h. h, λ h. h)

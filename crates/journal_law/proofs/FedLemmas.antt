@@ -1,8 +1,8 @@
 -- How many requests are issued before a row is fed.
-use Rattle.std.proofs.Common.{◌≡◌, ◌∙◌, ◌<◌, ◌≤◌, ◌+◌, ◌-◌, ◌==◌, ◌++◌, ◌⊎◌, ◌↔◌, ℕ, zero, suc, List, [], ◌∷◌, inl, inr, refl, ap, true, false, Bool, cond, arith, length, min, Some, slice_get}
+use Rattle.std.proofs.Common.{◌≡◌, ◌∙◌, ◌<◌, ◌≤◌, ◌+◌, ◌-◌, ◌==◌, ◌++◌, ◌⊎◌, ◌↔◌, ℕ, zero, suc, List, [], ◌∷◌, inl, inr, refl, ap, drop, subst, sym, true, false, Bool, cond, arith, length, min, Some, slice_get}
 use Rattle.std.specs.Prelude.{nat_le, ⊤}
 use Rattle.std.proofs.lemmas.Bool.{cases_lt, eq-eqb, le-leb, lt-leb, ne_eqb}
-use Rattle.std.proofs.lemmas.List.{length-map}
+use Rattle.std.proofs.lemmas.List.{length-drop, length-map}
 use Rattle.std.proofs.lemmas.Option.{same_Some}
 use Rattle.sink_journal.specs.declared.journal.Feed.{Feed}
 use Rattle.sink_journal.specs.declared.journal.Feed.TheVariants as feed
@@ -35,15 +35,22 @@ past_issued test rows r row (a ∷ waits) more acc = go (test (min a rows)) (pas
     go false ih = ih acc
 
 -- a row that isn't fed
-outside : (rows row : ℕ) (waits : List ℕ) (left k acc : ℕ) → (row ≤ k) ⊎ (k + left < row) → issued_before row acc (feed_after waits 1 k rows left) ≡ 0
-outside rows row waits zero k acc out = refl
-outside rows row waits (suc left) k acc out =
-    let apart : (k + 1 == row) ≡ false = ne_eqb (k + 1) row (λ e. elim out [ inl le ↦ absurd (omega (arith, le, e)) | inr lt ↦ absurd (omega (arith, lt, e)) ]) in
-    let later : (row ≤ k + 1) ⊎ (k + 1 + left < row) = elim out [ inl le ↦ inl (omega (arith, le)) | inr lt ↦ inr (omega (arith, lt)) ] in
-    rw apart (past_issued (λ a. a == k + 1) rows 1 row waits (feed_after waits 1 (k + 1) rows left) acc
-    ∙ outside rows row waits left (k + 1) (acc + count (λ a. a == k + 1) rows waits) later)
+outside : (rows row : ℕ) (waits : List ℕ) (r left k acc : ℕ) → (row ≤ k) ⊎ (k + left < row) →
+    issued_before row acc (feed_after waits r k rows left) ≡ 0
+outside rows row waits r zero k acc out = refl
+outside rows row waits r (suc left) k acc out =
+    let apart : (k + 1 == row) ≡ false =
+    ne_eqb (k + 1) row (λ e. elim out [
+      | inl le ↦ absurd (omega (arith, le, e))
+      | inr lt ↦ absurd (omega (arith, lt, e))
+    ]) in
+    let later : (row ≤ k + 1) ⊎ (k + 1 + left < row) =
+    elim out [ inl le ↦ inl (omega (arith, le)) | inr lt ↦ inr (omega (arith, lt)) ] in
+    rw apart (past_issued (λ a. a == k + 1) rows r row waits
+    (feed_after waits r (k + 1) rows left) acc
+    ∙ outside rows row waits r left (k + 1) (acc + count (λ a. a == k + 1) rows waits) later)
 
-count_next : (rows k : ℕ) (waits : List ℕ) → count_up_to k rows waits + count (λ a. a == k + 1) rows waits ≡ count_up_to (k + 1) rows waits
+pub count_next : (rows k : ℕ) (waits : List ℕ) → count_up_to k rows waits + count (λ a. a == k + 1) rows waits ≡ count_up_to (k + 1) rows waits
 count_next rows k [] = refl
 count_next rows k (a ∷ waits) = go (count_next rows k waits)
   where
@@ -56,35 +63,57 @@ count_next rows k (a ∷ waits) = go (count_next rows k waits)
       ]
     ]
 
-inside : (rows p : ℕ) (waits : List ℕ) (left k acc : ℕ) → k ≤ p → p < k + left → acc ≡ count_up_to k rows waits → issued_before (suc p) acc (feed_after waits 1 k rows left) ≡ count_up_to p rows waits
-inside rows p waits zero k acc le lt is = absurd (omega (arith, le, lt))
-inside rows p waits (suc left) k acc le lt is = elim (cases_lt k p) [
+inside : (rows p t : ℕ) (waits : List ℕ) (r left k acc : ℕ) → k ≤ p → p < k + left →
+    acc ≡ t + count_up_to k rows waits →
+    issued_before (suc p) acc (feed_after waits r k rows left) ≡ t + count_up_to p rows waits
+inside rows p t waits r zero k acc le lt is = absurd (omega (arith, le, lt))
+inside rows p t waits r (suc left) k acc le lt is = elim (cases_lt k p) [
   | inl below ↦
+      let next = count_next rows k waits in
       rw (ne_eqb (k + 1) (suc p) (λ e. absurd (omega (arith, below, e))))
-      (past_issued (λ a. a == k + 1) rows 1 (suc p) waits (feed_after waits 1 (k + 1) rows left) acc
-      ∙ inside rows p waits left (k + 1) (acc + count (λ a. a == k + 1) rows waits) (omega (arith, below)) (omega (arith, lt))
-      (ap (λ (n : ℕ). n + count (λ a. a == k + 1) rows waits) is ∙ count_next rows k waits))
+      (past_issued (λ a. a == k + 1) rows r (suc p) waits (feed_after waits r (k + 1) rows left) acc
+      ∙ inside rows p t waits r left (k + 1) (acc + count (λ a. a == k + 1) rows waits)
+      (omega (arith, below)) (omega (arith, lt)) (omega (arith, is, next)))
   | inr above ↦
       let same : k ≡ p = omega (arith, le, above) in
-      rw (eq-eqb (k + 1) (suc p) (omega (arith, same))) (is ∙ ap (λ (n : ℕ). count_up_to n rows waits) same)
+      rw (eq-eqb (k + 1) (suc p) (omega (arith, same)))
+      (is ∙ ap (λ (n : ℕ). t + count_up_to n rows waits) same)
 ]
 
-whole : (rows row : ℕ) (waits : List ℕ) → issued_before row 0 (feed_from 0 0 waits rows) ≡ issued_before row (count_up_to 0 rows waits) (feed_after waits 1 0 rows rows)
-whole rows row waits =
-    let z : rows - 0 ≡ rows = omega arith in
-    let none : 0 + count_up_to 0 rows waits ≡ count_up_to 0 rows waits = omega arith in
-    past_issued (λ a. nat_le a 0) rows 1 row waits (feed_after waits 1 0 rows (rows - 0)) 0
-    ∙ (ap (λ (n : ℕ). issued_before row (0 + count_up_to 0 rows waits) (feed_after waits 1 0 rows n)) z
-    ∙ ap (λ (n : ℕ). issued_before row n (feed_after waits 1 0 rows rows)) none)
+-- how many requests the feed has issued before a row, if it follows these rows and requests
+abbrev pub fed_under : (begun turned rows row : ℕ) → List ℕ → ℕ
+fed_under begun turned rows row waits =
+    issued_before row turned (feed_from begun turned waits rows)
 
-issued_outside : (rows row : ℕ) (waits : List ℕ) → (row ≤ 0) ⊎ (rows < row) → issued_before row 0 (feed_from 0 0 waits rows) ≡ 0
-issued_outside rows row waits out =
-    whole rows row waits ∙ outside rows row waits rows 0 (count_up_to 0 rows waits) (elim out [ inl le ↦ inl le | inr lt ↦ inr (omega (arith, lt)) ])
+whole : (b t rows row : ℕ) (waits : List ℕ) →
+    fed_under b t rows row waits
+    ≡ issued_before row (t + count_up_to b rows (drop t waits))
+    (feed_after (drop t waits) (t + 1) b rows (rows - b))
+whole b t rows row waits =
+    past_issued (λ a. nat_le a b) rows (t + 1) row (drop t waits)
+    (feed_after (drop t waits) (t + 1) b rows (rows - b)) t
 
-issued_inside : (rows p : ℕ) (waits : List ℕ) → p < rows → issued_before (suc p) 0 (feed_from 0 0 waits rows) ≡ count_up_to p rows waits
-issued_inside rows p waits lt = whole rows (suc p) waits ∙ inside rows p waits rows 0 (count_up_to 0 rows waits) (omega arith) (omega (arith, lt)) refl
+pub issued_outside : (b t rows row : ℕ) (waits : List ℕ) → (row ≤ b) ⊎ (rows < row) →
+    fed_under b t rows row waits ≡ 0
+issued_outside b t rows row waits out =
+    whole b t rows row waits
+    ∙ outside rows row (drop t waits) (t + 1) (rows - b) b (t + count_up_to b rows (drop t waits))
+    (elim (cases_lt b row) [
+      | inl above ↦ elim out [
+        | inl le ↦ inl le
+        | inr lt ↦ inr (omega (arith, above, lt))
+      ]
+      | inr le ↦ inl le
+    ])
 
-count_few : (test : ℕ → Bool) (rows : ℕ) (waits : List ℕ) → count test rows waits ≤ length waits
+issued_inside : (b t rows p : ℕ) (waits : List ℕ) → b ≤ p → p < rows →
+    fed_under b t rows (suc p) waits ≡ t + count_up_to p rows (drop t waits)
+issued_inside b t rows p waits le lt =
+    whole b t rows (suc p) waits
+    ∙ inside rows p t (drop t waits) (t + 1) (rows - b) b (t + count_up_to b rows (drop t waits)) le
+    (omega (arith, le, lt)) refl
+
+pub count_few : (test : ℕ → Bool) (rows : ℕ) (waits : List ℕ) → count test rows waits ≤ length waits
 count_few test rows [] = omega arith
 count_few test rows (a ∷ waits) = go (test (min a rows)) (count_few test rows waits)
   where
@@ -125,33 +154,52 @@ count_before rows k low (suc place) after (a ∷ waits) up g =
       | inr le ↦ rw (le-leb (min a rows) k le) (λ less. rest.0 (omega (arith, less)), λ more. let less = rest.1 more in omega (arith, less))
     ]
 
--- fewer requests than this are issued before the row, if there aren't so many
-pub none_waits : (rows row place : ℕ) (waits : List ℕ) → length waits ≤ place → issued_before row 0 (feed_from 0 0 waits rows) < place + 1
-none_waits rows zero place waits le = let none = issued_outside rows zero waits (inl (omega arith)) in omega (arith, none)
-none_waits rows (suc p) place waits le = elim (cases_lt p rows) [
-  | inl lt ↦ let some = issued_inside rows p waits lt in let few = count_few (λ a. nat_le a p) rows waits in omega (arith, some, few, le)
-  | inr ge ↦ let none = issued_outside rows (suc p) waits (inr (omega (arith, ge))) in omega (arith, none)
-]
+rise_weaker : (low lower : ℕ) (waits : List ℕ) → lower ≤ low → Rise low waits → Rise lower waits
+rise_weaker low lower [] le up = tt
+rise_weaker low lower (a ∷ waits) le up = let first = up.0 in (omega (arith, le, first), up.1)
 
--- or if the request waits for this row or a later one, and if the row isn't fed
-pub waits_after : (rows row place after low : ℕ) (waits : List ℕ) → Rise low waits → slice_get waits place ≡ Some after
-    → (issued_before row 0 (feed_from 0 0 waits rows) < place + 1) ↔ ((rows < row) ⊎ (row ≤ after))
-waits_after rows zero place after low waits up g =
-    let none = issued_outside rows zero waits (inl (omega arith)) in (λ less. inr (omega arith), λ more. omega (arith, none))
-waits_after rows (suc p) place after low waits up g = elim (cases_lt p rows) [
-  | inl lt ↦
-      let some = issued_inside rows p waits lt in
-      let both = count_before rows p low place after waits up g in (
-        λ less. inr (let m = both.0 (omega (arith, some, less)) in omega (arith, m)),
-        λ more. elim more [
-          | inl past ↦ absurd (omega (arith, past, lt))
-          | inr le ↦ let c = both.1 (omega (arith, lt, le)) in omega (arith, some, c)
-        ],
-      )
-  | inr ge ↦
-      let none = issued_outside rows (suc p) waits (inr (omega (arith, ge))) in
-      (λ less. inl (omega (arith, ge)), λ more. omega (arith, none))
-]
+rise_drop : (t low : ℕ) (waits : List ℕ) → Rise low waits → Rise low (drop t waits)
+rise_drop zero low waits up = up
+rise_drop (suc t) low [] up = tt
+rise_drop (suc t) low (a ∷ waits) up = rise_drop t low waits (rise_weaker a low waits up.0 up.1)
+
+later_wait : (t place after : ℕ) (waits : List ℕ) → t ≤ place →
+    slice_get waits place ≡ Some after → slice_get (drop t waits) (place - t) ≡ Some after
+later_wait zero place after waits le g =
+    let z : place - 0 ≡ place = omega arith in ap (slice_get waits) z ∙ g
+later_wait (suc t) place after [] le g = absurd (cc)
+later_wait (suc t) zero after (a ∷ waits) le g = absurd (omega (arith, le))
+later_wait (suc t) (suc place) after (a ∷ waits) le g =
+    let z : suc place - suc t ≡ place - t = omega arith in
+    ap (slice_get (drop t waits)) z
+    ∙ later_wait t place after waits (omega (arith, le)) g
+
+module _ (b t rows : ℕ) (waits : List ℕ)
+  where
+    -- each row that is fed comes after the requests that were turned before
+    pub all_turned : (p : ℕ) → b ≤ p → p < rows → t ≤ fed_under b t rows (suc p) waits
+    all_turned p le lt = let some = issued_inside b t rows p waits le lt in omega (arith, some)
+
+    -- fewer requests than this are issued before the row, if there aren't so many
+    pub none_waits : (p place : ℕ) → b ≤ p → p < rows → length waits ≤ place → t ≤ place →
+        fed_under b t rows (suc p) waits < place + 1
+    none_waits p place le lt past turned =
+        let some = issued_inside b t rows p waits le lt in
+        let few = count_few (λ a. nat_le a p) rows (drop t waits) in
+        let long = length-drop t waits in
+        omega (arith, some, few, long, past, turned)
+
+    -- or if the request waits for this row or a later one
+    pub waits_after : (p place after low : ℕ) → b ≤ p → p < rows → Rise low waits → t ≤ place →
+        slice_get waits place ≡ Some after →
+        (fed_under b t rows (suc p) waits < place + 1) ↔ (suc p ≤ after)
+    waits_after p place after low le lt up turned g =
+        let some = issued_inside b t rows p waits le lt in
+        let both = count_before rows p low (place - t) after (drop t waits)
+        (rise_drop t low waits up) (later_wait t place after waits turned g) in (
+          λ less. let m = both.0 (omega (arith, some, less, turned)) in omega (arith, m),
+          λ more. let c = both.1 (omega (arith, lt, more)) in omega (arith, some, c, turned),
+        )
 
 -- ---- of a setup
 
@@ -159,16 +207,55 @@ pub rise : (low : ℕ) (requests : List Request) → AreInOrder low requests →
 rise low [] order = tt
 rise low (request ∷ requests) order = (order.0, rise request.after requests order.1)
 
-pub too_many : (setup : Setup) (rows row place request : ℕ) → length (setup_view setup).requests ≤ place → request ≡ place + 1
-    → issued_before row 0 (feed_from 0 0 (afters (setup_view setup).requests) rows) < request
-too_many setup rows row place request le e =
-    let long = length-map (setup_view setup).requests (λ (request : Request). request.after) in
-    let less = none_waits rows row place (afters (setup_view setup).requests) (omega (arith, le, long)) in
-    omega (arith, less, e)
+-- a row that is fed, by the place before it
+fed_place : (b rows row : ℕ) → b < row → row ≤ rows →
+    (p : ℕ) × (row ≡ suc p) × (b ≤ p) × (p < rows)
+fed_place b rows zero above le = absurd (omega (arith, above))
+fed_place b rows (suc p) above le = (p, refl, omega (arith, above), omega (arith, le))
 
-pub by_row : (setup : Setup) (rows row place after request : ℕ) → slice_get (afters (setup_view setup).requests) place ≡ Some after → request ≡ place + 1
-    → (issued_before row 0 (feed_from 0 0 (afters (setup_view setup).requests) rows) < request) ↔ ((rows < row) ⊎ (row ≤ after))
-by_row setup rows row place after request g e =
-    let both = waits_after rows row place after 0 (afters (setup_view setup).requests)
-    (rise 0 (setup_view setup).requests (accepted-order (job_view setup.job) setup.judged.accepted setup.accepted)) g in
-    (λ less. both.0 (omega (arith, less, e)), λ more. let less = both.1 more in omega (arith, less, e))
+module _ (setup : Setup) (b t rows row : ℕ) (above : b < row) (below : row ≤ rows)
+  where
+    abbrev issued : ℕ
+    issued = fed_under b t rows row (afters (setup_view setup).requests)
+
+    pub early : (request : ℕ) → request ≤ t → issued < request → ⊥
+    early request le less =
+        let (p, is, from, to) = fed_place b rows row above below in
+        let all = all_turned b t rows (afters (setup_view setup).requests) p from to in
+        let all' : t ≤ issued =
+        subst (λ (n : ℕ). t ≤ fed_under b t rows n (afters (setup_view setup).requests)) (sym is)
+        all in
+        omega (arith, all', le, less)
+
+    pub too_many : (request : ℕ) → t < request → length (setup_view setup).requests < request →
+        issued < request
+    too_many request later past =
+        let (p, is, from, to) = fed_place b rows row above below in
+        let long =
+        length-map (setup_view setup).requests (λ (request : Request). request.after) in
+        let less =
+        none_waits b t rows (afters (setup_view setup).requests) p (request - 1) from to
+        (omega (arith, long, past)) (omega (arith, later)) in
+        let one : request - 1 + 1 ≡ request = omega (arith, later) in
+        subst (λ (n : ℕ). fed_under b t rows n (afters (setup_view setup).requests) < request)
+        (sym is)
+        (subst (λ (n : ℕ).
+        fed_under b t rows (suc p) (afters (setup_view setup).requests) < n) one less)
+
+    pub by_row : (request after : ℕ) → t < request →
+        slice_get (afters (setup_view setup).requests) (request - 1) ≡ Some after →
+        (issued < request) ↔ (row ≤ after)
+    by_row request after later g =
+        let (p, is, from, to) = fed_place b rows row above below in
+        let both =
+        waits_after b t rows (afters (setup_view setup).requests) p (request - 1) after 0 from to
+        (rise 0 (setup_view setup).requests
+        (accepted-order (job_view setup.job) setup.judged.accepted setup.accepted))
+        (omega (arith, later)) g in
+        let one : request - 1 + 1 ≡ request = omega (arith, later) in
+        subst (λ (n : ℕ).
+        (fed_under b t rows n (afters (setup_view setup).requests) < request) ↔ (n ≤ after))
+        (sym is)
+        (subst (λ (n : ℕ).
+        (fed_under b t rows (suc p) (afters (setup_view setup).requests) < n) ↔ (suc p ≤ after))
+        one both)

@@ -15,7 +15,7 @@ use crate::duty::{brings_marker, due_after, has_all, has_markers, is_lane_in, la
 use crate::in_time::is_fed_before;
 use crate::marks::Marks;
 use audit_laws::AuditEntry;
-use flow_model::Setup;
+use flow_model::{Setup, Start};
 use std::alloc::Global;
 use tuple_trace::NoMemory;
 
@@ -31,34 +31,43 @@ pub(crate) struct Course {
 }
 
 impl Course {
-    /// The journal of a worker at its beginning. Takes no memory.
-    pub(crate) fn new(alloc: Global, setup: &Setup, worker: u32) -> Course
+    /// The journal of a worker at a start. Takes no memory.
+    pub(crate) fn new(alloc: Global, setup: &Setup, start: &Start, worker: u32) -> Course
         requires { worker < length (workers_in (setup_view setup.now).job) }
         ensures { progress_of (setup_view setup.now)
             (nth_worker (setup_view setup.now).job worker).node result
-            ≡ initial (duties (setup_view setup.now) 0
+            ≡ initial (duties (setup_view setup.now) start.now.turned
             (nth_worker (setup_view setup.now).job worker)) }
     {
         Course {
-            due: due_after(setup, worker, 0),
+            due: due_after(setup, worker, start.turned),
             marked: Marks::new(alloc),
             ended: Marks::new(alloc),
         }
     }
 
-    /// Whether the entry may come next, if `rows` rows are fed.
-    pub(crate) fn admits(&self, setup: &Setup, worker: u32, rows: u64, entry: &AuditEntry) -> bool
+    /// Whether the entry may come next, if the rows after those of the start are fed, up to `rows`.
+    pub(crate) fn admits(
+        &self,
+        setup: &Setup,
+        start: &Start,
+        worker: u32,
+        rows: u64,
+        entry: &AuditEntry,
+    ) -> bool
         requires { worker < length (workers_in (setup_view setup.now).job) }
-        ensures { IsTrue result ↔ IsEnabled (duties (setup_view setup.now) 0
+        ensures { IsTrue result ↔ IsEnabled (duties (setup_view setup.now) start.now.turned
             (nth_worker (setup_view setup.now).job worker))
             (progress_of (setup_view setup.now)
             (nth_worker (setup_view setup.now).job worker).node self.now)
-            (draft (feed_from 0 0 (afters (setup_view setup.now).requests) rows) entry.now) }
+            (draft start.now.turned
+            (feed_from start.now.row start.now.turned (afters (setup_view setup.now).requests) rows)
+            entry.now) }
     {
         match entry {
             AuditEntry::Met { lane, row, .. } => {
                 self.admits_tuple(setup, worker, *lane)
-                    && self.is_in_time(setup, worker, rows, *row)
+                    && self.is_in_time(setup, start, worker, rows, *row)
             }
             AuditEntry::Marked { lane, request } => {
                 self.admits_marker(setup, worker, *lane, *request)
@@ -78,16 +87,20 @@ impl Course {
     }
 
     // Whether a tuple of the row comes before the next turn, if the node is a head of its request.
-    fn is_in_time(&self, setup: &Setup, worker: u32, rows: u64, row: u64) -> bool
+    fn is_in_time(&self, setup: &Setup, start: &Start, worker: u32, rows: u64, row: u64) -> bool
         requires { worker < length (workers_in (setup_view setup.now).job) }
-        ensures { IsTrue result ↔ IsInTime (duties (setup_view setup.now) 0
+        ensures { IsTrue result ↔ IsInTime (duties (setup_view setup.now) start.now.turned
             (nth_worker (setup_view setup.now).job worker))
-            (known (feed_from 0 0 (afters (setup_view setup.now).requests) rows) row [])
+            (known start.now.turned
+            (feed_from start.now.row start.now.turned (afters (setup_view setup.now).requests) rows)
+            row [])
             (next_due (dues_from (setup_view setup.now)
             (nth_worker (setup_view setup.now).job worker).node self.now.due)) }
     {
         match self.due {
-            Some(due) => !setup.is_head(worker, due) || is_fed_before(setup, rows, row, due),
+            Some(due) => {
+                !setup.is_head(worker, due) || is_fed_before(setup, start, rows, row, due)
+            }
             None => true,
         }
     }
@@ -149,7 +162,7 @@ impl Course {
         ensures { OnOk result (progress_of (setup_view setup.now)
             (nth_worker (setup_view setup.now).job worker).node self.new
             ≡ after_entry (progress_of (setup_view setup.now)
-            (nth_worker (setup_view setup.now).job worker).node self.old) (draft [] entry.now)) }
+            (nth_worker (setup_view setup.now).job worker).node self.old) (draft 0 [] entry.now)) }
     {
         match entry {
             AuditEntry::Met { .. } => Ok(()),

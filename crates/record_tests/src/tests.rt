@@ -4,6 +4,7 @@ mod chains;
 mod damaged;
 mod following;
 mod joins;
+mod later;
 mod orders;
 mod payments_job;
 mod plans;

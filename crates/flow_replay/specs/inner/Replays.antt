@@ -11,11 +11,12 @@ use Rattle.flow_model.specs.Lanes.{lane_at, lanes, lanes_out, out_numbers}
 use Rattle.flow_model.specs.declared.topology.Lane.{Lane}
 use Rattle.flow_model.specs.SetupView.{SetupView, Worker}
 use Rattle.flow_model.specs.Replay.{StateView, Put, after, after_all, items_on, puts}
-use Rattle.flow_model.specs.WorkerState.{first_state, state_view}
+use Rattle.flow_model.specs.WorkerState.{state_view}
+use Rattle.flow_model.specs.Workers.{nth_worker}
 use Rattle.flow_replay.specs.declared.replaying.Onto.{Onto}
 use Rattle.flow_replay.specs.declared.replaying.Onto.TheVariants as onto
 use Rattle.flow_replay.specs.declared.replaying.Replaying.{Replaying}
-use Rattle.flow_replay.specs.Sent.{all_sent, first_view}
+use Rattle.flow_replay.specs.Sent.{all_sent}
 
 -- these are the numbers of these lanes
 abbrev pub AreNumbersOf : JobView → List Lane → List ℕ → Type 0
@@ -61,14 +62,15 @@ with_puts (lane ∷ lanes') puts [] = []
 with_puts (lane ∷ lanes') puts (list ∷ lists) =
     (list ++ items_on lane puts) ∷ with_puts lanes' puts lists
 
--- a replay that has gone through no entry
-pub record IsBegun (setup : SetupView) (worker : ℕ) (replay : Replaying) : Type 0 where
-  pub state_is : replay.state ≡ first_state
-  pub lists_are : replay.lists.items ≡ replicate (length (out_numbers setup.job worker)) []
-
 -- what is in force in the middle of a replay
 abbrev pub replay_view : SetupView → Worker → Replaying → StateView
 replay_view setup who replay = state_view setup who replay.state
+
+-- a replay that has gone through no entry has this in force
+pub record IsBegun (setup : SetupView) (worker : ℕ) (view : StateView)
+    (replay : Replaying) : Type 0 where
+  pub view_is : replay_view setup (nth_worker setup.job worker) replay ≡ view
+  pub lists_are : replay.lists.items ≡ replicate (length (out_numbers setup.job worker)) []
 
 -- a replay has gone on by one entry
 pub record IsEntered (setup : SetupView) (who : Worker) (entry : Entry)
@@ -80,8 +82,8 @@ pub record IsEntered (setup : SetupView) (who : Worker) (entry : Entry)
         ≡ with_puts (lanes_out setup.job who.number)
         (puts setup who (replay_view setup who old) entry) old.lists.items
 
--- a replay has gone through this journal, from the beginning of all on
-pub record IsReplayed (setup : SetupView) (who : Worker) (journal : List Entry) (replay : Replaying)
-    : Type 0 where
-  pub view : replay_view setup who replay ≡ after_all setup who (first_view setup who) journal
-  pub lists : replay.lists.items ≡ all_sent setup who journal
+-- a replay has gone through this journal, from what was in force on
+pub record IsReplayed (setup : SetupView) (who : Worker) (view : StateView) (journal : List Entry)
+    (replay : Replaying) : Type 0 where
+  pub view_is : replay_view setup who replay ≡ after_all setup who view journal
+  pub lists_are : replay.lists.items ≡ all_sent setup who view journal

@@ -1,12 +1,14 @@
 -- What the workers have done so far.
 use Rattle.std.specs.Prelude.{◌≡◌, ◌≢◌, ◌<◌, ◌≤◌, ◌++◌, ℕ, List, [], ◌∷◌, length, map, Option, Some}
 use Rattle.std.specs.Prelude.{None, slice_get, slice_index_or, if◌then◌else◌}
+use Rattle.std.specs.FinMap.{empty}
 use Rattle.jobs.specs.JobView.{JobView}
 use Rattle.sink_journal.specs.declared.journal.Entry.{Entry}
 use Rattle.sink_journal.specs.declared.journal.Entry.TheVariants as entry
 use Rattle.tuple_trace.specs.declared.tuple.Item.{Item}
 use Rattle.tuple_trace.specs.declared.tuple.Tuple.{Tuple}
 use Rattle.operators.specs.declared.output.Output.{Output}
+use Rattle.flow_model.specs.Begin.{view_at}
 use Rattle.flow_model.specs.Covers.{covers}
 use Rattle.flow_model.specs.Lanes.{is_same_lane, lanes, lanes_in, marked_lanes}
 use Rattle.flow_model.specs.declared.topology.Lane.{Lane}
@@ -15,7 +17,6 @@ use Rattle.flow_model.specs.Replay.{StateView, Put, after, after_all, items_on, 
 use Rattle.flow_model.specs.WorkerState.{first_state, made, state_view}
 use Rattle.flow_model.specs.Workers.{nth_worker}
 use Rattle.flow_replay.specs.declared.worker_run.WorkerRun.{WorkerRun}
-use Rattle.flow_replay.specs.Sent.{first_view}
 
 abbrev pub empty_run : WorkerRun
 empty_run = record { journal = []; state = first_state }
@@ -33,6 +34,10 @@ run_view setup who run = state_view setup who run.state
 -- what a worker makes of a tuple
 abbrev pub made_at : SetupView → Worker → WorkerRun → Tuple → List Output
 made_at setup who run tuple = made setup who (run_view setup who run) tuple
+
+-- what is in force at a worker at first
+abbrev pub first_view : SetupView → Worker → StateView
+first_view setup who = view_at setup 0 who empty
 
 -- what is in force at each worker is what its journal makes of the beginning
 abbrev pub AreInForce : SetupView → List WorkerRun → Type 0

@@ -1,10 +1,12 @@
 //! Audits of the plain executor, and what the checker says of them.
 ghost use Rattle.std.specs.Prelude.{◌≡◌, length};
+ghost use Rattle.jobs.specs.Job.{job_view};
 ghost use Rattle.jobs.specs.Nodes.{worker_count as count_of};
+ghost use Rattle.flow_model.specs.Workers.{workers_in};
 
-use audit_laws::AuditFault;
+use audit_fault::AuditFault;
 use audit_replay::check_audit;
-use flow_model::RunRecord;
+use flow_model::{RunRecord, Start};
 use jobs::worker_count;
 use plain_runs::{Case, Inputs};
 use report::noted;
@@ -69,9 +71,28 @@ pub fn said_of(alloc: Global, case: Inputs<'_>, text: &[u8]) -> Said {
     }
 }
 
+/// What the checker says of a text, of the part of a run that begins at a start.
+pub fn said_from(alloc: Global, case: Case, start: &Start, text: &[u8]) -> Said
+    requires { length start.now.states ≡ length (workers_in (job_view case.setup.value.job)) }
+{
+    said_by(alloc, checked_from(alloc, case, start, text))
+}
+
 fn checked(alloc: Global, case: Case, text: &[u8]) -> Result<Box<RunRecord>, AuditFault> {
+    let start = Start::first(alloc, &case.setup)?;
+    checked_from(alloc, case, &start, text)
+}
+
+fn checked_from(
+    alloc: Global,
+    case: Case,
+    start: &Start,
+    text: &[u8],
+) -> Result<Box<RunRecord>, AuditFault>
+    requires { length start.now.states ≡ length (workers_in (job_view case.setup.value.job)) }
+{
     let Case { setup, rows } = case;
-    match check_audit(alloc, Box::into_inner(setup), &rows, text) {
+    match check_audit(alloc, Box::into_inner(setup), start, &rows, text) {
         Ok(ran) => Box::new(alloc, ran).ok().ok_or(AuditFault::NoMemory),
         Err(fault) => Err(fault),
     }

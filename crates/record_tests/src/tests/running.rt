@@ -1,4 +1,9 @@
+ghost use Rattle.std.specs.Prelude.{◌<◌, length};
+ghost use Rattle.flow_model.specs.Setup.{setup_view};
+ghost use Rattle.flow_model.specs.Workers.{workers_in};
+
 use crate::tests::chains::{AFTER_2, AT_BOTH_ENDS, CHAIN, FOUR_PAYMENTS, TWICE_AFTER_3};
+use flow_model::{Setup, Start};
 use flow_replay::{Replayed, RunRecord, replay};
 use plain_runs::Inputs;
 use sink_journal::{Entry, Feed, Journal};
@@ -143,6 +148,14 @@ fn has_no_counts(replayed: &Replayed) -> bool {
     replayed.state.iter().next().is_none()
 }
 
+/// What the replay of a journal leaves, from the beginning of all on.
+fn replayed(alloc: Global, setup: &Setup, worker: u32, journal: &Journal) -> Option<Replayed>
+    requires { worker < length (workers_in (setup_view setup.now).job) }
+{
+    let start = Start::first(alloc, setup).ok()?;
+    replay(alloc, setup, &start, worker, journal).ok()
+}
+
 fn big_sends(alloc: Global, ran: &RunRecord, items: &[Sent]) -> bool {
     if ran.setup.workers() != 2 {
         return false;
@@ -150,9 +163,9 @@ fn big_sends(alloc: Global, ran: &RunRecord, items: &[Sent]) -> bool {
     let [big, _] = ran.journals.as_slice() else {
         return false;
     };
-    match replay(alloc, &ran.setup, 0, big) {
-        Ok(replayed) => sends(&replayed, items) && has_no_counts(&replayed),
-        Err(_) => false,
+    match replayed(alloc, &ran.setup, 0, big) {
+        Some(replayed) => sends(&replayed, items) && has_no_counts(&replayed),
+        None => false,
     }
 }
 
@@ -163,9 +176,9 @@ fn alerts_send_nothing(alloc: Global, ran: &RunRecord) -> bool {
     let [_, alerts] = ran.journals.as_slice() else {
         return false;
     };
-    match replay(alloc, &ran.setup, 1, alerts) {
-        Ok(replayed) => replayed.sent.as_slice().is_empty() && has_no_counts(&replayed),
-        Err(_) => false,
+    match replayed(alloc, &ran.setup, 1, alerts) {
+        Some(replayed) => replayed.sent.as_slice().is_empty() && has_no_counts(&replayed),
+        None => false,
     }
 }
 

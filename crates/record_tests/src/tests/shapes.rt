@@ -1,8 +1,8 @@
 //! Which records of an audit are in shape, and which code comes first.
 use crate::tests::chains::CHAIN;
 use audit_check::{check_text, read_audit};
-use audit_laws::AuditFault;
-use flow_model::Setup;
+use audit_fault::AuditFault;
+use flow_model::{Setup, Start};
 use plain_runs::{job_of, rows_of, setup_of};
 use sink_journal::Noted;
 use std::alloc::Global;
@@ -110,7 +110,8 @@ fn fault_of(alloc: Global, text: &str) -> Option<AuditFault> {
 
 fn fault_by(alloc: Global, setup: &Setup, text: &str) -> Option<AuditFault> {
     let rows = rows_of(alloc, &setup.job, TWO_PAYMENTS)?;
-    match check_text(alloc, setup, &REFUSED, &rows, text.as_bytes()) {
+    let start = Start::first(alloc, setup).ok()?;
+    match check_text(alloc, setup, &start, &REFUSED, &rows, text.as_bytes()) {
         Ok(_) => None,
         Err(fault) => Some(fault),
     }

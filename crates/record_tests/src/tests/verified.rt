@@ -1,7 +1,7 @@
 //! What the checker says of audits, and of audits with a damage.
 use crate::tests::audits::{FOUR_PAYMENTS, NO_PAYMENTS, PAYMENTS};
 use crate::tests::case::{audit_of, has_fault, is_verified};
-use audit_laws::AuditFault;
+use audit_fault::AuditFault;
 use plain_runs::Inputs;
 use std::alloc::Global;
 

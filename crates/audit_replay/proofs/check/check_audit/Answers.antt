@@ -1,4 +1,7 @@
-use Rattle.std.proofs.Common.{rules}
+use Rattle.std.proofs.Common.{rules, subst}
+use Rattle.flow_model.specs.Begin.{Begin}
+use Rattle.flow_model.specs.Run.{IsRunSince, ran_as}
+use Rattle.flow_model.specs.Setup.{setup_view}
 use Rattle.audit_replay.proofs.check.check_audit.Goals as goal
 
 pub returns-in-Err-clause-found : goal.returns-in-Err-clause-found
@@ -10,4 +13,11 @@ pub returns-in-Ok-clause-only : goal.returns-in-Ok-clause-only
 returns-in-Ok-clause-only c run is fits = c.in-Ok.ensures.only run is fits
 
 pub returns-in-Ok-clause-consistent : goal.returns-in-Ok-clause-consistent
-returns-in-Ok-clause-consistent c = c.runs_are_consistent.ensures _ _ c.are_numbered.ensures c.in-Ok.ensures.run c.requires
+returns-in-Ok-clause-consistent c first =
+    let setup = setup_view c.args.setup in
+    let run =
+    subst (λ (b : Begin).
+    IsRunSince b setup c.args.rows.now
+    (ran_as setup c.in-Ok.feeds c.in-Ok.restored.journals c.in-Ok.restored.states)) first
+    c.in-Ok.ensures.run in
+    c.runs_are_consistent.ensures _ _ c.are_numbered.ensures run c.requires.sources

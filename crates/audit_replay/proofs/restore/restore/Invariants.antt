@@ -4,4 +4,4 @@ use Rattle.audit_replay.proofs.restore.restore.Given as goal
 
 abbrev pub invariant-loop-worker : goal.invariant-loop-worker
 invariant-loop-worker l =
-    AreRestored (setup_view l.setup) l.rows l.audit l.worker-items l.worker-index l.restored.journals l.restored.states l.standing
+    AreRestored l.start (setup_view l.setup) l.rows l.audit l.worker-items l.worker-index l.restored.journals l.restored.states l.standing

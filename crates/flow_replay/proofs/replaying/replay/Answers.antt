@@ -4,12 +4,11 @@ use Rattle.sink_journal.specs.declared.journal.Entry.{Entry}
 use Rattle.tuple_trace.specs.declared.tuple.Item.{Item}
 use Rattle.flow_model.specs.Lanes.{lanes_out}
 use Rattle.flow_model.specs.declared.topology.Lane.{Lane}
-use Rattle.flow_model.specs.declared.worker_state.WorkerState.{WorkerState}
-use Rattle.flow_model.specs.Replay.{sent}
+use Rattle.flow_model.specs.Replay.{StateView, sent}
 use Rattle.flow_model.specs.Setup.{setup_view}
 use Rattle.flow_model.specs.Workers.{nth_worker}
 use Rattle.flow_model.proofs.WorkerPlaces.{worker_at}
-use Rattle.flow_replay.specs.Sent.{first_view}
+use Rattle.flow_replay.specs.Sent.{begun_view}
 use Rattle.flow_replay.proofs.EntryLemmas.{ended_grows, replayed_more, replayed_none}
 use Rattle.flow_replay.proofs.ListLemmas.{length-out}
 use Rattle.flow_replay.proofs.replaying.replay.Goals as goal
@@ -19,14 +18,15 @@ loop-entry-init c =
     let setup = setup_view c.args.setup.now in
     let w = c.args.worker in
     let who = nth_worker setup.job w in
-    let number = (worker_at setup.job w c.requires).0 in
+    let number = (worker_at setup.job w c.requires.worker).0 in
+    let view = begun_view setup c.args.start.now w in
     let begun = c.in_ok-replay.ensures in
     let lists =
     begun.lists_are ∙ ap (λ (n : ℕ). replicate {A = List Item} n [])
     (length-out setup.job w ∙ ap (λ (n : ℕ). length (lanes_out setup.job n)) (sym number)) in
     record {
-      replayed = replayed_none setup who c.in_ok-replay.replay begun.state_is lists;
-      ended = omega (arith, ap (λ (s : WorkerState). s.ended) begun.state_is);
+      replayed = replayed_none setup who view c.in_ok-replay.replay begun.view_is lists;
+      ended = let none = ap (λ (l : StateView). l.ended) begun.view_is in omega (arith, none);
     }
 
 pub enter-requires-clause-long : goal.enter-requires-clause-long
@@ -34,10 +34,10 @@ enter-requires-clause-long c =
     let setup = setup_view c.args.setup.now in
     let w = c.args.worker in
     let who = nth_worker setup.job w in
-    let number = (worker_at setup.job w c.requires).0 in
-    ap length c.loop-entry.invariant.replayed.lists
+    let number = (worker_at setup.job w c.requires.worker).0 in
+    ap length c.loop-entry.invariant.replayed.lists_are
     ∙ (length-map (lanes_out setup.job who.number) (λ (lane : Lane).
-    sent setup who (first_view setup who) lane
+    sent setup who (begun_view setup c.args.start.now w) lane
     (take c.loop-entry.entry-index c.as_slice-entry-items.result.now))
     ∙ (ap (λ (n : ℕ). length (lanes_out setup.job n)) number ∙ sym (length-out setup.job w)))
 
@@ -45,6 +45,7 @@ pub loop-entry-preserved : goal.loop-entry-preserved
 loop-entry-preserved c =
     let setup = setup_view c.args.setup.now in
     let who = nth_worker setup.job c.args.worker in
+    let view = begun_view setup c.args.start.now c.args.worker in
     let items = c.as_slice-entry-items.result.now in
     let i = c.loop-entry.entry-index in
     let this : Entry = c.entry-item.result in
@@ -54,7 +55,7 @@ loop-entry-preserved c =
     let grown =
     ended_grows setup who this c.loop-entry.replay c.enter.new.self c.in_ok-enter.ensures in
     record {
-      replayed = rw more (replayed_more setup who (take i items) this c.loop-entry.replay
+      replayed = rw more (replayed_more setup who view (take i items) this c.loop-entry.replay
           c.enter.new.self c.loop-entry.invariant.replayed c.in_ok-enter.ensures);
       ended = omega (arith, grown, c.loop-entry.invariant.ended);
     }

@@ -39,7 +39,7 @@ loop-worker-preserved c v p j lt works there =
           let journal : c.as_slice-journal.result.now ≡ j =
           same_Some c.as_slice-journal.result.now j (ap Some (c.as_slice-journal.ensures ∙ c.index-audit-worker.is) ∙ (sym here ∙ (ap (slice_get c.args.audit.now) (sym same) ∙ there))) in
           let law = c.in_ok-is_finished.ensures.0 (let f = c.if-not-branch.false in cc) in
-          subst (λ (q : Worker). IsFinishedDraft setup c.args.rows.now q j) who (subst (λ (l : List AuditEntry). IsFinishedDraft setup c.args.rows.now (nth_worker setup.job w) l) journal law)
+          subst (λ (q : Worker). IsFinishedDraft c.args.start.now setup c.args.rows.now q j) who (subst (λ (l : List AuditEntry). IsFinishedDraft c.args.start.now setup c.args.rows.now (nth_worker setup.job w) l) journal law)
     ]
 
 pub returns-clause-ok : goal.returns-clause-ok

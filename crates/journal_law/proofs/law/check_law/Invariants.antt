@@ -10,4 +10,4 @@ use Rattle.std.proofs.Common.{List}
 abbrev pub invariant-loop-worker : goal.invariant-loop-worker
 invariant-loop-worker l =
     (v : ℕ) (p : Worker) (j : List AuditEntry) → v < l.worker → slice_get (workers_in (setup_view l.setup).job) v ≡ Some p →
-    slice_get l.audit v ≡ Some j → IsFinishedDraft (setup_view l.setup) l.rows p j
+    slice_get l.audit v ≡ Some j → IsFinishedDraft l.start (setup_view l.setup) l.rows p j

@@ -9,5 +9,6 @@ use Rattle.journal_law.proofs.law.is_finished.Given as goal
 
 abbrev pub invariant-loop-entry : goal.invariant-loop-entry
 invariant-loop-entry l =
-    HasCome (duties (setup_view l.setup) 0 (nth_worker (setup_view l.setup).job l.worker)) (feed_of (setup_view l.setup) l.rows)
+    HasCome (duties (setup_view l.setup) l.start.turned (nth_worker (setup_view l.setup).job l.worker)) l.start.turned
+    (feed_of l.start (setup_view l.setup) l.rows)
     (take l.entry-index l.journal) (progress_of (setup_view l.setup) (nth_worker (setup_view l.setup).job l.worker).node l.course)
