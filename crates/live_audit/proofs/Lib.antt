@@ -1,0 +1,5 @@
+pub mod FeedLemmas
+pub mod WaitLemmas
+pub mod RecordLemmas
+pub mod LiveLemmas
+pub mod ReadLemmas
