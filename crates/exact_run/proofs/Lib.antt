@@ -1,0 +1,3 @@
+pub mod ExactLemmas
+pub mod OrderLemmas
+pub mod CourseLemmas
