@@ -1,8 +1,8 @@
 -- The codes under which the table tells of a fault: those that are printed, and a status where
 -- there is none.
 use Rattle.std.specs.Prelude.{ℕ, List, codes}
-use Rattle.audit_laws.specs.declared.fault.AuditFault.{AuditFault}
-use Rattle.audit_laws.specs.declared.fault.AuditFault.TheVariants as audit
+use Rattle.audit_fault.specs.declared.fault.AuditFault.{AuditFault}
+use Rattle.audit_fault.specs.declared.fault.AuditFault.TheVariants as audit
 use Rattle.job_file.specs.declared.fault.JobFault.{JobFault}
 use Rattle.job_file.specs.declared.fault.JobFault.TheVariants as job
 use Rattle.job_file.specs.declared.fault.ReqFileFault.{ReqFileFault}

@@ -10,7 +10,7 @@ use crate::codes::{help_of, help_of_refusal};
 use crate::look::Look;
 use crate::row_places::{row_place, save_place};
 use crate::table::{Help, REFUSED};
-use audit_laws::AuditFault;
+use audit_fault::AuditFault;
 use call_steps::first_job;
 use job_file::read_job;
 use jobs::Job;

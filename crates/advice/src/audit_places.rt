@@ -1,7 +1,7 @@
 // What an audit or a job tells of the place of a fault in the audit.
 use crate::row_places::record_line;
 use crate::shown::push_bytes;
-use audit_laws::AuditFault;
+use audit_fault::AuditFault;
 use flow_model::Topology;
 use jobs::Job;
 use std::alloc::{AllocError, Global};

@@ -48,14 +48,14 @@ impl<'a> Call<'a> {
         }
     }
 
-    /// The name of a file, if the words have one for it.
+    /// The name of a file, if the words have one for it. An option may name a savepoint.
     pub(crate) fn name_of(self, file: FileIs) -> Option<&'a str> {
         let (command, rest) = self.words.split_first()?;
-        if file == FileIs::Save && self.is_stream() {
-            return value_of(rest, "--save");
+        match files_of(command).iter().position(|named| *named == file) {
+            Some(place) => Some(name_at(rest, place)?.as_str()),
+            None if file == FileIs::Save => value_of(rest, "--save"),
+            None => None,
         }
-        let place = files_of(command).iter().position(|named| *named == file)?;
-        Some(name_at(rest, place)?.as_str())
     }
 }
 

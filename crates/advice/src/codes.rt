@@ -5,7 +5,7 @@ ghost use Rattle.advice.specs.Codes.{audit_code, save_code, stream_code, stream_
 ghost use Rattle.advice.specs.Table.{help_view, help_with};
 
 use crate::table::*;
-use audit_laws::AuditFault;
+use audit_fault::AuditFault;
 use job_file::{JobFault, ReqFileFault};
 use payments::PFault;
 use report::{Fault, FileIs};

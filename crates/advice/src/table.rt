@@ -198,25 +198,25 @@ pub const V2: Help = Help {
 pub const V3: Help = Help {
     code: "V3",
     cause: "The audit has other rows or requests than the files. This record differs first.",
-    cure: "Give the payments and the requests that were run; no part of a run is verified.",
+    cure: "Give the files of the run; `--live` if `live` wrote it, `--save SAVE` if `resume` did.",
 };
 
 pub const V4: Help = Help {
     code: "V4",
     cause: "This worker's steps break the law of a worker: no worker of the engine does that.",
-    cure: "Don't trust it: records are missing or changed. One of `live` or `resume` isn't judged.",
+    cure: "Don't trust it: records are missing or changed, or another command wrote it.",
 };
 
 pub const V5: Help = Help {
     code: "V5",
     cause: "What came by this lane isn't what was sent on it.",
-    cure: "Don't trust it: records are missing or changed. One of `live` or `resume` isn't judged.",
+    cure: "Don't trust it: records are missing or changed, or another command wrote it.",
 };
 
 pub const V6: Help = Help {
     code: "V6",
     cause: "This worker's counts aren't those that its steps make.",
-    cure: "Don't trust it: records are missing or changed. One of `live` or `resume` isn't judged.",
+    cure: "Don't trust it: records are missing or changed, or another command wrote it.",
 };
 
 pub const V7: Help = Help {

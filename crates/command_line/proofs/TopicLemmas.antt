@@ -102,7 +102,7 @@ pub record Agree (about : Topic) (v w : Values) : Type 0 where
 -- what is asked is the same by values that agree
 asked_alike : (about : Topic) (v w : Values)
     → ((id : Text) → list_all (is_plain_for id) (rules_of about) ≡ true → v id ≡ w id)
-    → is_true (v (codes "ordered")) ≡ is_true (w (codes "ordered"))
+    → ((id : Text) → is_true (v id) ≡ is_true (w id))
     → asked_with about v ≡ asked_with about w
 asked_alike topic.Program v w same flag = refl
 asked_alike topic.First v w same flag =
@@ -116,7 +116,7 @@ asked_alike topic.First v w same flag =
     ) refl
 asked_alike topic.Check v w same flag = rw (same (codes "job") refl) refl
 asked_alike topic.Plan v w same flag =
-    rw (same (codes "job") refl, same (codes "requests") refl, flag) refl
+    rw (same (codes "job") refl, same (codes "requests") refl, flag (codes "ordered")) refl
 asked_alike topic.Run v w same flag =
     rw (
       same (codes "job") refl,
@@ -128,7 +128,8 @@ asked_alike topic.Run v w same flag =
       same (codes "threads") refl,
       same
           (codes "capacity") refl,
-      flag,
+      flag (codes "ordered"),
+      flag (codes "exact"),
     ) refl
 asked_alike topic.Make v w same flag =
     rw (
@@ -137,7 +138,7 @@ asked_alike topic.Make v w same flag =
       same (codes "rows") refl,
       same
           (codes "threads") refl,
-      flag,
+      flag (codes "ordered"),
     ) refl
 asked_alike topic.Save v w same flag =
     rw (
@@ -152,6 +153,7 @@ asked_alike topic.Save v w same flag =
           (codes "rows") refl,
       same (codes "threads") refl,
       same (codes "capacity") refl,
+      flag (codes "exact"),
     ) refl
 asked_alike topic.Resume v w same flag =
     rw (
@@ -165,6 +167,7 @@ asked_alike topic.Resume v w same flag =
       same
           (codes "threads") refl,
       same (codes "capacity") refl,
+      flag (codes "exact"),
     ) refl
 asked_alike topic.Live v w same flag =
     rw (
@@ -177,22 +180,25 @@ asked_alike topic.Live v w same flag =
       same (codes "threads") refl,
       same
           (codes "capacity") refl,
+      flag (codes "exact"),
     ) refl
 asked_alike topic.Verify v w same flag =
     rw (
       same (codes "job") refl,
       same (codes "requests") refl,
-      flag,
+      flag (codes "ordered"),
       same
           (codes "payments") refl,
       same (codes "audit") refl,
       same (codes "alerts") refl,
+      flag (codes "live"),
+      same (codes "save") refl,
     ) refl
 asked_alike topic.Stream v w same flag = refl
 
 asked_same : (about : Topic) (v w : Values) → Agree about v w → asked_with about v
     ≡ asked_with about w
-asked_same about v w agree = asked_alike about v w agree.same (agree.flag (codes "ordered"))
+asked_same about v w agree = asked_alike about v w agree.same agree.flag
 
 written_same : (save : Option Text) (v w : Values) → v (codes "alerts") ≡ w (codes "alerts")
     → v (codes "audit") ≡ w (codes "audit") → is_written save v ≡ is_written save w

@@ -6,7 +6,7 @@ use Rattle.clap.specs.Walk.{Rule, Text, answers_to, arg_by_index, arg_by_long}
 use Rattle.clap.proofs.OnLiterals.{clap_on_literals}
 use Rattle.command_line.specs.Apps.{program_app}
 use Rattle.command_line.specs.Words.{capacity_option, every_option, form_of, from_option}
-use Rattle.command_line.specs.Words.{exact_flag}
+use Rattle.command_line.specs.Words.{exact_flag, live_flag}
 use Rattle.command_line.specs.Words.{ordered_flag, progress_flag, resume_flag, save_option}
 use Rattle.command_line.specs.Words.{threads_option}
 use Rattle.command_line.specs.declared.topic.Topic.{Topic}
@@ -297,6 +297,19 @@ unfolding clap_on_literals
 run_ordered =
     record {
       rule = rule_called (rules_of topic.Run) (codes "ordered");
+      dashes = refl;
+      long = refl;
+      by_long = refl;
+      takes = refl;
+      use_of = λ rs. refl;
+      passes = λ rs. refl;
+    }
+
+run_exact : IsFlag (rules_of topic.Run) exact_flag
+unfolding clap_on_literals
+run_exact =
+    record {
+      rule = rule_called (rules_of topic.Run) (codes "exact");
       dashes = refl;
       long = refl;
       by_long = refl;
@@ -840,6 +853,36 @@ verify_ordered =
       passes = λ rs. refl;
     }
 
+verify_save : IsOption (rules_of topic.Verify) save_option
+unfolding clap_on_literals
+verify_save = record {
+  rule = rule_called (rules_of topic.Verify) (codes "save");
+  dashes = refl;
+  long = refl;
+  dashes_joined = λ value. refl;
+  joined = λ value. refl;
+  by_long = refl;
+  takes = refl;
+  most = refl;
+  called = refl;
+  by_id = refl;
+  use_of = λ value rs. refl;
+  passes = λ value rs. refl;
+}
+
+verify_live : IsFlag (rules_of topic.Verify) live_flag
+unfolding clap_on_literals
+verify_live =
+    record {
+      rule = rule_called (rules_of topic.Verify) (codes "live");
+      dashes = refl;
+      long = refl;
+      by_long = refl;
+      takes = refl;
+      use_of = λ rs. refl;
+      passes = λ rs. refl;
+    }
+
 stream_job : IsName (rules_of topic.Stream) 1 (codes "job")
 unfolding clap_on_literals
 stream_job =
@@ -1053,7 +1096,7 @@ reads topic.Run other =
     record {
       names = (run_job, (run_requests, (run_payments, (run_alerts, (run_audit, tt)))));
       options = (run_threads, (run_capacity, tt));
-      flags = (run_ordered, tt);
+      flags = (run_ordered, (run_exact, tt));
     }
 reads topic.Make other =
     record {
@@ -1100,8 +1143,8 @@ reads topic.Verify other =
           (verify_payments, (verify_audit, (verify_alerts, tt))),
         ),
       );
-      options = tt;
-      flags = (verify_ordered, tt);
+      options = (verify_save, tt);
+      flags = (verify_ordered, (verify_live, tt));
     }
 reads topic.Stream other =
     record {

@@ -1,6 +1,7 @@
 -- What a command line may ask for, and what a command asks for.
 use Rattle.std.specs.Prelude.{◌≤◌, ⊤, ℕ, ℤ, Bool, Option}
 use Rattle.command_line.specs.Form.{Text}
+use Rattle.command_line.specs.declared.command.AuditOf.{AuditOf}
 use Rattle.command_line.specs.declared.command.EngineSize.{EngineSize}
 use Rattle.command_line.specs.declared.command.Command.{Command}
 use Rattle.command_line.specs.declared.command.Command.TheVariants as command
@@ -40,13 +41,14 @@ pub record IsSize (size : EngineSize) : Type 0 where
   pub few_items : size.capacity ≤ MAX_CAPACITY
 
 -- what `run` is asked to do: the files of `plan`, the payments, the alerts and the audit that it is
--- to write, and by how large an engine
+-- to write, by how large an engine, and whether the row of each request is to be its border
 pub record RunAsked : Type 0 where
   pub plan : PlanAsked
   pub payments : Text
   pub alerts : Text
   pub audit : Text
   pub size : EngineSize
+  pub exact : Bool
 
 -- what `make` is asked to do: the job file, the seed, how many rows, by how many threads, and
 -- whether rows and requests are to have one order
@@ -68,13 +70,14 @@ pub record ResumeAsked : Type 0 where
   pub run : RunAsked
   pub save : Text
 
--- what `verify` is asked to do: the files of a run, the audit that it is to look at, and the alerts
--- that are to be those of the run, if they are named
+-- what `verify` is asked to do: the files of a run, the audit that it is to look at, the alerts
+-- that are to be those of the run, if they are named, and which command wrote the audit
 pub record VerifyAsked : Type 0 where
   pub plan : PlanAsked
   pub payments : Text
   pub audit : Text
   pub alerts : Option Text
+  pub of : AuditOf
 
 -- an engine has 1 to 16 threads
 abbrev pub IsThreads : ℕ → Type 0
@@ -122,6 +125,7 @@ run_asked files = record {
   alerts = files.alerts;
   audit = files.audit;
   size = files.size;
+  exact = files.exact;
 }
 
 -- what a `Make` asks for
@@ -149,6 +153,7 @@ verify_asked files = record {
   payments = files.payments;
   audit = files.audit;
   alerts = files.alerts;
+  of = files.of;
 }
 
 -- what a `Command` asks for

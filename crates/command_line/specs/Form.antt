@@ -1,5 +1,7 @@
 -- The words after a command, taken apart.
-use Rattle.std.specs.Prelude.{ℕ, Bool, false, not, List, [], ◌∷◌, ◌++◌, ◌&&◌, ◌==◌, Option, None, Some, option_map, option_and_then, find, take, drop, length, codes, if◌then◌else◌}
+use Rattle.std.specs.Prelude.{ℕ, Bool, false, not, List, [], ◌∷◌, ◌++◌, ◌&&◌, ◌==◌, Option, None}
+use Rattle.std.specs.Prelude.{Some, option_map, option_and_then, find, take, drop, length, codes}
+use Rattle.std.specs.Prelude.{if◌then◌else◌}
 use Rattle.std.specs.List.{list_any}
 use Rattle.std.specs.Str.{bytes_eq}
 

@@ -27,7 +27,7 @@ help_of topic.Program =
     ++ codes
     "  resume JOB REQUESTS PAYMENTS SAVE ALERTS AUDIT  runs the later payments from there\n"
     ++ codes
-    "  verify JOB REQUESTS PAYMENTS AUDIT [ALERTS]     looks whether an audit is that of a run\n"
+    "  verify JOB REQUESTS PAYMENTS AUDIT [ALERTS]     checks an audit of run, live or resume\n"
     ++ codes "  make JOB SEED ROWS                              runs rows that are made up\n"
     ++ codes "  first PAYMENTS ALERTS MIN AFTER MIN2            runs the smallest job\n"
     ++ codes "\n"
@@ -82,6 +82,8 @@ help_of topic.Run =
     ++ codes "  --threads N   threads, 1 to 16; without it, 1\n"
     ++ codes "  --capacity C  items on a lane, 1 to 64; without it, 16\n"
     ++ codes "  --ordered     gives rows and requests one order; without it, rows alone are whole\n"
+    ++ codes
+    "  --exact       each request takes effect just behind its row; without it, it overtakes rows\n"
     ++ codes "\n"
     ++ codes "example: fries run job.toml requests.toml pay.csv alerts.csv audit.csv --threads 4\n"
 help_of topic.Make =
@@ -154,18 +156,25 @@ help_of topic.Live =
     ++ codes "\n"
     ++ codes "example: fries live job.toml requests.toml pay.csv alerts.csv audit.csv\n"
 help_of topic.Verify =
-    codes "usage: fries verify JOB REQUESTS PAYMENTS AUDIT [ALERTS] [--ordered]\n"
+    codes
+    "usage: fries verify JOB REQUESTS PAYMENTS AUDIT [ALERTS] [--ordered | --live | --save SAVE]\n"
     ++ codes "\n"
     ++ codes "Looks whether an audit is that of a run, "
     ++ codes "and rebuilds the run: then no row met half of a change.\n"
     ++ codes "With ALERTS it looks too whether these are just the alerts of that run.\n"
+    ++ codes
+    "Without an option the audit is that of `run`. At most one of the three options may stand.\n"
     ++ codes "\n"
-    ++ codes "  JOB        file to read: a job as TOML\n"
-    ++ codes "  REQUESTS   file to read: requests as TOML\n"
-    ++ codes "  PAYMENTS   file to read: payments as CSV\n"
-    ++ codes "  AUDIT      file to read: the audit that `run` wrote, as CSV\n"
-    ++ codes "  ALERTS     file to read: the alerts that `run` wrote, as CSV; without it, none\n"
-    ++ codes "  --ordered  the run gave rows and requests one order\n"
+    ++ codes "  JOB          file to read: a job as TOML\n"
+    ++ codes "  REQUESTS     file to read: requests as TOML\n"
+    ++ codes "  PAYMENTS     file to read: payments as CSV\n"
+    ++ codes "  AUDIT        file to read: the audit that `run`, `live` or `resume` wrote, as CSV\n"
+    ++ codes
+    "  ALERTS       file to read: the alerts of the same command, as CSV; without it, none\n"
+    ++ codes "  --ordered    the audit is that of `run --ordered`\n"
+    ++ codes "  --live       the audit is that of `live`\n"
+    ++ codes
+    "  --save SAVE  file to read: the savepoint, as CSV; the audit is that of `resume` from there\n"
     ++ codes "\n"
     ++ codes "example: fries verify job.toml requests.toml pay.csv audit.csv alerts.csv\n"
 help_of topic.Stream =

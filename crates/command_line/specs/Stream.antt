@@ -23,8 +23,8 @@ pub record SavingAsked : Type 0 where
   pub resume : Option ℕ
 
 -- what `stream` is asked to do: the files of `plan`, the alerts and the audit that it is to write,
--- by how large engines, whether its requests take effect just behind their rows, what it is to save,
--- and whether it is to tell how far it has come
+-- by how large engines, whether its requests take effect just behind their rows, what it is to
+-- save, and whether it is to tell how far it has come
 pub record StreamAsked : Type 0 where
   pub plan : PlanAsked
   pub alerts : Text

@@ -1,5 +1,6 @@
 -- The parts of the program's words, as its code holds them.
-use Rattle.std.specs.Prelude.{Bool, true, false, List, drop, map, Option, Some, None, option_map, ◌≡◌}
+use Rattle.std.specs.Prelude.{Bool, true, false, List, drop, map, Option, Some, None, option_map}
+use Rattle.std.specs.Prelude.{◌≡◌}
 use Rattle.std.specs.Borrow.{Bor}
 use Rattle.command_line.specs.Form.{Flag, Form, Parts, Text, ValueOption}
 use Rattle.command_line.specs.declared.form.Flag.{Flag as FlagIs}

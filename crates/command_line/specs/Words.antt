@@ -1,10 +1,12 @@
 -- What the words of a command line ask for.
-use Rattle.std.specs.Prelude.{◌^◌, ◌-◌, ℕ, ℤ, pos, Bool, false, List, [], ◌∷◌, ◌||◌, nat_le, Option}
-use Rattle.std.specs.Prelude.{None, Some, option_map, option_and_then, unwrap_or, codes}
+use Rattle.std.specs.Prelude.{◌^◌, ◌-◌, ℕ, ℤ, pos, Bool, true, false, List, [], ◌∷◌, ◌||◌, nat_le}
+use Rattle.std.specs.Prelude.{Option, None, Some, option_map, option_and_then, unwrap_or, codes}
 use Rattle.std.specs.Prelude.{if◌then◌else◌}
 use Rattle.std.specs.Str.{bytes_eq}
 use Rattle.tuple_trace.specs.Digits.{at_most, digits_of}
 use Rattle.command_line.specs.Form.{Flag, Form, Text, ValueOption, found_in, value_of}
+use Rattle.command_line.specs.declared.command.AuditOf.{AuditOf}
+use Rattle.command_line.specs.declared.command.AuditOf.TheVariants as audit
 use Rattle.command_line.specs.declared.command.EngineSize.{EngineSize}
 use Rattle.command_line.specs.declared.topic.Topic.{Topic}
 use Rattle.command_line.specs.declared.topic.Topic.TheVariants as topic
@@ -48,6 +50,10 @@ from_option = record { id = codes "from"; word = codes "--from"; start = codes "
 abbrev pub ordered_flag : Flag
 ordered_flag = record { id = codes "ordered"; word = codes "--ordered" }
 
+-- the flag `--live`
+abbrev pub live_flag : Flag
+live_flag = record { id = codes "live"; word = codes "--live" }
+
 -- the flag `--resume`
 abbrev pub resume_flag : Flag
 resume_flag = record { id = codes "resume"; word = codes "--resume" }
@@ -80,7 +86,7 @@ form_of topic.Run = record {
   names = codes "job" ∷ codes "requests" ∷ codes "payments" ∷ codes "alerts" ∷ codes "audit" ∷ [];
   extra = [];
   options = threads_option ∷ capacity_option ∷ [];
-  flags = ordered_flag ∷ [];
+  flags = ordered_flag ∷ exact_flag ∷ [];
 }
 form_of topic.Make = record {
   names = codes "job" ∷ codes "seed" ∷ codes "rows" ∷ [];
@@ -113,8 +119,8 @@ form_of topic.Live = record {
 form_of topic.Verify = record {
   names = codes "job" ∷ codes "requests" ∷ codes "payments" ∷ codes "audit" ∷ [];
   extra = codes "alerts" ∷ [];
-  options = [];
-  flags = ordered_flag ∷ [];
+  options = save_option ∷ [];
+  flags = ordered_flag ∷ live_flag ∷ [];
 }
 form_of topic.Stream = record {
   names = codes "job" ∷ codes "requests" ∷ codes "alerts" ∷ codes "audit" ∷ [];
@@ -200,9 +206,9 @@ abbrev pub engine_in : Values → Option EngineSize
 engine_in values = engine_of (size_in 1 MAX_THREADS (values (codes "threads")))
     (size_in USUAL_CAPACITY MAX_CAPACITY (values (codes "capacity")))
 
--- the files of a run, the last two of which are different words
-abbrev pub run_over : PlanAsked → Text → Text → Text → EngineSize → Option RunAsked
-run_over plan payments alerts audit size =
+-- the files of a run, the last two of which are different words, and whether its borders are exact
+abbrev pub run_over : PlanAsked → Bool → Text → Text → Text → EngineSize → Option RunAsked
+run_over plan exact payments alerts audit size =
     if bytes_eq alerts audit then None
     else Some (record {
       plan = plan;
@@ -210,6 +216,7 @@ run_over plan payments alerts audit size =
       alerts = alerts;
       audit = audit;
       size = size;
+      exact = exact;
     })
 
 -- the files of a plan that isn't in ordered mode
@@ -223,18 +230,38 @@ unordered_of values = record {
 -- the run of this plan over the files, and of the size, that the values name
 abbrev pub run_with : PlanAsked → Values → Option RunAsked
 run_with plan values =
-    option_and_then (run_over plan (name_in values (codes "payments"))
-    (name_in values (codes "alerts")) (name_in values (codes "audit")))
+    option_and_then (run_over plan (is_true (values (codes "exact")))
+    (name_in values (codes "payments")) (name_in values (codes "alerts"))
+    (name_in values (codes "audit")))
     (engine_in values)
 
--- the files of a run, its audit, and the file of its alerts if that is named
-abbrev pub verify_of : Values → VerifyAsked
-verify_of values = record {
-  plan = plan_of values;
-  payments = name_in values (codes "payments");
-  audit = name_in values (codes "audit");
-  alerts = values (codes "alerts");
-}
+-- the command that wrote an audit, by `--ordered`, `--live` and the file of `--save`: `resume` from
+-- that savepoint, `live`, or else `run`. None if more than one of the three is there.
+abbrev pub audit_by : Bool → Bool → Option Text → Option AuditOf
+audit_by ordered false None = Some audit.Run
+audit_by false true None = Some audit.Live
+audit_by true true None = None
+audit_by false false (Some save) = Some (audit.Resume save)
+audit_by false true (Some save) = None
+audit_by true live (Some save) = None
+
+-- the command that wrote the audit of `verify`
+abbrev pub audit_of : Values → Option AuditOf
+audit_of values =
+    audit_by (is_true (values (codes "ordered"))) (is_true (values (codes "live")))
+    (values (codes "save"))
+
+-- the files of a run, its audit, the file of its alerts if that is named, and which command wrote
+-- the audit
+abbrev pub verify_of : Values → Option VerifyAsked
+verify_of values =
+    option_map (λ (of : AuditOf). record {
+      plan = plan_of values;
+      payments = name_in values (codes "payments");
+      audit = name_in values (codes "audit");
+      alerts = values (codes "alerts");
+      of = of;
+    }) (audit_of values)
 
 -- the run writes a file with this name
 abbrev pub writes : RunAsked → Text → Bool
@@ -313,7 +340,7 @@ asked_with topic.Make values = option_map Make (make_of values)
 asked_with topic.Save values = option_map Save (save_of values)
 asked_with topic.Resume values = option_map Resume (resume_of values)
 asked_with topic.Live values = option_map Live (run_with (unordered_of values) values)
-asked_with topic.Verify values = Some (Verify (verify_of values))
+asked_with topic.Verify values = option_map Verify (verify_of values)
 asked_with topic.Stream values = None
 
 -- what the words after a command ask for, if they have its full form

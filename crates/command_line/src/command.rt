@@ -1,5 +1,5 @@
-ghost use Rattle.std.specs.Prelude.{◌≡◌, ◌≢◌, ◌≤◌, IfOk, IfErr, IfSome, Some, None, drop, length, true};
-ghost use Rattle.std.specs.Prelude.{slice_get};
+ghost use Rattle.std.specs.Prelude.{◌≡◌, ◌≢◌, ◌≤◌, IfOk, IfErr, IfSome, Some, None, drop, length};
+ghost use Rattle.std.specs.Prelude.{slice_get, true};
 ghost use Rattle.clap.specs.Words.{kind_of, subcommand_of, subcommand_rows_of, takes};
 ghost use Rattle.clap.specs.declared.error.kind.ErrorKind.TheVariants.{OutOfMemory as MemoryRanOut};
 ghost use Rattle.command_line.specs.Apps.{program_app};
@@ -83,6 +83,8 @@ pub struct RunFiles {
     /// The file that the audit is written to. Its name is another word than that of the alerts.
     pub audit: Word,
     pub size: EngineSize,
+    /// Whether the row of each request is to be its border. Only `run` has a word for it.
+    pub exact: bool,
 }
 
 /// What the command `make` is asked to do.
@@ -132,6 +134,17 @@ pub struct VerifyFiles {
     pub audit: Word,
     /// The file whose text is to be that of the run's alerts, if one is named.
     pub alerts: Option<Word>,
+    /// The command that wrote the audit. The plan is ordered only if it is `run`.
+    pub of: AuditOf,
+}
+
+/// The command whose audit is verified.
+#[derive(Drop)]
+pub enum AuditOf {
+    Run,
+    Live,
+    /// The command `resume`. It went on from the savepoint in this file.
+    Resume(Word),
 }
 
 /// Why words are no command.

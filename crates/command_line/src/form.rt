@@ -1,7 +1,7 @@
 // The full form of each command.
 ghost use Rattle.std.specs.Prelude.{◌≡◌};
 ghost use Rattle.command_line.specs.Words.{capacity_option, every_option, exact_flag, form_of};
-ghost use Rattle.command_line.specs.Words.{from_option};
+ghost use Rattle.command_line.specs.Words.{from_option, live_flag};
 ghost use Rattle.command_line.specs.Words.{ordered_flag, progress_flag, resume_flag, save_option};
 ghost use Rattle.command_line.specs.Words.{threads_option};
 ghost use Rattle.command_line.specs.Views.{flag_view, form_view, option_view};
@@ -69,6 +69,11 @@ const ORDERED: Flag = Flag {
     word: "--ordered",
 };
 
+const LIVE: Flag = Flag {
+    id: "live",
+    word: "--live",
+};
+
 const EXACT: Flag = Flag {
     id: "exact",
     word: "--exact",
@@ -117,7 +122,7 @@ pub(crate) fn form_of(topic: Topic) -> Form
             names: &["job", "requests", "payments", "alerts", "audit"],
             extra: &[],
             options: &[THREADS, CAPACITY],
-            flags: &[ORDERED],
+            flags: &[ORDERED, EXACT],
         },
         Topic::Make => Form {
             names: &["job", "seed", "rows"],
@@ -148,8 +153,8 @@ pub(crate) fn form_of(topic: Topic) -> Form
         Topic::Verify => Form {
             names: &["job", "requests", "payments", "audit"],
             extra: &["alerts"],
-            options: &[],
-            flags: &[ORDERED],
+            options: &[SAVE],
+            flags: &[ORDERED, LIVE],
         },
         Topic::Stream => Form {
             names: &["job", "requests", "alerts", "audit"],

@@ -43,7 +43,7 @@ usage: fries COMMAND NAMES [OPTIONS]
   stream JOB REQUESTS ALERTS AUDIT                runs payments as they come, without end
   save JOB REQUESTS PAYMENTS ALERTS AUDIT SAVE N  runs the first payments, saves the counts
   resume JOB REQUESTS PAYMENTS SAVE ALERTS AUDIT  runs the later payments from there
-  verify JOB REQUESTS PAYMENTS AUDIT [ALERTS]     looks whether an audit is that of a run
+  verify JOB REQUESTS PAYMENTS AUDIT [ALERTS]     checks an audit of run, live or resume
   make JOB SEED ROWS                              runs rows that are made up
   first PAYMENTS ALERTS MIN AFTER MIN2            runs the smallest job
 
@@ -102,6 +102,7 @@ Runs payments through a job, while requests change its operators.
   --threads N   threads, 1 to 16; without it, 1
   --capacity C  items on a lane, 1 to 64; without it, 16
   --ordered     gives rows and requests one order; without it, rows alone are whole
+  --exact       each request takes effect just behind its row; without it, it overtakes rows
 
 example: fries run job.toml requests.toml pay.csv alerts.csv audit.csv --threads 4
 ";
@@ -176,17 +177,20 @@ example: fries live job.toml requests.toml pay.csv alerts.csv audit.csv
 ";
 
 const VERIFY: &str = "\
-usage: fries verify JOB REQUESTS PAYMENTS AUDIT [ALERTS] [--ordered]
+usage: fries verify JOB REQUESTS PAYMENTS AUDIT [ALERTS] [--ordered | --live | --save SAVE]
 
 Looks whether an audit is that of a run, and rebuilds the run: then no row met half of a change.
 With ALERTS it looks too whether these are just the alerts of that run.
+Without an option the audit is that of `run`. At most one of the three options may stand.
 
-  JOB        file to read: a job as TOML
-  REQUESTS   file to read: requests as TOML
-  PAYMENTS   file to read: payments as CSV
-  AUDIT      file to read: the audit that `run` wrote, as CSV
-  ALERTS     file to read: the alerts that `run` wrote, as CSV; without it, none
-  --ordered  the run gave rows and requests one order
+  JOB          file to read: a job as TOML
+  REQUESTS     file to read: requests as TOML
+  PAYMENTS     file to read: payments as CSV
+  AUDIT        file to read: the audit that `run`, `live` or `resume` wrote, as CSV
+  ALERTS       file to read: the alerts of the same command, as CSV; without it, none
+  --ordered    the audit is that of `run --ordered`
+  --live       the audit is that of `live`
+  --save SAVE  file to read: the savepoint, as CSV; the audit is that of `resume` from there
 
 example: fries verify job.toml requests.toml pay.csv audit.csv alerts.csv
 ";

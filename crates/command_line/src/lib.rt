@@ -20,8 +20,8 @@ mod topic;
 mod values;
 
 pub use command::{
-    Command, EngineSize, First, Make, PlanFiles, ResumeFiles, RunFiles, SaveFiles, VerifyFiles,
-    WordsFault, command_of,
+    AuditOf, Command, EngineSize, First, Make, PlanFiles, ResumeFiles, RunFiles, SaveFiles,
+    VerifyFiles, WordsFault, command_of,
 };
 pub use help::{help_text, version_text};
 pub use stream::{

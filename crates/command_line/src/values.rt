@@ -7,6 +7,7 @@ ghost use Rattle.command_line.specs.Asked.{IsSize, IsSized, IsThreads, PlanAsked
 ghost use Rattle.command_line.specs.Asked.{first_asked, make_asked, plan_asked, resume_asked};
 ghost use Rattle.command_line.specs.Asked.{run_asked, save_asked, verify_asked};
 ghost use Rattle.command_line.specs.Words.{amount_in as amount_of, asked_with};
+ghost use Rattle.command_line.specs.Words.{audit_of as audit_of_values};
 ghost use Rattle.command_line.specs.Words.{engine_in as engine_of, first_of as first_of_values};
 ghost use Rattle.command_line.specs.Words.{is_true as is_true_text};
 ghost use Rattle.command_line.specs.Words.{make_of as make_of_values, name_in as name_of};
@@ -18,7 +19,7 @@ ghost use Rattle.command_line.specs.Words.{unordered_of as unordered_of_values};
 ghost use Rattle.command_line.specs.Words.{verify_of as verify_of_values};
 
 use crate::{
-    Command, EngineSize, First, Make, PlanFiles, ResumeFiles, RunFiles, SaveFiles, Topic,
+    AuditOf, Command, EngineSize, First, Make, PlanFiles, ResumeFiles, RunFiles, SaveFiles, Topic,
     VerifyFiles, WordsFault,
 };
 use clap::ArgMatches;
@@ -141,6 +142,7 @@ fn run_with(
         (name_of (first_value (found_of values.now)) (codes "audit")) ≡ false }
     ensures asked { IfOk result (λ files. run_over
         (record (unordered_of_values (first_value (found_of values.now))) { ordered = ordered })
+        (is_true_text ((first_value (found_of values.now)) (codes "exact")))
         (name_of (first_value (found_of values.now)) (codes "payments"))
         (name_of (first_value (found_of values.now)) (codes "alerts"))
         (name_of (first_value (found_of values.now)) (codes "audit")) size
@@ -157,6 +159,7 @@ fn run_with(
         alerts,
         audit,
         size,
+        exact: is_true(values.get_str("exact")),
     })
 }
 
@@ -189,16 +192,36 @@ fn live_of(alloc: Global, values: &ArgMatches<'_>) -> Result<RunFiles, WordsFaul
     Ok(run_with(alloc, false, size, values)?)
 }
 
-fn verify_of(alloc: Global, values: &ArgMatches<'_>) -> Result<VerifyFiles, NoMemory>
-    ensures { IfOk result (λ files. verify_asked files
-        ≡ verify_of_values (first_value (found_of values.now))) }
+fn verify_of(alloc: Global, values: &ArgMatches<'_>) -> Result<VerifyFiles, WordsFault>
+    ensures asked { IfOk result (λ files. verify_of_values (first_value (found_of values.now))
+        ≡ Some (verify_asked files)) }
+    ensures usage { IfErr result (λ fault. fault ≢ WordsFault.NoMemory
+        → verify_of_values (first_value (found_of values.now)) ≡ None) }
 {
     Ok(VerifyFiles {
+        of: audit_of(alloc, values)?,
         payments: name_in(alloc, values, "payments")?,
         audit: name_in(alloc, values, "audit")?,
         alerts: extra_in(alloc, values, "alerts")?,
         plan: plan_of(alloc, values)?,
     })
+}
+
+// The command whose audit is verified; a fault if more than one option names one.
+fn audit_of(alloc: Global, values: &ArgMatches<'_>) -> Result<AuditOf, WordsFault>
+    ensures is { IfOk result (λ of. audit_of_values (first_value (found_of values.now))
+        ≡ Some of) }
+    ensures usage { IfErr result (λ fault. fault ≢ WordsFault.NoMemory
+        → audit_of_values (first_value (found_of values.now)) ≡ None) }
+{
+    let ordered = is_true(values.get_str("ordered"));
+    let live = is_true(values.get_str("live"));
+    match values.get_str("save") {
+        Some(save) if !ordered && !live => Ok(AuditOf::Resume(word_of(alloc, save)?)),
+        None if !live => Ok(AuditOf::Run),
+        None if !ordered => Ok(AuditOf::Live),
+        _ => Err(WordsFault::Usage),
+    }
 }
 
 fn resume_of(alloc: Global, values: &ArgMatches<'_>) -> Result<ResumeFiles, WordsFault>

@@ -13,6 +13,9 @@ const NEEDS: &[(&str, &str)] = &[
     ("--from", "--resume"),
 ];
 
+/// The commands that take at most one of some options, and these.
+const ONE_OF: &[(&str, &[&str])] = &[("verify", &["--ordered", "--live", "--save"])];
+
 /// Appends the first thing that is wrong with the options among the words after a command.
 pub(crate) fn push_option_fault(
     alloc: Global,
@@ -33,10 +36,14 @@ pub(crate) fn push_option_fault(
             return Ok(());
         }
     }
-    match awaited {
-        Some(line) => push_awaited(line, out),
-        None => push_need(words, out),
+    if let Some(line) = awaited {
+        return push_awaited(line, out);
     }
+    push_need(words, out)?;
+    if out.is_empty() {
+        push_choice(form, words, out)?;
+    }
+    Ok(())
 }
 
 /// The value of an option among the words after a command, as one word with it or as the next.
@@ -101,6 +108,36 @@ fn push_need(words: &[Word], out: &mut String) -> Result<(), AllocError> {
         if count_of(words, pair.0) > 0 && count_of(words, pair.1) == 0 {
             let (one, needed) = (pair.0, pair.1);
             return write!(out, "`{one}` needs `{needed}`.");
+        }
+    }
+    Ok(())
+}
+
+// Appends two options of which the command takes at most one, if both stand.
+fn push_choice(form: Form, words: &[Word], out: &mut String) -> Result<(), AllocError> {
+    for pair in ONE_OF {
+        if pair.0 == form.command {
+            return push_second(pair.1, words, out);
+        }
+    }
+    Ok(())
+}
+
+// Appends the first two of these options that stand.
+fn push_second(
+    options: &[&'static str],
+    words: &[Word],
+    out: &mut String,
+) -> Result<(), AllocError> {
+    let mut first = None;
+    for option in options {
+        if count_of(words, option) > 0 {
+            match first {
+                Some(first) => {
+                    return write!(out, "`{first}` and `{option}` don't stand together.");
+                }
+                None => first = Some(*option),
+            }
         }
     }
     Ok(())

@@ -1,5 +1,5 @@
 use crate::tests::{JOB, is_told};
-use audit_laws::AuditFault;
+use audit_fault::AuditFault;
 use report::Fault;
 use std::alloc::Global;
 use tuple_trace::NoMemory;
@@ -9,28 +9,28 @@ const CASES: &[(AuditFault, &str)] = &[
         AuditFault::Law(0),
         "V4 worker 0 (`big`, its worker 0)
   This worker's steps break the law of a worker: no worker of the engine does that.
-  Don't trust it: records are missing or changed. One of `live` or `resume` isn't judged.
+  Don't trust it: records are missing or changed, or another command wrote it.
 ",
     ),
     (
         AuditFault::Lane(0),
         "V5 lane 0 (`card` to `big` 0)
   What came by this lane isn't what was sent on it.
-  Don't trust it: records are missing or changed. One of `live` or `resume` isn't judged.
+  Don't trust it: records are missing or changed, or another command wrote it.
 ",
     ),
     (
         AuditFault::Lane(1),
         "V5 lane 1 (`big` 0 to `out` 0)
   What came by this lane isn't what was sent on it.
-  Don't trust it: records are missing or changed. One of `live` or `resume` isn't judged.
+  Don't trust it: records are missing or changed, or another command wrote it.
 ",
     ),
     (
         AuditFault::State(1),
         "V6 worker 1 (`out`, its worker 0)
   This worker's counts aren't those that its steps make.
-  Don't trust it: records are missing or changed. One of `live` or `resume` isn't judged.
+  Don't trust it: records are missing or changed, or another command wrote it.
 ",
     ),
     (
@@ -51,7 +51,7 @@ const CASES: &[(AuditFault, &str)] = &[
         AuditFault::Feed(1),
         "V3 record 1 (line 2)
   The audit has other rows or requests than the files. This record differs first.
-  Give the payments and the requests that were run; no part of a run is verified.
+  Give the files of the run; `--live` if `live` wrote it, `--save SAVE` if `resume` did.
 ",
     ),
 ];

@@ -63,7 +63,7 @@ is too many. Type `fries verify --help`.",
     (
         &["run", "j", "r", "p", "a", "u", "--thread", "2"],
         "`run` has no option `--thread`; is it `--threads`? Its options are `--threads`, \
-`--capacity`, `--ordered`. Type `fries run --help`.",
+`--capacity`, `--ordered`, `--exact`. Type `fries run --help`.",
     ),
     (
         &["check", "j", "--ordered"],
@@ -101,6 +101,26 @@ Type `fries check --help`.",
     (
         &["stream", "j", "q", "a", "u", "--every", "5"],
         "`--every` needs `--save`. Type `fries stream --help`.",
+    ),
+    (
+        &["verify", "j", "r", "p", "u", "--live", "--ordered"],
+        "`--ordered` and `--live` don't stand together. Type `fries verify --help`.",
+    ),
+    (
+        &["verify", "j", "r", "p", "u", "--save=s", "--ordered"],
+        "`--ordered` and `--save` don't stand together. Type `fries verify --help`.",
+    ),
+    (
+        &["verify", "--save", "u", "j", "r", "p", "u", "a", "--live"],
+        "`--live` and `--save` don't stand together. Type `fries verify --help`.",
+    ),
+    (
+        &["verify", "j", "r", "p", "u", "--save"],
+        "No name follows `--save`. Type `fries verify --help`.",
+    ),
+    (
+        &["verify", "j", "r", "p", "u", "--live=1"],
+        "`--live` takes no value. Type `fries verify --help`.",
     ),
     (
         &["check", ""],
