@@ -7,3 +7,4 @@ pub mod MemoryLemmas
 pub mod MakeLemmas
 pub mod FirstLemmas
 pub mod SureLemmas
+pub mod ExactLemmas

@@ -39,7 +39,7 @@ save_excused asked old new answer job requests rows excused = record {
 }
 
 -- a call that read its inputs, and no savepoint
-no_save : (asked : ResumeAsked) (old between new : World) (why : Fault) → new.shelf ≡ between.shelf → (n : HasNoStart asked old.shelf.files old.shelf.faults between.shelf.faults why) →
+no_save : (asked : ResumeAsked) (old between new : World) (why : Fault) → new.shelf ≡ between.shelf → (n : HasNoStart false asked.run.plan asked.run.payments asked.save old.shelf.files old.shelf.faults between.shelf.faults why) →
     FollowsSavepoint asked n.job n.requests n.rows old new (Some why)
 no_save asked old between new why same n =
     let mine = setup_view n.setup in

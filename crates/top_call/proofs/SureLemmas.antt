@@ -24,10 +24,10 @@ use Rattle.top_call.specs.Plan.{IsNoSetup, setup_lines}
 use Rattle.call_steps.specs.Reading.{IsUnread, RefusesJob, RefusesRequests, RefusesRows, RefusesSave}
 use Rattle.top_call.specs.Inputs.{AreNoInputs}
 use Rattle.top_call.specs.Prints.{PrintsText}
-use Rattle.top_call.specs.Verify.{IsNotRestored, IsNotVerified}
-use Rattle.call_steps.specs.Audits.{HoldsNoAlerts, RefusesAlerts, RefusesAudit, verified_lines}
-use Rattle.flow_model.specs.declared.setup.Setup.{Setup}
-use Rattle.tuple_trace.specs.declared.row.Row.{Row}
+use Rattle.top_call.specs.Verify.{HasNoBegin, IsNotRestored, IsNotVerified, subject_by}
+use Rattle.verify_steps.specs.Audits.{HoldsNoAlerts, RefusesAlerts, RefusesAudit, Subject, verified_lines}
+use Rattle.command_line.specs.declared.command.AuditOf.{AuditOf}
+use Rattle.command_line.specs.declared.command.AuditOf.TheVariants as audit
 use Rattle.top_call.specs.Resume.{IsNoResume}
 use Rattle.flow_model.specs.SetupView.{SetupView}
 use Rattle.flow_model.specs.Setup.{setup_view}
@@ -110,9 +110,9 @@ of_save : (setup : SetupView) (rows : ℕ) → IsOfBytes (RefusesSave setup rows
 of_save setup rows (fault.Save code) bytes refused = tt
 of_save setup rows _ bytes refused = absurd refused
 
-of_audit : (setup : Setup) (rows : List Row) → IsOfBytes (RefusesAudit setup rows)
-of_audit setup rows (fault.Audit code) bytes refused = tt
-of_audit setup rows _ bytes refused = absurd refused
+of_audit : (subject : List ℕ → Subject) → IsOfBytes (RefusesAudit subject)
+of_audit subject (fault.Audit code) bytes refused = tt
+of_audit subject _ bytes refused = absurd refused
 
 of_alerts : (text : List ℕ) → IsOfBytes (RefusesAlerts text)
 of_alerts text (fault.Alerts line) bytes refused = tt
@@ -142,12 +142,24 @@ no_inputs_own plan payments files old new why sure later none =
       | inr (job, requests, of, them, unread) ↦ unread_own file.Payments (RefusesRows job) files payments old new why (of_rows job) sure later unread
     ]
 
+no_begin_own : (asked : VerifyAsked) (of : AuditOf) (files : Option Files) (old new : World)
+    (why : Fault) → IsSure old → IsSure new →
+    HasNoBegin asked of files old.shelf.faults new.shelf.faults why → IsOwn (Some why)
+no_begin_own asked (audit.Resume save) files old new why sure later none =
+    unread_own file.Save (RefusesSave (setup_view none.setup) (length none.rows)) files save old new
+    why (of_save (setup_view none.setup) (length none.rows)) sure later none.unread
+no_begin_own asked _ files old new why sure later none = absurd none
+
 not_restored_own : (asked : VerifyAsked) (files : Option Files) (old new : World) (why : Fault) → IsSure old → IsSure new →
     IsNotRestored asked files old.shelf.faults new.shelf.faults why → IsOwn (Some why)
 not_restored_own asked files old new why sure later none =
     elim none [
       | inl none ↦ no_inputs_own asked.plan asked.payments files old new why sure later none
-      | inr none ↦ unread_own file.Audit (RefusesAudit none.setup none.rows) files asked.audit old new why (of_audit none.setup none.rows) sure later none.unread
+      | inr (inl none) ↦ no_begin_own asked asked.of files old new why sure later none
+      | inr (inr none) ↦
+          let subject = subject_by asked.of none.begin none.setup none.rows in
+          unread_own file.Audit (RefusesAudit subject) files asked.audit old new why
+          (of_audit subject) sure later none.unread
     ]
 
 no_alerts_own : (name : Option (List ℕ)) (text : List ℕ) (files : Option Files) (old new : World) (why : Fault) → IsSure old → IsSure new →

@@ -1,5 +1,5 @@
 -- What a call of `resume` runs, why it doesn't, and how it ends.
-use Rattle.std.specs.Prelude.{◌⊎◌, List, Option, None, Some, false, length}
+use Rattle.std.specs.Prelude.{◌⊎◌, Bool, List, Option, None, Some, false, length}
 use Rattle.jobs.specs.JobView.{JobView}
 use Rattle.payments.specs.Causes.{Faults}
 use Rattle.payments.specs.Files.{Files}
@@ -9,7 +9,8 @@ use Rattle.versions.specs.declared.request.Request.{Request}
 use Rattle.flow_model.specs.Begin.{Begin}
 use Rattle.flow_model.specs.Setup.{setup_view}
 use Rattle.flow_model.specs.declared.setup.Setup.{Setup}
-use Rattle.command_line.specs.Asked.{ResumeAsked}
+use Rattle.command_line.specs.Asked.{PlanAsked, ResumeAsked}
+use Rattle.command_line.specs.Form.{Text}
 use Rattle.report.specs.declared.fault.Fault.{Fault}
 use Rattle.report.specs.declared.fault.FileIs.TheVariants as file_is
 use Rattle.call_steps.specs.Outcomes.{Stops}
@@ -34,23 +35,23 @@ pub record IsResumedRun (asked : ResumeAsked) (files : Option Files) (start : Be
   pub of_save : IsStartOf files asked.save (setup_view done.ran.setup) (length rows) start
   pub run : IsRunFromStart start done.ran.setup requests rows done
 
--- the files hold a job, requests and rows, and their setup has no savepoint in its file, for this
--- fault
-pub record HasNoStart (asked : ResumeAsked) (files : Option Files) (old new : Faults)
-    (why : Fault) : Type 0 where
+-- the files hold a job, requests and rows, and their setup in this mode has no savepoint in its
+-- file, for this fault
+pub record HasNoStart (ordered : Bool) (plan : PlanAsked) (payments save : Text)
+    (files : Option Files) (old new : Faults) (why : Fault) : Type 0 where
   pub job : JobView
   pub requests : List Request
   pub rows : List Row
   pub setup : Setup
-  pub of_files : AreInputsOf files asked.run.plan asked.run.payments job requests rows
-  pub setup_is : IsSetupFor AreSame false job requests setup
-  pub unread : IsNoStart files asked.save (setup_view setup) (length rows) old new why
+  pub of_files : AreInputsOf files plan payments job requests rows
+  pub setup_is : IsSetupFor AreSame ordered job requests setup
+  pub unread : IsNoStart files save (setup_view setup) (length rows) old new why
 
 -- why there is no run: no job, no requests or no rows were read, or else no savepoint
 abbrev pub IsNoResume : ResumeAsked → Option Files → Faults → Faults → Fault → Type 0
 IsNoResume asked files old new why =
     AreNoInputs files asked.run.plan asked.run.payments old new why
-    ⊎ HasNoStart asked files old new why
+    ⊎ HasNoStart false asked.run.plan asked.run.payments asked.save files old new why
 
 -- how a call of `resume` ends, before the line of its fault is printed
 abbrev pub EndsResume : ResumeAsked → World → World → Answer → Type 0

@@ -11,6 +11,7 @@
 #![tactic(auto)]
 
 mod check;
+mod exact;
 mod first;
 mod inputs;
 mod laws;

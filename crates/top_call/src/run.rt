@@ -5,6 +5,7 @@ ghost use Rattle.payments.specs.World.{world};
 ghost use Rattle.top_call.specs.Inputs.{AreNoInputs};
 ghost use Rattle.top_call.specs.Run.{EndsRun, IsRunOfFiles};
 
+use crate::exact::run_with_borders;
 use crate::inputs::{RunInputs, inputs_in};
 use call_steps::{Answer, Done, Host, Outputs, leave_run, run_on_threads};
 use command_line::RunFiles;
@@ -16,7 +17,7 @@ use tuple_trace::Gate;
 
 /// Reads a job, its requests and its payments, judges the requests and runs the payments, stores
 /// the alerts and then the audit, and prints the refused requests and the summary. The first fault
-/// ends it.
+/// ends it. If the borders are to be exact, the row of each request is its border.
 pub fn run_command<R, S, O, G>(
     host: &Host<'_, R, G>,
     files: &RunFiles,
@@ -71,5 +72,9 @@ where
         requests,
         rows,
     } = inputs;
-    Ok(run_on_threads(host, files.size, job, &requests, &rows, files.plan.ordered)?)
+    let ordered = files.plan.ordered;
+    if files.exact {
+        return Ok(run_with_borders(host, files.size, job, &requests, &rows, ordered)?);
+    }
+    Ok(run_on_threads(host, files.size, job, &requests, &rows, ordered)?)
 }

@@ -3,19 +3,24 @@ ghost use Rattle.std.specs.Result.{result_err};
 ghost use Rattle.jobs.specs.Nodes.{worker_count};
 ghost use Rattle.command_line.specs.Asked.{verify_asked};
 ghost use Rattle.payments.specs.World.{world};
-ghost use Rattle.call_steps.specs.Audits.{verified_lines as verified_lines_of};
+ghost use Rattle.verify_steps.specs.Audits.{verified_lines as verified_lines_of};
 ghost use Rattle.call_steps.specs.Effects.{Prints};
 ghost use Rattle.top_call.specs.Verify.{EndsVerify, IsNotRestored, IsNotVerified, IsRestoredRun};
 ghost use Rattle.top_call.specs.Verify.{IsVerifiedRun};
 
 use crate::inputs::{RunInputs, inputs_in};
-use call_steps::{Answer, Done, audited_run, check_alerts, print, setup_of, verified_lines};
-use command_line::VerifyFiles;
+use call_steps::{Answer, Done, print, setup_of, start_in};
+use command_line::{AuditOf, VerifyFiles};
 use payments::{Shelf, Sink};
 use report::Fault;
 use std::alloc::Global;
+use verify_steps::{
+    Given, audited_later_run, audited_live_run, audited_run, check_alerts, verified_lines,
+};
 
-/// Reads a job, its requests and its payments, judges the requests, and then reads an audit.
+/// Reads a job, its requests and its payments, judges the requests, and then reads an audit of
+/// `run`, of `live`, or of `resume` from a savepoint, which it reads before.
+///
 /// Rebuilds the run whose audit it is. If alerts are named it reads them, and they have to be just
 /// those of this run. Prints that it is verified and the summary. The first fault ends it. No file
 /// is changed.
@@ -74,7 +79,19 @@ fn rebuild<S: Shelf>(alloc: Global, files: &VerifyFiles, shelf: &mut S) -> Resul
         rows,
     } = inputs;
     let setup = setup_of(alloc, job, &requests, plan.ordered)?;
-    audited_run(alloc, setup, &requests, &rows, &files.audit, shelf)
+    let given = Given {
+        requests: &requests,
+        rows: &rows,
+        audit: &files.audit,
+    };
+    match &files.of {
+        AuditOf::Run => audited_run(alloc, setup, given, shelf),
+        AuditOf::Live => audited_live_run(alloc, setup, given, shelf),
+        AuditOf::Resume(save) => {
+            let start = start_in(alloc, &setup, rows.len() as u64, save, shelf)?;
+            audited_later_run(alloc, setup, &start, given, shelf)
+        }
+    }
 }
 
 #[tactic(auto, using(call_steps::proofs::PrintLemmas::prints_nothing))]

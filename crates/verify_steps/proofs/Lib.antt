@@ -1,0 +1,4 @@
+pub mod AuditLemmas
+pub mod AlertLemmas
+pub mod WaitingLemmas
+pub mod LiveLemmas

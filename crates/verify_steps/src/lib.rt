@@ -1,0 +1,17 @@
+//! The steps of the command `verify`: the run whose audit a file holds is restored, be it one of
+//! `run`, of `live` or of `resume`, and another file is compared with its alerts.
+//!
+//! ```text
+//! let given = Given { requests: &requests, rows: &rows, audit: &name };
+//! let done = audited_run(alloc, setup, given, &mut shelf)?;
+//! check_alerts(alloc, &done, &other, &mut shelf)?;
+//! ```
+#![tactic(auto)]
+
+mod alerts;
+mod audits;
+mod laws;
+mod waits;
+
+pub use alerts::{check_alerts, verified_lines};
+pub use audits::{Given, audited_later_run, audited_live_run, audited_run};
