@@ -13,6 +13,7 @@ mod run;
 mod texts;
 mod told;
 mod verify;
+mod verify_kinds;
 mod ways;
 mod words;
 

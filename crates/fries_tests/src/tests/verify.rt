@@ -1,6 +1,6 @@
 use crate::tests::run::NO_PAYMENTS;
 use crate::tests::texts::{CHAIN, FOUR_PAYMENTS, TWO_ALERTS};
-use crate::tests::{CALL, Case, Ran, Wanted, check_all, check_over};
+use crate::tests::{CALL, Case, Ran, Wanted, check_all, check_lines, check_over};
 use std::alloc::Global;
 use std::process::Abort;
 use std::sync::Wait;
@@ -214,6 +214,33 @@ fn verify_alerts(rt: HostRuntime) {
     for (alerts, line) in &OTHER_ALERTS {
         check_alerts(&rt, alerts, line);
     }
+}
+
+/// The words of `verify` with each option. Without a request, and from a savepoint before all rows,
+/// the audit of `run` is also that of `live` and of `resume`.
+static OPTIONS: [&str; 5] = [
+    "verify job.toml requests.toml payments.csv audit.csv alerts.csv",
+    "verify --live job.toml requests.toml payments.csv audit.csv alerts.csv",
+    "verify job.toml requests.toml payments.csv audit.csv --save save.csv",
+    "verify job.toml --save=save.csv requests.toml payments.csv audit.csv alerts.csv",
+    "verify job.toml requests.toml payments.csv --ordered audit.csv",
+];
+
+static OF_EACH_COMMAND: Case<'static> = Case {
+    files: &[
+        ("job.toml", CHAIN),
+        ("requests.toml", ""),
+        ("payments.csv", FOUR_PAYMENTS),
+        ("audit.csv", AUDIT_OF_FOUR),
+        ("alerts.csv", TWO_ALERTS),
+        ("save.csv", "fries,save,0,0\n"),
+    ],
+    ..VERIFY_ALERTS
+};
+
+#[test]
+fn verify_takes_each_option(rt: HostRuntime) {
+    check_lines(&rt, &OF_EACH_COMMAND, &OPTIONS);
 }
 
 /// Alerts that can't be read, beside the audit of another run and beside their own.

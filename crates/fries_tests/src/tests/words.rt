@@ -87,9 +87,9 @@ fn empty_words(rt: HostRuntime) {
     check_lines(&rt, &USAGE, &EMPTY_WORDS);
 }
 
-/// Numbers outside their limits, options without a number, and options that stand twice or before
-/// the command.
-static FAULTY_OPTIONS: [&str; 20] = [
+/// Numbers outside their limits, options without a value or with one too many, and options that stand
+/// twice, before the command or beside one that they exclude.
+static FAULTY_OPTIONS: [&str; 30] = [
     "run j r p alerts.csv audit.csv --threads 0",
     "run j r p alerts.csv audit.csv --threads=0",
     "run j r p alerts.csv audit.csv --threads 17",
@@ -110,6 +110,16 @@ static FAULTY_OPTIONS: [&str; 20] = [
     "--threads 2 run j r p alerts.csv audit.csv",
     "--ordered plan j r",
     "make j 7 1 --threads 17",
+    "verify j r p audit.csv --live --live",
+    "verify j r p audit.csv --live=true",
+    "verify j r p audit.csv --save",
+    "verify j r p audit.csv --save=",
+    "verify j r p audit.csv --save s --save s",
+    "verify j r p audit.csv --resume",
+    "verify j r p audit.csv --live --ordered",
+    "verify j r p audit.csv alerts.csv --save s --live",
+    "verify --ordered j r p audit.csv --save=s",
+    "verify j --save=s r p audit.csv --ordered --live",
 ];
 
 #[test]
