@@ -1,10 +1,13 @@
 // The text of alerts.
-use super::fixtures::{are, job_in};
+ghost use Rattle.std.specs.Prelude.{◌≡◌, length};
+ghost use Rattle.jobs.specs.Nodes.{worker_count};
+
+use super::fixtures::{check_text, job_in};
 use jobs::{Job, worker_count};
 use payments::read_rows;
 use sink_journal::{Entry, Journal, Journals, alerts_header_text, alerts_part_text, alerts_text};
-use std::alloc::Global;
-use tuple_trace::{Bytes, NoMemory, Row};
+use std::process::Abort;
+use tuple_trace::{Bytes, Row};
 
 /// A source, a filter and a sink that lists all four columns.
 const CHAIN: &str =
@@ -73,136 +76,86 @@ from = \"often\"
 to = \"watch\"
 ";
 
-fn entry_of(row: Option<&Row>) -> Result<Entry, NoMemory> {
-    match row {
-        Some(row) => Ok(Entry::Met {
-            lane: 0,
-            tuple: row.tuple.copy()?,
-        }),
-        None => Err(NoMemory),
-    }
+fn add(rt: &impl Abort, journal: &mut Journal, entry: Entry) {
+    journal.push(entry).expect(rt, "memory");
 }
 
-// The entry with this number in the journal of a worker that met these rows, turned a request after
-// each, and ended.
-fn entry_at(rows: &[Row], met: &[usize], number: usize) -> Result<Entry, NoMemory> {
+// The journal of a worker that met these rows, turned a request after each, and ended.
+fn journal_of(rt: &(impl AllocGlobal + Abort), rows: &[Row], met: &[usize]) -> Journal {
     let lane = 0;
-    match (met.get(number / 3), number % 3) {
-        (Some(place), 0) => entry_of(rows.get(*place)),
-        (Some(_), 1) => Ok(Entry::Marked { lane, request: 1 }),
-        (Some(_), _) => Ok(Entry::Turned { request: 1 }),
-        (None, _) => Ok(Entry::Ended { lane }),
+    let mut journal = Journal::new(rt.alloc());
+    for place in met {
+        let row = rows.get(*place).expect(rt, "a row");
+        let tuple = row.tuple.copy().expect(rt, "memory");
+        add(rt, &mut journal, Entry::Met { lane, tuple });
+        add(rt, &mut journal, Entry::Marked { lane, request: 1 });
+        add(rt, &mut journal, Entry::Turned { request: 1 });
     }
+    add(rt, &mut journal, Entry::Ended { lane });
+    journal
 }
 
-fn journal_of(alloc: Global, rows: &[Row], met: &[usize]) -> Result<Journal, NoMemory> {
-    let mut journal = Journal::new(alloc);
-    for number in 0..=met.len().saturating_mul(3) {
-        journal.push(entry_at(rows, met, number)?)?;
-    }
-    Ok(journal)
-}
-
-fn journals_of(alloc: Global, rows: &[Row], workers: &[&[usize]]) -> Result<Journals, NoMemory> {
-    let mut journals = Journals::new(alloc);
-    for met in workers {
-        journals.push(journal_of(alloc, rows, met)?)?;
-    }
-    Ok(journals)
-}
-
-fn text_of(alloc: Global, job: &Job, journals: &Journals) -> Result<Bytes, NoMemory> {
-    if journals.len() as u64 == worker_count(job) {
-        alerts_text(alloc, job, journals)
-    } else {
-        Err(NoMemory)
-    }
-}
-
-fn text_with(
-    alloc: Global,
+// The journals of the workers of a job, by the places of the rows that each met.
+fn journals_of(
+    rt: &(impl AllocGlobal + Abort),
     job: &Job,
     rows: &[Row],
     workers: &[&[usize]],
-) -> Result<Bytes, NoMemory> {
-    let journals = journals_of(alloc, rows, workers)?;
-    text_of(alloc, job, &journals)
+) -> Journals
+    ensures { length result ≡ worker_count job.now.nodes }
+{
+    let mut journals = Journals::new(rt.alloc());
+    for met in workers {
+        let journal = journal_of(rt, rows, met);
+        journals.push(journal).expect(rt, "memory");
+    }
+    assert!(rt; journals.len() as u64 == worker_count(job));
+    journals
 }
 
-fn text_in(
-    alloc: Global,
-    job: &Job,
+// Checks the alerts of a job whose workers met these of the payments, by their places.
+fn check_alerts(
+    rt: &(impl AllocGlobal + Abort),
+    job: &str,
     payments: &[u8],
     workers: &[&[usize]],
-) -> Result<Bytes, NoMemory> {
-    match read_rows(alloc, job, payments) {
-        Ok(rows) => text_with(alloc, job, rows.as_slice(), workers),
-        Err(_) => Err(NoMemory),
-    }
-}
-
-// The alerts of a job whose workers met these of the payments, by their places. None if a text
-// isn't read.
-fn alerts_of(alloc: Global, job: &str, payments: &[u8], workers: &[&[usize]]) -> Option<Bytes> {
-    match job_in(alloc, &[job]) {
-        Ok(job) => text_in(alloc, &job, payments, workers).ok(),
-        Err(_) => None,
-    }
-}
-
-fn part_of(alloc: Global, job: &Job, journals: &Journals) -> Result<Bytes, NoMemory> {
-    if journals.len() as u64 == worker_count(job) {
-        alerts_part_text(alloc, job, journals)
-    } else {
-        Err(NoMemory)
-    }
+    want: &str,
+) {
+    let job = job_in(rt, &[job]);
+    let rows = read_rows(rt.alloc(), &job, payments).expect(rt, "rows");
+    let journals = journals_of(rt, &job, rows.as_slice(), workers);
+    let text = alerts_text(rt.alloc(), &job, &journals).expect(rt, "memory");
+    check_text(rt, text.as_slice(), want);
 }
 
 fn add_part(
-    alloc: Global,
+    rt: &(impl AllocGlobal + Abort),
     text: &mut Bytes,
     job: &Job,
     rows: &[Row],
     workers: &[&[usize]],
-) -> Result<(), NoMemory> {
-    let journals = journals_of(alloc, rows, workers)?;
-    let part = part_of(alloc, job, &journals)?;
-    text.extend_from_slice(part.as_slice())
+) {
+    let journals = journals_of(rt, job, rows, workers);
+    let part = alerts_part_text(rt.alloc(), job, &journals).expect(rt, "memory");
+    text.extend_from_slice(part.as_slice()).expect(rt, "memory");
 }
 
-// The header's text, followed by the text of each part.
-fn parts_with(
-    alloc: Global,
-    job: &Job,
-    rows: &[Row],
-    parts: &[&[&[usize]]],
-) -> Result<Bytes, NoMemory> {
-    let mut text = alerts_header_text(alloc, job)?;
-    for workers in parts {
-        add_part(alloc, &mut text, job, rows, workers)?;
-    }
-    Ok(text)
-}
-
-fn parts_in(
-    alloc: Global,
-    job: &Job,
+// Checks the alerts of a stream in parts: the header's text, followed by the text of each part. In
+// each part the workers met these of the payments, by their places.
+fn check_parts(
+    rt: &(impl AllocGlobal + Abort),
+    job: &str,
     payments: &[u8],
     parts: &[&[&[usize]]],
-) -> Result<Bytes, NoMemory> {
-    match read_rows(alloc, job, payments) {
-        Ok(rows) => parts_with(alloc, job, rows.as_slice(), parts),
-        Err(_) => Err(NoMemory),
+    want: &str,
+) {
+    let job = job_in(rt, &[job]);
+    let rows = read_rows(rt.alloc(), &job, payments).expect(rt, "rows");
+    let mut text = alerts_header_text(rt.alloc(), &job).expect(rt, "memory");
+    for workers in parts {
+        add_part(rt, &mut text, &job, rows.as_slice(), workers);
     }
-}
-
-// The alerts of a stream in parts. In each part the workers met these of the payments, by their
-// places. None if a text isn't read.
-fn parts_of(alloc: Global, job: &str, payments: &[u8], parts: &[&[&[usize]]]) -> Option<Bytes> {
-    match job_in(alloc, &[job]) {
-        Ok(job) => parts_in(alloc, &job, payments, parts).ok(),
-        Err(_) => None,
-    }
+    check_text(rt, text.as_slice(), want);
 }
 
 const FOUR_PAYMENTS: &[u8] = b"source,account,merchant,amount,tags
@@ -218,35 +171,33 @@ alerts,3,c,m,50.00,
 alerts,4,d,m,120.00,
 ";
 
+const HEADER: &str = "sink,row,account,merchant,amount,tags\n";
+
+static NONE_MET: &[&[usize]] = &[&[0, 1, 2, 3], &[]];
+
 #[test]
 fn header_alone(rt: HostRuntime) {
-    let text = alerts_of(rt.alloc(), CHAIN, FOUR_PAYMENTS, &[&[0, 1, 2, 3], &[]]);
-    assert!(rt; are(text, "sink,row,account,merchant,amount,tags\n"));
+    check_alerts(&rt, CHAIN, FOUR_PAYMENTS, NONE_MET, HEADER);
 }
+
+static THREE_MET: &[&[usize]] = &[&[0, 1, 2, 3], &[1, 2, 3]];
 
 #[test]
 fn four_payments(rt: HostRuntime) {
-    let text = alerts_of(
-        rt.alloc(),
-        CHAIN,
-        FOUR_PAYMENTS,
-        &[&[0, 1, 2, 3], &[1, 2, 3]],
-    );
-    assert!(rt; are(text, FOUR_ALERTS));
+    check_alerts(&rt, CHAIN, FOUR_PAYMENTS, THREE_MET, FOUR_ALERTS);
 }
+
+static MET_IN_TWO_PARTS: &[&[&[usize]]] = &[&[&[0, 1], &[1]], &[&[2, 3], &[2, 3]]];
 
 // One sink worker, so the records of two parts are those of the whole.
 #[test]
 fn four_payments_in_two_parts(rt: HostRuntime) {
-    let parts: [&[&[usize]]; 2] = [&[&[0, 1], &[1]], &[&[2, 3], &[2, 3]]];
-    let text = parts_of(rt.alloc(), CHAIN, FOUR_PAYMENTS, &parts);
-    assert!(rt; are(text, FOUR_ALERTS));
+    check_parts(&rt, CHAIN, FOUR_PAYMENTS, MET_IN_TWO_PARTS, FOUR_ALERTS);
 }
 
 #[test]
 fn header_before_any_part(rt: HostRuntime) {
-    let text = parts_of(rt.alloc(), CHAIN, FOUR_PAYMENTS, &[]);
-    assert!(rt; are(text, "sink,row,account,merchant,amount,tags\n"));
+    check_parts(&rt, CHAIN, FOUR_PAYMENTS, &[], HEADER);
 }
 
 const LARGEST: &[u8] = b"source,account,merchant,amount,tags
@@ -254,14 +205,15 @@ card,a,m,92233720368547758.07,
 card,a,m,-0.05,
 ";
 
+static BOTH_MET: &[&[usize]] = &[&[], &[0, 1]];
+
 #[test]
 fn clamped_product(rt: HostRuntime) {
-    let text = alerts_of(rt.alloc(), CHAIN, LARGEST, &[&[], &[0, 1]]);
     let want = "sink,row,account,merchant,amount,tags
 alerts,1,a,m,92233720368547758.07,
 alerts,2,a,m,-0.05,
 ";
-    assert!(rt; are(text, want));
+    check_alerts(&rt, CHAIN, LARGEST, BOTH_MET, want);
 }
 
 const TEN_PAYMENTS: &[u8] = b"source,account,merchant,amount,risk,seen
@@ -277,29 +229,27 @@ card,ann,\"A, \"\"B\"\" Ltd\",12.00,1,2
 wire,gus,grocer,5.00,1,2
 ";
 
+static FOUR_MET: &[&[usize]] = &[&[], &[8], &[1, 5], &[], &[8, 9]];
+
 #[test]
 fn payments_job(rt: HostRuntime) {
-    let text = alerts_of(
-        rt.alloc(),
-        TWO_SINKS,
-        TEN_PAYMENTS,
-        &[&[], &[8], &[1, 5], &[], &[8, 9]],
-    );
     let want = "sink,row,account,merchant,amount,risk,seen
 review,2,bob,casino,250.00,3,
 review,6,fay,casino,75.00,3,
 watch,9,ann,\"A, \"\"B\"\" Ltd\",,,2
 watch,10,gus,grocer,,,2
 ";
-    assert!(rt; are(text, want));
+    check_alerts(&rt, TWO_SINKS, TEN_PAYMENTS, FOUR_MET, want);
 }
+
+static FIVE_MET_IN_TWO_PARTS: &[&[&[usize]]] = &[
+    &[&[], &[], &[1, 5], &[], &[8]],
+    &[&[], &[8], &[2], &[], &[9]],
+];
 
 // Each part has its own records of both sinks.
 #[test]
 fn payments_job_in_two_parts(rt: HostRuntime) {
-    let first: [&[usize]; 5] = [&[], &[], &[1, 5], &[], &[8]];
-    let later: [&[usize]; 5] = [&[], &[8], &[2], &[], &[9]];
-    let text = parts_of(rt.alloc(), TWO_SINKS, TEN_PAYMENTS, &[&first, &later]);
     let want = "sink,row,account,merchant,amount,risk,seen
 review,2,bob,casino,250.00,3,
 review,6,fay,casino,75.00,3,
@@ -307,5 +257,5 @@ watch,9,ann,\"A, \"\"B\"\" Ltd\",,,2
 review,3,a,m,0.00,0,
 watch,10,gus,grocer,,,2
 ";
-    assert!(rt; are(text, want));
+    check_parts(&rt, TWO_SINKS, TEN_PAYMENTS, FIVE_MET_IN_TWO_PARTS, want);
 }

@@ -1,5 +1,8 @@
 // The text of an audit.
-use super::fixtures::{are, job_in, joined};
+ghost use Rattle.std.specs.Prelude.{◌≡◌, length};
+ghost use Rattle.jobs.specs.Nodes.{worker_count};
+
+use super::fixtures::{check_text, job_in, joined};
 use jobs::{Job, worker_count};
 use keyed_state::Keyed;
 use payments::read_rows;
@@ -7,8 +10,8 @@ use sink_journal::{
     Entry, Feed, Feeds, Journal, Journals, Noted, States, audit_header_text, audit_part_text,
     audit_text,
 };
-use std::alloc::Global;
-use tuple_trace::{Bytes, NoMemory, Tuple};
+use std::process::Abort;
+use tuple_trace::{Bytes, Tuple};
 
 /// A source, a count of two workers and a sink. The lanes 0 and 1 lead to the count, and 2 and 3
 /// from it to the sink.
@@ -58,14 +61,10 @@ ended,out,0,3,,
 "#;
 
 // The tuple of the one row.
-fn tuple_of(alloc: Global, job: &Job) -> Result<Tuple, NoMemory> {
-    let Ok(rows) = read_rows(alloc, job, b"source,account\ncard,ann\n") else {
-        return Err(NoMemory);
-    };
-    match rows.as_slice().first() {
-        Some(row) => row.tuple.copy(),
-        None => Err(NoMemory),
-    }
+fn tuple_of(rt: &(impl AllocGlobal + Abort), job: &Job) -> Tuple {
+    let rows = read_rows(rt.alloc(), job, b"source,account\ncard,ann\n").expect(rt, "rows");
+    let row = rows.as_slice().first().expect(rt, "a row");
+    row.tuple.copy().expect(rt, "memory")
 }
 
 /// An entry of a journal. A tuple that is met has this birth.
@@ -117,153 +116,120 @@ const LATER: Part = Part {
     counts: [&[], &[("c", 5)], &[]],
 };
 
-fn born(tuple: &Tuple, birth: &[u32]) -> Result<Tuple, NoMemory> {
-    let mut tuple = tuple.copy()?;
+fn born(rt: &impl Abort, tuple: &Tuple, birth: &[u32]) -> Tuple {
+    let mut tuple = tuple.copy().expect(rt, "memory");
     for index in birth {
-        become_child(&mut tuple, *index)?;
+        tuple = tuple.child(*index).expect(rt, "memory");
     }
-    Ok(tuple)
+    tuple
 }
 
-fn become_child(tuple: &mut Tuple, index: u32) -> Result<(), NoMemory> {
-    *tuple = tuple.child(index)?;
-    Ok(())
-}
-
-fn entry_of(tuple: &Tuple, step: &Step) -> Result<Entry, NoMemory> {
+fn entry_of(rt: &impl Abort, tuple: &Tuple, step: &Step) -> Entry {
     match step {
-        Step::Met(lane, birth) => Ok(Entry::Met {
+        Step::Met(lane, birth) => Entry::Met {
             lane: *lane,
-            tuple: born(tuple, birth)?,
-        }),
-        Step::Marked => Ok(Entry::Marked {
+            tuple: born(rt, tuple, birth),
+        },
+        Step::Marked => Entry::Marked {
             lane: 0,
             request: 1,
-        }),
-        Step::Turned => Ok(Entry::Turned { request: 1 }),
-        Step::Ended(lane) => Ok(Entry::Ended { lane: *lane }),
+        },
+        Step::Turned => Entry::Turned { request: 1 },
+        Step::Ended(lane) => Entry::Ended { lane: *lane },
     }
 }
 
-fn journal_of(alloc: Global, tuple: &Tuple, steps: &[Step]) -> Result<Journal, NoMemory> {
-    let mut journal = Journal::new(alloc);
+fn journal_of(rt: &(impl AllocGlobal + Abort), tuple: &Tuple, steps: &[Step]) -> Journal {
+    let mut journal = Journal::new(rt.alloc());
     for step in steps {
-        journal.push(entry_of(tuple, step)?)?;
+        journal.push(entry_of(rt, tuple, step)).expect(rt, "memory");
     }
-    Ok(journal)
+    journal
 }
 
-fn journals_of(alloc: Global, tuple: &Tuple, part: &Part) -> Result<Journals, NoMemory> {
-    let mut journals = Journals::new(alloc);
+fn journals_of(rt: &(impl AllocGlobal + Abort), job: &Job, part: &Part) -> Journals
+    ensures { length result ≡ worker_count job.now.nodes }
+{
+    let tuple = tuple_of(rt, job);
+    let mut journals = Journals::new(rt.alloc());
     for steps in part.journals {
-        journals.push(journal_of(alloc, tuple, steps)?)?;
+        journals
+            .push(journal_of(rt, &tuple, steps))
+            .expect(rt, "memory");
     }
-    Ok(journals)
+    assert!(rt; journals.len() as u64 == worker_count(job));
+    journals
 }
 
-fn counts_of(alloc: Global, table: &[(&str, i64)]) -> Result<Keyed, NoMemory> {
-    let mut counts = Keyed::new(alloc);
+fn counts_of(rt: &(impl AllocGlobal + Abort), table: &[(&str, i64)]) -> Keyed {
+    let mut counts = Keyed::new(rt.alloc());
     for (key, count) in table {
-        counts.add(key.as_bytes(), *count)?;
+        counts.add(key.as_bytes(), *count).expect(rt, "memory");
     }
-    Ok(counts)
+    counts
 }
 
-fn states_of(alloc: Global, part: &Part) -> Result<States, NoMemory> {
-    let mut states = States::new(alloc);
+fn states_of(rt: &(impl AllocGlobal + Abort), job: &Job, part: &Part) -> States
+    ensures { length result ≡ worker_count job.now.nodes }
+{
+    let mut states = States::new(rt.alloc());
     for table in part.counts {
-        states.push(counts_of(alloc, table)?)?;
+        states.push(counts_of(rt, table)).expect(rt, "memory");
     }
-    Ok(states)
+    assert!(rt; states.len() as u64 == worker_count(job));
+    states
 }
 
-fn whole_text(
-    alloc: Global,
-    job: &Job,
-    part: &Part,
-    journals: &Journals,
-    states: &States,
-) -> Result<Bytes, NoMemory> {
-    let count = worker_count(job);
-    if journals.len() as u64 != count || states.len() as u64 != count {
-        return Err(NoMemory);
-    }
-    let feeds = Feeds::from_slice(alloc, part.feeds)?;
-    audit_text(alloc, job, part.refused, &feeds, journals, states)
+/// What an audit is of.
+#[derive(Clone, Copy)]
+enum Extent {
+    /// A run, with a header.
+    Run,
+    /// One part of a stream.
+    Part,
 }
 
-fn part_text(
-    alloc: Global,
-    job: &Job,
-    part: &Part,
-    journals: &Journals,
-    states: &States,
-) -> Result<Bytes, NoMemory> {
-    let count = worker_count(job);
-    if journals.len() as u64 != count || states.len() as u64 != count {
-        return Err(NoMemory);
-    }
-    let feeds = Feeds::from_slice(alloc, part.feeds)?;
-    audit_part_text(alloc, job, part.refused, &feeds, journals, states)
+fn text_of(rt: &(impl AllocGlobal + Abort), job: &Job, part: &Part, extent: Extent) -> Bytes {
+    let journals = journals_of(rt, job, part);
+    let states = states_of(rt, job, part);
+    let feeds = Feeds::from_slice(rt.alloc(), part.feeds).expect(rt, "memory");
+    let text = match extent {
+        Extent::Run => audit_text(rt.alloc(), job, part.refused, &feeds, &journals, &states),
+        Extent::Part => {
+            audit_part_text(rt.alloc(), job, part.refused, &feeds, &journals, &states)
+        }
+    };
+    text.expect(rt, "memory")
 }
 
-fn whole_of(alloc: Global, job: &Job, part: &Part) -> Result<Bytes, NoMemory> {
-    let tuple = tuple_of(alloc, job)?;
-    let journals = journals_of(alloc, &tuple, part)?;
-    let states = states_of(alloc, part)?;
-    whole_text(alloc, job, part, &journals, &states)
-}
-
-fn part_of(alloc: Global, job: &Job, part: &Part) -> Result<Bytes, NoMemory> {
-    let tuple = tuple_of(alloc, job)?;
-    let journals = journals_of(alloc, &tuple, part)?;
-    let states = states_of(alloc, part)?;
-    part_text(alloc, job, part, &journals, &states)
-}
-
-fn add_part(alloc: Global, text: &mut Bytes, job: &Job, part: &Part) -> Result<(), NoMemory> {
-    let part = part_of(alloc, job, part)?;
-    text.extend_from_slice(part.as_slice())
-}
-
-// The header's text, followed by the text of each part.
-fn parts_of(alloc: Global, job: &Job, parts: &[Part]) -> Result<Bytes, NoMemory> {
-    let mut text = audit_header_text(alloc)?;
-    for part in parts {
-        add_part(alloc, &mut text, job, part)?;
-    }
-    Ok(text)
-}
-
-fn audit_of(alloc: Global, part: &Part) -> Option<Bytes> {
-    match job_in(alloc, &[COUNT]) {
-        Ok(job) => whole_of(alloc, &job, part).ok(),
-        Err(_) => None,
-    }
-}
-
-fn audit_in_parts(alloc: Global, parts: &[Part]) -> Option<Bytes> {
-    match job_in(alloc, &[COUNT]) {
-        Ok(job) => parts_of(alloc, &job, parts).ok(),
-        Err(_) => None,
-    }
-}
-
-fn is_joined(alloc: Global, text: Option<Bytes>, pieces: &[&str]) -> bool {
-    match joined(alloc, pieces) {
-        Ok(want) => are(text, want.as_str()),
-        Err(_) => false,
-    }
-}
+static RUN: Part = FIRST;
 
 #[test]
 fn audit_of_each_kind_of_record(rt: HostRuntime) {
-    let text = audit_of(rt.alloc(), &FIRST);
-    assert!(rt; is_joined(rt.alloc(), text, &[HEADER, RECORDS]));
+    let job = job_in(&rt, &[COUNT]);
+    let text = text_of(&rt, &job, &RUN, Extent::Run);
+    check_text(
+        &rt,
+        text.as_slice(),
+        joined(&rt, &[HEADER, RECORDS]).as_str(),
+    );
+}
+
+static PARTS: [Part; 2] = [FIRST, LATER];
+
+// The header's text, followed by the text of each part.
+fn text_in_parts(rt: &(impl AllocGlobal + Abort), job: &Job) -> Bytes {
+    let mut text = audit_header_text(rt.alloc()).expect(rt, "memory");
+    for part in &PARTS {
+        let part = text_of(rt, job, part, Extent::Part);
+        text.extend_from_slice(part.as_slice()).expect(rt, "memory");
+    }
+    text
 }
 
 #[test]
 fn two_parts_after_one_header(rt: HostRuntime) {
-    let text = audit_in_parts(rt.alloc(), &[FIRST, LATER]);
-    assert!(rt; is_joined(rt.alloc(), text, &[HEADER, RECORDS, LATER_RECORDS]));
+    let text = text_in_parts(&rt, &job_in(&rt, &[COUNT]));
+    let want = joined(&rt, &[HEADER, RECORDS, LATER_RECORDS]);
+    check_text(&rt, text.as_slice(), want.as_str());
 }

@@ -62,7 +62,7 @@ most = 1
 "#;
 
 /// Changes of the chain.
-pub const OF_THE_CHAIN: &[Case] = &[
+pub static OF_THE_CHAIN: &[Case] = &[
     (
         "[[request.change]]\nnode = \"big\"\nfrom = 0\nkind = \"split\"\non = \"tags\"\nby = \";\"\nmost = 2\n",
         Some(QFault::KindOrKey(1)),
@@ -74,7 +74,7 @@ pub const OF_THE_CHAIN: &[Case] = &[
 ];
 
 /// Changes of the job with a node of each kind.
-pub const OF_KINDS: &[Case] = &[
+pub static OF_KINDS: &[Case] = &[
     (
         "[[request.change]]\nnode = \"nobody\"\nfrom = 0\nkind = \"filter\"\nwhen = [[\"sum\", \">=\", 5]]\n",
         Some(QFault::NoNode(1)),
@@ -171,7 +171,7 @@ pub const OF_KINDS: &[Case] = &[
 ];
 
 /// Changes of the payments, where two edges leave `big`.
-pub const OF_PAYMENTS: &[Case] = &[
+pub static OF_PAYMENTS: &[Case] = &[
     (
         "[[request.change]]\nnode = \"hot\"\nfrom = 0\nkind = \"map\"\nsteps = []\n",
         None,
@@ -187,7 +187,7 @@ pub const OF_PAYMENTS: &[Case] = &[
 ];
 
 /// Changes of the job with a roof.
-pub const OF_THE_ROOF: &[Case] = &[
+pub static OF_THE_ROOF: &[Case] = &[
     (
         "[[request.change]]\nnode = \"u\"\nfrom = 0\nkind = \"split\"\non = \"tags\"\nby = \";\"\nmost = 3\n",
         None,
@@ -211,7 +211,7 @@ pub const OF_THE_ROOF: &[Case] = &[
 ];
 
 /// Functions, and whether they fit the payments.
-pub const FUNCTIONS: &[(&'static str, bool)] = &[
+pub static FUNCTIONS: &[(&'static str, bool)] = &[
     (
         "kind = \"filter\"\nwhen = [[\"amount\", \">=\", 1]]\n",
         true,

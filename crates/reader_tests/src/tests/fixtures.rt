@@ -1,65 +1,86 @@
 // Jobs, requests and rows that are read from texts in pieces, and rows and outputs written down as
+// lines. What a test can't do without is expected here, so that its own functions are straight
 // lines.
-ghost use Rattle.std.specs.Prelude.{IfOk};
 ghost use Rattle.job_file.specs.RequestSizes.{AreFew, AreUpTo};
 
-use job_file::{JobFault, ReqFileFault, read_job, read_requests, read_requests_up_to};
+use job_file::{JobFault, read_job, read_requests, read_requests_up_to};
 use jobs::Job;
 use operators::Output;
 use payments::read_rows;
-use std::alloc::{AllocError, Global};
-use tuple_trace::{Bytes, Row, Rows, Tuple, Value, Visit};
+use std::alloc::AllocError;
+use std::fmt::Debug;
+use std::process::Abort;
+use std::str;
+use tuple_trace::{Row, Rows, Tuple, Value};
 use versions::{MAX_STREAM_REQUESTS, Requests};
 
+/// Asserts that a value is the one that is wanted.
+pub fn check<T: PartialEq + Debug + Drop>(rt: &impl Abort, found: T, want: T) {
+    assert_eq!(rt; found, want);
+}
+
+/// Asserts that bytes are those of a text.
+pub fn check_text(rt: &impl Abort, found: &[u8], want: &str) {
+    assert!(rt; found == want.as_bytes(), "{want}");
+}
+
+/// Adds a text that was formatted.
+pub fn push(rt: &impl Abort, text: &mut String, more: Result<String, AllocError>) {
+    let more = more.expect(rt, "memory");
+    text.push_str(more.as_str()).expect(rt, "memory");
+}
+
 /// The pieces, one after another.
-pub fn joined(alloc: Global, pieces: &[&str]) -> Result<String, AllocError> {
-    let mut text = String::new(alloc);
+pub fn joined(rt: &(impl AllocGlobal + Abort), pieces: &[&str]) -> String {
+    let mut text = String::new(rt.alloc());
     for piece in pieces {
-        text.push_str(piece)?;
+        text.push_str(piece).expect(rt, "memory");
     }
-    Ok(text)
+    text
 }
 
-/// The job of a text in pieces. It stands in a box, so that a function that holds it is proved
-/// quickly.
-pub fn job_in(alloc: Global, pieces: &[&str]) -> Result<Box<Job>, JobFault> {
-    match joined(alloc, pieces) {
-        Ok(text) => boxed_job(alloc, text.as_bytes()),
-        Err(_) => Err(JobFault::NoMemory),
+/// A text, and a piece that follows it so many times.
+pub fn repeated(rt: &(impl AllocGlobal + Abort), head: &str, piece: &str, count: u32) -> String {
+    let mut text = joined(rt, &[head]);
+    for _ in 0..count {
+        text.push_str(piece).expect(rt, "memory");
     }
+    text
 }
 
-/// The job of a text, in a box.
-pub fn boxed_job(alloc: Global, text: &[u8]) -> Result<Box<Job>, JobFault> {
-    let job = read_job(alloc, text)?;
-    match Box::new(alloc, job) {
-        Ok(job) => Ok(job),
-        Err(_) => Err(JobFault::NoMemory),
-    }
+/// What a reader makes of the bytes of a job file. The job stands in a box, so that a function that
+/// holds it is proved quickly.
+pub fn read_bytes(rt: &(impl AllocGlobal + Abort), bytes: &[u8]) -> Result<Box<Job>, JobFault> {
+    let job = read_job(rt.alloc(), bytes)?;
+    Ok(Box::new(rt.alloc(), job).expect(rt, "memory"))
+}
+
+/// What a reader makes of a job file in pieces.
+pub fn read(rt: &(impl AllocGlobal + Abort), pieces: &[&str]) -> Result<Box<Job>, JobFault> {
+    read_bytes(rt, joined(rt, pieces).as_bytes())
+}
+
+/// The job of a text in pieces.
+pub fn job_in(rt: &(impl AllocGlobal + Abort), pieces: &[&str]) -> Box<Job> {
+    read(rt, pieces).expect(rt, "a job")
 }
 
 /// The requests of a text in pieces.
-pub fn requests_in(alloc: Global, job: &Job, pieces: &[&str]) -> Result<Requests, ReqFileFault>
-    ensures few { IfOk result AreFew }
+pub fn requests_in(rt: &(impl AllocGlobal + Abort), job: &Job, pieces: &[&str]) -> Requests
+    ensures few { AreFew result }
 {
-    match joined(alloc, pieces) {
-        Ok(text) => read_requests(alloc, job, text.as_bytes()),
-        Err(_) => Err(ReqFileFault::NoMemory),
-    }
+    let text = joined(rt, pieces);
+    read_requests(rt.alloc(), job, text.as_bytes()).expect(rt, "requests")
 }
 
 /// The requests of a text in pieces, of which there may be as many as a stream has.
-pub fn stream_requests_in(
-    alloc: Global,
-    job: &Job,
-    pieces: &[&str],
-) -> Result<Requests, ReqFileFault>
-    ensures few { IfOk result (AreUpTo MAX_STREAM_REQUESTS) }
+pub fn stream_requests_in(rt: &(impl AllocGlobal + Abort), job: &Job, pieces: &[&str]) -> Requests
+    ensures few { AreUpTo MAX_STREAM_REQUESTS result }
 {
-    match joined(alloc, pieces) {
-        Ok(text) => read_requests_up_to(alloc, job, text.as_bytes(), MAX_STREAM_REQUESTS),
-        Err(_) => Err(ReqFileFault::NoMemory),
-    }
+    let text = joined(rt, pieces);
+    read_requests_up_to(rt.alloc(), job, text.as_bytes(), MAX_STREAM_REQUESTS).expect(
+        rt, "requests",
+    )
 }
 
 /// Two texts, an amount and a number, and a table of the risk of an account.
@@ -119,97 +140,74 @@ name = \"x\"
 ";
 
 /// A job of a source `in`, a node `x` with this function, and sinks behind it.
-pub fn job_of(alloc: Global, columns: &str, func: &str, ways: &str) -> Option<Box<Job>> {
-    job_in(alloc, &[columns, IN_AND_X, func, ways]).ok()
+pub fn job_of(rt: &(impl AllocGlobal + Abort), columns: &str, func: &str, ways: &str) -> Box<Job> {
+    job_in(rt, &[columns, IN_AND_X, func, ways])
 }
 
 /// The rows of payments with these columns, all from the source `in`.
-pub fn rows_of(alloc: Global, columns: &str, payments: &str) -> Option<Rows> {
-    let job = job_of(alloc, columns, "kind = \"map\"\nsteps = []\n", ONE_WAY)?;
-    read_rows(alloc, &job, payments.as_bytes()).ok()
+pub fn rows_of(rt: &(impl AllocGlobal + Abort), columns: &str, payments: &str) -> Rows {
+    let job = job_of(rt, columns, "kind = \"map\"\nsteps = []\n", ONE_WAY);
+    read_rows(rt.alloc(), &job, payments.as_bytes()).expect(rt, "rows")
 }
 
 /// A line for each output: its port, `+` and each birth, `#` and the row, `.` and the requests that
 /// were issued, `@` and each visit, and the fields.
-pub fn lines_of_outputs(alloc: Global, outputs: &[Output]) -> Option<Bytes> {
-    let mut lines = Bytes::new(alloc);
+pub fn lines_of_outputs(rt: &(impl AllocGlobal + Abort), outputs: &[Output]) -> String {
+    let mut lines = String::new(rt.alloc());
     for output in outputs {
-        add_numbers(alloc, &mut lines, &[(" ", output.port.into())])?;
-        add_origin(alloc, &mut lines, &output.tuple)?;
-        add_fields(alloc, &mut lines, output.tuple.fields.as_slice())?;
+        push(rt, &mut lines, format!(in rt.alloc(); " {}", output.port));
+        add_origin(rt, &mut lines, &output.tuple);
+        add_fields(rt, &mut lines, output.tuple.fields.as_slice());
     }
-    Some(lines)
+    lines
 }
 
-fn add_origin(alloc: Global, lines: &mut Bytes, tuple: &Tuple) -> Option<()> {
+fn add_origin(rt: &(impl AllocGlobal + Abort), lines: &mut String, tuple: &Tuple) {
     for birth in &tuple.birth {
-        add_numbers(alloc, lines, &[("+", (*birth).into())])?;
+        push(rt, lines, format!(in rt.alloc(); "+{birth}"));
     }
-    add_numbers(alloc, lines, &[("#", tuple.row), (".", tuple.issued)])?;
+    push(
+        rt,
+        lines,
+        format!(in rt.alloc(); "#{}.{}", tuple.row, tuple.issued),
+    );
     for place in 0..tuple.trace.len() {
-        add_visit(alloc, lines, tuple.trace.get(place)?)?;
+        let visit = tuple.trace.get(place).expect(rt, "a visit");
+        push(
+            rt,
+            lines,
+            format!(in rt.alloc(); "@{}.{}.{}", visit.node, visit.worker, visit.last),
+        );
     }
-    Some(())
-}
-
-fn add_visit(alloc: Global, lines: &mut Bytes, visit: &Visit) -> Option<()> {
-    let (node, worker) = (visit.node.into(), visit.worker.into());
-    let numbers = [("@", node), (".", worker), (".", visit.last)];
-    add_numbers(alloc, lines, &numbers)
 }
 
 /// A line for each row: its source, `.` and its number, and the fields.
-pub fn lines_of_rows(alloc: Global, rows: &[Row]) -> Option<Bytes> {
-    let mut lines = Bytes::new(alloc);
+pub fn lines_of_rows(rt: &(impl AllocGlobal + Abort), rows: &[Row]) -> String {
+    let mut lines = String::new(rt.alloc());
     for row in rows {
-        let source = row.source.into();
-        add_numbers(alloc, &mut lines, &[(" ", source), (".", row.tuple.row)])?;
-        add_fields(alloc, &mut lines, row.tuple.fields.as_slice())?;
+        push(
+            rt,
+            &mut lines,
+            format!(in rt.alloc(); " {}.{}", row.source, row.tuple.row),
+        );
+        add_fields(rt, &mut lines, row.tuple.fields.as_slice());
     }
-    Some(lines)
+    lines
 }
 
-fn add_fields(alloc: Global, lines: &mut Bytes, fields: &[Value]) -> Option<()> {
+fn add_fields(rt: &(impl AllocGlobal + Abort), lines: &mut String, fields: &[Value]) {
     for field in fields {
-        add_field(alloc, lines, field)?;
+        push(rt, lines, field_text(rt, field));
     }
-    lines.push(b'\n').ok()
+    lines.push('\n').expect(rt, "memory");
 }
 
-fn add_field(alloc: Global, lines: &mut Bytes, field: &Value) -> Option<()> {
+fn field_text(rt: &(impl AllocGlobal + Abort), field: &Value) -> Result<String, AllocError> {
     match field {
-        Value::Num(number) => add_signed(alloc, lines, *number),
-        Value::Text(text) => add_text(lines, text.as_slice()),
-    }
-}
-
-fn add_signed(alloc: Global, lines: &mut Bytes, number: i64) -> Option<()> {
-    let text = format!(in alloc; " {number}").ok()?;
-    lines.extend_from_slice(text.as_bytes()).ok()
-}
-
-fn add_text(lines: &mut Bytes, text: &[u8]) -> Option<()> {
-    lines.push(b' ').ok()?;
-    lines.extend_from_slice(text).ok()
-}
-
-// Each number, with its mark before it.
-fn add_numbers(alloc: Global, lines: &mut Bytes, numbers: &[(&str, u64)]) -> Option<()> {
-    for (mark, number) in numbers {
-        add_number(alloc, lines, mark, *number)?;
-    }
-    Some(())
-}
-
-fn add_number(alloc: Global, lines: &mut Bytes, mark: &str, number: u64) -> Option<()> {
-    let text = format!(in alloc; "{mark}{number}").ok()?;
-    lines.extend_from_slice(text.as_bytes()).ok()
-}
-
-/// Whether there are bytes, and they are these.
-pub fn are(bytes: Option<Bytes>, want: &str) -> bool {
-    match bytes {
-        Some(bytes) => bytes.as_slice() == want.as_bytes(),
-        None => false,
+        Value::Num(number) => format!(in rt.alloc(); " {number}"),
+        Value::Text(text) => {
+            let text = str::from_utf8(text.as_slice()).expect(rt, "UTF-8");
+            format!(in rt.alloc(); " {text}")
+        }
     }
 }

@@ -2,7 +2,7 @@ use super::reading::{Case, Text};
 use job_file::{JobFault, Named, Part, Which};
 
 /// The function of a node between a source and one sink or two, and what the reader answers.
-pub const CASES: &[Case] = &[
+pub static CASES: &[Case] = &[
     (Text::Func, "when = []\n", Err(JobFault::Shape(Part::Kind))),
     (
         Text::Func,

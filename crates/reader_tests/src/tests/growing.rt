@@ -2,167 +2,134 @@
 ghost use Rattle.std.specs.Prelude.{◌≡◌, None};
 ghost use Rattle.payments.specs.Host.{host_draft_of};
 
-use super::shelves::{has_failed, holds, reads, word};
-use payments::{
-    Calls, GrowingShelf, HostFault, HostShelf, MemoryShelf, ShelfFault, SureShelf, extend_all,
-    store,
-};
-use std::alloc::Global;
-use std::fs;
+use super::fixtures::check;
+use super::shelves::{check_failed, check_file, check_read, check_removed, shelf_of, word};
+use payments::{GrowingShelf, HostFault, HostShelf, ShelfFault, SureShelf, extend_all, store};
+use std::process::Abort;
 use std::rt::Files;
 use tuple_trace::Word;
 
-const TEXT: &[u8] = b"row,account\n1,ann\n";
-
 // A file that isn't there has no byte. It is begun by a header, and grows by a row.
-fn grows<S: GrowingShelf>(shelf: &mut S, name: &Word) -> bool
+fn grows<S: GrowingShelf>(rt: &impl Abort, shelf: &mut S, name: &Word)
     requires closed { (S.state shelf.old).draft ≡ None }
     ensures closed { (S.state shelf.new).draft ≡ None }
 {
-    shelf.cut(name, 1) == Ok(false)
-        && extend_all(shelf, name, b"row,account\n") == Ok(())
-        && extend_all(shelf, name, b"") == Ok(())
-        && extend_all(shelf, name, b"1,ann\n") == Ok(())
+    check(rt, shelf.cut(name, 1), Ok(false));
+    check(rt, extend_all(shelf, name, b"row,account\n"), Ok(()));
+    check(rt, extend_all(shelf, name, b""), Ok(()));
+    check(rt, extend_all(shelf, name, b"1,ann\n"), Ok(()));
 }
 
 // A file of 18 bytes is cut to the first 12.
-fn is_cut<S: GrowingShelf>(shelf: &mut S, name: &Word) -> bool
+fn is_cut<S: GrowingShelf>(rt: &impl Abort, shelf: &mut S, name: &Word)
     requires closed { (S.state shelf.old).draft ≡ None }
     ensures closed { (S.state shelf.new).draft ≡ None }
 {
-    shelf.cut(name, 19) == Ok(false)
-        && shelf.cut(name, 18) == Ok(true)
-        && shelf.cut(name, 12) == Ok(true)
-        && shelf.cut(name, 13) == Ok(false)
+    check(rt, shelf.cut(name, 19), Ok(false));
+    check(rt, shelf.cut(name, 18), Ok(true));
+    check(rt, shelf.cut(name, 12), Ok(true));
+    check(rt, shelf.cut(name, 13), Ok(false));
 }
 
-// A file that isn't there is cut to no bytes, and grows by 3.
-fn is_made_by_a_cut<S: GrowingShelf>(shelf: &mut S, name: &Word) -> bool
+// Checks the text while it stands whole, its first line once it is cut, and a file that a cut made:
+// one that isn't there is cut to no bytes, and grows by 3.
+fn check_growth<S: GrowingShelf>(
+    rt: &(impl AllocGlobal + Abort),
+    shelf: &mut S,
+    name: &str,
+    new: &str,
+)
     requires closed { (S.state shelf.old).draft ≡ None }
 {
-    shelf.cut(name, 0) == Ok(true) && shelf.extend(name, b"row") == Ok(3)
+    let (name, new) = (word(rt, name), word(rt, new));
+    grows(rt, shelf, &name);
+    check_read(rt, shelf, &name, 18, "row,account\n1,ann\n");
+    is_cut(rt, shelf, &name);
+    check_read(rt, shelf, &name, 18, "row,account\n");
+    check(rt, shelf.cut(&new, 0), Ok(true));
+    check(rt, shelf.extend(&new, b"row"), Ok(3));
+    check_read(rt, shelf, &new, 3, "row");
 }
 
-// Shows the text while it stands whole, its first line once it is cut, and a file that a cut made.
-fn all_calls<S: GrowingShelf>(shelf: &mut S, alloc: Global, name: &Word, new: &Word) -> bool
-    requires closed { (S.state shelf.old).draft ≡ None }
-{
-    grows(shelf, name)
-        && reads(shelf, alloc, name, 18, TEXT)
-        && is_cut(shelf, name)
-        && reads(shelf, alloc, name, 18, b"row,account\n")
-        && is_made_by_a_cut(shelf, new)
-        && reads(shelf, alloc, new, 3, b"row")
-}
-
-fn over_memory(alloc: Global) -> Option<bool> {
-    let name = word(alloc, "audit.csv")?;
-    let new = word(alloc, "alerts.csv")?;
-    let mut shelf = MemoryShelf::new(alloc, 4, Calls::new(alloc));
-    Some(all_calls(&mut shelf, alloc, &name, &new))
-}
-
-fn over_sure_files(alloc: Global) -> Option<bool> {
-    let name = word(alloc, "audit.csv")?;
-    let new = word(alloc, "alerts.csv")?;
-    let mut shelf = SureShelf::new(alloc, 4);
-    let stored = store(&mut shelf, &name, b"") == Ok(());
-    Some(stored && all_calls(&mut shelf, alloc, &name, &new))
+fn check_sure(rt: &(impl AllocGlobal + Abort)) {
+    let mut shelf = SureShelf::new(rt.alloc(), 4);
+    check(rt, store(&mut shelf, &word(rt, "audit.csv"), b""), Ok(()));
+    check_growth(rt, &mut shelf, "audit.csv", "alerts.csv");
 }
 
 #[test]
 fn files_in_memory_grow(rt: HostRuntime) {
-    assert_eq!(rt; over_memory(rt.alloc()), Some(true));
-    assert_eq!(rt; over_sure_files(rt.alloc()), Some(true));
+    check_growth(&rt, &mut shelf_of(&rt, 4, &[]), "audit.csv", "alerts.csv");
+    check_sure(&rt);
 }
 
-// What a file holds if this write of 16 bytes at most fails, and whether one fails.
-fn left_by(call: u64) -> (&'static [u8], bool) {
-    match call {
-        0 => (b"", true),
-        1 => (b"sink,row,account", true),
-        2 => (b"sink,row,account,merchant,amount", true),
-        _ => (b"sink,row,account,merchant,amount,tags\n", false),
-    }
+/// A text of three pieces of 16 bytes.
+const TEXT: &str = "sink,row,account,merchant,amount,tags\n";
+
+/// What a file holds if a write of 16 bytes at most fails, by the number of the write.
+static LEFT: &[(u64, &str)] = &[
+    (0, ""),
+    (1, "sink,row,account"),
+    (2, "sink,row,account,merchant,amount"),
+];
+
+// Checks that the text stands up to the call that fails.
+fn check_prefix(rt: &(impl AllocGlobal + Abort), name: &Word, call: u64, text: &str) {
+    let mut shelf = shelf_of(rt, 16, &[call.saturating_add(1)]);
+    check(rt, shelf.cut(name, 0), Ok(true));
+    let grown = extend_all(&mut shelf, name, TEXT.as_bytes());
+    check(rt, grown, Err(ShelfFault::Failed));
+    check_file(rt, shelf.get(name), text);
+    check_failed(rt, &shelf, (0, 1), "alerts.csv");
 }
 
-// Whether a text of three pieces of 16 bytes stands up to the call that fails.
-fn is_a_prefix(alloc: Global, call: u64) -> Option<bool> {
-    let name = word(alloc, "alerts.csv")?;
-    let failing = Calls::from_slice(alloc, &[call.saturating_add(1)]).ok()?;
-    let mut shelf = MemoryShelf::new(alloc, 16, failing);
-    let begun = shelf.cut(&name, 0) == Ok(true);
-    let grown = extend_all(
-        &mut shelf,
-        &name,
-        b"sink,row,account,merchant,amount,tags\n",
-    );
-    let (text, fails) = left_by(call);
-    Some(if fails {
-        begun
-            && grown == Err(ShelfFault::Failed)
-            && holds(&shelf, &name, text)
-            && has_failed(&shelf, (0, 1), "alerts.csv")
-    } else {
-        begun && grown == Ok(()) && holds(&shelf, &name, text)
-    })
+// Checks that all stands if the call after the last write is to fail.
+fn check_whole(rt: &(impl AllocGlobal + Abort), name: &Word) {
+    let mut shelf = shelf_of(rt, 16, &[4]);
+    check(rt, shelf.cut(name, 0), Ok(true));
+    check(rt, extend_all(&mut shelf, name, TEXT.as_bytes()), Ok(()));
+    check_file(rt, shelf.get(name), TEXT);
 }
 
 #[test]
 fn a_write_that_fails_leaves_a_proper_prefix(rt: HostRuntime) {
-    for call in 0..4 {
-        assert_eq!(rt; is_a_prefix(rt.alloc(), call), Some(true), "call {call}");
+    let name = word(&rt, "alerts.csv");
+    for (call, text) in LEFT {
+        check_prefix(&rt, &name, *call, text);
     }
+    check_whole(&rt, &name);
 }
 
 // A cut that fails, and one of a short file that isn't there, change nothing.
-fn stays(alloc: Global) -> Option<bool> {
-    let name = word(alloc, "alerts.csv")?;
-    let mut shelf = MemoryShelf::new(alloc, 4, Calls::from_slice(alloc, &[0]).ok()?);
-    let failed = shelf.cut(&name, 0) == Err(ShelfFault::Failed);
-    let short = shelf.cut(&name, 1) == Ok(false);
-    Some(failed && short && shelf.get(&name).is_none() && has_failed(&shelf, (0, 1), "alerts.csv"))
-}
-
 #[test]
 fn a_cut_that_fails_makes_no_file(rt: HostRuntime) {
-    assert_eq!(rt; stays(rt.alloc()), Some(true));
+    let name = word(&rt, "alerts.csv");
+    let mut shelf = shelf_of(&rt, 4, &[0]);
+    check(&rt, shelf.cut(&name, 0), Err(ShelfFault::Failed));
+    check(&rt, shelf.cut(&name, 1), Ok(false));
+    check(&rt, shelf.get(&name).is_none(), true);
+    check_failed(&rt, &shelf, (0, 1), "alerts.csv");
 }
 
 // A device takes each piece, and holds no bytes. A file in a folder that isn't there is refused.
-fn device_and_nowhere<R: Files + Print + Drop>(
-    shelf: &mut HostShelf<R>,
-    device: &Word,
-    nowhere: &Word,
-) -> bool
+fn check_others<R: Files + Print + Drop>(rt: &(impl AllocGlobal + Abort), shelf: &mut HostShelf<R>)
     requires closed { host_draft_of shelf.old ≡ None }
 {
-    shelf.extend(device, b"row") == Ok(3)
-        && shelf.cut(device, 0) == Ok(true)
-        && shelf.cut(device, 1) == Ok(false)
-        && shelf.extend(nowhere, b"row") == Err(ShelfFault::Failed)
-        && shelf.cut(nowhere, 0) == Err(ShelfFault::Failed)
-        && shelf.why() == Some(HostFault::Missing)
-}
-
-fn files_of_the_system<R: Files + Print + Drop>(alloc: Global, rt: R) -> Option<bool> {
-    let name = word(alloc, "grown.tmp")?;
-    let new = word(alloc, "made_by_a_cut.tmp")?;
-    let mut shelf = HostShelf::new(rt, alloc);
-    Some(all_calls(&mut shelf, alloc, &name, &new))
-}
-
-fn others_of_the_system<R: Files + Print + Drop>(alloc: Global, rt: R) -> Option<bool> {
-    let device = word(alloc, "/dev/null")?;
-    let nowhere = word(alloc, "no_such_folder/file")?;
-    let mut shelf = HostShelf::new(rt, alloc);
-    Some(device_and_nowhere(&mut shelf, &device, &nowhere))
+    let device = word(rt, "/dev/null");
+    let nowhere = word(rt, "no_such_folder/file");
+    check(rt, shelf.extend(&device, b"row"), Ok(3));
+    check(rt, shelf.cut(&device, 0), Ok(true));
+    check(rt, shelf.cut(&device, 1), Ok(false));
+    check(rt, shelf.extend(&nowhere, b"row"), Err(ShelfFault::Failed));
+    check(rt, shelf.cut(&nowhere, 0), Err(ShelfFault::Failed));
+    check(rt, shelf.why(), Some(HostFault::Missing));
 }
 
 #[test]
 fn files_of_the_system_grow(rt: HostRuntime) {
-    assert_eq!(rt; files_of_the_system(rt.alloc(), rt), Some(true));
-    assert!(rt; fs::remove_file(&rt, "grown.tmp").is_ok());
-    assert!(rt; fs::remove_file(&rt, "made_by_a_cut.tmp").is_ok());
-    assert_eq!(rt; others_of_the_system(rt.alloc(), rt), Some(true));
+    let mut shelf = HostShelf::new(rt, rt.alloc());
+    check_growth(&rt, &mut shelf, "grown.tmp", "made_by_a_cut.tmp");
+    check_removed(&rt, "grown.tmp", true);
+    check_removed(&rt, "made_by_a_cut.tmp", true);
+    check_others(&rt, &mut HostShelf::new(rt, rt.alloc()));
 }

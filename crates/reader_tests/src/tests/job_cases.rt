@@ -2,7 +2,7 @@ use super::reading::{Case, Text};
 use job_file::{JobFault, Named, Part, Which};
 
 /// A piece of a job file, and what the reader answers.
-pub const CASES: &[Case] = &[
+pub static CASES: &[Case] = &[
     (Text::File, "columns = [\n", Err(JobFault::NotToml)),
     (Text::File, "node = []\nnode = []\n", Err(JobFault::NotToml)),
     (Text::File, "", Err(JobFault::Shape(Part::Columns))),

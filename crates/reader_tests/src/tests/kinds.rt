@@ -1,14 +1,13 @@
 // What the kind of a node says of it.
 use super::files::KINDS;
-use super::fixtures::job_in;
+use super::fixtures::{check, job_in};
 use jobs::{NodeDef, fan_out, is_free, is_replicate, is_source, is_split};
-use std::alloc::Global;
 
 /// Whether a node is a source, a split, a replicate, or of a free kind; its fan-out, its roof and
 /// its journals.
 type Told = (bool, bool, bool, bool, u32, u32, u32);
 
-const TOLD: [Told; 9] = [
+static TOLD: &[Told] = &[
     (true, false, false, false, 1, 1, 0),
     (false, true, false, true, 3, 4, 1),
     (false, false, false, true, 1, 1, 1),
@@ -32,22 +31,11 @@ fn told(node: &NodeDef) -> Told {
     )
 }
 
-fn told_at(alloc: Global, node: usize) -> Option<Told> {
-    let job = job_in(alloc, &[KINDS]).ok()?;
-    Some(told(job.nodes.as_slice().get(node)?))
-}
-
-/// The first node of which something else is told.
-fn first_wrong(alloc: Global) -> Option<usize> {
-    for (node, want) in TOLD.iter().enumerate() {
-        if told_at(alloc, node) != Some(*want) {
-            return Some(node);
-        }
-    }
-    None
-}
-
 #[test]
 fn kinds_are_told_apart(rt: HostRuntime) {
-    assert_eq!(rt; first_wrong(rt.alloc()), None);
+    let job = job_in(&rt, &[KINDS]);
+    check(&rt, job.nodes.len(), TOLD.len());
+    for (node, want) in job.nodes.as_slice().iter().zip(TOLD) {
+        check(&rt, told(node), *want);
+    }
 }

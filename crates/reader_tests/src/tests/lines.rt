@@ -1,8 +1,8 @@
 // Jobs of many nodes, edges or entries.
-use super::fixtures::{job_in, joined};
+use super::fixtures::{check, joined, push, read, repeated};
 use job_file::{JobFault, Which};
 use jobs::weight;
-use std::alloc::{AllocError, Global};
+use std::process::Abort;
 
 const FILTER: &str = "kind = \"filter\"\nwhen = []\n";
 
@@ -32,7 +32,7 @@ const SPLIT_2: &str = "kind = \"split\"\non = \"who\"\nby = \";\"\nmost = 2\n";
 /// weight of the job.
 type Line = (&'static [(u32, &'static str)], Result<u64, JobFault>);
 
-const LINES: &[Line] = &[
+static LINES: &[Line] = &[
     (&[(62, FILTER)], Ok(63)),
     (&[(63, FILTER)], Err(JobFault::Limit(Which::Nodes, 65))),
     (&[(9, SEVEN)], Err(JobFault::Ports(1))),
@@ -54,100 +54,87 @@ const LINES: &[Line] = &[
 
 const FIRST: &str = "columns = [\"who:text\"]\n[[node]]\nname = \"n0\"\nkind = \"source\"\n";
 
-fn in_line(alloc: Global, line: &[(u32, &str)]) -> Result<String, AllocError> {
-    let mut text = joined(alloc, &[FIRST])?;
-    push_line(&mut text, line)?;
-    Ok(text)
-}
-
-/// Adds the nodes of a line, and a sink after the last one.
-fn push_line(text: &mut String, line: &[(u32, &str)]) -> Result<(), AllocError> {
+/// A source, the nodes of a line, and a sink, each with an edge from the one before it.
+fn in_line(rt: &(impl AllocGlobal + Abort), line: &[(u32, &str)]) -> String {
+    let mut text = joined(rt, &[FIRST]);
     let mut last = 0u32;
     for (count, func) in line {
-        push_nodes(text, last, *count, func)?;
+        push_nodes(rt, &mut text, last, *count, func);
         last = last.wrapping_add(*count);
     }
-    let end = format!(in *text.allocator();
+    let end = format!(in rt.alloc();
         "[[node]]\nname = \"out\"\nkind = \"sink\"\ncolumns = []\n[[edge]]\nfrom = \"n{last}\"\nto = \"out\"\n"
-    )?;
-    text.push_str(end.as_str())
+    );
+    push(rt, &mut text, end);
+    text
 }
 
 /// Adds `count` nodes with this function, each with an edge from the one before it.
-fn push_nodes(text: &mut String, last: u32, count: u32, func: &str) -> Result<(), AllocError> {
+fn push_nodes(
+    rt: &(impl AllocGlobal + Abort),
+    text: &mut String,
+    first: u32,
+    count: u32,
+    func: &str,
+) {
     for i in 0..count {
-        push_node(text, last.wrapping_add(i), func)?;
-    }
-    Ok(())
-}
-
-fn push_node(text: &mut String, last: u32, func: &str) -> Result<(), AllocError> {
-    let next = last.wrapping_add(1);
-    let node = format!(in *text.allocator();
-        "[[node]]\nname = \"n{next}\"\n{func}[[edge]]\nfrom = \"n{last}\"\nto = \"n{next}\"\n"
-    )?;
-    text.push_str(node.as_str())
-}
-
-fn weight_in_line(alloc: Global, line: &[(u32, &str)]) -> Result<u64, JobFault> {
-    match in_line(alloc, line) {
-        Ok(text) => weight_of(alloc, text.as_str()),
-        Err(_) => Err(JobFault::NoMemory),
+        let last = first.wrapping_add(i);
+        let next = last.wrapping_add(1);
+        let node = format!(in rt.alloc();
+            "[[node]]\nname = \"n{next}\"\n{func}[[edge]]\nfrom = \"n{last}\"\nto = \"n{next}\"\n"
+        );
+        push(rt, text, node);
     }
 }
 
-fn weight_of(alloc: Global, text: &str) -> Result<u64, JobFault> {
-    match job_in(alloc, &[text]) {
+fn weight_of(rt: &(impl AllocGlobal + Abort), text: &str) -> Result<u64, JobFault> {
+    match read(rt, &[text]) {
         Ok(job) => Ok(weight(&job)),
         Err(fault) => Err(fault),
     }
 }
 
-/// The place of the first line that has another weight.
-fn first_wrong(alloc: Global) -> Option<usize> {
-    for (place, (line, want)) in LINES.iter().enumerate() {
-        if weight_in_line(alloc, line) != *want {
-            return Some(place);
-        }
-    }
-    None
-}
-
 #[test]
 fn nodes_in_a_line(rt: HostRuntime) {
-    assert_eq!(rt; first_wrong(rt.alloc()), None);
+    for (line, want) in LINES {
+        check(&rt, weight_of(&rt, in_line(&rt, line).as_str()), *want);
+    }
 }
 
-/// A source and a sink with this number of equal edges, and a table of this number of entries.
-fn many(alloc: Global, entries: u32, edges: u32) -> Result<String, AllocError> {
-    let mut text = joined(alloc, &["columns = [\"who:text\"]\n[tables.known]\n"])?;
+/// A number of entries of a table and of equal edges, and the weight of the job.
+static MANY: &[(u32, u32, Result<u64, JobFault>)] = &[
+    (4096, 1, Ok(1)),
+    (4097, 1, Err(JobFault::Limit(Which::Entries, 4097))),
+    (0, 128, Err(JobFault::Ports(0))),
+    (0, 129, Err(JobFault::Limit(Which::Edges, 129))),
+];
+
+/// A table of this number of entries, and a source and a sink with this number of equal edges.
+fn many(rt: &(impl AllocGlobal + Abort), entries: u32, edges: u32) -> String {
+    let mut text = joined(rt, &["columns = [\"who:text\"]\n[tables.known]\n"]);
     for i in 0..entries {
-        let entry = format!(in alloc; "k{i} = 7\n")?;
-        text.push_str(entry.as_str())?;
+        push(rt, &mut text, format!(in rt.alloc(); "k{i} = 7\n"));
     }
-    text.push_str("[[node]]\nname = \"in\"\nkind = \"source\"\n")?;
-    text.push_str("[[node]]\nname = \"out\"\nkind = \"sink\"\ncolumns = []\n")?;
-    for _ in 0..edges {
-        text.push_str("[[edge]]\nfrom = \"in\"\nto = \"out\"\n")?;
-    }
-    Ok(text)
+    let ends = repeated(rt, ENDS, "[[edge]]\nfrom = \"in\"\nto = \"out\"\n", edges);
+    joined(rt, &[text.as_str(), ends.as_str()])
 }
 
-fn weight_of_many(alloc: Global, entries: u32, edges: u32) -> Result<u64, JobFault> {
-    match many(alloc, entries, edges) {
-        Ok(text) => weight_of(alloc, text.as_str()),
-        Err(_) => Err(JobFault::NoMemory),
-    }
-}
+const ENDS: &str = "[[node]]
+name = \"in\"
+kind = \"source\"
+[[node]]
+name = \"out\"
+kind = \"sink\"
+columns = []
+";
 
 #[test]
 fn entries_and_edges_have_limits(rt: HostRuntime) {
-    for (entries, edges, want) in [
-        (4096, 1, Ok(1)),
-        (4097, 1, Err(JobFault::Limit(Which::Entries, 4097))),
-        (0, 128, Err(JobFault::Ports(0))),
-        (0, 129, Err(JobFault::Limit(Which::Edges, 129))),
-    ] {
-        assert_eq!(rt; weight_of_many(rt.alloc(), entries, edges), want);
+    for (entries, edges, want) in MANY {
+        check(
+            &rt,
+            weight_of(&rt, many(&rt, *entries, *edges).as_str()),
+            *want,
+        );
     }
 }

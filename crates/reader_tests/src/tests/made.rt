@@ -1,14 +1,14 @@
 // The rows that a generator makes. The values were computed by another program.
-use super::fixtures::{are, lines_of_rows};
+use super::fixtures::{check, check_text, lines_of_rows};
 use super::rows::{ONE_SOURCE, PLAIN, TWO_SOURCES, job_of};
+use jobs::Job;
 use payments::{PFault, make_rows};
 use std::alloc::Global;
-use tuple_trace::Bytes;
+use std::process::Abort;
 
-fn made(alloc: Global, columns: &str, behind: &str, seed: u64, rows: u64) -> Option<Bytes> {
-    let job = job_of(alloc, columns, behind)?;
-    let rows = make_rows(alloc, &job, seed, rows).ok()?;
-    lines_of_rows(alloc, rows.as_slice())
+fn made(rt: &(impl AllocGlobal + Abort), job: &Job, seed: u64, rows: u64) -> String {
+    let rows = make_rows(rt.alloc(), job, seed, rows).expect(rt, "rows");
+    lines_of_rows(rt, rows.as_slice())
 }
 
 const FIRST_OF_TWO_SOURCES: &str = " 1.1 k4;k2;k4 k7;k3;k9 2158 k5;k2;k1
@@ -22,23 +22,27 @@ const FIRST_OF_ONE_SOURCE: &str = " 0.1 k3;k5;k1 0 11583
 
 #[test]
 fn rows_are_made_by_draws(rt: HostRuntime) {
-    let two = made(rt.alloc(), PLAIN, TWO_SOURCES, 0, 3);
-    assert!(rt; are(two, FIRST_OF_TWO_SOURCES));
+    let two = job_of(&rt, PLAIN, TWO_SOURCES);
+    check_text(&rt, made(&rt, &two, 0, 3).as_bytes(), FIRST_OF_TWO_SOURCES);
     let columns = "\"account:text\", \"own:number:own\", \"amount:cents\"";
-    let one = made(rt.alloc(), columns, ONE_SOURCE, 1, 2);
-    assert!(rt; are(one, FIRST_OF_ONE_SOURCE));
+    let one = job_of(&rt, columns, ONE_SOURCE);
+    check_text(&rt, made(&rt, &one, 1, 2).as_bytes(), FIRST_OF_ONE_SOURCE);
 }
 
-// The fault of `rows` rows for a job of weight 4, if they have one: two sources lead to two nodes.
-fn fault_of(alloc: Global, rows: u64) -> Option<PFault> {
-    let job = job_of(alloc, PLAIN, TWO_SOURCES)?;
-    make_rows(alloc, &job, 0, rows).err()
+// The fault of so many rows, if they have one.
+fn fault_of(alloc: Global, job: &Job, rows: u64) -> Option<PFault> {
+    match make_rows(alloc, job, 0, rows) {
+        Ok(_) => None,
+        Err(fault) => Some(fault),
+    }
 }
 
+// The job has weight 4, since two sources lead to two nodes.
 #[test]
 fn too_many_rows_to_make(rt: HostRuntime) {
+    let job = job_of(&rt, PLAIN, TWO_SOURCES);
     let first_beyond = Some(PFault::TooMuch(262_145));
-    assert!(rt; fault_of(rt.alloc(), 0) == None);
-    assert!(rt; fault_of(rt.alloc(), 262_145) == first_beyond);
-    assert!(rt; fault_of(rt.alloc(), u64::MAX) == first_beyond);
+    check(&rt, fault_of(rt.alloc(), &job, 0), None);
+    check(&rt, fault_of(rt.alloc(), &job, 262_145), first_beyond);
+    check(&rt, fault_of(rt.alloc(), &job, u64::MAX), first_beyond);
 }

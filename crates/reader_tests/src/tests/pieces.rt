@@ -1,8 +1,9 @@
 // Pieces of an input, however its bytes come, and the records of each piece in turn.
+use super::fixtures::{check, check_text};
 use csv::{ByteRecord, ReaderBuilder};
 use input_pieces::{HostTap, MAX_RECORD, MemoryTap, PieceFault, Pieces, SureTap, Tap, TapStep};
-use std::alloc::Global;
-use tuple_trace::{Bytes, Items, NoMemory};
+use std::process::Abort;
+use tuple_trace::{Bytes, Items};
 
 /// Ten payments: quoted commas, quotes and line ends, both line ends, an empty line, and no line
 /// feed at the end.
@@ -35,112 +36,78 @@ card|ivy|end\"\"|9.99|;\
 wire|joe|last|8.80|;";
 
 // Adds the fields of a record.
-fn add_fields(cells: &ByteRecord, found: &mut Bytes) -> Result<(), NoMemory> {
+fn add_fields(rt: &impl Abort, cells: &ByteRecord, found: &mut Bytes) {
     for cell in cells.iter() {
-        found.extend_from_slice(cell)?;
-        found.push(b'|')?;
+        found.extend_from_slice(cell).expect(rt, "memory");
+        found.push(b'|').expect(rt, "memory");
     }
-    found.push(b';')
+    found.push(b';').expect(rt, "memory");
 }
 
 // Adds the records of a piece.
-fn add_records(alloc: Global, piece: &[u8], found: &mut Bytes) -> Result<(), NoMemory> {
+fn add_records(rt: &(impl AllocGlobal + Abort), piece: &[u8], found: &mut Bytes) {
     let mut builder = ReaderBuilder::new();
     builder.has_headers(false).flexible(true);
-    let mut reader = builder.from_reader(alloc, piece);
-    let mut cells = ByteRecord::new(alloc);
+    let mut reader = builder.from_reader(rt.alloc(), piece);
+    let mut cells = ByteRecord::new(rt.alloc());
     for _ in 0..piece.len() {
-        match reader.read_byte_record(&mut cells) {
-            Ok(true) => add_fields(&cells, found)?,
-            Ok(false) => return Ok(()),
-            Err(_) => return Err(NoMemory),
+        if !reader.read_byte_record(&mut cells).expect(rt, "a record") {
+            return;
         }
+        add_fields(rt, &cells, found);
     }
-    Ok(())
 }
 
-// The records of all pieces of a tap, one after another.
-fn records_of<T: Tap>(alloc: Global, tap: &mut T, found: &mut Bytes) -> Result<(), PieceFault> {
-    let mut pieces = Pieces::new(alloc);
+// Checks that the records of this tap are those of the ten payments.
+fn check_payments<T: Tap>(rt: &(impl AllocGlobal + Abort), tap: &mut T) {
+    let mut found = Bytes::new(rt.alloc());
+    let mut pieces = Pieces::new(rt.alloc());
     for _ in 0..1000 {
-        match pieces.next_piece(tap)? {
-            Some(piece) => add_records(alloc, piece.as_slice(), found)?,
-            None => return Ok(()),
+        match pieces.next_piece(tap).expect(rt, "a read") {
+            Some(piece) => add_records(rt, piece.as_slice(), &mut found),
+            None => break,
         }
     }
-    Ok(())
+    check(rt, pieces.is_over(), true);
+    check_text(rt, found.as_slice(), RECORDS);
 }
 
-// Whether the records of this tap are those of the ten payments.
-fn are_payments<T: Tap>(alloc: Global, tap: &mut T) -> bool {
-    let mut found = Bytes::new(alloc);
-    records_of(alloc, tap, &mut found) == Ok(()) && found.as_slice() == RECORDS.as_bytes()
+fn bytes_of(rt: &(impl AllocGlobal + Abort), text: &[u8]) -> Bytes {
+    Bytes::from_slice(rt.alloc(), text).expect(rt, "memory")
 }
 
 // A tap that gives so many bytes with each of its first reads.
-fn tap_of(alloc: Global, text: &str, reads: &[usize]) -> Result<MemoryTap, NoMemory> {
-    let mut steps = Items::new(alloc);
+pub fn tap_of(rt: &(impl AllocGlobal + Abort), text: &[u8], reads: &[usize]) -> MemoryTap {
+    let mut steps = Items::new(rt.alloc());
     for read in reads {
-        steps.push(TapStep::Gives(*read))?;
+        steps.push(TapStep::Gives(*read)).expect(rt, "memory");
     }
-    Ok(MemoryTap::new(Bytes::from_slice(alloc, text.as_bytes())?, steps))
-}
-
-fn is_read_in_two(alloc: Global, first: usize) -> Result<bool, NoMemory> {
-    let mut tap = tap_of(alloc, PAYMENTS, &[first])?;
-    Ok(are_payments(alloc, &mut tap))
+    MemoryTap::new(bytes_of(rt, text), steps)
 }
 
 #[test]
 fn each_cut(rt: HostRuntime) {
-    let mut well = true;
     for first in 1..=PAYMENTS.len() {
-        well &= is_read_in_two(rt.alloc(), first) == Ok(true);
+        check_payments(&rt, &mut tap_of(&rt, PAYMENTS.as_bytes(), &[first]));
     }
-    assert!(rt; well);
-}
-
-fn is_read_byte_by_byte(alloc: Global) -> Result<bool, NoMemory> {
-    let mut tap = SureTap::new(Bytes::from_slice(alloc, PAYMENTS.as_bytes())?, 1);
-    Ok(are_payments(alloc, &mut tap) && tap.left().is_empty())
 }
 
 #[test]
 fn each_byte_alone(rt: HostRuntime) {
-    assert!(rt; is_read_byte_by_byte(rt.alloc()) == Ok(true));
+    let mut tap = SureTap::new(bytes_of(&rt, PAYMENTS.as_bytes()), 1);
+    check_payments(&rt, &mut tap);
+    check(&rt, tap.left().len(), 0);
 }
 
 #[test]
 fn payments_of_a_reader(rt: HostRuntime) {
-    let mut tap = HostTap::new(PAYMENTS.as_bytes());
-    assert!(rt; are_payments(rt.alloc(), &mut tap));
+    check_payments(&rt, &mut HostTap::new(PAYMENTS.as_bytes()));
 }
 
-// Whether the next pieces are these, and no more.
-fn gives<T: Tap>(alloc: Global, tap: &mut T, expected: &[&str]) -> Result<bool, PieceFault> {
-    let mut pieces = Pieces::new(alloc);
-    let mut well = true;
-    for text in expected {
-        well &= match pieces.next_piece(tap)? {
-            Some(piece) => piece.as_slice() == text.as_bytes(),
-            None => false,
-        };
-    }
-    Ok(well && pieces.next_piece(tap)?.is_none() && pieces.is_over())
-}
+/// A text, how many bytes the first reads give, and the pieces.
+type Torn = (&'static str, &'static [usize], &'static [&'static str]);
 
-fn gives_read_so(
-    alloc: Global,
-    text: &str,
-    reads: &[usize],
-    expected: &[&str],
-) -> Result<bool, PieceFault> {
-    let mut tap = tap_of(alloc, text, reads)?;
-    gives(alloc, &mut tap, expected)
-}
-
-// (text, how many bytes the first reads give, pieces)
-const TORN: [(&str, &[usize], &[&str]); 10] = [
+static TORN: &[Torn] = &[
     ("", &[], &[]),
     ("a\nb\nc", &[], &["a\nb\n", "c"]),
     ("a\nb\n", &[1], &["a\nb\n"]),
@@ -153,71 +120,88 @@ const TORN: [(&str, &[usize], &[&str]); 10] = [
     ("\"x\"\"\n\"\ny\n", &[3, 2], &["\"x\"\"\n\"\ny\n"]),
 ];
 
+// Checks that the next pieces are these, and no more.
+fn check_pieces(rt: &(impl AllocGlobal + Abort), tap: &mut MemoryTap, want: &[&str]) {
+    let mut pieces = Pieces::new(rt.alloc());
+    for text in want {
+        let piece = pieces.next_piece(tap).expect(rt, "a read");
+        check_text(rt, piece.expect(rt, "a piece").as_slice(), text);
+    }
+    let end = pieces.next_piece(tap).expect(rt, "a read");
+    check(rt, end.is_none(), true);
+    check(rt, pieces.is_over(), true);
+}
+
 #[test]
 fn torn_quotes(rt: HostRuntime) {
-    let mut well = true;
-    for (text, reads, expected) in TORN {
-        well &= gives_read_so(rt.alloc(), text, reads, expected) == Ok(true);
+    for (text, reads, want) in TORN {
+        check_pieces(&rt, &mut tap_of(&rt, text.as_bytes(), reads), want);
     }
-    assert!(rt; well);
 }
 
-// What the first two calls answer for a record of so many bytes and a line feed: how many bytes
-// each piece has.
-fn lengths_of(alloc: Global, size: usize) -> Result<usize, PieceFault> {
-    let mut text = Bytes::from_vec(vec![in alloc; b'a'; size].map_err(|_| NoMemory)?);
-    text.push(b'\n')?;
-    let mut tap = MemoryTap::new(text, Items::new(alloc));
-    first_length(alloc, &mut tap)
-}
-
-// How many bytes the first piece has. A second call after a fault has to answer the same.
-fn first_length<T: Tap>(alloc: Global, tap: &mut T) -> Result<usize, PieceFault> {
-    let mut pieces = Pieces::new(alloc);
+// How many bytes the next piece has, or the fault.
+fn next_length(pieces: &mut Pieces, tap: &mut MemoryTap) -> Result<usize, PieceFault> {
     match pieces.next_piece(tap) {
         Ok(Some(piece)) => Ok(piece.len()),
         Ok(None) => Ok(0),
-        Err(_) => pieces.next_piece(tap).map(|_| 0),
+        Err(fault) => Err(fault),
     }
 }
 
-#[test]
-fn long_record(rt: HostRuntime) {
-    assert!(rt; lengths_of(rt.alloc(), MAX_RECORD - 1) == Ok(1_048_576));
-    assert!(rt; lengths_of(rt.alloc(), MAX_RECORD) == Err(PieceFault::Long));
+// The input is one record of so many bytes, and a line feed.
+fn record_tap(rt: &(impl AllocGlobal + Abort), size: usize) -> MemoryTap {
+    let mut text = Bytes::from_vec(vec![in rt.alloc(); b'a'; size].expect(rt, "memory"));
+    text.push(b'\n').expect(rt, "memory");
+    MemoryTap::new(text, Items::new(rt.alloc()))
 }
 
-// What a call gives, as a text: `-` at the end, `?` for a fault.
-fn next_text<T: Tap>(pieces: &mut Pieces, tap: &mut T, found: &mut Bytes) -> Result<(), NoMemory> {
-    match pieces.next_piece(tap) {
+// A second call after a fault has to answer the same.
+#[test]
+fn long_record(rt: HostRuntime) {
+    let mut pieces = Pieces::new(rt.alloc());
+    let longest = next_length(&mut pieces, &mut record_tap(&rt, MAX_RECORD - 1));
+    check(&rt, longest, Ok(1_048_576));
+    let mut pieces = Pieces::new(rt.alloc());
+    let mut longer = record_tap(&rt, MAX_RECORD);
+    check(
+        &rt,
+        next_length(&mut pieces, &mut longer),
+        Err(PieceFault::Long),
+    );
+    check(
+        &rt,
+        next_length(&mut pieces, &mut longer),
+        Err(PieceFault::Long),
+    );
+}
+
+// Adds what a call gives, as a text: `-` at the end, `?` for a fault.
+fn add_next(rt: &impl Abort, pieces: &mut Pieces, tap: &mut MemoryTap, found: &mut Bytes) {
+    let added = match pieces.next_piece(tap) {
         Ok(Some(piece)) => found.extend_from_slice(piece.as_slice()),
         Ok(None) => found.push(b'-'),
         Err(_) => found.push(b'?'),
-    }
+    };
+    added.expect(rt, "memory");
 }
 
-fn is_read_on(alloc: Global) -> Result<bool, NoMemory> {
-    let steps = [
-        TapStep::Gives(1),
-        TapStep::Fails,
-        TapStep::Gives(2),
-        TapStep::Fails,
-    ];
-    let steps = Items::from_slice(alloc, &steps)?;
-    let mut tap = MemoryTap::new(Bytes::from_slice(alloc, b"a\nb\n")?, steps);
-    let mut pieces = Pieces::new(alloc);
-    let mut found = Bytes::new(alloc);
-    for _ in 0..6 {
-        next_text(&mut pieces, &mut tap, &mut found)?;
-    }
-    Ok(
-        found.as_slice() == b"?a\n?b\n--".as_slice()
-            && tap.faults() == 2
-            && pieces.kept().is_empty(),
-    )
-}
+static FAILING: [TapStep; 4] = [
+    TapStep::Gives(1),
+    TapStep::Fails,
+    TapStep::Gives(2),
+    TapStep::Fails,
+];
 
 #[test]
 fn failing_read(rt: HostRuntime) {
-    assert!(rt; is_read_on(rt.alloc()) == Ok(true));
+    let steps = Items::from_slice(rt.alloc(), &FAILING).expect(&rt, "memory");
+    let mut tap = MemoryTap::new(bytes_of(&rt, b"a\nb\n"), steps);
+    let mut pieces = Pieces::new(rt.alloc());
+    let mut found = Bytes::new(rt.alloc());
+    for _ in 0..6 {
+        add_next(&rt, &mut pieces, &mut tap, &mut found);
+    }
+    check_text(&rt, found.as_slice(), "?a\n?b\n--");
+    check(&rt, tap.faults(), 2);
+    check(&rt, pieces.kept().len(), 0);
 }

@@ -1,13 +1,13 @@
 // Job files, and the first fault of each.
 use super::files::{CHAIN, PAYMENTS, ROOF};
-use super::fixtures::{boxed_job, job_in};
+use super::fixtures::{check, job_in, read, read_bytes};
 use super::{edge_cases, func_cases, job_cases};
 use job_file::{JobFault, faulty_is_no_job, files_have_one_fault};
 use jobs::{
     Job, functions_fit, jobs_have_one_fault, refused_is_unlawful, roofs_hold, weight,
     weights_settle, worker_count,
 };
-use std::alloc::Global;
+use std::process::Abort;
 
 /// The columns and a table of a small job.
 const COLUMNS: &str =
@@ -48,81 +48,67 @@ pub enum Text {
     Name,
     /// The edges of a source and a sink, and maybe nodes before them.
     Edges,
+    /// The edges of a filter behind a source, before two sinks.
+    Ways,
 }
 
-fn answer_of(alloc: Global, pieces: &[&str]) -> Answer {
-    match job_in(alloc, pieces) {
+fn answer_of(rt: &(impl AllocGlobal + Abort), pieces: &[&str]) -> Answer {
+    match read(rt, pieces) {
         Ok(_) => Ok(()),
         Err(fault) => Err(fault),
     }
 }
 
-fn answer_to(alloc: Global, text: Text, piece: &str) -> Answer {
+fn answer_to(rt: &(impl AllocGlobal + Abort), text: Text, piece: &str) -> Answer {
     let name = "[[node]]\nname = \"";
-    match text {
-        Text::File => answer_of(alloc, &[piece]),
-        Text::Columns => answer_of(alloc, &[piece, SOURCE, FILTER, REST]),
-        Text::Func => answer_of(alloc, &[COLUMNS, SOURCE, name, "x\"\n", piece, REST]),
-        Text::TwoWays => answer_of(alloc, &[COLUMNS, SOURCE, name, "x\"\n", piece, TWO_WAYS]),
-        Text::Name => answer_with_name(alloc, piece),
-        Text::Edges => answer_of(alloc, &[COLUMNS, SOURCE, OUT, piece]),
-    }
-}
-
-fn answer_with_name(alloc: Global, name: &str) -> Answer {
-    let node = "[[node]]\nname = \"";
     let sink = "\"\nkind = \"sink\"\ncolumns = []\n[[edge]]\nfrom = \"in\"\nto = \"";
-    answer_of(alloc, &[COLUMNS, SOURCE, node, name, sink, name, "\"\n"])
+    match text {
+        Text::File => answer_of(rt, &[piece]),
+        Text::Columns => answer_of(rt, &[piece, SOURCE, FILTER, REST]),
+        Text::Func => answer_of(rt, &[COLUMNS, SOURCE, name, "x\"\n", piece, REST]),
+        Text::TwoWays => answer_of(rt, &[COLUMNS, SOURCE, name, "x\"\n", piece, TWO_WAYS]),
+        Text::Name => answer_of(rt, &[COLUMNS, SOURCE, name, piece, sink, piece, "\"\n"]),
+        Text::Edges => answer_of(rt, &[COLUMNS, SOURCE, OUT, piece]),
+        Text::Ways => answer_of(rt, &[COLUMNS, edge_cases::NODES, piece]),
+    }
 }
 
-/// The first piece to which the reader answers otherwise.
-fn first_wrong(alloc: Global, cases: &[Case]) -> Option<&'static str> {
+fn check_answers(rt: &(impl AllocGlobal + Abort), cases: &[Case]) {
     for (text, piece, want) in cases {
-        if answer_to(alloc, *text, piece) != *want {
-            return Some(*piece);
-        }
+        assert!(rt; answer_to(rt, *text, piece) == *want, "{piece}");
     }
-    None
 }
 
 #[test]
 fn faults_and_where_they_stand(rt: HostRuntime) {
-    assert_eq!(rt; first_wrong(rt.alloc(), job_cases::CASES), None);
+    check_answers(&rt, job_cases::CASES);
 }
 
 #[test]
 fn functions_are_refused_where_they_stand(rt: HostRuntime) {
-    assert_eq!(rt; first_wrong(rt.alloc(), func_cases::CASES), None);
-}
-
-/// The first edges to which the reader answers otherwise.
-fn first_wrong_edges(alloc: Global) -> Option<&'static str> {
-    for (edges, want) in edge_cases::CASES {
-        if answer_of(alloc, &[COLUMNS, edge_cases::NODES, edges]) != *want {
-            return Some(*edges);
-        }
-    }
-    None
+    check_answers(&rt, func_cases::CASES);
 }
 
 #[test]
 fn edges_are_those_of_their_nodes(rt: HostRuntime) {
-    assert_eq!(rt; first_wrong_edges(rt.alloc()), None);
+    check_answers(&rt, edge_cases::CASES);
 }
 
 #[test]
 fn cycle_is_refused(rt: HostRuntime) {
-    let want = Err(JobFault::Cycle(0));
-    assert_eq!(rt; answer_of(rt.alloc(), &[edge_cases::RING]), want);
+    check_answers(&rt, edge_cases::RING);
 }
 
 /// How many nodes, edges and workers a job has, and its weight.
-fn sizes(alloc: Global, text: &str) -> Option<(usize, u32, u64, u64)> {
-    let job = job_in(alloc, &[text]).ok()?;
-    Some(sizes_of(&job))
-}
+type Sizes = (usize, u32, u64, u64);
 
-fn sizes_of(job: &Job) -> (usize, u32, u64, u64) {
+static EXAMPLES: &[(&str, Sizes)] = &[
+    (CHAIN, (3, 2, 2, 2)),
+    (PAYMENTS, (9, 8, 8, 14)),
+    (ROOF, (4, 3, 3, 7)),
+];
+
+fn sizes_of(job: &Job) -> Sizes {
     functions_fit(job);
     roofs_hold(job);
     weights_settle(job);
@@ -140,27 +126,21 @@ fn jobs_of_the_examples(rt: HostRuntime) {
     files_have_one_fault();
     jobs_have_one_fault();
     refused_is_unlawful();
-    for (text, want) in [
-        (CHAIN, (3, 2, 2, 2)),
-        (PAYMENTS, (9, 8, 8, 14)),
-        (ROOF, (4, 3, 3, 7)),
-    ] {
-        assert_eq!(rt; sizes(rt.alloc(), text), Some(want));
+    for (text, want) in EXAMPLES {
+        check(&rt, sizes_of(&job_in(&rt, &[text])), *want);
     }
 }
 
 /// Whether the first `end` bytes of a file are a job.
-fn is_read(alloc: Global, text: &str, end: usize) -> bool {
-    match text.as_bytes().get(..end) {
-        Some(bytes) => boxed_job(alloc, bytes).is_ok(),
-        None => false,
-    }
+fn is_read(rt: &(impl AllocGlobal + Abort), text: &str, end: usize) -> bool {
+    let bytes = text.as_bytes().get(..end).expect(rt, "a text");
+    read_bytes(rt, bytes).is_ok()
 }
 
 #[test]
 fn a_file_cut_anywhere(rt: HostRuntime) {
     for end in 0..CHAIN.len() {
         let all_but_the_line_feed = end + 1 == CHAIN.len();
-        assert!(rt; is_read(rt.alloc(), CHAIN, end) == all_but_the_line_feed);
+        check(&rt, is_read(&rt, CHAIN, end), all_but_the_line_feed);
     }
 }

@@ -2,7 +2,7 @@ use super::requesting::{Asked, RequestText};
 use job_file::{Part, ReqFileFault, Which};
 
 /// A piece of a request file, and how many requests the reader answers.
-pub const CASES: &[(RequestText, &'static str, Asked)] = &[
+pub static CASES: &[(RequestText, &'static str, Asked)] = &[
     (RequestText::File, "", Ok(0)),
     (RequestText::File, "request = []\n", Ok(0)),
     (

@@ -1,11 +1,11 @@
 // Request files, and the first fault of each.
 use super::files::{PAYMENTS, REQUESTS};
-use super::fixtures::{job_in, joined, requests_in};
+use super::fixtures::{check, job_in, joined, repeated, requests_in};
 use super::request_cases;
-use job_file::{ReqFileFault, Which};
+use job_file::{ReqFileFault, Which, read_requests};
 use jobs::Func;
 use keyed_state::Carry;
-use std::alloc::{AllocError, Global};
+use std::process::Abort;
 use versions::Request;
 
 /// How many requests a reader finds in a file.
@@ -26,103 +26,89 @@ const REQUEST: &str = "[[request]]\nafter = 4\n[[request.change]]\n";
 
 const CARRIED: &str = "node = \"tally\"\nfrom = 0\nkind = \"source\"\ncarry = ";
 
-fn asked(alloc: Global, pieces: &[&str]) -> Asked {
-    match job_in(alloc, &[PAYMENTS]) {
-        Ok(job) => Ok(requests_in(alloc, &job, pieces)?.len()),
-        Err(_) => Err(ReqFileFault::NoMemory),
+fn asked(rt: &(impl AllocGlobal + Abort), pieces: &[&str]) -> Asked {
+    let job = job_in(rt, &[PAYMENTS]);
+    let text = joined(rt, pieces);
+    match read_requests(rt.alloc(), &job, text.as_bytes()) {
+        Ok(requests) => Ok(requests.len()),
+        Err(fault) => Err(fault),
     }
 }
 
-fn asked_by(alloc: Global, text: RequestText, piece: &str) -> Asked {
+fn asked_by(rt: &(impl AllocGlobal + Abort), text: RequestText, piece: &str) -> Asked {
     match text {
-        RequestText::File => asked(alloc, &[piece]),
-        RequestText::Change => asked(alloc, &[REQUEST, piece]),
-        RequestText::Carry => asked(alloc, &[REQUEST, CARRIED, piece, "\n"]),
+        RequestText::File => asked(rt, &[piece]),
+        RequestText::Change => asked(rt, &[REQUEST, piece]),
+        RequestText::Carry => asked(rt, &[REQUEST, CARRIED, piece, "\n"]),
     }
-}
-
-/// The first piece to which the reader answers otherwise.
-fn first_wrong(alloc: Global) -> Option<&'static str> {
-    for (text, piece, want) in request_cases::CASES {
-        if asked_by(alloc, *text, piece) != *want {
-            return Some(*piece);
-        }
-    }
-    None
 }
 
 #[test]
 fn faults_of_requests(rt: HostRuntime) {
-    assert_eq!(rt; first_wrong(rt.alloc()), None);
-}
-
-fn repeated(alloc: Global, head: &str, piece: &str, count: u32) -> Result<String, AllocError> {
-    let mut text = joined(alloc, &[head])?;
-    for _ in 0..count {
-        text.push_str(piece)?;
-    }
-    Ok(text)
-}
-
-fn asked_often(alloc: Global, head: &str, piece: &str, count: u32) -> Asked {
-    match repeated(alloc, head, piece, count) {
-        Ok(text) => asked(alloc, &[text.as_str()]),
-        Err(_) => Err(ReqFileFault::NoMemory),
+    for (text, piece, want) in request_cases::CASES {
+        assert!(rt; asked_by(&rt, *text, piece) == *want, "{piece}");
     }
 }
+
+const NO_CHANGE: &str = "[[request]]\nafter = 1\n";
+
+const CHANGE: &str = "[[request.change]]\nnode = \"big\"\nfrom = 0\nkind = \"source\"\n";
+
+/// The head of a request file, what follows it so many times, and what the reader answers.
+static LIMITS: &[(&str, &str, u32, Asked)] = &[
+    ("", NO_CHANGE, 64, Ok(64)),
+    (
+        "",
+        NO_CHANGE,
+        65,
+        Err(ReqFileFault::Limit(Which::Requests, 65)),
+    ),
+    (NO_CHANGE, CHANGE, 64, Ok(1)),
+    (
+        NO_CHANGE,
+        CHANGE,
+        65,
+        Err(ReqFileFault::Limit(Which::Changes, 65)),
+    ),
+];
 
 #[test]
 fn requests_and_changes_have_limits(rt: HostRuntime) {
-    let request = "[[request]]\nafter = 1\n";
-    let change = "[[request.change]]\nnode = \"big\"\nfrom = 0\nkind = \"source\"\n";
-    for (head, piece, count, want) in [
-        ("", request, 64, Ok(64)),
-        (
-            "",
-            request,
-            65,
-            Err(ReqFileFault::Limit(Which::Requests, 65)),
-        ),
-        (request, change, 64, Ok(1)),
-        (
-            request,
-            change,
-            65,
-            Err(ReqFileFault::Limit(Which::Changes, 65)),
-        ),
-    ] {
-        assert_eq!(rt; asked_often(rt.alloc(), head, piece, count), want);
+    for (head, piece, count, want) in LIMITS {
+        let text = repeated(&rt, head, piece, *count);
+        check(&rt, asked(&rt, &[text.as_str()]), *want);
     }
 }
 
 /// A request whose first change is a filter: its row, the node, the version, the carry, and the
 /// number of conditions.
-type Told = (u64, u32, u64, Carry, usize);
+type Told = (u64, u32, u64, Carry, Option<usize>);
 
-fn told(request: &Request) -> Option<Told> {
-    let change = request.changes.as_slice().first()?;
-    match &change.func {
-        Func::Filter(conds) => Some((
-            request.after,
-            change.node,
-            change.from,
-            change.carry,
-            conds.len(),
-        )),
+static TOLD: &[Told] = &[
+    (4, 3, 0, Carry::Keep, Some(1)),
+    (8, 7, 0, Carry::Keep, Some(1)),
+    (9, 3, 0, Carry::Keep, Some(1)),
+];
+
+fn told(rt: &impl Abort, request: &Request) -> Told {
+    let change = request.changes.as_slice().first().expect(rt, "a change");
+    let conds = match &change.func {
+        Func::Filter(conds) => Some(conds.len()),
         _ => None,
-    }
+    };
+    (request.after, change.node, change.from, change.carry, conds)
 }
 
-fn told_at(alloc: Global, place: usize) -> Option<Told> {
-    let job = job_in(alloc, &[PAYMENTS]).ok()?;
-    let requests = requests_in(alloc, &job, &[REQUESTS]).ok()?;
-    told(requests.as_slice().get(place)?)
+fn check_told(rt: &impl Abort, requests: &[Request]) {
+    check(rt, requests.len(), TOLD.len());
+    for (request, want) in requests.iter().zip(TOLD) {
+        check(rt, told(rt, request), *want);
+    }
 }
 
 #[test]
 fn requests_of_the_example(rt: HostRuntime) {
-    for (place, after, node) in [(0, 4, 3), (1, 8, 7), (2, 9, 3)] {
-        let want = Some((after, node, 0, Carry::Keep, 1));
-        assert!(rt; told_at(rt.alloc(), place) == want);
-    }
+    let job = job_in(&rt, &[PAYMENTS]);
+    let requests = requests_in(&rt, &job, &[REQUESTS]);
+    check_told(&rt, requests.as_slice());
 }

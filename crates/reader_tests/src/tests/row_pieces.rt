@@ -1,117 +1,93 @@
 // The rows of payments that come in pieces, and the first fault in them.
-use super::fixtures::lines_of_rows;
-use super::pieces::PAYMENTS;
+use super::fixtures::{check, check_text, lines_of_rows};
+use super::pieces::{PAYMENTS, tap_of};
 use super::rows::{ONE_SOURCE, TWO_SOURCES, job_of};
-use input_pieces::{MemoryTap, Pieces, TapStep};
+use input_pieces::{MemoryTap, Pieces};
 use jobs::Job;
 use payments::{PFault, read_rows};
-use std::alloc::Global;
+use std::process::Abort;
 use stream_rows::{RowReader, SoundRows, most_rows};
-use tuple_trace::{Bytes, Items, NoMemory};
+use tuple_trace::Bytes;
 
-/// The rows of a text as lines, and its fault.
+/// The rows of a text as lines, how many they are, and its fault.
 #[derive(Drop)]
 struct Found {
-    lines: Bytes,
+    lines: String,
     rows: usize,
     fault: Option<PFault>,
 }
 
-fn add_rows(alloc: Global, sound: &SoundRows, found: &mut Found) -> Result<(), NoMemory> {
+fn add_rows(rt: &(impl AllocGlobal + Abort), sound: &SoundRows, found: &mut Found) {
     found.rows = found.rows.saturating_add(sound.rows.len());
     found.fault = sound.fault;
-    match lines_of_rows(alloc, sound.rows.as_slice()) {
-        Some(lines) => found.lines.extend_from_slice(lines.as_slice()),
-        None => Err(NoMemory),
-    }
+    let lines = lines_of_rows(rt, sound.rows.as_slice());
+    found.lines.push_str(lines.as_str()).expect(rt, "memory");
 }
 
 // Reads one piece more. At the end, and after a fault, it says so.
-fn read_piece(
-    alloc: Global,
+fn is_last(
+    rt: &(impl AllocGlobal + Abort),
     job: &Job,
     piece: Option<Bytes>,
     reader: &mut RowReader,
     found: &mut Found,
-) -> Result<bool, NoMemory> {
-    match piece {
-        Some(piece) => {
-            let sound = reader.read(alloc, job, piece.as_slice())?;
-            add_rows(alloc, &sound, found)?;
-            Ok(sound.fault.is_some())
-        }
-        None => {
-            found.fault = reader.at_end();
-            Ok(true)
-        }
-    }
+) -> bool {
+    let Some(piece) = piece else {
+        found.fault = reader.at_end();
+        return true;
+    };
+    let sound = reader
+        .read(rt.alloc(), job, piece.as_slice())
+        .expect(rt, "memory");
+    add_rows(rt, &sound, found);
+    sound.fault.is_some()
 }
 
-fn read_all(
-    alloc: Global,
-    job: &Job,
-    tap: &mut MemoryTap,
-    found: &mut Found,
-) -> Result<(), NoMemory> {
-    let mut pieces = Pieces::new(alloc);
+// Reads all pieces of a tap.
+fn read_all(rt: &(impl AllocGlobal + Abort), job: &Job, tap: &mut MemoryTap, found: &mut Found) {
+    let mut pieces = Pieces::new(rt.alloc());
     let mut reader = RowReader::new();
     for _ in 0..1000 {
-        let Ok(piece) = pieces.next_piece(tap) else {
-            return Err(NoMemory);
-        };
-        if read_piece(alloc, job, piece, &mut reader, found)? {
-            return Ok(());
+        let piece = pieces.next_piece(tap).expect(rt, "a read");
+        if is_last(rt, job, piece, &mut reader, found) {
+            return;
         }
     }
-    Err(NoMemory)
+    assert!(rt; false, "a thousand pieces");
 }
 
 // What is found in a text whose first read gives so many bytes.
-fn found_in(alloc: Global, job: &Job, text: &[u8], first: usize) -> Result<Found, NoMemory> {
-    let mut tap = MemoryTap::new(
-        Bytes::from_slice(alloc, text)?,
-        Items::from_slice(alloc, &[TapStep::Gives(first)])?,
-    );
+fn found_in(rt: &(impl AllocGlobal + Abort), job: &Job, text: &[u8], first: usize) -> Found {
     let mut found = Found {
-        lines: Bytes::new(alloc),
+        lines: String::new(rt.alloc()),
         rows: 0,
         fault: None,
     };
-    read_all(alloc, job, &mut tap, &mut found)?;
-    Ok(found)
+    read_all(rt, job, &mut tap_of(rt, text, &[first]), &mut found);
+    found
 }
 
-fn has_lines(alloc: Global, job: &Job, text: &[u8], first: usize, lines: &[u8]) -> bool {
-    match found_in(alloc, job, text, first) {
-        Ok(found) => found.lines.as_slice() == lines && found.fault.is_none(),
-        Err(_) => false,
-    }
+fn check_lines(rt: &(impl AllocGlobal + Abort), job: &Job, text: &[u8], first: usize, lines: &str) {
+    let found = found_in(rt, job, text, first);
+    check_text(rt, found.lines.as_bytes(), lines);
+    check(rt, found.fault, None);
 }
 
-// Whether the text, cut at each byte, has the rows that it has as a file.
-fn is_read_as_file(alloc: Global, job: &Job, text: &[u8]) -> Option<bool> {
-    let rows = read_rows(alloc, job, text).ok()?;
-    let lines = lines_of_rows(alloc, rows.as_slice())?;
-    let mut well = rows.len() == 10;
-    for first in 1..=text.len() {
-        well &= has_lines(alloc, job, text, first, lines.as_slice());
-    }
-    Some(well)
-}
-
-fn ten_payments_are_read(alloc: Global) -> Option<bool> {
-    let columns = "\"account:text\", \"merchant:text\", \"amount:cents\"";
-    let job = job_of(alloc, columns, TWO_SOURCES)?;
-    is_read_as_file(alloc, &job, PAYMENTS.as_bytes())
-}
-
+// Checks that the text, cut at each byte, has the rows that it has as a file.
 #[test]
 fn ten_payments_in_two_pieces(rt: HostRuntime) {
-    assert!(rt; ten_payments_are_read(rt.alloc()) == Some(true));
+    let columns = "\"account:text\", \"merchant:text\", \"amount:cents\"";
+    let job = job_of(&rt, columns, TWO_SOURCES);
+    let rows = read_rows(rt.alloc(), &job, PAYMENTS.as_bytes()).expect(&rt, "rows");
+    check(&rt, rows.len(), 10);
+    let lines = lines_of_rows(&rt, rows.as_slice());
+    for first in 1..=PAYMENTS.len() {
+        check_lines(&rt, &job, PAYMENTS.as_bytes(), first, lines.as_str());
+    }
 }
 
 /// Texts, how many rows come before their fault, and the fault.
-const TEXTS: [(&[u8], usize, Option<PFault>); 11] = [
+static TEXTS: &[(&[u8], usize, Option<PFault>)] = &[
     (b"", 0, Some(PFault::NoHeader)),
     (b"\r\n\n", 0, Some(PFault::NoHeader)),
     (b"source,who,sum", 0, None),
@@ -145,44 +121,32 @@ const TEXTS: [(&[u8], usize, Option<PFault>); 11] = [
     ),
 ];
 
-fn gives(
-    alloc: Global,
+fn check_found(
+    rt: &(impl AllocGlobal + Abort),
     job: &Job,
     text: &[u8],
     first: usize,
-    rows: usize,
-    fault: Option<PFault>,
-) -> bool {
-    match found_in(alloc, job, text, first) {
-        Ok(found) => found.rows == rows && found.fault == fault,
-        Err(_) => false,
-    }
-}
-
-fn texts_are_read(alloc: Global) -> Option<bool> {
-    let job = job_of(alloc, "\"who:text\", \"sum:cents\"", TWO_SOURCES)?;
-    let mut well = true;
-    for (text, rows, fault) in &TEXTS {
-        for first in 0..=text.len() {
-            well &= gives(alloc, &job, text, first, *rows, *fault);
-        }
-    }
-    Some(well)
+    want: (usize, Option<PFault>),
+) {
+    let found = found_in(rt, job, text, first);
+    check(rt, (found.rows, found.fault), want);
 }
 
 #[test]
 fn texts_in_two_pieces(rt: HostRuntime) {
-    assert!(rt; texts_are_read(rt.alloc()) == Some(true));
-}
-
-fn rows_of_a_part(alloc: Global, behind: &str) -> Option<usize> {
-    let job = job_of(alloc, "\"who:text\"", behind)?;
-    Some(most_rows(&job))
+    let job = job_of(&rt, "\"who:text\", \"sum:cents\"", TWO_SOURCES);
+    for (text, rows, fault) in TEXTS {
+        for first in 0..=text.len() {
+            check_found(&rt, &job, text, first, (*rows, *fault));
+        }
+    }
 }
 
 /// A row visits the sink alone. One of two sources visits the map and the sink, and each weighs 2.
 #[test]
 fn rows_of_parts(rt: HostRuntime) {
-    assert!(rt; rows_of_a_part(rt.alloc(), ONE_SOURCE) == Some(1_048_576));
-    assert!(rt; rows_of_a_part(rt.alloc(), TWO_SOURCES) == Some(262_144));
+    let one = job_of(&rt, "\"who:text\"", ONE_SOURCE);
+    check(&rt, most_rows(&one), 1_048_576);
+    let two = job_of(&rt, "\"who:text\"", TWO_SOURCES);
+    check(&rt, most_rows(&two), 262_144);
 }

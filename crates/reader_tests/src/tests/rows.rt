@@ -1,18 +1,17 @@
 // The rows of payments files, and their faults.
-use super::fixtures::{are, job_in, lines_of_rows};
+use super::fixtures::{check, check_text, job_in, joined, lines_of_rows, repeated};
 use jobs::{Job, weight};
 use payments::{PFault, read_rows};
-use std::alloc::Global;
-use tuple_trace::Bytes;
+use std::process::Abort;
 
 const CARD: &str = "[[node]]
 name = \"card\"
 kind = \"source\"
 ";
 
-// A job of a source `card`, another source, and what stands behind them.
-pub fn job_of(alloc: Global, columns: &str, behind: &str) -> Option<Box<Job>> {
-    job_in(alloc, &["columns = [", columns, "]\n", CARD, behind]).ok()
+/// A job of a source `card`, another source, and what stands behind them.
+pub fn job_of(rt: &(impl AllocGlobal + Abort), columns: &str, behind: &str) -> Box<Job> {
+    job_in(rt, &["columns = [", columns, "]\n", CARD, behind])
 }
 
 /// A sink behind the source.
@@ -50,41 +49,44 @@ to = \"alerts\"
 
 pub const PLAIN: &str = "\"account:text\", \"merchant:text\", \"amount:cents\", \"tags:text\"";
 
-fn rows_of(alloc: Global, columns: &str, behind: &str, payments: &[u8]) -> Option<Bytes> {
-    let job = job_of(alloc, columns, behind)?;
-    let rows = read_rows(alloc, &job, payments).ok()?;
-    lines_of_rows(alloc, rows.as_slice())
-}
+/// How many rows a file of payments has, or its fault.
+pub type Answer = Result<usize, PFault>;
 
-// How many rows there are, or their fault.
-fn answer(alloc: Global, job: &Job, payments: &[u8]) -> Result<usize, PFault> {
-    match read_rows(alloc, job, payments) {
+fn answer(rt: &(impl AllocGlobal + Abort), job: &Job, payments: &[u8]) -> Answer {
+    match read_rows(rt.alloc(), job, payments) {
         Ok(rows) => Ok(rows.len()),
         Err(fault) => Err(fault),
     }
 }
 
-fn answer_to(alloc: Global, columns: &str, behind: &str, payments: &[u8]) -> Result<usize, PFault> {
-    match job_of(alloc, columns, behind) {
-        Some(job) => answer(alloc, &job, payments),
-        None => Err(PFault::NoMemory),
+fn check_answers(
+    rt: &(impl AllocGlobal + Abort),
+    columns: &str,
+    behind: &str,
+    cases: &[(&[u8], Answer)],
+) {
+    let job = job_of(rt, columns, behind);
+    for (payments, want) in cases {
+        check(rt, answer(rt, &job, payments), *want);
     }
 }
 
-/// Payments, and how many rows there are, or their fault.
-type Case<'a> = (&'a [u8], Result<usize, PFault>);
+/// Columns, what stands behind the source, payments, and their rows as lines.
+type Case = (&'static str, &'static str, &'static [u8], &'static str);
 
-// Whether each text has its answer.
-fn all_answered(alloc: Global, columns: &str, behind: &str, cases: &[Case<'_>]) -> bool {
-    let mut answered = true;
-    for (payments, answer) in cases {
-        answered &= answer_to(alloc, columns, behind, payments) == *answer;
+fn check_rows(rt: &(impl AllocGlobal + Abort), cases: &[Case]) {
+    for (columns, behind, payments, want) in cases {
+        check_lines(rt, &job_of(rt, columns, behind), payments, want);
     }
-    answered
+}
+
+fn check_lines(rt: &(impl AllocGlobal + Abort), job: &Job, payments: &[u8], want: &str) {
+    let rows = read_rows(rt.alloc(), job, payments).expect(rt, "rows");
+    check_text(rt, lines_of_rows(rt, rows.as_slice()).as_bytes(), want);
 }
 
 /// A seventh row that is short, and an amount with a third digit.
-const FAULTS: [(&[u8], Result<usize, PFault>); 2] = [
+static FAULTS: &[(&[u8], Answer)] = &[
     (
         b"source,account,merchant,amount,tags
 card,a,m,99.99,
@@ -105,19 +107,24 @@ card,a,m,99.99
 
 #[test]
 fn payment_faults(rt: HostRuntime) {
-    assert!(rt; all_answered(rt.alloc(), PLAIN, ONE_SOURCE, FAULTS.as_slice()));
+    check_answers(&rt, PLAIN, ONE_SOURCE, FAULTS);
 }
+
+static QUOTED: &[Case] = &[(
+    PLAIN,
+    ONE_SOURCE,
+    b"source,account,merchant,amount,tags\r\ncard,ann,\"A, \"\"B\"\" Ltd\",12.00,\r\n",
+    " 0.1 ann A, \"B\" Ltd 1200 \n",
+)];
 
 #[test]
 fn quoted_merchant(rt: HostRuntime) {
-    let text = b"source,account,merchant,amount,tags\r\ncard,ann,\"A, \"\"B\"\" Ltd\",12.00,\r\n";
-    let rows = rows_of(rt.alloc(), PLAIN, ONE_SOURCE, text);
-    assert!(rt; are(rows, " 0.1 ann A, \"B\" Ltd 1200 \n"));
+    check_rows(&rt, QUOTED);
 }
 
 const WHO_AND_SUM: &str = "\"who:text\", \"sum:cents\"";
 
-const FORMS: [(&[u8], Result<usize, PFault>); 15] = [
+static FORMS: &[(&[u8], Answer)] = &[
     (b"", Err(PFault::NoHeader)),
     (b"\r\n\n", Err(PFault::NoHeader)),
     (b"source,who,sum", Ok(0)),
@@ -143,78 +150,70 @@ const FORMS: [(&[u8], Result<usize, PFault>); 15] = [
 
 #[test]
 fn payments_of_every_form(rt: HostRuntime) {
-    assert!(rt; all_answered(rt.alloc(), WHO_AND_SUM, TWO_SOURCES, FORMS.as_slice()));
+    check_answers(&rt, WHO_AND_SUM, TWO_SOURCES, FORMS);
 }
 
-/// A cell, and what it is read as in a column of numbers and of cents: the field, or `x` for a
-/// fault.
-const SPELLINGS: &str = "12 12 1200
-12.5 x 1250
-12.50 x 1250
-12.505 x x
--0.05 x -5
--007 -7 -700
-.5 x x
-1. x x
-1.-5 x x
-1.2.3 x x
-+1 x x
-- x x
---1 x x
- x x
-92233720368547758.07 x 9223372036854775807
-92233720368547758.08 x x
--92233720368547758.08 x -9223372036854775808
--92233720368547758.09 x x
-9223372036854775807 9223372036854775807 x
--9223372036854775808 -9223372036854775808 x
--9223372036854775809 x x
-18446744073709551617 x x
-000000000000000000000000000000042 42 4200";
+/// A cell, and the fields that it is read as in a column of numbers and in one of cents. `None` is
+/// a fault.
+static SPELLINGS: &[(&str, Option<&str>, Option<&str>)] = &[
+    ("12", Some("12"), Some("1200")),
+    ("12.5", None, Some("1250")),
+    ("12.50", None, Some("1250")),
+    ("12.505", None, None),
+    ("-0.05", None, Some("-5")),
+    ("-007", Some("-7"), Some("-700")),
+    (".5", None, None),
+    ("1.", None, None),
+    ("1.-5", None, None),
+    ("1.2.3", None, None),
+    ("+1", None, None),
+    ("-", None, None),
+    ("--1", None, None),
+    ("", None, None),
+    ("92233720368547758.07", None, Some("9223372036854775807")),
+    ("92233720368547758.08", None, None),
+    ("-92233720368547758.08", None, Some("-9223372036854775808")),
+    ("-92233720368547758.09", None, None),
+    ("9223372036854775807", Some("9223372036854775807"), None),
+    ("-9223372036854775808", Some("-9223372036854775808"), None),
+    ("-9223372036854775809", None, None),
+    ("18446744073709551617", None, None),
+    (
+        "000000000000000000000000000000042",
+        Some("42"),
+        Some("4200"),
+    ),
+];
 
-// Whether a cell is read as this field in a column of this kind.
-fn reads_as(alloc: Global, column: &str, cell: &str, want: &str) -> bool {
-    let Ok(text) = format!(in alloc; "source,a\ncard,{cell}\n") else {
-        return false;
-    };
-    if want == "x" {
-        return answer_to(alloc, column, ONE_SOURCE, text.as_bytes()) == Err(PFault::Value(1, 0));
-    }
-    match format!(in alloc; " 0.1 {want}\n") {
-        Ok(line) => are(
-            rows_of(alloc, column, ONE_SOURCE, text.as_bytes()),
-            line.as_str(),
-        ),
-        Err(_) => false,
-    }
-}
-
-fn is_spelled(alloc: Global, line: &str) -> bool {
-    let Some((cell, wants)) = line.split_once(" ") else {
-        return false;
-    };
-    match wants.split_once(" ") {
-        Some((number, cents)) => {
-            reads_as(alloc, "\"a:number\"", cell, number)
-                && reads_as(alloc, "\"a:cents\"", cell, cents)
+// Checks what a cell is read as in a column of this kind.
+fn check_cell(rt: &(impl AllocGlobal + Abort), column: &str, cell: &str, want: Option<&str>) {
+    let job = job_of(rt, column, ONE_SOURCE);
+    let text = joined(rt, &["source,a\ncard,", cell, "\n"]);
+    match want {
+        Some(field) => {
+            let line = joined(rt, &[" 0.1 ", field, "\n"]);
+            check_lines(rt, &job, text.as_bytes(), line.as_str());
         }
-        None => false,
+        None => check(
+            rt,
+            answer(rt, &job, text.as_bytes()),
+            Err(PFault::Value(1, 0)),
+        ),
     }
-}
-
-fn are_spelled(alloc: Global, lines: &str) -> bool {
-    lines.split("\n").all(|line| is_spelled(alloc, line))
 }
 
 #[test]
 fn numbers_and_amounts(rt: HostRuntime) {
-    assert!(rt; are_spelled(rt.alloc(), SPELLINGS));
+    for (cell, number, cents) in SPELLINGS {
+        check_cell(&rt, "\"a:number\"", cell, *number);
+        check_cell(&rt, "\"a:cents\"", cell, *cents);
+    }
 }
 
 const OWN_BETWEEN: &str =
     "\"risk:number:own\", \"who:text\", \"note:text:own\", \"seen:cents:own\", \"sum:cents\"";
 
-const BEHIND_OWN: [(&[u8], Result<usize, PFault>); 4] = [
+static BEHIND_OWN: &[(&[u8], Answer)] = &[
     (b"source,who,sum\ncard,ann,x\n", Err(PFault::Value(1, 4))),
     (
         b"source,who,sum\ncard,0123456789012345678901234567890123456789012345678,1\n",
@@ -227,12 +226,17 @@ const BEHIND_OWN: [(&[u8], Result<usize, PFault>); 4] = [
     ),
 ];
 
+static AROUND_OWN: &[Case] = &[(
+    OWN_BETWEEN,
+    TWO_SOURCES,
+    b"source,who,sum\nwire,ann,1.5\ncard,bob,2\n",
+    " 1.1 0 ann  0 150\n 0.2 0 bob  0 200\n",
+)];
+
 #[test]
 fn own_columns_in_between(rt: HostRuntime) {
-    let text = b"source,who,sum\nwire,ann,1.5\ncard,bob,2\n";
-    let rows = rows_of(rt.alloc(), OWN_BETWEEN, TWO_SOURCES, text);
-    assert!(rt; are(rows, " 1.1 0 ann  0 150\n 0.2 0 bob  0 200\n"));
-    assert!(rt; all_answered(rt.alloc(), OWN_BETWEEN, TWO_SOURCES, BEHIND_OWN.as_slice()));
+    check_rows(&rt, AROUND_OWN);
+    check_answers(&rt, OWN_BETWEEN, TWO_SOURCES, BEHIND_OWN);
 }
 
 /// Two splits into 16 and two maps before the sink. The weights are 1 at s, 16 at t, and 256 at
@@ -278,55 +282,46 @@ from = \"b\"
 to = \"alerts\"
 ";
 
-// A header, `rows` rows, and one more line.
-fn heavy_text(alloc: Global, rows: usize, last: &[u8]) -> Option<Bytes> {
-    let mut text = Bytes::from_slice(alloc, b"source\n").ok()?;
-    for _ in 0..rows {
-        text.extend_from_slice(b"card\n").ok()?;
-    }
-    text.extend_from_slice(last).ok()?;
-    Some(text)
-}
-
-// The answer to `rows` rows and one more line.
-fn heavy_answer(alloc: Global, rows: usize, last: &[u8]) -> Option<Result<usize, PFault>> {
-    let job = job_of(alloc, "\"tags:text:own\"", HEAVY)?;
-    let text = heavy_text(alloc, rows, last)?;
-    if weight(&job) == 785 {
-        Some(answer(alloc, &job, text.as_slice()))
-    } else {
-        None
-    }
-}
-
 #[test]
 fn first_row_past_the_limit(rt: HostRuntime) {
-    let beyond = Some(Err(PFault::TooMuch(1336)));
-    assert!(rt; heavy_answer(rt.alloc(), 1335, b"") == Some(Ok(1335)));
-    assert!(rt; heavy_answer(rt.alloc(), 1335, b"card,more\n") == beyond);
+    let job = job_of(&rt, "\"tags:text:own\"", HEAVY);
+    check(&rt, weight(&job), 785);
+    let most = repeated(&rt, "source\n", "card\n", 1335);
+    check(&rt, answer(&rt, &job, most.as_bytes()), Ok(1335));
+    let more = joined(&rt, &[most.as_str(), "card,more\n"]);
+    check(
+        &rt,
+        answer(&rt, &job, more.as_bytes()),
+        Err(PFault::TooMuch(1336)),
+    );
 }
 
 const TWELVE: &str =
     "\"a:number\", \"b:number\", \"c:number\", \"d:number\", \"e:number\", \"f:number\",
 \"g:number\", \"h:number\", \"i:number\", \"j:number\", \"k:number\", \"l:number\"";
 
-#[test]
-fn columns_of_every_number(rt: HostRuntime) {
-    let twelve = b"source,a,b,c,d,e,f,g,h,i,j,k,l\ncard,1,2,3,4,5,6,7,8,9,10,11,12\n";
-    let rows = rows_of(rt.alloc(), TWELVE, ONE_SOURCE, twelve);
-    assert!(rt; are(rows, " 0.1 1 2 3 4 5 6 7 8 9 10 11 12\n"));
-    let one = rows_of(
-        rt.alloc(),
+static COLUMNS: &[Case] = &[
+    (
+        TWELVE,
+        ONE_SOURCE,
+        b"source,a,b,c,d,e,f,g,h,i,j,k,l\ncard,1,2,3,4,5,6,7,8,9,10,11,12\n",
+        " 0.1 1 2 3 4 5 6 7 8 9 10 11 12\n",
+    ),
+    (
         "\"a:number\"",
         ONE_SOURCE,
         b"source,a\ncard,1\ncard,-1\n",
-    );
-    assert!(rt; are(one, " 0.1 1\n 0.2 -1\n"));
-    let none = rows_of(
-        rt.alloc(),
+        " 0.1 1\n 0.2 -1\n",
+    ),
+    (
         "\"a:number:own\"",
         ONE_SOURCE,
         b"source\ncard\ncard\n",
-    );
-    assert!(rt; are(none, " 0.1 0\n 0.2 0\n"));
+        " 0.1 0\n 0.2 0\n",
+    ),
+];
+
+#[test]
+fn columns_of_every_number(rt: HostRuntime) {
+    check_rows(&rt, COLUMNS);
 }

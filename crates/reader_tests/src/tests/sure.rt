@@ -1,59 +1,35 @@
 // A shelf and a sink that never fail.
-use super::shelves::{reads, refuses, word};
-use payments::{Shelf, ShelfFault, Sink, SinkFault, SureShelf, SureSink, store, write_all};
-use std::alloc::Global;
-use tuple_trace::{Bytes, Word};
-
-// What a file holds, if there is one.
-fn holds(shelf: &SureShelf, name: &Word, text: &[u8]) -> bool {
-    match shelf.get(name) {
-        Some(bytes) => bytes.as_slice() == text,
-        None => false,
-    }
-}
-
-fn put_payments(shelf: &mut SureShelf, alloc: Global) -> Option<()> {
-    let name = word(alloc, "pay.csv")?;
-    let bytes = Bytes::from_slice(alloc, b"source\n").ok()?;
-    shelf.put(name, bytes).ok()
-}
+use super::fixtures::{check, check_text};
+use super::shelves::{check_file, check_read, check_refused, word};
+use payments::{ShelfFault, Sink, SureShelf, SureSink, store, write_all};
+use std::process::Abort;
+use tuple_trace::Bytes;
 
 // A shelf that takes 4 bytes at a time and has the file `pay.csv`.
-fn shelf_with_payments(alloc: Global) -> Option<SureShelf> {
-    let mut shelf = SureShelf::new(alloc, 4);
-    put_payments(&mut shelf, alloc)?;
-    Some(shelf)
-}
-
-fn is_sure(shelf: &mut SureShelf, alloc: Global, pay: &Word, new: &Word) -> bool {
-    reads(shelf, alloc, pay, 7, b"source\n")
-        && refuses(shelf, alloc, pay, 6, ShelfFault::Long)
-        && reads(shelf, alloc, new, 6, b"")
-        && store(shelf, new, b"sink,row").is_ok()
-        && holds(shelf, new, b"sink,row")
-        && holds(shelf, pay, b"source\n")
-}
-
-fn reads_and_stores(alloc: Global) -> Option<bool> {
-    let pay = word(alloc, "pay.csv")?;
-    let new = word(alloc, "alerts.csv")?;
-    let mut shelf = shelf_with_payments(alloc)?;
-    Some(is_sure(&mut shelf, alloc, &pay, &new))
+fn shelf_with_payments(rt: &(impl AllocGlobal + Abort)) -> SureShelf {
+    let mut shelf = SureShelf::new(rt.alloc(), 4);
+    let bytes = Bytes::from_slice(rt.alloc(), b"source\n").expect(rt, "memory");
+    shelf.put(word(rt, "pay.csv"), bytes).expect(rt, "memory");
+    shelf
 }
 
 #[test]
 fn a_sure_shelf_reads_what_is_not_there(rt: HostRuntime) {
-    assert_eq!(rt; reads_and_stores(rt.alloc()), Some(true));
-}
-
-fn takes_all(alloc: Global) -> Result<bool, SinkFault> {
-    let mut sink = SureSink::new(alloc);
-    write_all(&mut sink, b"rows 0 ")?;
-    let taken = sink.write(b"alerts 0\n")?;
-    Ok(taken == 9 && sink.written() == b"rows 0 alerts 0\n".as_slice())
+    let pay = word(&rt, "pay.csv");
+    let new = word(&rt, "alerts.csv");
+    let mut shelf = shelf_with_payments(&rt);
+    check_read(&rt, &mut shelf, &pay, 7, "source\n");
+    check_refused(&rt, &mut shelf, &pay, 6, ShelfFault::Long);
+    check_read(&rt, &mut shelf, &new, 6, "");
+    check(&rt, store(&mut shelf, &new, b"sink,row"), Ok(()));
+    check_file(&rt, shelf.get(&new), "sink,row");
+    check_file(&rt, shelf.get(&pay), "source\n");
 }
 
 #[test]
 fn a_sure_sink_takes_all(rt: HostRuntime) {
-    assert!(rt; matches!(takes_all(rt.alloc()), Ok(true)));
+    let mut sink = SureSink::new(rt.alloc());
+    check(&rt, write_all(&mut sink, b"rows 0 "), Ok(()));
+    check(&rt, sink.write(b"alerts 0\n"), Ok(9));
+    check_text(&rt, sink.written(), "rows 0 alerts 0\n");
 }
