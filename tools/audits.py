@@ -41,21 +41,25 @@ class Record:
         return self.node, self.worker
 
 
-def last_issued(path):
-    """The number of the last request that an audit has as issued, 0 if it has none. The audit of a
-    stream may have many parts."""
-    last = 0
+def requests_of(path):
+    """What an audit has of requests: the places of those that were refused, and the number of the
+    last that was issued, 0 if there is none. The audit of a stream may have many parts."""
+    refused, last = set(), 0
     with open(path, newline="", encoding="utf-8", errors="surrogateescape") as file:
         reader = csv.reader(line.replace("\0", "\N{REPLACEMENT CHARACTER}") for line in file)
         if next(reader, None) != HEADER:
             raise AuditFault(f"{path}: line 1: the header of an audit is `{','.join(HEADER)}`")
         for fields in reader:
-            if fields and fields[0] == "issued":
-                record = record_of(reader.line_num, fields)
-                if not record:
-                    raise AuditFault(f"{path}: line {reader.line_num}: this is no record of an audit")
+            if not fields or fields[0] not in ("issued", "refused"):
+                continue
+            record = record_of(reader.line_num, fields)
+            if not record:
+                raise AuditFault(f"{path}: line {reader.line_num}: this is no record of an audit")
+            if record.entry == "issued":
                 last = record.number
-    return last
+            else:
+                refused.add(record.number)
+    return refused, last
 
 
 def records(path):

@@ -7,10 +7,11 @@
 # The options of a command.
 _fries_options() {
   case $1 in
-    run) echo "--threads --capacity --ordered --help" ;;
+    run) echo "--threads --capacity --ordered --exact --help" ;;
     live | save | resume) echo "--threads --capacity --help" ;;
     stream) echo "--threads --capacity --save --every --from --ordered --exact --resume --progress --help" ;;
-    plan | verify) echo "--ordered --help" ;;
+    plan) echo "--ordered --help" ;;
+    verify) echo "--ordered --live --save --help" ;;
     make) echo "--threads --ordered --help" ;;
     first | check) echo "--help" ;;
   esac

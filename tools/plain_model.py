@@ -115,10 +115,11 @@ class Column:
 
 
 class Judge:
-    """Judges the requests of a stream in their order, as far as random jobs have faults: Q4, Q9 and
+    """Judges requests in their order, as far as random jobs have faults: Q4, Q9 and, in a stream,
     Q10."""
 
-    def __init__(self, job):
+    def __init__(self, job, is_stream=True):
+        self.is_stream = is_stream
         self.nodes = {node["name"]: node for node in job["node"]}
         self.versions = dict.fromkeys(self.nodes, 0)
         self.last = 0
@@ -140,8 +141,8 @@ class Judge:
         return None
 
     def may_split(self, node):
-        """Whether a node is among those that a stream settles as splits."""
-        return node["kind"] == "split" or node.get("roof", 1) > 1
+        """Whether a request may make a node a split: a stream settles those at its start."""
+        return not self.is_stream or node["kind"] == "split" or node.get("roof", 1) > 1
 
 
 class Model:
