@@ -141,9 +141,13 @@ module _ (begin : Begin) (setup : SetupView) (order : List ℕ) (connected : IsC
               | inr ge ↦ elim (cases_lt m n) [ inl lt ↦ absurd (not_first m n k h (sym e) lt) | inr le ↦ omega arith ]
             ]
 
-    -- a bad lane leaves no bad state
+    -- a bad lane leaves a journal that isn't restored, and no bad state
+    pub lane_or_restored : (journals : List (List Entry)) (n : ℕ) → HasBadLane begin setup order rows audit n
+        → ((v : ℕ) (p : Worker) → slice_get (workers_in setup.job) v ≡ Some p → IsRestored begin setup rows audit journals v) → ⊥
+    lane_or_restored journals n h k = not_restored n h journals (λ v p g before. k v p g) (k h.lane.receiver h.who h.receives)
+
     pub lane_or_state : (states : List Listed) (n w : ℕ) → HasBadLane begin setup order rows audit n → HasBadState begin setup rows audit states w → ⊥
-    lane_or_state states n w h k = not_restored n h k.journals (λ v p g before. k.restored v p g) (k.restored h.lane.receiver h.who h.receives)
+    lane_or_state states n w h k = lane_or_restored k.journals n h k.restored
 
     not_first_state : (states : List Listed) (v w : ℕ) → HasBadState begin setup rows audit states v → HasBadState begin setup rows audit states w → v < w → ⊥
     not_first_state states v w h k lt =
@@ -192,6 +196,11 @@ module _ (begin : Begin) (setup : SetupView) (dag : DagView) (connected : IsConn
 
     abbrev IsFault : AuditFault → Type 0
     IsFault f = IsFaultOfWorkers begin setup dag.order rows audit states f
+
+    -- all journals are restored, so no lane is bad
+    pub lane_or_all : (journals : List (List Entry)) (n : ℕ) → AreFinished begin setup rows audit → HasBadLane begin setup dag.order rows audit n
+        → ((v : ℕ) (p : Worker) → slice_get (workers_in setup.job) v ≡ Some p → IsRestored begin setup rows audit journals v) → ⊥
+    lane_or_all journals n f h k = lane_or_restored begin setup dag.order by_order (λ a b lt. lt) (one_place_of setup dag nodes) rows audit f journals n h k
 
     law_alone : (w : ℕ) (g : AuditFault) → (g ≡ fault.NoMemory → ⊥) → HasBadLaw begin setup rows audit w → IsFault g → fault.Law w ≡ g
     law_alone w (fault.Shape i) some h k = absurd k

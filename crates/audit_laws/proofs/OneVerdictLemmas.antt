@@ -116,7 +116,7 @@ module _ (begin : Begin) (setup : SetupView) (dag : DagView) (connected : IsConn
     told : AreTold setup.job
     told = are_told setup.job lawful
 
-    in_shape : (i : ℕ) (lines : List Line) → ((i ≡ 0) × HasNoHeader records) ⊎ HasBadShape setup.job records i → AreInShape setup.job records lines → ⊥
+    pub in_shape : (i : ℕ) (lines : List Line) → ((i ≡ 0) × HasNoHeader records) ⊎ HasBadShape setup.job records i → AreInShape setup.job records lines → ⊥
     in_shape i lines (inl h) s = no_missing_header setup.job records lines s h.1
     in_shape i lines (inr h) s = no_bad_shape setup.job told records lines i s h
 
@@ -127,11 +127,11 @@ module _ (begin : Begin) (setup : SetupView) (dag : DagView) (connected : IsConn
     shapes i j (inr h) (inr k) = one_shape setup.job told records i j h k
 
     -- the refused requests differ, where a later code needs them equal
-    refused_first : (i : ℕ) (lines : List Line) → IsFaultOf begin setup dag.order refused rows records (fault.Refused i) → AreInShape setup.job records lines → refusals_in lines ≡ refused → ⊥
+    pub refused_first : (i : ℕ) (lines : List Line) → IsFaultOf begin setup dag.order refused rows records (fault.Refused i) → AreInShape setup.job records lines → refusals_in lines ≡ refused → ⊥
     refused_first i lines h s e =
         no_difference (refusals_in h.0) refused h.1 (ap refusals_in (one_reading setup.job told records h.0 lines h.2 s) ∙ e) h.4
 
-    feed_first : (i : ℕ) (lines : List Line) → IsFaultOf begin setup dag.order refused rows records (fault.Feed i) → AreInShape setup.job records lines → feeds_in lines ≡ feed_of begin setup rows → ⊥
+    pub feed_first : (i : ℕ) (lines : List Line) → IsFaultOf begin setup dag.order refused rows records (fault.Feed i) → AreInShape setup.job records lines → feeds_in lines ≡ feed_of begin setup rows → ⊥
     feed_first i lines h s e =
         no_difference (feeds_in h.0) (feed_of begin setup rows) h.1 (ap feeds_in (one_reading setup.job told records h.0 lines h.2 s) ∙ e) h.5
 

@@ -79,7 +79,7 @@ no_difference {A} xs ys k e d = d.1 (ap (λ (l : List A). slice_get l k) e)
 -- ---- what lines tell
 
 -- a test that keeps none of a list's image, and one that undoes it
-keeps_none : {A B C : Type 0} (h : B → Option C) (f : A → B) (xs : List A) → ((x : A) → h (f x) ≡ None) → filter_map h (map f xs) ≡ []
+pub keeps_none : {A B C : Type 0} (h : B → Option C) (f : A → B) (xs : List A) → ((x : A) → h (f x) ≡ None) → filter_map h (map f xs) ≡ []
 keeps_none h f [] n = refl
 keeps_none h f (x ∷ xs) n = rw (n x) (keeps_none h f xs n)
 
@@ -123,7 +123,7 @@ pick_at {C} h k (suc i) (x ∷ js) (y ∷ ss) j s p q a b =
 
 module _ (r : List Noted) (f : List Feed) (js : List (List AuditEntry)) (ss : List Listed) where
   -- a test of all lines, part by part
-  by_parts : {C : Type 0} (h : Line → Option C)
+  pub by_parts : {C : Type 0} (h : Line → Option C)
       → filter_map h (lines_of r f js ss) ≡ filter_map h (map line.Refused r) ++ (filter_map h (map line.Feed f) ++ filter_map h (lines_from 0 js ss))
   by_parts {C} h =
       filter_map-append h (map line.Refused r) (map line.Feed f ++ lines_from 0 js ss)

@@ -66,39 +66,53 @@ module _ (setup : SetupView) (refusals : List Noted) (feeds : List Feed) (journa
 module _ (begin : Begin) (setup : SetupView) (dag : DagView) (connected : IsConnected setup.job) (lawful : IsLawful setup.job) (edges : dag.edges ≡ setup.job.edges) (nodes : dag.nodes ≡ length setup.job.nodes)
     (rows : List Row) (are : AreRows rows) (refused : List Noted) (records : List (List (List ℕ))) (journals : List (List Entry)) (states : List Counts)
     (run : IsRunFrom begin rows (ran_as setup (feed_of begin setup rows) journals states))
-    (shape : AreInShape setup.job records (lines_of refused (feed_of begin setup rows) (map trimmed journals) (map entries states)))
   where
-    abbrev lines : List Line
-    lines = lines_of refused (feed_of begin setup rows) (map trimmed journals) (map entries states)
+    -- the lines of the run, with these counts told of it
+    module _ (told : List Counts) (one_told_each : length told ≡ length (workers_in setup.job))
+        (shape : AreInShape setup.job records (lines_of refused (feed_of begin setup rows) (map trimmed journals) (map entries told)))
+      where
+        abbrev lines : List Line
+        lines = lines_of refused (feed_of begin setup rows) (map trimmed journals) (map entries told)
 
-    read : (others : List Line) → AreInShape setup.job records others → others ≡ lines
-    read others s = one_reading setup.job (are_told setup.job lawful) records others lines s shape
+        pub read : (others : List Line) → AreInShape setup.job records others → others ≡ lines
+        read others s = one_reading setup.job (are_told setup.job lawful) records others lines s shape
 
-    of_workers : (f : AuditFault) → (f ≡ fault.NoMemory → ⊥) → (others : List Line) → AreInShape setup.job records others
-        → IsFaultOfWorkers begin setup dag.order rows (by_worker setup (journal_in others)) (by_worker setup (counts_in others)) f → ⊥
-    of_workers f some others s h =
-        let e : others ≡ lines = read others s in
-        let j : by_worker setup (journal_in others) ≡ map trimmed journals =
-        ap (λ (ls : List Line). by_worker setup (journal_in ls)) e ∙ journals_told setup refused (feed_of begin setup rows) journals states run.one_journal_each run.one_state_each in
-        let c : by_worker setup (counts_in others) ≡ map entries states =
-        ap (λ (ls : List Line). by_worker setup (counts_in ls)) e ∙ states_told setup refused (feed_of begin setup rows) journals states run.one_journal_each run.one_state_each in
-        no_fault begin setup dag connected edges nodes rows are journals states run f some (
-        subst (λ (x : List (List AuditEntry)). IsFaultOfWorkers begin setup dag.order rows x (map entries states) f) j (
-        subst (λ (x : List Listed). IsFaultOfWorkers begin setup dag.order rows (by_worker setup (journal_in others)) x f) c h))
+        of_workers : (f : AuditFault) → (f ≡ fault.NoMemory → ⊥) → (others : List Line) → AreInShape setup.job records others
+            → IsFaultOfWorkers begin setup dag.order rows (by_worker setup (journal_in others)) (map entries states) f → ⊥
+        of_workers f some others s h =
+            let j : by_worker setup (journal_in others) ≡ map trimmed journals =
+            ap (λ (ls : List Line). by_worker setup (journal_in ls)) (read others s) ∙ journals_told setup refused (feed_of begin setup rows) journals told run.one_journal_each one_told_each in
+            no_fault begin setup dag connected edges nodes rows are journals states run f some (
+            subst (λ (x : List (List AuditEntry)). IsFaultOfWorkers begin setup dag.order rows x (map entries states) f) j h)
 
-    pub no_text_fault : (f : AuditFault) → (f ≡ fault.NoMemory → ⊥) → IsFaultOf begin setup dag.order refused rows records f → ⊥
-    no_text_fault (fault.Shape i) some (inl h) = no_missing_header setup.job records lines shape h.1
-    no_text_fault (fault.Shape i) some (inr h) = no_bad_shape setup.job (are_told setup.job lawful) records lines i shape h
-    no_text_fault (fault.Refused i) some h =
-        no_difference (refusals_in h.0) refused h.1
-        (ap refusals_in (read h.0 h.2) ∙ refusals_told refused (feed_of begin setup rows) (map trimmed journals) (map entries states)) h.4
-    no_text_fault (fault.Feed i) some h =
-        no_difference (feeds_in h.0) (feed_of begin setup rows) h.1
-        (ap feeds_in (read h.0 h.2) ∙ feeds_told refused (feed_of begin setup rows) (map trimmed journals) (map entries states)) h.5
-    no_text_fault (fault.Law w) some h = of_workers (fault.Law w) some h.0 h.1 h.4
-    no_text_fault (fault.Lane n) some h = of_workers (fault.Lane n) some h.0 h.1 h.4
-    no_text_fault (fault.State w) some h = of_workers (fault.State w) some h.0 h.1 h.4
-    no_text_fault fault.NoMemory some h = some refl
+        -- whatever counts are told, no fault of another kind stands
+        pub no_fault_before : (f : AuditFault) → (f ≡ fault.NoMemory → ⊥) → ((w : ℕ) → f ≡ fault.State w → ⊥) → IsFaultOf begin setup dag.order refused rows records f → ⊥
+        no_fault_before (fault.Shape i) some early (inl h) = no_missing_header setup.job records lines shape h.1
+        no_fault_before (fault.Shape i) some early (inr h) = no_bad_shape setup.job (are_told setup.job lawful) records lines i shape h
+        no_fault_before (fault.Refused i) some early h =
+            no_difference (refusals_in h.0) refused h.1
+            (ap refusals_in (read h.0 h.2) ∙ refusals_told refused (feed_of begin setup rows) (map trimmed journals) (map entries told)) h.4
+        no_fault_before (fault.Feed i) some early h =
+            no_difference (feeds_in h.0) (feed_of begin setup rows) h.1
+            (ap feeds_in (read h.0 h.2) ∙ feeds_told refused (feed_of begin setup rows) (map trimmed journals) (map entries told)) h.5
+        no_fault_before (fault.Law w) some early h = of_workers (fault.Law w) some h.0 h.1 h.4
+        no_fault_before (fault.Lane n) some early h = of_workers (fault.Lane n) some h.0 h.1 h.4
+        no_fault_before (fault.State w) some early h = early w refl
+        no_fault_before fault.NoMemory some early h = some refl
+
+    module _ (shape : AreInShape setup.job records (lines_of refused (feed_of begin setup rows) (map trimmed journals) (map entries states))) where
+      no_state : (w : ℕ) → IsFaultOf begin setup dag.order refused rows records (fault.State w) → ⊥
+      no_state w h =
+          let c : by_worker setup (counts_in h.0) ≡ map entries states =
+          ap (λ (ls : List Line). by_worker setup (counts_in ls)) (read states run.one_state_each shape h.0 h.1)
+          ∙ states_told setup refused (feed_of begin setup rows) journals states run.one_journal_each run.one_state_each in
+          of_workers states run.one_state_each shape (fault.State w) (λ e. absurd (cc)) h.0 h.1 (
+          subst (λ (x : List Listed). IsFaultOfWorkers begin setup dag.order rows (by_worker setup (journal_in h.0)) x (fault.State w)) c h.4)
+
+      pub no_text_fault : (f : AuditFault) → (f ≡ fault.NoMemory → ⊥) → IsFaultOf begin setup dag.order refused rows records f → ⊥
+      no_text_fault f some h =
+          no_fault_before states run.one_state_each shape f some (λ w e.
+          no_state w (subst (IsFaultOf begin setup dag.order refused rows records) e h)) h
 
 -- runs whose lines are those of one text are the same once trimmed
 pub same_trims : (setup : SetupView) → IsLawful setup.job → (refused : List Noted) (records : List (List (List ℕ))) (feeds others : List Feed) (A B : List (List Entry)) (S T : List Counts)
@@ -111,19 +125,27 @@ same_trims setup lawful refused records feeds others A B S T a s b t p q =
     sym (journals_told setup refused feeds A S a s)
     ∙ (ap (λ (ls : List Line). by_worker setup (journal_in ls)) e ∙ journals_told setup refused others B T b t)
 
+-- a record has the records of its lines
+pub told_lines : (setup : SetupView) (refused : List Noted) (ran : Ran) → ran.setup ≡ setup → length ran.journals ≡ length (workers_in ran.setup.job) → length ran.states ≡ length (workers_in ran.setup.job)
+    → audit_header ∷ audit_records ran.setup.job refused ran.feeds ran.journals ran.states ≡ audit_header ∷ map (line_fields (named_workers setup.job.nodes)) (kept_lines refused ran)
+told_lines setup refused ran same journals states =
+    subst (λ (s : SetupView). audit_header ∷ audit_records ran.setup.job refused ran.feeds ran.journals ran.states ≡ audit_header ∷ map (line_fields (named_workers s.job.nodes)) (kept_lines refused ran)) same
+    (audit_lines ran.setup.job refused ran.feeds ran.journals ran.states journals states)
+
 -- a run fits a text exactly where the text's records are its lines
 pub fits_lines : (begin : Begin) (setup : SetupView) (rows : List Row) (refused : List Noted) (ran : Ran) → IsRunSince begin setup rows ran
     → audit_header ∷ audit_records ran.setup.job refused ran.feeds ran.journals ran.states ≡ audit_header ∷ map (line_fields (named_workers setup.job.nodes)) (kept_lines refused ran)
-fits_lines begin setup rows refused ran is =
-    let many : length ran.journals ≡ length (workers_in ran.setup.job) = is.run.one_journal_each in
-    subst (λ (s : SetupView). audit_header ∷ audit_records ran.setup.job refused ran.feeds ran.journals ran.states ≡ audit_header ∷ map (line_fields (named_workers s.job.nodes)) (kept_lines refused ran)) is.setup_is
-    (audit_lines ran.setup.job refused ran.feeds ran.journals ran.states many is.run.one_state_each)
+fits_lines begin setup rows refused ran is = told_lines setup refused ran is.setup_is is.run.one_journal_each is.run.one_state_each
 
--- the lines of a run that fits a text are in shape
-pub in_shape : (begin : Begin) (setup : SetupView) (rows : List Row) (refused : List Noted) (text : List ℕ) (ran : Ran) → IsRunSince begin setup rows ran → Fits refused text ran → HasForm refused ran
-    → AreInShape setup.job (records_of text) (kept_lines refused ran)
-in_shape begin setup rows refused text ran is fits form = record {
-  fields = fits ∙ fits_lines begin setup rows refused ran is;
-  each = subst (λ (s : SetupView). All (IsLine s.job) (kept_lines refused ran)) is.setup_is form;
+-- the lines of a record that fits a text are in shape
+pub shape_of : (setup : SetupView) (refused : List Noted) (text : List ℕ) (ran : Ran) → ran.setup ≡ setup → length ran.journals ≡ length (workers_in ran.setup.job) → length ran.states ≡ length (workers_in ran.setup.job)
+    → Fits refused text ran → HasForm refused ran → AreInShape setup.job (records_of text) (kept_lines refused ran)
+shape_of setup refused text ran same journals states fits form = record {
+  fields = fits ∙ told_lines setup refused ran same journals states;
+  each = subst (λ (s : SetupView). All (IsLine s.job) (kept_lines refused ran)) same form;
   ordered = lines_ordered refused ran.feeds (map trimmed ran.journals) (map entries ran.states);
 }
+
+pub in_shape : (begin : Begin) (setup : SetupView) (rows : List Row) (refused : List Noted) (text : List ℕ) (ran : Ran) → IsRunSince begin setup rows ran → Fits refused text ran → HasForm refused ran
+    → AreInShape setup.job (records_of text) (kept_lines refused ran)
+in_shape begin setup rows refused text ran is fits form = shape_of setup refused text ran is.setup_is is.run.one_journal_each is.run.one_state_each fits form

@@ -8,5 +8,6 @@ pub mod Restoring
 pub mod Names
 pub mod Lines
 pub mod Verdict
+pub mod Part
 pub mod Fits
 pub mod Examples

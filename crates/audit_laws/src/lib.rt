@@ -15,6 +15,7 @@
 mod audit;
 mod examples;
 mod laws;
+mod part;
 
 pub use audit::{AuditEntry, Line};
 pub use examples::the_audit_of_no_payments;
@@ -22,4 +23,8 @@ pub use laws::{
     audits_have_one_fault, audits_of_runs_have_no_fault, checked_journals_are_a_run,
     journals_are_restored, journals_tell_the_run, lines_of_runs_have_form, runs_fit_their_lines,
     texts_have_one_fault, texts_of_runs_have_no_fault, texts_tell_the_run, written_audits_fit,
+};
+pub use part::{
+    parts_fit_their_lines, parts_have_one_fault, texts_of_parts_have_no_fault,
+    texts_of_parts_tell_the_run,
 };
