@@ -11,3 +11,4 @@ pub mod RestoredLemmas
 pub mod CountLemmas
 pub mod CheckLemmas
 pub mod LinesLemmas
+pub mod PartLemmas

@@ -1,3 +1,4 @@
 pub mod ByLane
 pub mod Standing
 pub mod Restored
+pub mod Untold
