@@ -1,0 +1,10 @@
+pub mod CellLemmas
+pub mod CutLemmas
+pub mod BorderLemmas
+pub mod PartLemmas
+pub mod FieldLemmas
+pub mod ReadLemmas
+pub mod HeaderLemmas
+pub mod StreamLemmas
+pub mod FillLemmas
+pub mod Examples
