@@ -1,0 +1,11 @@
+pub mod CellLemmas
+pub mod ClosedLemmas
+pub mod WritingLemmas
+pub mod WorkerLemmas
+pub mod SortLemmas
+pub mod ReadingLemmas
+pub mod GroupLemmas
+pub mod SectionLemmas
+pub mod EndLemmas
+pub mod PartLemmas
+pub mod PlaceLemmas

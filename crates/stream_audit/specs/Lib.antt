@@ -1,0 +1,4 @@
+pub mod Together
+pub mod Places
+pub mod Told
+pub mod Sorting
