@@ -192,6 +192,7 @@ asked_alike topic.Verify v w same flag =
       same (codes "audit") refl,
       same (codes "alerts") refl,
       flag (codes "live"),
+      flag (codes "stream"),
       same (codes "save") refl,
     ) refl
 asked_alike topic.Stream v w same flag = refl

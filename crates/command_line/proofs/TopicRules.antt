@@ -6,7 +6,7 @@ use Rattle.clap.specs.Walk.{Rule, Text, answers_to, arg_by_index, arg_by_long}
 use Rattle.clap.proofs.OnLiterals.{clap_on_literals}
 use Rattle.command_line.specs.Apps.{program_app}
 use Rattle.command_line.specs.Words.{capacity_option, every_option, form_of, from_option}
-use Rattle.command_line.specs.Words.{exact_flag, live_flag}
+use Rattle.command_line.specs.Words.{exact_flag, live_flag, stream_flag}
 use Rattle.command_line.specs.Words.{ordered_flag, progress_flag, resume_flag, save_option}
 use Rattle.command_line.specs.Words.{threads_option}
 use Rattle.command_line.specs.declared.topic.Topic.{Topic}
@@ -883,6 +883,19 @@ verify_live =
       passes = λ rs. refl;
     }
 
+verify_stream : IsFlag (rules_of topic.Verify) stream_flag
+unfolding clap_on_literals
+verify_stream =
+    record {
+      rule = rule_called (rules_of topic.Verify) (codes "stream");
+      dashes = refl;
+      long = refl;
+      by_long = refl;
+      takes = refl;
+      use_of = λ rs. refl;
+      passes = λ rs. refl;
+    }
+
 stream_job : IsName (rules_of topic.Stream) 1 (codes "job")
 unfolding clap_on_literals
 stream_job =
@@ -1144,7 +1157,7 @@ reads topic.Verify other =
         ),
       );
       options = (verify_save, tt);
-      flags = (verify_ordered, (verify_live, tt));
+      flags = (verify_ordered, (verify_live, (verify_stream, tt)));
     }
 reads topic.Stream other =
     record {

@@ -27,7 +27,7 @@ help_of topic.Program =
     ++ codes
     "  resume JOB REQUESTS PAYMENTS SAVE ALERTS AUDIT  runs the later payments from there\n"
     ++ codes
-    "  verify JOB REQUESTS PAYMENTS AUDIT [ALERTS]     checks an audit of run, live or resume\n"
+    "  verify JOB REQUESTS PAYMENTS AUDIT [ALERTS]     looks whether an audit is that of a run\n"
     ++ codes "  make JOB SEED ROWS                              runs rows that are made up\n"
     ++ codes "  first PAYMENTS ALERTS MIN AFTER MIN2            runs the smallest job\n"
     ++ codes "\n"
@@ -156,23 +156,24 @@ help_of topic.Live =
     ++ codes "\n"
     ++ codes "example: fries live job.toml requests.toml pay.csv alerts.csv audit.csv\n"
 help_of topic.Verify =
-    codes
-    "usage: fries verify JOB REQUESTS PAYMENTS AUDIT [ALERTS] [--ordered | --live | --save SAVE]\n"
+    codes "usage: fries verify JOB REQUESTS PAYMENTS AUDIT [ALERTS] [OPTIONS]\n"
     ++ codes "\n"
     ++ codes "Looks whether an audit is that of a run, "
     ++ codes "and rebuilds the run: then no row met half of a change.\n"
     ++ codes "With ALERTS it looks too whether these are just the alerts of that run.\n"
     ++ codes
-    "Without an option the audit is that of `run`. At most one of the three options may stand.\n"
+    "An option says which command wrote the audit; without one it is `run`. No two options stand\n"
+    ++ codes "together, but for --ordered and --stream.\n"
     ++ codes "\n"
     ++ codes "  JOB          file to read: a job as TOML\n"
     ++ codes "  REQUESTS     file to read: requests as TOML\n"
     ++ codes "  PAYMENTS     file to read: payments as CSV\n"
-    ++ codes "  AUDIT        file to read: the audit that `run`, `live` or `resume` wrote, as CSV\n"
+    ++ codes "  AUDIT        file to read: the audit that the command wrote, as CSV\n"
     ++ codes
-    "  ALERTS       file to read: the alerts of the same command, as CSV; without it, none\n"
-    ++ codes "  --ordered    the audit is that of `run --ordered`\n"
+    "  ALERTS       file to read: the alerts of the same command, as CSV; not beside --stream\n"
+    ++ codes "  --ordered    the command had --ordered: it is `run`, or `stream`\n"
     ++ codes "  --live       the audit is that of `live`\n"
+    ++ codes "  --stream     the audit is that of `stream`, from its beginning to its end\n"
     ++ codes
     "  --save SAVE  file to read: the savepoint, as CSV; the audit is that of `resume` from there\n"
     ++ codes "\n"

@@ -1,6 +1,7 @@
 -- What the words of a command line ask for.
 use Rattle.std.specs.Prelude.{◌^◌, ◌-◌, ℕ, ℤ, pos, Bool, true, false, List, [], ◌∷◌, ◌||◌, nat_le}
-use Rattle.std.specs.Prelude.{Option, None, Some, option_map, option_and_then, unwrap_or, codes}
+use Rattle.std.specs.Prelude.{Option, None, Some, is_some, option_map, option_and_then, unwrap_or}
+use Rattle.std.specs.Prelude.{codes}
 use Rattle.std.specs.Prelude.{if◌then◌else◌}
 use Rattle.std.specs.Str.{bytes_eq}
 use Rattle.tuple_trace.specs.Digits.{at_most, digits_of}
@@ -53,6 +54,10 @@ ordered_flag = record { id = codes "ordered"; word = codes "--ordered" }
 -- the flag `--live`
 abbrev pub live_flag : Flag
 live_flag = record { id = codes "live"; word = codes "--live" }
+
+-- the flag `--stream`
+abbrev pub stream_flag : Flag
+stream_flag = record { id = codes "stream"; word = codes "--stream" }
 
 -- the flag `--resume`
 abbrev pub resume_flag : Flag
@@ -120,7 +125,7 @@ form_of topic.Verify = record {
   names = codes "job" ∷ codes "requests" ∷ codes "payments" ∷ codes "audit" ∷ [];
   extra = codes "alerts" ∷ [];
   options = save_option ∷ [];
-  flags = ordered_flag ∷ live_flag ∷ [];
+  flags = ordered_flag ∷ live_flag ∷ stream_flag ∷ [];
 }
 form_of topic.Stream = record {
   names = codes "job" ∷ codes "requests" ∷ codes "alerts" ∷ codes "audit" ∷ [];
@@ -235,20 +240,27 @@ run_with plan values =
     (name_in values (codes "audit")))
     (engine_in values)
 
--- the command that wrote an audit, by `--ordered`, `--live` and the file of `--save`: `resume` from
--- that savepoint, `live`, or else `run`. None if more than one of the three is there.
-abbrev pub audit_by : Bool → Bool → Option Text → Option AuditOf
-audit_by ordered false None = Some audit.Run
-audit_by false true None = Some audit.Live
-audit_by true true None = None
-audit_by false false (Some save) = Some (audit.Resume save)
-audit_by false true (Some save) = None
-audit_by true live (Some save) = None
+-- The command that wrote an audit, by `--ordered`, `--live`, `--stream`, whether alerts are named,
+-- and the file of `--save`: `resume` from that savepoint, `live`, `stream`, or else `run`. None if
+-- two options stand together, but for `--ordered` and `--stream`. Beside `--stream` no alerts are
+-- named, since a stream writes them part by part.
+abbrev pub audit_by : Bool → Bool → Bool → Bool → Option Text → Option AuditOf
+audit_by ordered false false named None = Some audit.Run
+audit_by ordered false true false None = Some audit.Stream
+audit_by ordered false true true None = None
+audit_by false true false named None = Some audit.Live
+audit_by false true true named None = None
+audit_by true true stream named None = None
+audit_by false false false named (Some save) = Some (audit.Resume save)
+audit_by false false true named (Some save) = None
+audit_by false true stream named (Some save) = None
+audit_by true live stream named (Some save) = None
 
 -- the command that wrote the audit of `verify`
 abbrev pub audit_of : Values → Option AuditOf
 audit_of values =
     audit_by (is_true (values (codes "ordered"))) (is_true (values (codes "live")))
+    (is_true (values (codes "stream"))) (is_some (values (codes "alerts")))
     (values (codes "save"))
 
 -- the files of a run, its audit, the file of its alerts if that is named, and which command wrote

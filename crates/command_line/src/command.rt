@@ -134,7 +134,7 @@ pub struct VerifyFiles {
     pub audit: Word,
     /// The file whose text is to be that of the run's alerts, if one is named.
     pub alerts: Option<Word>,
-    /// The command that wrote the audit. The plan is ordered only if it is `run`.
+    /// The command that wrote the audit. The plan is ordered only if it is `run` or `stream`.
     pub of: AuditOf,
 }
 
@@ -143,6 +143,8 @@ pub struct VerifyFiles {
 pub enum AuditOf {
     Run,
     Live,
+    /// The command `stream`. No alerts are named beside it.
+    Stream,
     /// The command `resume`. It went on from the savepoint in this file.
     Resume(Word),
 }

@@ -1,7 +1,7 @@
 // The full form of each command.
 ghost use Rattle.std.specs.Prelude.{◌≡◌};
 ghost use Rattle.command_line.specs.Words.{capacity_option, every_option, exact_flag, form_of};
-ghost use Rattle.command_line.specs.Words.{from_option, live_flag};
+ghost use Rattle.command_line.specs.Words.{from_option, live_flag, stream_flag};
 ghost use Rattle.command_line.specs.Words.{ordered_flag, progress_flag, resume_flag, save_option};
 ghost use Rattle.command_line.specs.Words.{threads_option};
 ghost use Rattle.command_line.specs.Views.{flag_view, form_view, option_view};
@@ -72,6 +72,11 @@ const ORDERED: Flag = Flag {
 const LIVE: Flag = Flag {
     id: "live",
     word: "--live",
+};
+
+const STREAM: Flag = Flag {
+    id: "stream",
+    word: "--stream",
 };
 
 const EXACT: Flag = Flag {
@@ -154,7 +159,7 @@ pub(crate) fn form_of(topic: Topic) -> Form
             names: &["job", "requests", "payments", "audit"],
             extra: &["alerts"],
             options: &[SAVE],
-            flags: &[ORDERED, LIVE],
+            flags: &[ORDERED, LIVE, STREAM],
         },
         Topic::Stream => Form {
             names: &["job", "requests", "alerts", "audit"],

@@ -43,7 +43,7 @@ usage: fries COMMAND NAMES [OPTIONS]
   stream JOB REQUESTS ALERTS AUDIT                runs payments as they come, without end
   save JOB REQUESTS PAYMENTS ALERTS AUDIT SAVE N  runs the first payments, saves the counts
   resume JOB REQUESTS PAYMENTS SAVE ALERTS AUDIT  runs the later payments from there
-  verify JOB REQUESTS PAYMENTS AUDIT [ALERTS]     checks an audit of run, live or resume
+  verify JOB REQUESTS PAYMENTS AUDIT [ALERTS]     looks whether an audit is that of a run
   make JOB SEED ROWS                              runs rows that are made up
   first PAYMENTS ALERTS MIN AFTER MIN2            runs the smallest job
 
@@ -177,19 +177,21 @@ example: fries live job.toml requests.toml pay.csv alerts.csv audit.csv
 ";
 
 const VERIFY: &str = "\
-usage: fries verify JOB REQUESTS PAYMENTS AUDIT [ALERTS] [--ordered | --live | --save SAVE]
+usage: fries verify JOB REQUESTS PAYMENTS AUDIT [ALERTS] [OPTIONS]
 
 Looks whether an audit is that of a run, and rebuilds the run: then no row met half of a change.
 With ALERTS it looks too whether these are just the alerts of that run.
-Without an option the audit is that of `run`. At most one of the three options may stand.
+An option says which command wrote the audit; without one it is `run`. No two options stand
+together, but for --ordered and --stream.
 
   JOB          file to read: a job as TOML
   REQUESTS     file to read: requests as TOML
   PAYMENTS     file to read: payments as CSV
-  AUDIT        file to read: the audit that `run`, `live` or `resume` wrote, as CSV
-  ALERTS       file to read: the alerts of the same command, as CSV; without it, none
-  --ordered    the audit is that of `run --ordered`
+  AUDIT        file to read: the audit that the command wrote, as CSV
+  ALERTS       file to read: the alerts of the same command, as CSV; not beside --stream
+  --ordered    the command had --ordered: it is `run`, or `stream`
   --live       the audit is that of `live`
+  --stream     the audit is that of `stream`, from its beginning to its end
   --save SAVE  file to read: the savepoint, as CSV; the audit is that of `resume` from there
 
 example: fries verify job.toml requests.toml pay.csv audit.csv alerts.csv

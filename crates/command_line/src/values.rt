@@ -7,6 +7,7 @@ ghost use Rattle.command_line.specs.Asked.{IsSize, IsSized, IsThreads, PlanAsked
 ghost use Rattle.command_line.specs.Asked.{first_asked, make_asked, plan_asked, resume_asked};
 ghost use Rattle.command_line.specs.Asked.{run_asked, save_asked, verify_asked};
 ghost use Rattle.command_line.specs.Words.{amount_in as amount_of, asked_with};
+ghost use Rattle.command_line.specs.Words.{audit_by as audit_by_words};
 ghost use Rattle.command_line.specs.Words.{audit_of as audit_of_values};
 ghost use Rattle.command_line.specs.Words.{engine_in as engine_of, first_of as first_of_values};
 ghost use Rattle.command_line.specs.Words.{is_true as is_true_text};
@@ -207,7 +208,7 @@ fn verify_of(alloc: Global, values: &ArgMatches<'_>) -> Result<VerifyFiles, Word
     })
 }
 
-// The command whose audit is verified; a fault if more than one option names one.
+// The command whose audit is verified; a fault if its options don't stand together.
 fn audit_of(alloc: Global, values: &ArgMatches<'_>) -> Result<AuditOf, WordsFault>
     ensures is { IfOk result (λ of. audit_of_values (first_value (found_of values.now))
         ≡ Some of) }
@@ -216,10 +217,23 @@ fn audit_of(alloc: Global, values: &ArgMatches<'_>) -> Result<AuditOf, WordsFaul
 {
     let ordered = is_true(values.get_str("ordered"));
     let live = is_true(values.get_str("live"));
+    let stream = is_true(values.get_str("stream"));
     match values.get_str("save") {
-        Some(save) if !ordered && !live => Ok(AuditOf::Resume(word_of(alloc, save)?)),
-        None if !live => Ok(AuditOf::Run),
-        None if !ordered => Ok(AuditOf::Live),
+        Some(save) if !ordered && !live && !stream => { Ok(AuditOf::Resume(word_of(alloc, save)?)) }
+        Some(_) => Err(WordsFault::Usage),
+        None => audit_by(ordered, live, stream, values.get_str("alerts").is_some()),
+    }
+}
+
+// The same, if no savepoint is named.
+fn audit_by(ordered: bool, live: bool, stream: bool, named: bool) -> Result<AuditOf, WordsFault>
+    ensures is { IfOk result (λ of. audit_by_words ordered live stream named None ≡ Some of) }
+    ensures usage { IfErr result (λ fault. audit_by_words ordered live stream named None ≡ None) }
+{
+    match (live, stream) {
+        (false, false) => Ok(AuditOf::Run),
+        (false, true) if !named => Ok(AuditOf::Stream),
+        (true, false) if !ordered => Ok(AuditOf::Live),
         _ => Err(WordsFault::Usage),
     }
 }

@@ -1,5 +1,6 @@
 // What is wrong with the options of a command.
 use crate::forms::{Form, HelpLine, help_line};
+use crate::names::name_count;
 use crate::nearest::Nearest;
 use crate::shown::push_shown;
 use std::alloc::{AllocError, Global};
@@ -14,7 +15,13 @@ const NEEDS: &[(&str, &str)] = &[
 ];
 
 /// The commands that take at most one of some options, and these.
-const ONE_OF: &[(&str, &[&str])] = &[("verify", &["--ordered", "--live", "--save"])];
+const ONE_OF: &[(&str, &[&str])] = &[
+    ("verify", &["--ordered", "--live", "--save"]),
+    ("verify", &["--live", "--stream", "--save"]),
+];
+
+/// The options beside which a command takes no name that may be left out.
+const NO_EXTRA: &[(&str, &str)] = &[("verify", "--stream")];
 
 /// Appends the first thing that is wrong with the options among the words after a command.
 pub(crate) fn push_option_fault(
@@ -42,6 +49,9 @@ pub(crate) fn push_option_fault(
     push_need(words, out)?;
     if out.is_empty() {
         push_choice(form, words, out)?;
+    }
+    if out.is_empty() {
+        push_extra(form, words, out)?;
     }
     Ok(())
 }
@@ -116,8 +126,25 @@ fn push_need(words: &[Word], out: &mut String) -> Result<(), AllocError> {
 // Appends two options of which the command takes at most one, if both stand.
 fn push_choice(form: Form, words: &[Word], out: &mut String) -> Result<(), AllocError> {
     for pair in ONE_OF {
-        if pair.0 == form.command {
-            return push_second(pair.1, words, out);
+        if pair.0 == form.command && out.is_empty() {
+            push_second(pair.1, words, out)?;
+        }
+    }
+    Ok(())
+}
+
+// Appends an option beside which the last name doesn't stand, if both are there.
+fn push_extra(form: Form, words: &[Word], out: &mut String) -> Result<(), AllocError> {
+    let Some(extra) = form.extra() else {
+        return Ok(());
+    };
+    if name_count(words) <= form.name_count() {
+        return Ok(());
+    }
+    for pair in NO_EXTRA {
+        let option = pair.1;
+        if pair.0 == form.command && count_of(words, option) > 0 {
+            return write!(out, "`{option}` and {extra} don't stand together.");
         }
     }
     Ok(())
