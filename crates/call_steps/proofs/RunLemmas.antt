@@ -20,7 +20,7 @@ use Rattle.flow_ends.specs.Ended.{record_of as ended}
 use Rattle.flow_engine.specs.Flown.{record_of}
 use Rattle.serial_order.specs.Serials.{serials}
 use Rattle.call_steps.specs.SetupFor.{IsSetupFor}
-use Rattle.call_steps.specs.Running.{IsDoneOf, IsRunOf}
+use Rattle.call_steps.specs.Running.{IsDoneOf, IsRunOf, IsRunUnder}
 use Rattle.call_steps.specs.declared.running.Done.{Done}
 
 -- what the laws of runs say of each run of a setup
@@ -29,16 +29,17 @@ pub record HasLaws (setup : Setup) (rows : List Row) : Type 0 where
   pub prefix : (ran : Ran) → IsRun (setup_view setup) rows ran → IsTrue (setup_view setup).ordered → (row : ℕ) → SeesPrefix ran row (serial ran row)
   pub serial : (ran : Ran) → IsRun (setup_view setup) rows ran → IsTrue (setup_view setup).ordered → HasNoCounts (setup_view setup).job → AreFromSources (setup_view setup).job rows → IsSerial rows ran
 
--- a run of the setup of a job and its requests is a run of these
-pub is_run_of : (Keeps : List Request → List Request → Type 0) (ordered : Bool) (job : JobView) (requests : List Request) (rows : List Row) (setup : Setup) (ran : RunRecord) (done : Done)
-    → IsSetupFor Keeps ordered job requests setup → HasLaws setup rows → AreFromSources job rows
-    → ran.setup ≡ setup → IsRun (setup_view setup) rows (record_view ran) → IsDoneOf ran requests rows done → IsRunOf Keeps ordered job requests rows done
-is_run_of Keeps ordered job requests rows setup ran done is laws sources same run of =
-    let from = subst (λ (j : JobView). AreFromSources j rows) (sym is.job_is) sources in
+-- a run of such a setup is what was run
+pub is_run_under : (IsFor : Setup → Type 0) (requests : List Request) (rows : List Row)
+    (setup : Setup) (ran : RunRecord) (done : Done) → IsFor setup → HasLaws setup rows →
+    AreFromSources (setup_view setup).job rows → ran.setup ≡ setup →
+    IsRun (setup_view setup) rows (record_view ran) → IsDoneOf ran requests rows done →
+    IsRunUnder IsFor requests rows done
+is_run_under IsFor requests rows setup ran done is laws from same run of =
     let kept : done.ran.setup ≡ setup = ap (λ (r : RunRecord). r.setup) of.ran_is ∙ same in
     let ran_so : IsRun (setup_view setup) rows (record_view done.ran) = subst (λ (r : RunRecord). IsRun (setup_view setup) rows (record_view r)) (sym of.ran_is) run in
     record {
-      setup = rw kept is;
+      setup = subst IsFor (sym kept) is;
       run = subst (λ (s : Setup). IsRun (setup_view s) rows (record_view done.ran)) (sym kept) ran_so;
       consistent = laws.consistent (record_view done.ran) ran_so from;
       one_order = λ mode.
@@ -51,6 +52,16 @@ is_run_of Keeps ordered job requests rows setup ran done is laws sources same ru
       refused = of.refused ∙ ap (λ (r : RunRecord). r.setup.judged.refused) (sym of.ran_is);
       count = of.count;
     }
+
+-- a run of the setup of a job and its requests is a run of these
+pub is_run_of : (Keeps : List Request → List Request → Type 0) (ordered : Bool) (job : JobView)
+    (requests : List Request) (rows : List Row) (setup : Setup) (ran : RunRecord) (done : Done)
+    → IsSetupFor Keeps ordered job requests setup → HasLaws setup rows → AreFromSources job rows
+    → ran.setup ≡ setup → IsRun (setup_view setup) rows (record_view ran)
+    → IsDoneOf ran requests rows done → IsRunOf Keeps ordered job requests rows done
+is_run_of Keeps ordered job requests rows setup ran done is laws sources same run of =
+    is_run_under (IsSetupFor Keeps ordered job requests) requests rows setup ran done is laws
+    (subst (λ (j : JobView). AreFromSources j rows) (sym is.job_is) sources) same run of
 
 -- it has a journal for each worker of the job
 pub journals_of : (setup : Setup) (requests : List Request) (rows : List Row) (ran : RunRecord) (done : Done) → IsRun (setup_view setup) rows (record_view ran) → IsDoneOf ran requests rows done

@@ -15,6 +15,7 @@ use Rattle.flow_model.specs.Run.{IsRun, Ran}
 use Rattle.flow_model.specs.Serial.{IsSerial, SeesPrefix, serial}
 use Rattle.flow_model.specs.Setup.{setup_view}
 use Rattle.flow_model.specs.declared.record.RunRecord.{RunRecord}
+use Rattle.flow_model.specs.declared.setup.Setup.{Setup}
 use Rattle.savepoint.specs.Parts.{start_of}
 use Rattle.savepoint.specs.SaveText.{save_text}
 use Rattle.serial_order.specs.Serials.{serial_line, serials}
@@ -22,7 +23,7 @@ use Rattle.call_steps.specs.Outcomes.{EndsAfterRun}
 use Rattle.report.specs.Lines.{alert_count, noted, refused_lines, row_count, summary_line}
 use Rattle.payments.specs.World.{World}
 use Rattle.call_steps.specs.Effects.{FileText}
-use Rattle.call_steps.specs.SetupFor.{IsSetupFor}
+use Rattle.call_steps.specs.SetupFor.{IsSetupFor, IsStreamSetupFor}
 use Rattle.call_steps.specs.declared.answer.Answer.{Answer}
 use Rattle.report.specs.declared.fault.FileIs.TheVariants as file
 use Rattle.report.specs.declared.lines.Summary.{Summary}
@@ -47,19 +48,31 @@ pub record IsDoneOf (ran : RunRecord) (requests : List Request) (rows : List Row
   pub refused : done.refused ≡ ran.setup.judged.refused
   pub numbers : IsTrue ran.setup.ordered → done.serial ≡ serials (record_view ran) rows
 
--- The rows were run by the setup of the job and its requests in this mode, and judging refused just
--- these. What the run leaves is consistent. In ordered mode rows and requests have one order, and
--- each row has its number. How the requests of the record relate to those that judging accepts is
--- told by `Keeps`.
-pub record IsRunOf (Keeps : List Request → List Request → Type 0) (ordered : Bool) (job : JobView)
-    (requests : List Request) (rows : List Row) (done : Done) : Type 0 where
-  pub setup : IsSetupFor Keeps ordered job requests done.ran.setup
+-- The rows were run by a setup for these requests, and judging refused just its own. What the run
+-- leaves is consistent. In ordered mode rows and requests have one order, and each row has its
+-- number.
+pub record IsRunUnder (IsFor : Setup → Type 0) (requests : List Request) (rows : List Row)
+    (done : Done) : Type 0 where
+  pub setup : IsFor done.ran.setup
   pub run : IsRun (setup_view done.ran.setup) rows (record_view done.ran)
   pub consistent : IsConsistent rows (record_view done.ran)
   pub one_order : IsTrue done.ran.setup.ordered → HaveOneOrder rows (record_view done.ran)
   pub numbers : IsTrue done.ran.setup.ordered → done.serial ≡ serials (record_view done.ran) rows
   pub refused : done.refused ≡ done.ran.setup.judged.refused
   pub count : done.requests ≡ length requests
+
+-- The rows were run by the setup of the job and its requests in this mode. How the requests of the
+-- record relate to those that judging accepts is told by `Keeps`.
+abbrev pub IsRunOf : (List Request → List Request → Type 0) → Bool → JobView → List Request →
+    List Row → Done → Type 0
+IsRunOf Keeps ordered job requests rows done =
+    IsRunUnder (IsSetupFor Keeps ordered job requests) requests rows done
+
+-- The same of a stream, whose setup is that of a stream.
+abbrev pub IsStreamRunOf : (List Request → List Request → Type 0) → Bool → JobView → List Request →
+    List Row → Done → Type 0
+IsStreamRunOf Keeps ordered job requests rows done =
+    IsRunUnder (IsStreamSetupFor Keeps ordered job requests) requests rows done
 
 -- ---- what is written of it
 
