@@ -1,5 +1,6 @@
 -- What the files of `verify` are answered by.
-use Rattle.std.proofs.Common.{◌≡◌, ◌∙◌, ◌⊎◌, inl, inr, ℕ, List, Ok, Option, None, Some, length, sym, subst}
+use Rattle.std.proofs.Common.{◌≡◌, ◌∙◌, ◌⊎◌, inl, inr, ℕ, Bool, List, Ok, Option, None, Some, length, sym, subst}
+use Rattle.jobs.specs.Job.{job_view}
 use Rattle.jobs.specs.JobView.{JobView}
 use Rattle.job_file.specs.Job.{Excludes, HaveOneFault}
 use Rattle.payments.specs.World.{World}
@@ -22,14 +23,13 @@ use Rattle.verify_steps.specs.Audits.{FollowsAlerts, HoldsAlerts, HoldsNoAlerts,
 use Rattle.call_steps.specs.Effects.{IsExcused, PrintsFault}
 use Rattle.call_steps.specs.Reading.{FollowsFile, RefusesSave}
 use Rattle.call_steps.specs.Running.{alerts_of}
-use Rattle.call_steps.specs.SetupFor.{AreSame, IsSetupFor}
 use Rattle.call_steps.specs.declared.answer.Answer.{Answer}
 use Rattle.call_steps.specs.declared.running.Done.{Done}
 use Rattle.verify_steps.proofs.AlertLemmas.{alerts_apart, alerts_sole}
 use Rattle.call_steps.proofs.FileLemmas.{done_or_excused, follows_excused, follows_read, follows_unread, no_start, sole_start, told_so, unread_excused}
 use Rattle.top_call.specs.Follows.{FollowsInputsThen, IsDoneOrExcused}
 use Rattle.top_call.specs.Inputs.{AreInputsOf}
-use Rattle.top_call.specs.Verify.{BeginsAt, EndsVerify, FollowsSave, FollowsVerdict, HasNoAudit, HasNoBegin, IsRestoredRun, TellsBegin, subject_by}
+use Rattle.top_call.specs.Verify.{BeginsAt, EndsVerify, FollowsSave, FollowsVerdict, HasNoAudit, HasNoBegin, IsRestoredRun, IsSetupBy, TellsBegin, subject_by}
 use Rattle.top_call.proofs.FollowLemmas.{inputs_then, no_inputs_then}
 
 -- ---- the alerts' file, if one is named
@@ -63,6 +63,16 @@ text_of ran = alerts ran.setup.job ran.journals
 abbrev VerdictAfter : VerifyAsked → World → World → Option Fault → JobView → List Request → List Row → Type 0
 VerdictAfter asked old new answer job requests rows = IsExcused old new answer ⊎ FollowsVerdict asked job requests rows old new answer
 
+-- ---- the setup
+
+-- it is one of the job
+pub job_by : (of : AuditOf) (ordered : Bool) (job : JobView) (requests : List Request)
+    (setup : Setup) → IsSetupBy of ordered job requests setup → job_view setup.job ≡ job
+job_by audit.Run ordered job requests setup is = is.job_is
+job_by audit.Live ordered job requests setup is = is.job_is
+job_by audit.Stream ordered job requests setup is = is.job_is
+job_by (audit.Resume save) ordered job requests setup is = is.job_is
+
 -- ---- the beginning
 
 -- the beginning that was read is the one that the file tells
@@ -95,7 +105,7 @@ record HasNone (asked : VerifyAsked) (of : AuditOf) (old new : World) (answer : 
   pub rows : List Row
   pub setup : Setup
   pub of_files : AreInputsOf old.shelf.files asked.plan asked.payments job requests rows
-  pub setup_is : IsSetupFor AreSame asked.plan.ordered job requests setup
+  pub setup_is : IsSetupBy of asked.plan.ordered job requests setup
   pub save : FollowsSave of setup rows old new answer
   pub excused :
       (begin : Begin) → TellsBegin of old.shelf.files setup rows begin → IsExcused old new answer

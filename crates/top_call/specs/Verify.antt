@@ -20,14 +20,15 @@ use Rattle.call_steps.specs.Live.{AreReleased}
 use Rattle.call_steps.specs.Outcomes.{Stops}
 use Rattle.call_steps.specs.Parts.{IsRunFromStart}
 use Rattle.call_steps.specs.Reading.{FollowsFile, IsStartOf, RefusesSave, TellsStart}
-use Rattle.call_steps.specs.Running.{IsRunOf, alerts_of}
-use Rattle.call_steps.specs.SetupFor.{AreSame, IsSetupFor}
+use Rattle.call_steps.specs.Running.{IsRunOf, IsStreamRunOf, alerts_of}
+use Rattle.call_steps.specs.SetupFor.{AreSame, IsSetupFor, IsStreamSetupFor}
 use Rattle.call_steps.specs.declared.answer.Answer.{Answer}
 use Rattle.call_steps.specs.declared.running.Done.{Done}
-use Rattle.verify_steps.specs.Audits.{AreShown, FollowsAlerts, HaveOneVerdict, HoldsAlerts}
-use Rattle.verify_steps.specs.Audits.{HoldsNoAlerts, IsAuditedRun, IsNoAudit, RefusesAudit}
-use Rattle.verify_steps.specs.Audits.{Subject, TellsAlerts, TellsAudit, later_subject}
-use Rattle.verify_steps.specs.Audits.{live_subject, subject_of, verified_lines}
+use Rattle.verify_steps.specs.Audits.{AreShown, AreStreamsShown, FollowsAlerts, HaveOneVerdict}
+use Rattle.verify_steps.specs.Audits.{HoldsAlerts, HoldsNoAlerts, IsAuditedRun, IsNoAudit}
+use Rattle.verify_steps.specs.Audits.{RefusesAudit, Subject, TellsAlerts, TellsAudit}
+use Rattle.verify_steps.specs.Audits.{later_subject, live_subject, stream_subject, subject_of}
+use Rattle.verify_steps.specs.Audits.{verified_lines}
 use Rattle.top_call.specs.Follows.{IsDoneOrExcused}
 use Rattle.top_call.specs.Inputs.{AreInputsOf, AreNoInputs}
 use Rattle.top_call.specs.Prints.{PrintsRun}
@@ -41,10 +42,17 @@ BeginsAt (audit.Resume save) files setup rows begin =
     IsStartOf files save (setup_view setup) (length rows) begin
 BeginsAt _ files setup rows begin = begin ≡ at_first (setup_view setup)
 
+-- the setup by which that command runs
+abbrev pub IsSetupBy : AuditOf → Bool → JobView → List Request → Setup → Type 0
+IsSetupBy audit.Stream ordered job requests setup =
+    IsStreamSetupFor AreSame ordered job requests setup
+IsSetupBy _ ordered job requests setup = IsSetupFor AreSame ordered job requests setup
+
 -- what the audit's bytes are to be the audit of
 abbrev pub subject_by : AuditOf → Begin → Setup → List Row → List ℕ → Subject
 subject_by audit.Run begin setup rows = subject_of setup rows
 subject_by audit.Live begin setup rows = live_subject setup rows
+subject_by audit.Stream begin setup rows = stream_subject setup rows
 subject_by (audit.Resume save) begin setup rows = later_subject begin setup rows
 
 -- the record is a run of that command, over this job, these requests and these rows
@@ -54,13 +62,16 @@ IsRunBy audit.Run ordered job requests rows begin done =
     IsRunOf AreSame ordered job requests rows done
 IsRunBy audit.Live ordered job requests rows begin done =
     IsRunOf (AreReleased (length rows) done.ran.feeds) ordered job requests rows done
+IsRunBy audit.Stream ordered job requests rows begin done =
+    IsStreamRunOf (AreReleased (length rows) done.ran.feeds) ordered job requests rows done
 IsRunBy (audit.Resume save) ordered job requests rows begin done =
     IsSetupFor AreSame ordered job requests done.ran.setup
     × IsRunFromStart begin done.ran.setup requests rows done
 
--- whatever waits make a run of `live`, those that its audit shows do
+-- whatever waits make a run of `live` or of `stream`, those that its audit shows do
 abbrev pub AreShownBy : AuditOf → Setup → List Row → Type 0
 AreShownBy audit.Live setup rows = AreShown setup rows
+AreShownBy audit.Stream setup rows = AreStreamsShown setup rows
 AreShownBy _ setup rows = ⊤
 
 -- ---- what is restored
@@ -74,7 +85,7 @@ pub record IsRestoredRun (asked : VerifyAsked) (files : Option Files) (done : Do
   pub setup : Setup
   pub begin : Begin
   pub of_files : AreInputsOf files asked.plan asked.payments job requests rows
-  pub setup_is : IsSetupFor AreSame asked.plan.ordered job requests setup
+  pub setup_is : IsSetupBy asked.of asked.plan.ordered job requests setup
   pub begins : BeginsAt asked.of files setup rows begin
   pub run : IsRunBy asked.of asked.plan.ordered job requests rows begin done
   pub audited : IsAuditedRun files asked.audit (subject_by asked.of begin setup rows) done
@@ -105,7 +116,7 @@ pub record HasNoAudit (asked : VerifyAsked) (files : Option Files) (old new : Fa
   pub setup : Setup
   pub begin : Begin
   pub of_files : AreInputsOf files asked.plan asked.payments job requests rows
-  pub setup_is : IsSetupFor AreSame asked.plan.ordered job requests setup
+  pub setup_is : IsSetupBy asked.of asked.plan.ordered job requests setup
   pub begins : BeginsAt asked.of files setup rows begin
   pub unread : IsNoAudit files asked.audit (subject_by asked.of begin setup rows) old new why
   pub verdict : HaveOneVerdict (subject_by asked.of begin setup rows)
@@ -158,7 +169,7 @@ TellsBegin _ files setup rows begin = begin ≡ at_first (setup_view setup)
 pub record FollowsVerdict (asked : VerifyAsked) (job : JobView) (requests : List Request)
     (rows : List Row) (old new : World) (answer : Option Fault) : Type 0 where
   pub setup : Setup
-  pub setup_is : IsSetupFor AreSame asked.plan.ordered job requests setup
+  pub setup_is : IsSetupBy asked.of asked.plan.ordered job requests setup
   pub save : FollowsSave asked.of setup rows old new answer
   pub audit :
       (begin : Begin) → TellsBegin asked.of old.shelf.files setup rows begin →

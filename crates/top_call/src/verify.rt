@@ -1,25 +1,32 @@
 ghost use Rattle.std.specs.Prelude.{◌≡◌, IfErr, IfOk, OnOk, length};
 ghost use Rattle.std.specs.Result.{result_err};
+ghost use Rattle.job_file.specs.RequestSizes.{AreFew};
+ghost use Rattle.jobs.specs.Job.{job_view};
 ghost use Rattle.jobs.specs.Nodes.{worker_count};
 ghost use Rattle.command_line.specs.Asked.{verify_asked};
 ghost use Rattle.payments.specs.World.{world};
 ghost use Rattle.verify_steps.specs.Audits.{verified_lines as verified_lines_of};
 ghost use Rattle.call_steps.specs.Effects.{Prints};
 ghost use Rattle.top_call.specs.Verify.{EndsVerify, IsNotRestored, IsNotVerified, IsRestoredRun};
-ghost use Rattle.top_call.specs.Verify.{IsVerifiedRun};
+ghost use Rattle.top_call.specs.Verify.{IsSetupBy, IsVerifiedRun};
 
 use crate::inputs::{RunInputs, inputs_in};
-use call_steps::{Answer, Done, print, setup_of, start_in};
+use call_steps::{Answer, Done, print, setup_of, start_in, stream_setup_of};
 use command_line::{AuditOf, VerifyFiles};
+use flow_model::Setup;
+use jobs::Job;
 use payments::{Shelf, Sink};
 use report::Fault;
 use std::alloc::Global;
+use tuple_trace::NoMemory;
 use verify_steps::{
-    Given, audited_later_run, audited_live_run, audited_run, check_alerts, verified_lines,
+    Given, audited_later_run, audited_live_run, audited_run, audited_stream, check_alerts,
+    verified_lines,
 };
+use versions::Requests;
 
 /// Reads a job, its requests and its payments, judges the requests, and then reads an audit of
-/// `run`, of `live`, or of `resume` from a savepoint, which it reads before.
+/// `run`, of `live`, of `stream`, or of `resume` from a savepoint, which it reads before.
 ///
 /// Rebuilds the run whose audit it is. If alerts are named it reads them, and they have to be just
 /// those of this run. Prints that it is verified and the summary. The first fault ends it. No file
@@ -78,7 +85,7 @@ fn rebuild<S: Shelf>(alloc: Global, files: &VerifyFiles, shelf: &mut S) -> Resul
         requests,
         rows,
     } = inputs;
-    let setup = setup_of(alloc, job, &requests, plan.ordered)?;
+    let setup = setup_by(alloc, &files.of, job, &requests, plan.ordered)?;
     let given = Given {
         requests: &requests,
         rows: &rows,
@@ -87,9 +94,29 @@ fn rebuild<S: Shelf>(alloc: Global, files: &VerifyFiles, shelf: &mut S) -> Resul
     match &files.of {
         AuditOf::Run => audited_run(alloc, setup, given, shelf),
         AuditOf::Live => audited_live_run(alloc, setup, given, shelf),
+        AuditOf::Stream => audited_stream(alloc, setup, given, shelf),
         AuditOf::Resume(save) => {
             let start = start_in(alloc, &setup, rows.len() as u64, save, shelf)?;
             audited_later_run(alloc, setup, &start, given, shelf)
+        }
+    }
+}
+
+// The setup by which the command runs that wrote the audit.
+fn setup_by(
+    alloc: Global,
+    of: &AuditOf,
+    job: Job,
+    requests: &Requests,
+    ordered: bool,
+) -> Result<Setup, NoMemory>
+    requires { AreFew requests.now }
+    ensures { IfOk result (IsSetupBy of.now ordered (job_view job) requests.now) }
+{
+    match of {
+        AuditOf::Stream => stream_setup_of(alloc, job, requests, ordered),
+        AuditOf::Run | AuditOf::Live | AuditOf::Resume(_) => {
+            setup_of(alloc, job, requests, ordered)
         }
     }
 }

@@ -5,20 +5,16 @@ use Rattle.std.proofs.lemmas.List.Elements.{All-map}
 use Rattle.audit_fault.specs.Noting.{IsNoted}
 use Rattle.audit_fault.specs.declared.fault.AuditFault.{AuditFault}
 use Rattle.audit_fault.specs.declared.fault.AuditFault.TheVariants as audit
-use Rattle.audit_laws.specs.Fits.{records_of}
-use Rattle.audit_laws.specs.Verdict.{IsFaultOf}
 use Rattle.flow_model.specs.Run.{Ran}
 use Rattle.report.specs.Lines.{noted}
 use Rattle.report.specs.declared.fault.Fault.{Fault}
 use Rattle.report.specs.declared.fault.Fault.TheVariants as fault
 use Rattle.versions.specs.declared.in_order.Refused.{Refused}
-use Rattle.verify_steps.specs.Audits.{HaveOneVerdict, IsAudited, RefusesAudit, Subject}
+use Rattle.verify_steps.specs.Audits.{HaveOneVerdict, IsAudited, IsFaultOn, RefusesAudit, Subject}
 
 -- the fault is one that these bytes have
 abbrev pub IsFaultIn : (List ℕ → Subject) → List ℕ → AuditFault → Type 0
-IsFaultIn subject text code =
-    IsFaultOf (subject text).begin (subject text).setup (subject text).order (subject text).refused
-    (subject text).rows (records_of text) code
+IsFaultIn subject text code = IsFaultOn (subject text) code
 
 -- no bytes that such a run fits have a fault
 abbrev pub HaveNoFault : (List ℕ → Subject) → Type 0

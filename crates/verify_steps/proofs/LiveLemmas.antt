@@ -12,7 +12,9 @@ use Rattle.versions.specs.declared.request.Request.{Request}
 use Rattle.coordinator.specs.Feeding.{issue_rows}
 use Rattle.flow_engine.specs.Recorded.{NoneIsEarly}
 use Rattle.flow_model.specs.Least.{ArePlansLeast}
-use Rattle.flow_model.specs.Planned.{IsExact}
+use Rattle.flow_model.specs.Planned.{IsExact, IsExactForStream}
+use Rattle.flow_model.specs.Record.{record_view}
+use Rattle.flow_model.specs.Run.{Ran}
 use Rattle.flow_model.specs.Setup.{setup_view}
 use Rattle.flow_model.specs.SetupView.{SetupView}
 use Rattle.flow_model.specs.Waiting.{waiting_for, with_afters}
@@ -20,19 +22,25 @@ use Rattle.flow_model.specs.declared.setup.Setup.{Setup}
 use Rattle.plan_law.specs.Determined.{NumbersAllNodes}
 use Rattle.call_steps.specs.Live.{AreReleased}
 use Rattle.call_steps.specs.Reading.{IsRead}
-use Rattle.call_steps.specs.SetupFor.{AreSame, IsSetupFor}
-use Rattle.verify_steps.specs.Audits.{IsNoAudit, Subject}
+use Rattle.call_steps.specs.SetupFor.{AreSame, IsSetupFor, IsSetupWith, IsStreamSetupFor}
+use Rattle.call_steps.specs.declared.running.Done.{Done}
+use Rattle.call_steps.proofs.FileLemmas.{same_bytes}
+use Rattle.verify_steps.specs.Audits.{IsAuditedBy, IsAuditedRun, IsNoAudit, Subject}
 use Rattle.verify_steps.proofs.AuditLemmas.{IsFaultIn}
-use Rattle.verify_steps.proofs.WaitingLemmas.{exact_waiting, least_waiting}
+use Rattle.verify_steps.proofs.WaitingLemmas.{exact_waiting, least_waiting, stream_exact_waiting}
 
--- the setup with the waits of a feed is that of the job and the released requests
-pub setup_waiting : (ordered : Bool) (job : JobView) (requests : List Request) (rows : ℕ)
-    (setup made : Setup) (feeds : List Feed) → IsSetupFor AreSame ordered job requests setup →
+-- the setup with the waits of a feed is that of the job and the released requests, if such plans
+-- don't go by what requests wait for
+waiting_with : (Exact : SetupView → Type 0) → ((v : SetupView) (waits : List ℕ) → Exact v
+    → Exact (waiting_for waits v)) → (ordered : Bool) (job : JobView) (requests : List Request)
+    (rows : ℕ) (setup made : Setup) (feeds : List Feed)
+    → IsSetupWith Exact AreSame ordered job requests setup →
     setup_view made ≡ waiting_for (issue_rows 0 feeds) (setup_view setup) →
     made.judged.refused ≡ setup.judged.refused →
-    NoneIsEarly rows setup.judged.accepted (with_afters (issue_rows 0 feeds) setup.judged.accepted) →
-    IsSetupFor (AreReleased rows feeds) ordered job requests made
-setup_waiting ordered job requests rows setup made feeds is same refused late =
+    NoneIsEarly rows setup.judged.accepted
+    (with_afters (issue_rows 0 feeds) setup.judged.accepted) →
+    IsSetupWith Exact (AreReleased rows feeds) ordered job requests made
+waiting_with Exact stays ordered job requests rows setup made feeds is same refused late =
     let waits = issue_rows 0 feeds in
     let kept : made.judged.accepted ≡ with_afters waits setup.judged.accepted =
     ap (λ (v : SetupView). v.requests) same in
@@ -45,11 +53,31 @@ setup_waiting ordered job requests rows setup made feeds is same refused late =
             (subst (NoneIsEarly rows setup.judged.accepted) (sym kept) late);
       };
       refused = refused ∙ is.refused;
-      exact = subst IsExact (sym same) (exact_waiting (setup_view setup) waits is.exact);
+      exact = subst Exact (sym same) (stays (setup_view setup) waits is.exact);
       least = subst ArePlansLeast (sym same) (least_waiting (setup_view setup) waits is.least);
       numbers = subst (All NumbersAllNodes) (sym (ap (λ (v : SetupView). v.plans) same)) is.numbers;
       mode = ap (λ (v : SetupView). v.ordered) same ∙ is.mode;
     }
+
+-- the setup of a run
+pub setup_waiting : (ordered : Bool) (job : JobView) (requests : List Request) (rows : ℕ)
+    (setup made : Setup) (feeds : List Feed) → IsSetupFor AreSame ordered job requests setup →
+    setup_view made ≡ waiting_for (issue_rows 0 feeds) (setup_view setup) →
+    made.judged.refused ≡ setup.judged.refused →
+    NoneIsEarly rows setup.judged.accepted
+    (with_afters (issue_rows 0 feeds) setup.judged.accepted) →
+    IsSetupFor (AreReleased rows feeds) ordered job requests made
+setup_waiting = waiting_with IsExact exact_waiting
+
+-- the setup of a stream
+pub stream_waiting : (ordered : Bool) (job : JobView) (requests : List Request) (rows : ℕ)
+    (setup made : Setup) (feeds : List Feed) → IsStreamSetupFor AreSame ordered job requests setup →
+    setup_view made ≡ waiting_for (issue_rows 0 feeds) (setup_view setup) →
+    made.judged.refused ≡ setup.judged.refused →
+    NoneIsEarly rows setup.judged.accepted
+    (with_afters (issue_rows 0 feeds) setup.judged.accepted) →
+    IsStreamSetupFor (AreReleased rows feeds) ordered job requests made
+stream_waiting = waiting_with IsExactForStream stream_exact_waiting
 
 -- bytes that were read are refused for the fault that they have
 pub refused_for : (subject : List ℕ → Subject) (files : Option Files) (name bytes : List ℕ)
@@ -69,3 +97,17 @@ refused_for subject files name bytes old new (audit.Lane n) read has same =
     (record { bytes = bytes; read = read; are_so = (λ e. absurd (cc e), has) }, same)
 refused_for subject files name bytes old new (audit.State w) read has same =
     (record { bytes = bytes; read = read; are_so = (λ e. absurd (cc e), has) }, same)
+
+-- bytes that were read are the audit of this run, and the file tells no other
+pub audited_for : (subject : List ℕ → Subject) (files : Option Files) (name bytes : List ℕ)
+    (done : Done) → IsRead file.Audit files name bytes →
+    IsAuditedBy (subject bytes) (record_view done.ran) →
+    ((ran : Ran) → IsAuditedBy (subject bytes) ran → record_view done.ran ≡ ran) →
+    IsAuditedRun files name subject done
+audited_for subject files name bytes done read audited only = record {
+  of_audit = record { bytes = bytes; read = read; are_so = audited };
+  only = λ other tells.
+      only other
+      (subst (λ (b : List ℕ). IsAuditedBy (subject b) other)
+      (sym (same_bytes file.Audit files name bytes tells.bytes read tells.told)) tells.are_so);
+}

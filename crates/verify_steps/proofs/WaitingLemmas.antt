@@ -7,7 +7,9 @@ use Rattle.versions.specs.Book.{is_named}
 use Rattle.versions.specs.declared.request.Change.{Change}
 use Rattle.versions.specs.declared.request.Request.{Request}
 use Rattle.flow_model.specs.Least.{ArePlansLeast}
-use Rattle.flow_model.specs.Planned.{IsExact, is_named_by, is_planned, is_split_node, makes_split, splits_at}
+use Rattle.flow_model.specs.Planned.{ArePlansOf, IsExact, IsExactForStream, is_named_by}
+use Rattle.flow_model.specs.Planned.{is_planned, is_split_node, makes_split, may_become_split}
+use Rattle.flow_model.specs.Planned.{splits_at}
 use Rattle.flow_model.specs.SetupView.{SetupView}
 use Rattle.flow_model.specs.Waiting.{waiting_for, with_afters}
 use Rattle.flow_model.proofs.WaitingLemmas.{length_waiting}
@@ -36,16 +38,33 @@ planned_waiting false waits qs r node = named_waiting waits qs r node
 splits_waiting : (v : SetupView) (waits : List ℕ) (node : ℕ) → splits_at v.job.nodes (with_afters waits v.requests) node ≡ splits_at v.job.nodes v.requests node
 splits_waiting v waits node = ap (λ b. is_split_node (slice_get v.job.nodes node) || b) (any_waiting (λ cs. list_any (makes_split node) cs) waits v.requests)
 
+plans_waiting : (v : SetupView) (waits : List ℕ)
+    → ArePlansOf v.job v.splits v.ordered v.requests v.plans
+    → ArePlansOf v.job v.splits v.ordered (with_afters waits v.requests) v.plans
+plans_waiting v waits is = record {
+  one_each = is.one_each ∙ sym (length_waiting waits v.requests);
+  each = λ r plan from g. record {
+    by = (is.each r plan from g).by;
+    asked = λ node. subst (λ b. Has plan.asked node ↔ IsTrue b)
+        (sym (planned_waiting v.ordered waits v.requests r node))
+        ((is.each r plan from g).asked node);
+  };
+}
+
 pub exact_waiting : (v : SetupView) (waits : List ℕ) → IsExact v → IsExact (waiting_for waits v)
 exact_waiting v waits is = record {
-  splits = λ node. subst (λ b. Has v.splits node ↔ IsTrue b) (sym (splits_waiting v waits node)) (is.splits node);
-  plans = record {
-    one_each = is.plans.one_each ∙ sym (length_waiting waits v.requests);
-    each = λ r plan from g. record {
-      by = (is.plans.each r plan from g).by;
-      asked = λ node. subst (λ b. Has plan.asked node ↔ IsTrue b) (sym (planned_waiting v.ordered waits v.requests r node)) ((is.plans.each r plan from g).asked node);
-    };
-  };
+  splits = λ node. subst (λ b. Has v.splits node ↔ IsTrue b) (sym (splits_waiting v waits node))
+      (is.splits node);
+  plans = plans_waiting v waits is.plans;
+}
+
+pub stream_exact_waiting : (v : SetupView) (waits : List ℕ) → IsExactForStream v
+    → IsExactForStream (waiting_for waits v)
+stream_exact_waiting v waits is = record {
+  splits = λ node.
+      subst (λ b. Has v.splits node ↔ IsTrue (b || may_become_split (slice_get v.job.nodes node)))
+      (sym (splits_waiting v waits node)) (is.splits node);
+  plans = plans_waiting v waits is.plans;
 }
 
 pub least_waiting : (v : SetupView) (waits : List ℕ) → ArePlansLeast v → ArePlansLeast (waiting_for waits v)

@@ -1,6 +1,8 @@
 -- What is read of an audit and of alerts beside it, and why it isn't.
-use Rattle.std.specs.Prelude.{◌≡◌, ◌≢◌, ◌+◌, ◌++◌, ◌==◌, ⊤, ℕ, List, Option, None, Some, codes}
-use Rattle.std.specs.Prelude.{count_by, length, map, take}
+use Rattle.std.specs.Prelude.{◌≡◌, ◌≢◌, ◌+◌, ◌++◌, ◌∷◌, ◌==◌, ⊤, ℕ, All, List, Option, None, Some}
+use Rattle.std.specs.Prelude.{codes, count_by, length, map, take}
+use Rattle.jobs.specs.Job.{job_view}
+use Rattle.audit_fault.specs.declared.fault.AuditFault.{AuditFault}
 use Rattle.audit_fault.specs.declared.fault.AuditFault.TheVariants as audit
 use Rattle.audit_laws.specs.Fits.{Fits, records_of}
 use Rattle.audit_laws.specs.Verdict.{DifferFirst, IsFaultOf}
@@ -23,58 +25,84 @@ use Rattle.report.specs.Lines.{noted, summary_line}
 use Rattle.report.specs.declared.fault.Fault.{Fault}
 use Rattle.report.specs.declared.fault.Fault.TheVariants as fault
 use Rattle.report.specs.declared.fault.FileIs.TheVariants as file
+use Rattle.sink_journal.specs.Audit.{audit_header, audit_records}
 use Rattle.sink_journal.specs.declared.audit.Noted.{Noted}
+use Rattle.stream_audit.specs.Together.{together}
+use Rattle.stream_audit.specs.Told.{IsEarlier, IsLast, PartTold, part_records, parts_records}
+use Rattle.stream_audit.specs.Told.{told_in_all}
 use Rattle.tuple_trace.specs.declared.row.Row.{Row}
 
 -- ---- what an audit is of
 
 -- What an audit is of: where the run begins, what it goes by, the order of its nodes, what judging
--- refused as an audit notes it, and the rows.
+-- refused as an audit notes it, the rows, and the records that are to be the audit.
 pub record Subject : Type 0 where
   pub begin : Begin
   pub setup : SetupView
   pub order : List ℕ
   pub refused : List Noted
   pub rows : List Row
+  pub records : List (List (List ℕ))
 
 -- a run of this setup and these rows, from this beginning on
-abbrev pub subject_from : Begin → Setup → List Row → Subject
-subject_from begin setup rows = record {
+abbrev pub subject_from : Begin → Setup → List Row → List (List (List ℕ)) → Subject
+subject_from begin setup rows records = record {
   begin = begin;
   setup = setup_view setup;
   order = setup.job.dag.order;
   refused = map noted setup.judged.refused;
   rows = rows;
+  records = records;
 }
 
 -- a run of this setup and these rows, from the beginning of all on
 abbrev pub subject_of : Setup → List Row → List ℕ → Subject
-subject_of setup rows bytes = subject_from (at_first (setup_view setup)) setup rows
+subject_of setup rows bytes =
+    subject_from (at_first (setup_view setup)) setup rows (records_of bytes)
 
--- the same of a run of `live`: each request waits for the rows that the bytes show
+-- the same of a run in which each request waits for the rows that the records show
+abbrev pub shown_subject : Setup → List Row → List (List (List ℕ)) → Subject
+shown_subject setup rows records =
+    record (subject_from (at_first (setup_view setup)) setup rows records) {
+      setup = waiting_for (shown_waits (length rows) setup.judged.accepted records)
+          (setup_view setup);
+    }
+
+-- a run of `live`
 abbrev pub live_subject : Setup → List Row → List ℕ → Subject
-live_subject setup rows bytes = record (subject_of setup rows bytes) {
-  setup = waiting_for (shown_waits (length rows) setup.judged.accepted (records_of bytes))
-      (setup_view setup);
-}
+live_subject setup rows bytes = shown_subject setup rows (records_of bytes)
 
--- the same of a later part, which begins here
+-- a run of `stream`, whose parts are put together
+abbrev pub stream_subject : Setup → List Row → List ℕ → Subject
+stream_subject setup rows bytes =
+    shown_subject setup rows (together (job_view setup.job) (records_of bytes))
+
+-- a later part, which begins here
 abbrev pub later_subject : Begin → Setup → List Row → List ℕ → Subject
-later_subject begin setup rows bytes = subject_from begin setup rows
+later_subject begin setup rows bytes = subject_from begin setup rows (records_of bytes)
 
 -- ---- whose audit bytes are
 
--- the record is a run of what these bytes are to be the audit of, and its audit has their records
-pub record IsAudited (subject : List ℕ → Subject) (ran : Ran) (bytes : List ℕ) : Type 0 where
-  pub run : IsRunSince (subject bytes).begin (subject bytes).setup (subject bytes).rows ran
-  pub fits : Fits (subject bytes).refused bytes ran
+-- the record is a run of what this audit is of, and its audit has these records
+pub record IsAuditedBy (subject : Subject) (ran : Ran) : Type 0 where
+  pub run : IsRunSince subject.begin subject.setup subject.rows ran
+  pub fits : subject.records ≡ audit_header
+      ∷ audit_records ran.setup.job subject.refused ran.feeds ran.journals ran.states
+
+-- the records are the audit of no such run, for this fault
+abbrev pub IsFaultOn : Subject → AuditFault → Type 0
+IsFaultOn subject code =
+    IsFaultOf subject.begin subject.setup subject.order subject.refused subject.rows
+    subject.records code
+
+-- the record is a run of what these bytes are the audit of
+abbrev pub IsAudited : (List ℕ → Subject) → Ran → List ℕ → Type 0
+IsAudited subject ran bytes = IsAuditedBy (subject bytes) ran
 
 -- the bytes are the audit of no such run, for this fault
 abbrev pub RefusesAudit : (List ℕ → Subject) → Fault → List ℕ → Type 0
 RefusesAudit subject (fault.Audit code) bytes =
-    (code ≢ audit.NoMemory)
-    × IsFaultOf (subject bytes).begin (subject bytes).setup (subject bytes).order
-    (subject bytes).refused (subject bytes).rows (records_of bytes) code
+    (code ≢ audit.NoMemory) × IsFaultOn (subject bytes) code
 RefusesAudit subject _ bytes = ⊥
 
 -- the record is the run whose audit the file holds
@@ -118,6 +146,26 @@ abbrev pub AreShown : Setup → List Row → Type 0
 AreShown setup rows =
     (ran : Ran) (bytes : List ℕ) → IsLiveAudited setup rows ran bytes →
     IsAudited (live_subject setup rows) ran bytes
+
+-- what an audit tells of a run
+abbrev pub told_of : List Noted → Ran → PartTold
+told_of refused ran = record {
+  refused = refused;
+  feeds = ran.feeds;
+  journals = ran.journals;
+  states = ran.states;
+}
+
+-- Whatever parts are together a live run, their audits, one after another, show what its requests
+-- waited for.
+abbrev pub AreStreamsShown : Setup → List Row → Type 0
+AreStreamsShown setup rows =
+    (earlier : List PartTold) (last : PartTold) (ran : Ran) (bytes : List ℕ) →
+    All (IsEarlier (job_view setup.job)) earlier → IsLast (job_view setup.job) last →
+    records_of bytes ≡ audit_header ∷ (parts_records (job_view setup.job) earlier
+    ++ part_records (job_view setup.job) last) →
+    told_in_all earlier last ≡ told_of (map noted setup.judged.refused) ran →
+    IsRunLive (setup_view setup) rows ran → IsAudited (stream_subject setup rows) ran bytes
 
 -- ---- the alerts beside it
 

@@ -1,12 +1,15 @@
 // Laws of what an audit is of. Each function proves its clause, and does nothing.
-ghost use Rattle.verify_steps.specs.Audits.{AreShown, HaveOneVerdict, later_subject};
-ghost use Rattle.verify_steps.specs.Audits.{live_subject, subject_of};
+ghost use Rattle.std.specs.Prelude.{ℕ, List};
+ghost use Rattle.verify_steps.specs.Audits.{AreShown, AreStreamsShown, HaveOneVerdict};
+ghost use Rattle.verify_steps.specs.Audits.{later_subject, live_subject, shown_subject};
+ghost use Rattle.verify_steps.specs.Audits.{stream_subject, subject_of};
 
-use audit_laws::{texts_have_one_fault, texts_of_runs_have_no_fault};
+use audit_laws::{texts_have_one_fault, texts_of_runs_have_no_fault, written_audits_fit};
 use audit_replay::counts_are_in_range;
 use flow_model::{Setup, Start};
 use live_audit::{live_runs_show_their_waits, shown_waits_fit};
 use report::refused_are_noted;
+use stream_audit::parts_are_put_together;
 use tuple_trace::Rows;
 
 /// No text is the audit of a run and refused, and none is refused for two faults.
@@ -28,15 +31,32 @@ pub(crate) fn later_texts_have_one_verdict(setup: &Setup, start: &Start, rows: &
     refused_are_noted(setup.judged.refused.as_slice());
 }
 
-/// The same of runs of `live`, whatever rows a text shows.
-pub(crate) fn live_texts_have_one_verdict(setup: &Setup, rows: &Rows)
-    ensures { HaveOneVerdict (live_subject setup.now rows.now) }
+/// The same of runs whose requests wait for the rows that records show, which are read of a text in
+/// any way.
+fn shown_texts_have_one_verdict(setup: &Setup, rows: &Rows)
+    ensures { (read : List ℕ → List (List (List ℕ))) →
+        HaveOneVerdict (λ bytes. shown_subject setup.now rows.now (read bytes)) }
 {
     let _numbered = rows.as_slice();
     let _request_count = setup.request_count();
     let _plan_count = setup.plans.len();
     shown_waits_fit();
+    written_audits_fit();
     refused_are_noted(setup.judged.refused.as_slice());
+}
+
+/// The same of the audits of `live`.
+pub(crate) fn live_texts_have_one_verdict(setup: &Setup, rows: &Rows)
+    ensures { HaveOneVerdict (live_subject setup.now rows.now) }
+{
+    shown_texts_have_one_verdict(setup, rows);
+}
+
+/// The same of the audits of `stream`, whose parts are put together.
+pub(crate) fn stream_texts_have_one_verdict(setup: &Setup, rows: &Rows)
+    ensures { HaveOneVerdict (stream_subject setup.now rows.now) }
+{
+    shown_texts_have_one_verdict(setup, rows);
 }
 
 /// Whatever rows the requests of a live run wait for, its audit shows them.
@@ -44,4 +64,13 @@ pub(crate) fn live_runs_are_shown(setup: &Setup, rows: &Rows)
     ensures { AreShown setup.now rows.now }
 {
     live_runs_show_their_waits();
+}
+
+/// The same of parts of a stream that are together a live run.
+pub(crate) fn streams_are_shown(setup: &Setup, rows: &Rows)
+    ensures { AreStreamsShown setup.now rows.now }
+{
+    parts_are_put_together(&setup.job);
+    live_runs_show_their_waits();
+    written_audits_fit();
 }

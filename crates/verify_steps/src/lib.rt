@@ -1,5 +1,5 @@
 //! The steps of the command `verify`: the run whose audit a file holds is restored, be it one of
-//! `run`, of `live` or of `resume`, and another file is compared with its alerts.
+//! `run`, of `live`, of `stream` or of `resume`, and another file is compared with its alerts.
 //!
 //! ```text
 //! let given = Given { requests: &requests, rows: &rows, audit: &name };
@@ -14,4 +14,4 @@ mod laws;
 mod waits;
 
 pub use alerts::{check_alerts, verified_lines};
-pub use audits::{Given, audited_later_run, audited_live_run, audited_run};
+pub use audits::{Given, audited_later_run, audited_live_run, audited_run, audited_stream};

@@ -10,6 +10,7 @@ use Rattle.flow_model.specs.declared.setup.Setup.{Setup}
 use Rattle.call_steps.specs.Parts.{IsRunFromStart}
 use Rattle.call_steps.specs.SetupFor.{AreSame, IsSetupFor}
 use Rattle.call_steps.proofs.StartLemmas.{save_suits}
+use Rattle.top_call.proofs.VerifyLemmas.{job_by}
 use Rattle.top_call.proofs.verify.rebuild.Goals as goal
 
 pub returns-in-Run-clause-run : goal.returns-in-Run-clause-run
@@ -23,7 +24,7 @@ returns-in-Run-clause-run g c =
       of_files = c.in_ok-inputs.ensures.inputs;
       setup_is = c.in_ok-setup.ensures;
       begins = rw c.in-Run.is refl;
-      run = rw c.in-Run.is (run _ _ c.in_ok-setup.ensures);
+      run = rw c.in-Run.is (run _ _ (rw c.in-Run.is at c.in_ok-setup.ensures));
       audited = rw c.in-Run.is (rw c.in_ok-inputs.ensures.kept at audited);
       verdict = rw c.in-Run.is c.audited_run.ensures.verdict;
       shown = rw c.in-Run.is tt;
@@ -49,7 +50,8 @@ pub audited_run-requires : goal.audited_run-requires
 audited_run-requires g c = record {
   sources =
       subst (λ (j : JobView). AreFromSources j c.in_ok-inputs.inputs.rows)
-      (sym c.in_ok-setup.ensures.job_is) c.in_ok-inputs.ensures.sources;
+      (sym (job_by c.args.files.now.of _ _ _ _ c.in_ok-setup.ensures))
+      c.in_ok-inputs.ensures.sources;
 }
 
 pub returns-in-Live-clause-run : goal.returns-in-Live-clause-run
@@ -63,7 +65,7 @@ returns-in-Live-clause-run g c =
       of_files = c.in_ok-inputs.ensures.inputs;
       setup_is = c.in_ok-setup.ensures;
       begins = rw c.in-Live.is refl;
-      run = rw c.in-Live.is (run _ _ c.in_ok-setup.ensures);
+      run = rw c.in-Live.is (run _ _ (rw c.in-Live.is at c.in_ok-setup.ensures));
       audited = rw c.in-Live.is (rw c.in_ok-inputs.ensures.kept at audited);
       verdict = rw c.in-Live.is c.audited_live_run.ensures.verdict;
       shown = rw c.in-Live.is c.audited_live_run.ensures.shown;
@@ -89,7 +91,49 @@ pub audited_live_run-requires : goal.audited_live_run-requires
 audited_live_run-requires g c = record {
   sources =
       subst (λ (j : JobView). AreFromSources j c.in_ok-inputs.inputs.rows)
-      (sym c.in_ok-setup.ensures.job_is) c.in_ok-inputs.ensures.sources;
+      (sym (job_by c.args.files.now.of _ _ _ _ c.in_ok-setup.ensures))
+      c.in_ok-inputs.ensures.sources;
+}
+
+pub returns-in-Stream-clause-run : goal.returns-in-Stream-clause-run
+returns-in-Stream-clause-run g c =
+    both_ok c.audited_stream.result _ _ _ (λ done audited run. record {
+      job = job_view c.in_ok-inputs.inputs.job;
+      requests = c.in_ok-inputs.inputs.requests;
+      rows = c.in_ok-inputs.inputs.rows;
+      setup = c.in_ok-setup.setup;
+      begin = at_first (setup_view c.in_ok-setup.setup);
+      of_files = c.in_ok-inputs.ensures.inputs;
+      setup_is = c.in_ok-setup.ensures;
+      begins = rw c.in-Stream.is refl;
+      run = rw c.in-Stream.is (run _ _ (rw c.in-Stream.is at c.in_ok-setup.ensures));
+      audited = rw c.in-Stream.is (rw c.in_ok-inputs.ensures.kept at audited);
+      verdict = rw c.in-Stream.is c.audited_stream.ensures.verdict;
+      shown = rw c.in-Stream.is c.audited_stream.ensures.shown;
+    }) c.audited_stream.ensures.audited c.audited_stream.ensures.run
+
+pub returns-in-Stream-clause-cause : goal.returns-in-Stream-clause-cause
+returns-in-Stream-clause-cause g c =
+    IfErr-weaker c.audited_stream.result _ _ (λ why unread. inr (inr (record {
+      job = job_view c.in_ok-inputs.inputs.job;
+      requests = c.in_ok-inputs.inputs.requests;
+      rows = c.in_ok-inputs.inputs.rows;
+      setup = c.in_ok-setup.setup;
+      begin = at_first (setup_view c.in_ok-setup.setup);
+      of_files = c.in_ok-inputs.ensures.inputs;
+      setup_is = c.in_ok-setup.ensures;
+      begins = rw c.in-Stream.is refl;
+      unread = rw c.in-Stream.is (rw c.in_ok-inputs.ensures.kept at unread);
+      verdict = rw c.in-Stream.is c.audited_stream.ensures.verdict;
+      shown = rw c.in-Stream.is c.audited_stream.ensures.shown;
+    }))) c.audited_stream.ensures.cause
+
+pub audited_stream-requires : goal.audited_stream-requires
+audited_stream-requires g c = record {
+  sources =
+      subst (λ (j : JobView). AreFromSources j c.in_ok-inputs.inputs.rows)
+      (sym (job_by c.args.files.now.of _ _ _ _ c.in_ok-setup.ensures))
+      c.in_ok-inputs.ensures.sources;
 }
 
 pub returns-in_err-start-in-Resume-clause-cause : goal.returns-in_err-start-in-Resume-clause-cause
@@ -105,14 +149,15 @@ returns-in_err-start-in-Resume-clause-cause g c =
       rows = c.in_ok-inputs.inputs.rows;
       setup = c.in_ok-setup.setup;
       of_files = c.in_ok-inputs.ensures.inputs;
-      setup_is = c.in_ok-setup.ensures;
+      setup_is = rw c.in-Resume.is at c.in_ok-setup.ensures;
       unread = unread;
     }))))
 
 pub audited_later_run-requires-clause-sources : goal.audited_later_run-requires-clause-sources
 audited_later_run-requires-clause-sources g c =
     subst (λ (j : JobView). AreFromSources j c.in_ok-inputs.inputs.rows)
-    (sym c.in_ok-setup.ensures.job_is) c.in_ok-inputs.ensures.sources
+    (sym (job_by c.args.files.now.of _ _ _ _ c.in_ok-setup.ensures))
+    c.in_ok-inputs.ensures.sources
 
 pub audited_later_run-requires-clause-turned : goal.audited_later_run-requires-clause-turned
 audited_later_run-requires-clause-turned g c =
@@ -144,7 +189,7 @@ returns-clause-run g c =
           rw c.in-Resume.is (
             subst (λ (s : Setup). IsSetupFor AreSame c.args.files.now.plan.ordered
                 (job_view c.in_ok-inputs.inputs.job) c.in_ok-inputs.inputs.requests s) (sym run.setup_is)
-                c.in_ok-setup.ensures,
+                (rw c.in-Resume.is at c.in_ok-setup.ensures),
             subst (λ (s : Setup). IsRunFromStart c.in_ok-start-in-Resume.start s
                 c.in_ok-inputs.inputs.requests c.in_ok-inputs.inputs.rows done) (sym run.setup_is) run,
           );
