@@ -4,7 +4,7 @@ ghost use Rattle.advice.specs.Codes.{code_of, refusal_code};
 ghost use Rattle.advice.specs.Table.{help_view, help_with};
 ghost use Rattle.advice.specs.Told.{Tells, message as message_of};
 
-use crate::audit_places::{actor_place, record_place};
+use crate::audit_places::{actor_place, parts_place, record_place};
 use crate::call::{Call, title_of};
 use crate::codes::{help_of, help_of_refusal};
 use crate::look::Look;
@@ -215,6 +215,9 @@ fn audit_place<L: Look>(
 ) -> Result<Place, AllocError> {
     match fault {
         AuditFault::Shape(number) | AuditFault::Refused(number) | AuditFault::Feed(number) => {
+            if call.is_of_parts() {
+                return parts_place_by(alloc, call, number, look);
+            }
             match file_of(alloc, call, FileIs::Audit, look) {
                 Some(audit) => record_place(alloc, audit.as_slice(), number),
                 None => Ok(Place::new(alloc)),
@@ -231,6 +234,22 @@ fn audit_place<L: Look>(
 }
 
 // What the bytes of a job file tell of a worker or a lane.
+// The line of a record of parts that are put together.
+fn parts_place_by<L: Look>(
+    alloc: Global,
+    call: Call<'_>,
+    number: u64,
+    look: &mut L,
+) -> Result<Place, AllocError> {
+    let Some(audit) = file_of(alloc, call, FileIs::Audit, look) else {
+        return Ok(Place::new(alloc));
+    };
+    match job_of(alloc, call, look) {
+        Some(job) => parts_place(alloc, &job, audit.as_slice(), number),
+        None => Ok(Place::new(alloc)),
+    }
+}
+
 fn actor_place_by(alloc: Global, job: &[u8], fault: AuditFault) -> Result<Place, AllocError> {
     match read_job(alloc, job) {
         Ok(job) => actor_place(alloc, &job, fault),

@@ -6,6 +6,7 @@ use flow_model::Topology;
 use jobs::Job;
 use std::alloc::{AllocError, Global};
 use std::fmt::Write;
+use stream_audit::record_places;
 use toml_places::Place;
 
 /// What the bytes of an audit tell of the place of a fault in one of its records.
@@ -15,6 +16,35 @@ pub(crate) fn record_place(alloc: Global, bytes: &[u8], number: u64) -> Result<P
         write!(place.note, "line {line}")?;
     }
     Ok(place)
+}
+
+/// What the bytes of a stream's audit tell of the place of a fault in a record of its parts, which
+/// are put together. It stands at another place in the file.
+pub(crate) fn parts_place(
+    alloc: Global,
+    job: &Job,
+    bytes: &[u8],
+    number: u64,
+) -> Result<Place, AllocError> {
+    let mut place = Place::new(alloc);
+    place.detail.push_str(
+        "Records are counted in the parts put together; `tools/together` prints them.",
+    )?;
+    if let Some(line) = parts_line(alloc, job, bytes, number) {
+        write!(place.note, "line {line}")?;
+    }
+    Ok(place)
+}
+
+// The line of the file at which a record of the parts begins.
+fn parts_line(alloc: Global, job: &Job, bytes: &[u8], number: u64) -> Option<u64> {
+    match record_places(alloc, job, bytes) {
+        Ok(Some(places)) => {
+            let place = places.as_slice().get(number as usize)?;
+            record_line(alloc, bytes, *place)
+        }
+        Ok(None) | Err(_) => None,
+    }
 }
 
 /// What the job tells of the worker or the lane of a fault: the names of its nodes.

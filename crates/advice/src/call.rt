@@ -48,6 +48,16 @@ impl<'a> Call<'a> {
         }
     }
 
+    /// Whether an audit is looked at whose parts are put together.
+    pub(crate) fn is_of_parts(self) -> bool {
+        for word in self.words {
+            if word.as_str() == "--stream" {
+                return true;
+            }
+        }
+        false
+    }
+
     /// The name of a file, if the words have one for it. An option may name a savepoint.
     pub(crate) fn name_of(self, file: FileIs) -> Option<&'a str> {
         let (command, rest) = self.words.split_first()?;

@@ -185,8 +185,8 @@ pub const S6: Help = Help {
 
 pub const V1: Help = Help {
     code: "V1",
-    cause: "This record of the audit isn't of the form that `run` writes, or stands out of order.",
-    cure: "Give the audit as `fries run` wrote it, with the job that was run.",
+    cause: "This record isn't of the form of an audit of one run, or stands out of order.",
+    cure: "Give the audit as it was written, with its job, and `--stream` if `stream` wrote it.",
 };
 
 pub const V2: Help = Help {
@@ -198,7 +198,7 @@ pub const V2: Help = Help {
 pub const V3: Help = Help {
     code: "V3",
     cause: "The audit has other rows or requests than the files. This record differs first.",
-    cure: "Give the files of the run; `--live` if `live` wrote it, `--save SAVE` if `resume` did.",
+    cure: "Give its files; `--live`, `--stream` or `--save SAVE` if `run` didn't write it.",
 };
 
 pub const V4: Help = Help {

@@ -36,8 +36,8 @@ const CASES: &[(AuditFault, &str)] = &[
     (
         AuditFault::Shape(0),
         "V1 record 0 (line 1)
-  This record of the audit isn't of the form that `run` writes, or stands out of order.
-  Give the audit as `fries run` wrote it, with the job that was run.
+  This record isn't of the form of an audit of one run, or stands out of order.
+  Give the audit as it was written, with its job, and `--stream` if `stream` wrote it.
 ",
     ),
     (
@@ -51,7 +51,7 @@ const CASES: &[(AuditFault, &str)] = &[
         AuditFault::Feed(1),
         "V3 record 1 (line 2)
   The audit has other rows or requests than the files. This record differs first.
-  Give the files of the run; `--live` if `live` wrote it, `--save SAVE` if `resume` did.
+  Give its files; `--live`, `--stream` or `--save SAVE` if `run` didn't write it.
 ",
     ),
 ];
@@ -84,6 +84,37 @@ fn workers_and_lanes_are_told_by_their_nodes(rt: HostRuntime) {
     for (fault, told) in CASES {
         assert!(rt; matches!(is_case(rt.alloc(), *fault, told), Ok(true)));
     }
+}
+
+/// Two parts, of which the second one has a row.
+const PARTS: &str = "entry,node,worker,lane,number,extra
+stopped,,,,,
+fed,,,,1,
+stopped,,,,,
+";
+
+/// The first record of both parts together is the row.
+const OF_PARTS: &str = "fries: audit file `audit.csv`: V3 record 1 (line 3)
+  The audit has other rows or requests than the files. This record differs first.
+  Records are counted in the parts put together; `tools/together` prints them.
+  Give its files; `--live`, `--stream` or `--save SAVE` if `run` didn't write it.
+";
+
+const VERIFY_PARTS: &[&str] = &[
+    "verify",
+    "job.toml",
+    "requests.toml",
+    "pay.csv",
+    "audit.csv",
+    "--stream",
+];
+
+#[test]
+fn records_of_parts_are_told_by_their_lines(rt: HostRuntime) {
+    let fault = Some(Fault::Audit(AuditFault::Feed(1)));
+    let files = &[("job.toml", JOB), ("audit.csv", PARTS)];
+    let told = is_told(rt.alloc(), files, VERIFY_PARTS, fault, &[], OF_PARTS);
+    assert!(rt; matches!(told, Ok(true)));
 }
 
 const VERIFY_ALERTS: &[&str] = &[

@@ -115,6 +115,14 @@ Type `fries check --help`.",
         "`--live` and `--save` don't stand together. Type `fries verify --help`.",
     ),
     (
+        &["verify", "j", "r", "p", "u", "--stream", "--live"],
+        "`--live` and `--stream` don't stand together. Type `fries verify --help`.",
+    ),
+    (
+        &["verify", "--stream", "j", "r", "p", "u", "a"],
+        "`--stream` and ALERTS don't stand together. Type `fries verify --help`.",
+    ),
+    (
         &["verify", "j", "r", "p", "u", "--save"],
         "No name follows `--save`. Type `fries verify --help`.",
     ),
