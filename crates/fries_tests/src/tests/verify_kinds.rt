@@ -1,4 +1,4 @@
-//! Audits of `live` and of `resume`, each read as what it is and as what it isn't.
+//! Audits of `live`, of `stream` and of `resume`, each read as what it is and as what it isn't.
 use crate::tests::texts::{CHAIN, FOUR_PAYMENTS, TWO_ALERTS};
 use crate::tests::{CALL, Case, Ran, Wanted, check_over};
 use std::process::Abort;
@@ -86,6 +86,62 @@ where
 #[test]
 fn verify_live(rt: HostRuntime) {
     for reading in &OF_LIVE {
+        check_live(&rt, reading);
+    }
+}
+
+/// Two parts of two payments, and the end. The request was read between the parts.
+const IN_PARTS: &str = "entry,node,worker,lane,number,extra
+fed,,,,1,\nfed,,,,2,\nstopped,,,,,
+met,big,0,0,1,\nmet,big,0,0,2,\nended,big,0,0,,\nmet,alerts,0,1,2,\nended,alerts,0,1,,
+issued,,,,1,\nfed,,,,3,\nfed,,,,4,\nstopped,,,,,
+turned,big,0,,1,\nmet,big,0,0,3,\nmet,big,0,0,4,\nended,big,0,0,,
+met,alerts,0,1,3,\nmet,alerts,0,1,4,\nended,alerts,0,1,,
+stopped,,,,,\nended,big,0,0,,\nended,alerts,0,1,,
+";
+
+/// The same without the second part.
+const PART_IS_MISSING: &str = "entry,node,worker,lane,number,extra
+fed,,,,1,\nfed,,,,2,\nstopped,,,,,
+met,big,0,0,1,\nmet,big,0,0,2,\nended,big,0,0,,\nmet,alerts,0,1,2,\nended,alerts,0,1,,
+stopped,,,,,\nended,big,0,0,,\nended,alerts,0,1,,
+";
+
+/// In the second part a worker turned the request after its first row, which the sink got as the
+/// new function would have passed it.
+const HALF_A_CHANGE: &str = "entry,node,worker,lane,number,extra
+fed,,,,1,\nfed,,,,2,\nstopped,,,,,
+met,big,0,0,1,\nmet,big,0,0,2,\nended,big,0,0,,\nmet,alerts,0,1,2,\nended,alerts,0,1,,
+issued,,,,1,\nfed,,,,3,\nfed,,,,4,\nstopped,,,,,
+met,big,0,0,3,\nturned,big,0,,1,\nmet,big,0,0,4,\nended,big,0,0,,
+met,alerts,0,1,3,\nmet,alerts,0,1,4,\nended,alerts,0,1,,
+stopped,,,,,\nended,big,0,0,,\nended,alerts,0,1,,
+";
+
+const STREAM: &str = "verify job.toml requests.toml payments.csv audit.csv --stream";
+
+/// Audits of parts over four payments, and how they are read.
+static OF_STREAM: [Reading; 5] = [
+    (
+        IN_PARTS,
+        STREAM,
+        0,
+        "verified\nrows 4 alerts 3 requests 1 refused 0\n",
+    ),
+    (IN_PARTS, PLAIN, 11, "fault 11 V1 record 9\n"),
+    (
+        ISSUED_LATE,
+        STREAM,
+        0,
+        "verified\nrows 4 alerts 2 requests 1 refused 0\n",
+    ),
+    (PART_IS_MISSING, STREAM, 11, "fault 11 V3 record 3\n"),
+    (HALF_A_CHANGE, STREAM, 11, "fault 11 V4 worker 0\n"),
+];
+
+#[test]
+fn verify_streamed(rt: HostRuntime) {
+    for reading in &OF_STREAM {
         check_live(&rt, reading);
     }
 }

@@ -87,8 +87,8 @@ fn empty_words(rt: HostRuntime) {
     check_lines(&rt, &USAGE, &EMPTY_WORDS);
 }
 
-/// Numbers outside their limits, options without a value or with one too many, and options that stand
-/// twice, before the command or beside one that they exclude.
+/// Numbers outside their limits, options without a value or with one too many, and options that
+/// stand twice, before the command or beside one that they exclude.
 static FAULTY_OPTIONS: [&str; 30] = [
     "run j r p alerts.csv audit.csv --threads 0",
     "run j r p alerts.csv audit.csv --threads=0",
