@@ -11,7 +11,7 @@ _fries_options() {
     live | save | resume) echo "--threads --capacity --help" ;;
     stream) echo "--threads --capacity --save --every --from --ordered --exact --resume --progress --help" ;;
     plan) echo "--ordered --help" ;;
-    verify) echo "--ordered --live --save --help" ;;
+    verify) echo "--ordered --live --stream --save --help" ;;
     make) echo "--threads --ordered --help" ;;
     first | check) echo "--help" ;;
   esac
