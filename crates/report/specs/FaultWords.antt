@@ -30,6 +30,7 @@ fault_words (fault.Payments code) = payments_words code
 fault_words (fault.Save code) = save_words code
 fault_words (fault.Audit code) = audit_words code
 fault_words (fault.Alerts line) = codes "V7 line " ++ decimal line
+fault_words (fault.Part part) = codes "V8 part " ++ decimal part
 fault_words (fault.Read file) = file_words file
 fault_words (fault.Write file) = file_words file
 fault_words fault.NoMemory = codes "memory"

@@ -54,6 +54,7 @@ status_of (fault.Long file) = 9
 status_of (fault.Save code) = 10
 status_of (fault.Audit code) = 11
 status_of (fault.Alerts line) = 11
+status_of (fault.Part part) = 11
 
 -- the status of a call: that of its fault, where it has one; else 0, or 8 where a request was
 -- refused

@@ -63,6 +63,9 @@ pub enum Fault {
     /// The alerts were read and aren't those of the run whose audit was read. They differ first in
     /// this line, counted from 1.
     Alerts(u64),
+    /// The audit of a stream was read. It is that of a run, and this part, counted from 1, is the
+    /// first that is no run from where the part before it has ended.
+    Part(u64),
     /// A file or the input couldn't be read.
     Read(FileIs),
     /// A file couldn't be made or written, or the standard output refused.
@@ -87,7 +90,7 @@ impl Fault {
             Fault::NoMemory => 7,
             Fault::Long(_) => 9,
             Fault::Save(_) => 10,
-            Fault::Audit(_) | Fault::Alerts(_) => 11,
+            Fault::Audit(_) | Fault::Alerts(_) | Fault::Part(_) => 11,
         }
     }
 }

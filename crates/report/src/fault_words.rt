@@ -18,6 +18,7 @@ impl fmt::Display for Fault {
             Fault::Save(fault) => fault.fmt(f),
             Fault::Audit(fault) => fault.fmt(f),
             Fault::Alerts(line) => write!(f, "V7 line {line}"),
+            Fault::Part(part) => write!(f, "V8 part {part}"),
             Fault::Read(file) | Fault::Write(file) | Fault::Long(file) => file.fmt(f),
             Fault::NoMemory => write!(f, "memory"),
         }
