@@ -54,6 +54,28 @@ pub fn alerts_part_text(alloc: Global, job: &Job, journals: &Journals) -> Result
     Ok(part.into_text())
 }
 
+/// The text of what a sink shows for some steps of one of its workers, given its name and the
+/// numbers of the columns that it lists.
+///
+/// The texts of all sinks, worker by worker and each in the order of its steps, are those of
+/// [`alerts_part_text`]. They may be made in any order, and at once.
+pub fn sink_text(
+    alloc: Global,
+    columns: &[Column],
+    name: &[u8],
+    listed: &[u32],
+    steps: &[Entry],
+) -> Result<Bytes, NoMemory>
+    ensures { IfOk result (λ text. text ≡ records_text
+        (sink_alerts name.now (layout_of columns.now listed.now) steps.now)) }
+{
+    let layout = layout(alloc, columns, listed)?;
+    let front = front_of(alloc, name)?;
+    let mut part = Lines::with_room(alloc, 0);
+    write_sink(&mut part, name, front.as_slice(), layout.as_slice(), steps)?;
+    Ok(part.into_text())
+}
+
 // Appends the records after the header.
 fn write_alerts(
     alloc: Global,
@@ -98,14 +120,22 @@ fn write_node(
     if let Func::Sink(listed) = &node.func {
         let layout = layout(alloc, columns, listed.as_slice())?;
         let name = node.name.as_slice();
-        let mut front = Lines::with_room(alloc, 0);
-        front.add_first(name)?;
-        let front = front.into_text();
+        let front = front_of(alloc, name)?;
         for journal in journals {
-            write_sink(lines, name, front.as_slice(), layout.as_slice(), journal)?;
+            let steps = journal.as_slice();
+            write_sink(lines, name, front.as_slice(), layout.as_slice(), steps)?;
         }
     }
     Ok(())
+}
+
+// The name of a sink as a field.
+fn front_of(alloc: Global, name: &[u8]) -> Result<Bytes, NoMemory>
+    ensures { IfOk result (λ front. front ≡ field_text default_writer name.now) }
+{
+    let mut front = Lines::with_room(alloc, 0);
+    front.add_first(name)?;
+    Ok(front.into_text())
 }
 
 fn layout(
@@ -135,13 +165,13 @@ fn write_sink(
     name: &[u8],
     front: &[u8],
     layout: &[Option<ColumnKind>],
-    journal: &Journal,
+    steps: &[Entry],
 ) -> Result<(), NoMemory>
     requires { front.now ≡ field_text default_writer name.now }
     ensures { OnOk result (lines.new ≡
-        lines.old ++ records_text (sink_alerts name.now layout.now journal.now)) }
+        lines.old ++ records_text (sink_alerts name.now layout.now steps.now)) }
 {
-    for entry in journal.as_slice() {
+    for entry in steps {
         if let Entry::Met { tuple, .. } = entry {
             write_alert(lines, name, front, layout, tuple)?;
         }

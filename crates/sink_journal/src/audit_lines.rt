@@ -18,9 +18,15 @@ use tuple_trace::{Bytes, NoMemory};
 // About how many bytes a record takes.
 const RECORD_BYTES: usize = 24;
 
-/// An audit that grows record by record. Contracts see its text.
+/// Records of an audit, which are appended one after another. Contracts see their text.
+///
+/// Whoever makes an audit in parts appends to one of these for each part. The parts may be made in
+/// any order, and at once. Put together in the order of [`audit_text`](crate::audit_text), they
+/// are its text.
+///
+/// A call that returns `Err` was out of memory, and may have appended a part of its records.
 #[derive(Drop)]
-pub(crate) struct AuditLines {
+pub struct AuditLines {
     alloc: Global,
     lines: Lines,
 }
@@ -35,7 +41,7 @@ impl Model for AuditLines {
 
 impl AuditLines {
     /// No records. Room is made for about `records` of them, if there is memory.
-    pub(crate) fn new(alloc: Global, records: usize) -> Self
+    pub fn new(alloc: Global, records: usize) -> Self
         ensures { result ≡ [] }
     {
         AuditLines {
@@ -45,21 +51,21 @@ impl AuditLines {
     }
 
     /// The text.
-    pub(crate) fn into_text(self) -> Bytes
+    pub fn into_text(self) -> Bytes
         ensures { result ≡ self }
     {
         self.lines.into_text()
     }
 
     /// Appends the header.
-    pub(crate) fn write_header(&mut self) -> Result<(), NoMemory>
+    pub fn write_header(&mut self) -> Result<(), NoMemory>
         ensures { OnOk result (self.new ≡ self.old ++ record_text audit_header) }
     {
         self.lines.add(b"entry,node,worker,lane,number,extra\n")
     }
 
     /// Appends a record for each refused request.
-    pub(crate) fn write_refused(&mut self, refused: &[Noted]) -> Result<(), NoMemory>
+    pub fn write_refused(&mut self, refused: &[Noted]) -> Result<(), NoMemory>
         ensures { OnOk result (self.new ≡
             self.old ++ records_text (map refused_fields refused.now)) }
     {
@@ -79,7 +85,7 @@ impl AuditLines {
     }
 
     /// Appends a record for each step of the feeder.
-    pub(crate) fn write_feeds(&mut self, feeds: &[Feed]) -> Result<(), NoMemory>
+    pub fn write_feeds(&mut self, feeds: &[Feed]) -> Result<(), NoMemory>
         ensures { OnOk result (self.new ≡ self.old ++ records_text (map feed_fields feeds.now)) }
     {
         for feed in feeds {
@@ -121,6 +127,31 @@ impl AuditLines {
             self.write_worker(node, place, journal, &states[place])?;
         }
         Ok(())
+    }
+
+    /// Appends a record for each of these steps of the worker at this place of the node with this
+    /// name.
+    pub fn write_steps(
+        &mut self,
+        node: &[u8],
+        place: usize,
+        steps: &[Entry],
+    ) -> Result<(), NoMemory>
+        ensures { OnOk result (self.new ≡
+            self.old ++ records_text (map (entry_fields node.now place) steps.now)) }
+    {
+        let worker = worker_fields(self.alloc, node, place)?;
+        let met = met_fields(self.alloc, worker.as_slice())?;
+        self.write_journal(node, place, worker.as_slice(), met.as_slice(), steps)
+    }
+
+    /// Appends a record for each count of the worker at this place of the node with this name.
+    pub fn write_counts(&mut self, node: &[u8], place: usize, state: &Keyed) -> Result<(), NoMemory>
+        ensures { OnOk result (self.new ≡ self.old
+            ++ records_text (map (state_fields node.now place) (finite.entries state.now))) }
+    {
+        let worker = worker_fields(self.alloc, node, place)?;
+        self.write_state(node, place, worker.as_slice(), state)
     }
 
     fn write_worker(

@@ -17,7 +17,8 @@ mod journal;
 mod laws;
 mod lines;
 
-pub use alerts::{alerts_header_text, alerts_part_text, alerts_text};
+pub use alerts::{alerts_header_text, alerts_part_text, alerts_text, sink_text};
 pub use audit::{Noted, RefusalCode, audit_header_text, audit_part_text, audit_text};
+pub use audit_lines::AuditLines;
 pub use journal::{Entry, Feed, Feeds, Journal, Journals, States};
 pub use laws::{parts_follow_one_header, records_are_written_in_turn};
