@@ -3,6 +3,7 @@ ghost use Rattle.command_line.specs.Asked.{IsSize};
 use command_line::EngineSize;
 use flow_engine::Engine;
 use std::alloc::Global;
+use text_threads::Team;
 
 /// What a call runs on: the runtime, by which it starts threads and waits for them, the allocator,
 /// and the gate that its workers call. A call hands it down to each step that runs rows.
@@ -26,5 +27,14 @@ impl<'a, R, G> Host<'a, R, G> {
             size.threads,
             size.capacity,
         )
+    }
+
+    /// The threads of this host that make a text, at most so many at once.
+    pub fn team(&self, threads: u32) -> Team<'a, R> {
+        Team {
+            rt: self.rt,
+            alloc: self.alloc,
+            threads,
+        }
     }
 }

@@ -33,6 +33,7 @@ use report::{Fault, FileIs, push_refused};
 use std::alloc::Global;
 use std::sync::Wait;
 use std::thread::{Threads, join_mut};
+use text_threads::Team;
 use tuple_trace::{Bytes, FeedRows, Gate, NoMemory, Rows};
 use versions::{MAX_REQUESTS, Requests};
 
@@ -144,10 +145,10 @@ where
     )
 }
 
-/// Stores the files of a live run, and then prints its lines. The first fault ends it. If the input
-/// failed, that comes after all others, and in place of the summary.
-pub fn leave_live<S: Shelf, O: Sink>(
-    alloc: Global,
+/// Stores the files of a live run, whose texts the team makes, and then prints its lines. The first
+/// fault ends it. If the input failed, that comes after all others, and in place of the summary.
+pub fn leave_live<R: Threads + Sync, S: Shelf, O: Sink>(
+    team: &Team<'_, R>,
     live: LiveDone,
     names: Outputs<'_>,
     shelf: &mut S,
@@ -164,7 +165,7 @@ pub fn leave_live<S: Shelf, O: Sink>(
     ensures ran { result.ran ≡ Some live.done.ran }
     ensures start { result.start ≡ None }
 {
-    let written = write_live(alloc, &live, names, shelf, out).err();
+    let written = write_live(team, &live, names, shelf, out).err();
     let fault = live_fault(live.heard.failed, written);
     Answer::of_run(live.done, fault)
 }
@@ -180,8 +181,8 @@ fn live_fault(failed: bool, written: Option<Fault>) -> Option<Fault>
     }
 }
 
-fn write_live<S: Shelf, O: Sink>(
-    alloc: Global,
+fn write_live<R: Threads + Sync, S: Shelf, O: Sink>(
+    team: &Team<'_, R>,
     live: &LiveDone,
     names: Outputs<'_>,
     shelf: &mut S,
@@ -195,11 +196,15 @@ fn write_live<S: Shelf, O: Sink>(
         (world (S.state shelf.new) (O.state out.new))
         (result_err result) }
 {
-    let texts = texts_of(alloc, live, names)?;
+    let texts = texts_of(team, live, names)?;
     write_texts(&texts, shelf, out)
 }
 
-fn texts_of<'a>(alloc: Global, live: &LiveDone, names: Outputs<'a>) -> Result<Texts<'a>, NoMemory>
+fn texts_of<'a, R: Threads + Sync>(
+    team: &Team<'_, R>,
+    live: &LiveDone,
+    names: Outputs<'a>,
+) -> Result<Texts<'a>, NoMemory>
     requires { HasWorkers live.now.done }
     ensures files { IfOk result (λ texts. texts.files.items ≡
         files_of names.entry.alerts.now (option_copied names.entry.audit)
@@ -207,8 +212,8 @@ fn texts_of<'a>(alloc: Global, live: &LiveDone, names: Outputs<'a>) -> Result<Te
     ensures lines { IfOk result (λ texts. texts.lines ≡ live_lines_of live.now) }
 {
     Ok(Texts {
-        files: files_in(alloc, &live.done, names)?,
-        lines: live_lines(alloc, live)?,
+        files: files_in(team, &live.done, names)?,
+        lines: live_lines(team.alloc, live)?,
     })
 }
 

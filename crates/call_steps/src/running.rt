@@ -30,10 +30,10 @@ use payments::{Shelf, Sink};
 use report::{Fault, FileIs, Summary, alert_count, noted, push_refused, row_count, summary_line};
 use save_file::{save_text, start_of};
 use serial_order::{Serial, push_serial_line, serial};
-use sink_journal::{alerts_text, audit_text};
 use std::alloc::Global;
 use std::sync::Wait;
 use std::thread::Threads;
+use text_threads::{Audited, Team};
 use tuple_trace::{Bytes, FeedRows, Gate, NoMemory, Rows, Word};
 use versions::{Refusals, Requests};
 
@@ -170,9 +170,10 @@ pub struct Outputs<'a> {
     pub save: Option<&'a Word>,
 }
 
-/// Stores the files of a run, and then prints its lines. The first fault ends it.
-pub fn leave_run<S: Shelf, O: Sink>(
-    alloc: Global,
+/// Stores the files of a run, whose texts the team makes, and then prints its lines. The first fault
+/// ends it.
+pub fn leave_run<R: Threads + Sync, S: Shelf, O: Sink>(
+    team: &Team<'_, R>,
     done: Done,
     names: Outputs<'_>,
     shelf: &mut S,
@@ -190,12 +191,12 @@ pub fn leave_run<S: Shelf, O: Sink>(
     ensures ran { result.ran ≡ Some done.ran }
     ensures start { result.start ≡ None }
 {
-    let fault = write_run(alloc, &done, names, shelf, out).err();
+    let fault = write_run(team, &done, names, shelf, out).err();
     Answer::of_run(done, fault)
 }
 
-fn write_run<S: Shelf, O: Sink>(
-    alloc: Global,
+fn write_run<R: Threads + Sync, S: Shelf, O: Sink>(
+    team: &Team<'_, R>,
     done: &Done,
     names: Outputs<'_>,
     shelf: &mut S,
@@ -210,11 +211,15 @@ fn write_run<S: Shelf, O: Sink>(
         (world (S.state shelf.new) (O.state out.new))
         (result_err result) }
 {
-    let texts = texts_of(alloc, done, names)?;
+    let texts = texts_of(team, done, names)?;
     write_texts(&texts, shelf, out)
 }
 
-fn texts_of<'a>(alloc: Global, done: &Done, names: Outputs<'a>) -> Result<Texts<'a>, NoMemory>
+fn texts_of<'a, R: Threads + Sync>(
+    team: &Team<'_, R>,
+    done: &Done,
+    names: Outputs<'a>,
+) -> Result<Texts<'a>, NoMemory>
     requires journals { length done.now.ran.journals ≡ worker_count done.now.ran.setup.job.nodes }
     requires states { length done.now.ran.states ≡ worker_count done.now.ran.setup.job.nodes }
     ensures files { IfOk result (λ texts. texts.files.items ≡
@@ -223,14 +228,14 @@ fn texts_of<'a>(alloc: Global, done: &Done, names: Outputs<'a>) -> Result<Texts<
     ensures lines { IfOk result (λ texts. texts.lines ≡ run_lines_of done.now) }
 {
     Ok(Texts {
-        files: files_in(alloc, done, names)?,
-        lines: run_lines(alloc, done)?,
+        files: files_in(team, done, names)?,
+        lines: run_lines(team.alloc, done)?,
     })
 }
 
 // The files with their texts, in the order in which they are stored.
-pub(crate) fn files_in<'a>(
-    alloc: Global,
+pub(crate) fn files_in<'a, R: Threads + Sync>(
+    team: &Team<'_, R>,
     done: &Done,
     names: Outputs<'a>,
 ) -> Result<Vec<FileText<'a>>, NoMemory>
@@ -240,10 +245,11 @@ pub(crate) fn files_in<'a>(
         files_of names.entry.alerts.now (option_copied names.entry.audit)
         (option_copied names.entry.save) done.now) }
 {
+    let alloc = team.alloc;
     let alerts = FileText {
         file: FileIs::Alerts,
         name: names.alerts,
-        text: alerts_text(alloc, &done.ran.setup.job, &done.ran.journals)?,
+        text: team.alerts_text(&done.ran.setup.job, &done.ran.journals)?,
     };
     let mut files = Vec::from_array(alloc, [alerts])?;
     let Some(name) = names.audit else {
@@ -252,7 +258,7 @@ pub(crate) fn files_in<'a>(
     let audit = FileText {
         file: FileIs::Audit,
         name,
-        text: audit_in(alloc, done)?,
+        text: audit_in(team, done)?,
     };
     files.push(audit)?;
     let Some(name) = names.save else {
@@ -276,22 +282,20 @@ fn save_in(alloc: Global, done: &Done) -> Result<Bytes, NoMemory>
     save_text(alloc, &done.ran.setup.job, &start)
 }
 
-fn audit_in(alloc: Global, done: &Done) -> Result<Bytes, NoMemory>
+fn audit_in<R: Threads + Sync>(team: &Team<'_, R>, done: &Done) -> Result<Bytes, NoMemory>
     requires journals { length done.now.ran.journals ≡ worker_count done.now.ran.setup.job.nodes }
     requires states { length done.now.ran.states ≡ worker_count done.now.ran.setup.job.nodes }
     ensures { IfOk result (λ text. text ≡ audit_of done.now) }
 {
     let ran = &done.ran;
-    let refused = noted(alloc, done.refused.as_slice())?;
-    let job = &ran.setup.job;
-    audit_text(
-        alloc,
-        job,
-        refused.as_slice(),
-        &ran.feeds,
-        &ran.journals,
-        &ran.states,
-    )
+    let refused = noted(team.alloc, done.refused.as_slice())?;
+    team.audit_text(Audited {
+        job: &ran.setup.job,
+        refused: refused.as_slice(),
+        feeds: &ran.feeds,
+        journals: &ran.journals,
+        states: &ran.states,
+    })
 }
 
 /// What is printed of a run: the refused requests, in ordered mode the numbers of rows, and the

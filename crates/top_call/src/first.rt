@@ -7,17 +7,18 @@ ghost use Rattle.call_steps.specs.FirstJob.{first_job as first_job_of};
 ghost use Rattle.call_steps.specs.Reading.{AreNoRows};
 
 use call_steps::{
-    Answer, Done, Outputs, first_job, first_requests, leave_run, rows_in, run_in_order,
+    Answer, Done, Host, Outputs, first_job, first_requests, leave_run, rows_in, run_in_order,
 };
 use command_line::First;
 use payments::{Shelf, Sink};
 use report::Fault;
 use std::alloc::Global;
+use std::thread::Threads;
 
 /// Reads the payments and runs them, stores the alerts and prints the summary. The first fault ends
 /// it.
-pub fn first_command<S: Shelf, O: Sink>(
-    alloc: Global,
+pub fn first_command<R: Threads + Sync, G, S: Shelf, O: Sink>(
+    host: &Host<'_, R, G>,
     first: &First,
     shelf: &mut S,
     out: &mut O,
@@ -32,9 +33,10 @@ pub fn first_command<S: Shelf, O: Sink>(
         audit: None,
         save: None,
     };
-    match run_first(alloc, first, shelf) {
-        Ok(done) => leave_run(alloc, done, names, shelf, out),
-        Err(fault) => Answer::stopped(alloc, fault),
+    let team = host.team(1);
+    match run_first(host.alloc, first, shelf) {
+        Ok(done) => leave_run(&team, done, names, shelf, out),
+        Err(fault) => Answer::stopped(host.alloc, fault),
     }
 }
 

@@ -43,10 +43,10 @@ where
         audit: Some(&files.audit),
         save: None,
     };
-    let alloc = host.alloc;
+    let team = host.team(files.size.threads);
     match run_files(host, files, shelf, asks) {
-        Ok(live) => leave_live(alloc, live, names, shelf, out),
-        Err(fault) => Answer::stopped(alloc, fault),
+        Ok(live) => leave_live(&team, live, names, shelf, out),
+        Err(fault) => Answer::stopped(host.alloc, fault),
     }
 }
 

@@ -46,14 +46,14 @@ where
         audit: Some(&files.run.audit),
         save: None,
     };
-    let alloc = host.alloc;
+    let team = host.team(files.run.size.threads);
     match run_later(host, files, shelf) {
         Ok(Resumed { done, start }) => {
-            let mut answer = leave_run(alloc, done, names, shelf, out);
+            let mut answer = leave_run(&team, done, names, shelf, out);
             answer.start = Some(start);
             answer
         }
-        Err(fault) => Answer::stopped(alloc, fault),
+        Err(fault) => Answer::stopped(host.alloc, fault),
     }
 }
 

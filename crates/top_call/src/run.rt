@@ -40,10 +40,10 @@ where
         audit: Some(&files.audit),
         save: None,
     };
-    let alloc = host.alloc;
+    let team = host.team(files.size.threads);
     match run_files(host, files, shelf) {
-        Ok(done) => leave_run(alloc, done, names, shelf, out),
-        Err(fault) => Answer::stopped(alloc, fault),
+        Ok(done) => leave_run(&team, done, names, shelf, out),
+        Err(fault) => Answer::stopped(host.alloc, fault),
     }
 }
 

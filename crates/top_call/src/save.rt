@@ -39,10 +39,10 @@ where
         audit: Some(&files.run.audit),
         save: Some(&files.save),
     };
-    let alloc = host.alloc;
+    let team = host.team(files.run.size.threads);
     match run_first(host, files, shelf) {
-        Ok(done) => leave_run(alloc, done, names, shelf, out),
-        Err(fault) => Answer::stopped(alloc, fault),
+        Ok(done) => leave_run(&team, done, names, shelf, out),
+        Err(fault) => Answer::stopped(host.alloc, fault),
     }
 }
 

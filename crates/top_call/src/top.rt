@@ -149,7 +149,7 @@ where
 {
     let alloc = host.alloc;
     match command {
-        Command::First(first) => first_command(alloc, &first, shelf, out),
+        Command::First(first) => first_command(host, &first, shelf, out),
         Command::Check(job) => check_command(alloc, &job, shelf, out),
         Command::Plan(files) => plan_command(alloc, &files, shelf, out),
         Command::Run(files) => run_command(host, &files, shelf, out),
