@@ -5,8 +5,10 @@ ghost use Rattle.jobs.specs.Nodes.{worker_count};
 use super::fixtures::{check_text, job_in};
 use jobs::{Job, worker_count};
 use payments::read_rows;
-use sink_journal::{Entry, Journal, Journals, alerts_header_text, alerts_part_text, alerts_text};
+use sink_journal::{Entry, Journal, Journals, alerts_header_text, alerts_part_text};
 use std::process::Abort;
+use std::thread::Threads;
+use text_threads::Team;
 use tuple_trace::{Bytes, Row};
 
 /// A source, a filter and a sink that lists all four columns.
@@ -113,9 +115,10 @@ fn journals_of(
     journals
 }
 
-// Checks the alerts of a job whose workers met these of the payments, by their places.
+// Checks the alerts of a job whose workers met these of the payments, by their places. They are
+// made on one thread, and by three.
 fn check_alerts(
-    rt: &(impl AllocGlobal + Abort),
+    rt: &(impl AllocGlobal + Abort + Threads + Sync),
     job: &str,
     payments: &[u8],
     workers: &[&[usize]],
@@ -124,8 +127,15 @@ fn check_alerts(
     let job = job_in(rt, &[job]);
     let rows = read_rows(rt.alloc(), &job, payments).expect(rt, "rows");
     let journals = journals_of(rt, &job, rows.as_slice(), workers);
-    let text = alerts_text(rt.alloc(), &job, &journals).expect(rt, "memory");
-    check_text(rt, text.as_slice(), want);
+    for threads in [1, 3] {
+        let team = Team {
+            rt,
+            alloc: rt.alloc(),
+            threads,
+        };
+        let text = team.alerts_text(&job, &journals).expect(rt, "memory");
+        check_text(rt, text.as_slice(), want);
+    }
 }
 
 fn add_part(

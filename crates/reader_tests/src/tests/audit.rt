@@ -11,6 +11,8 @@ use sink_journal::{
     audit_text,
 };
 use std::process::Abort;
+use std::thread::Threads;
+use text_threads::{Audited, Team};
 use tuple_trace::{Bytes, Tuple};
 
 /// A source, a count of two workers and a sink. The lanes 0 and 1 lead to the count, and 2 and 3
@@ -213,6 +215,36 @@ fn audit_of_each_kind_of_record(rt: HostRuntime) {
         text.as_slice(),
         joined(&rt, &[HEADER, RECORDS]).as_str(),
     );
+}
+
+// The text of the run's audit, made by so many threads.
+fn text_on(rt: &(impl AllocGlobal + Abort + Threads + Sync), job: &Job, threads: u32) -> Bytes {
+    let journals = journals_of(rt, job, &RUN);
+    let states = states_of(rt, job, &RUN);
+    let feeds = Feeds::from_slice(rt.alloc(), RUN.feeds).expect(rt, "memory");
+    let team = Team {
+        rt,
+        alloc: rt.alloc(),
+        threads,
+    };
+    let of = Audited {
+        job,
+        refused: RUN.refused,
+        feeds: &feeds,
+        journals: &journals,
+        states: &states,
+    };
+    team.audit_text(of).expect(rt, "memory")
+}
+
+#[test]
+fn audit_on_one_and_three_threads(rt: HostRuntime) {
+    let job = job_in(&rt, &[COUNT]);
+    let want = joined(&rt, &[HEADER, RECORDS]);
+    for threads in [1, 3] {
+        let text = text_on(&rt, &job, threads);
+        check_text(&rt, text.as_slice(), want.as_str());
+    }
 }
 
 static PARTS: [Part; 2] = [FIRST, LATER];
