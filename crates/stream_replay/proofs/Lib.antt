@@ -1,0 +1,6 @@
+pub mod ListLemmas
+pub mod ChainLemmas
+pub mod LooseLemmas
+pub mod PassLemmas
+pub mod LoopLemmas
+pub mod PartLemmas

@@ -1,0 +1,165 @@
+-- Where the loop over the parts is.
+use Rattle.std.proofs.Common.{◌≡◌, ◌∙◌, ◌+◌, ◌++◌, ℕ, List, [], ◌∷◌, ap, arith, length, refl, subst}
+use Rattle.std.proofs.Common.{Some, drop, map, sym}
+use Rattle.std.specs.Prelude.{Err, IfErr, IfOk, Ok, OnOk, Result}
+use Rattle.std.proofs.lemmas.List.{append_assoc, length-append}
+use Rattle.cover_planner.specs.declared.cover.Plan.{Plan}
+use Rattle.jobs.specs.declared.job.Job.{Job}
+use Rattle.tuple_trace.specs.declared.row.Row.{Row}
+use Rattle.versions.specs.declared.request.Request.{Request}
+use Rattle.sink_journal.specs.declared.audit.Noted.{Noted}
+use Rattle.flow_model.specs.Setup.{setup_view}
+use Rattle.flow_model.specs.declared.setup.Setup.{Setup}
+use Rattle.report.specs.Lines.{noted}
+use Rattle.audit_parts.specs.Cut.{parts_of}
+use Rattle.audit_parts.specs.Texts.{IsReadAs, IsTextOf}
+use Rattle.audit_parts.specs.declared.part.AuditPart.{AuditPart}
+use Rattle.stream_replay.specs.InParts.{AreRunInParts, Given, Records, given_by}
+use Rattle.stream_replay.specs.Loose.{IsLooseAmong, IsLooseIn}
+use Rattle.stream_replay.specs.declared.fault.PartFault.{PartFault}
+use Rattle.stream_replay.specs.declared.fault.PartFault.TheVariants as part
+use Rattle.stream_replay.specs.declared.progress.Progress.{Progress}
+use Rattle.stream_replay.specs.declared.whole.Whole.{Whole}
+use Rattle.stream_replay.specs.inner.Progress.{HasPassed, IsCounted, IsLooseFor, body_of}
+use Rattle.stream_replay.specs.inner.Progress.{given_of}
+use Rattle.stream_replay.proofs.ListLemmas.{last_same}
+use Rattle.stream_replay.proofs.LooseLemmas.{loose_apart}
+use Rattle.stream_replay.proofs.PassLemmas.{loose_among}
+
+-- so many parts less one were looked at; of all parts, this one and those after it are left
+pub record IsAt (whole : Whole) (given : Given) (all : List Records) (job : Job)
+    (progress : Progress) (part : AuditPart) (left : List Records) (number : ℕ) : Type 0 where
+  pub done : List Records
+  pub passed : HasPassed whole given done progress
+  pub counted : IsCounted part
+  pub all_are : all ≡ done ++ body_of part ∷ left
+  pub number_is : number ≡ length done + 1
+  pub job_is : progress.setup.job ≡ job
+
+pub at_first : (whole : Whole) (given : Given) (progress : Progress) (part : AuditPart)
+    (left : List Records) → HasPassed whole given [] progress → IsCounted part
+    → IsAt whole given (body_of part ∷ left) progress.setup.job progress part left 1
+at_first whole given progress part left passed counted = record {
+  done = [];
+  passed = passed;
+  counted = counted;
+  all_are = refl;
+  number_is = omega arith;
+  job_is = refl;
+}
+
+pub at_next : (whole : Whole) (given : Given) (all : List Records) (job : Job)
+    (old new : Progress) (part next : AuditPart) (left later : List Records) (number : ℕ)
+    → (was : IsAt whole given all job old part left number) → left ≡ body_of next ∷ later
+    → HasPassed whole given (was.done ++ body_of part ∷ []) new → IsCounted next
+    → new.setup.job ≡ old.setup.job → IsAt whole given all job new next later (number + 1)
+at_next whole given all job old new part next left later number was left_are passed counted same =
+    record {
+      done = was.done ++ body_of part ∷ [];
+      passed = passed;
+      counted = counted;
+      all_are =
+          was.all_are
+          ∙ (ap (λ l. was.done ++ body_of part ∷ l) left_are
+          ∙ sym (append_assoc was.done (body_of part ∷ []) (body_of next ∷ later)));
+      number_is = omega (arith, was.number_is, length-append was.done (body_of part ∷ []));
+      job_is = same ∙ was.job_is;
+    }
+
+-- ---- answers, among all parts
+
+-- the last part is the one that is left
+pub all_at_end : (all done left : List Records) (here : Records) → all ≡ done ++ here ∷ left
+    → left ≡ [] → all ≡ done ++ here ∷ []
+all_at_end all done left here are none = are ∙ ap (λ l. done ++ here ∷ l) none
+
+pub ok_all : {T E : Type 0} (r : Result T E) (given : Given) (all done : List Records)
+    (here : Records) → all ≡ done ++ here ∷ [] → OnOk r (AreRunInParts given done here)
+    → IfOk r (λ back. (earlier : List Records) (last : Records) → all ≡ earlier ++ last ∷ []
+    → AreRunInParts given earlier last)
+ok_all (Ok back) given all done here are runs = λ earlier last same.
+    let both = last_same done earlier here last (sym are ∙ same) in
+    subst (λ (e : List Records). AreRunInParts given e last) both.0
+    (subst (λ (r : Records). AreRunInParts given done r) both.1 runs)
+ok_all (Err why) given all done here are runs = tt
+
+pub err_among : {T : Type 0} (r : Result T PartFault) (given : Given) (all earlier : List Records)
+    (last : Records) → all ≡ earlier ++ last ∷ [] → IfErr r (IsLooseFor given earlier last)
+    → IfErr r (IsLooseAmong given all)
+err_among (Ok back) given all earlier last same loose = tt
+err_among (Err why) given all earlier last same loose =
+    loose_among given all earlier last why same loose
+
+-- what is given by a reader of parts
+pub counted_next : (next : AuditPart) (left later : List Records)
+    → (records : Records) × (left ≡ records ∷ later) × IsTextOf next records
+    × IsReadAs next.text records → IsCounted next × (left ≡ body_of next ∷ later)
+counted_next next left later (records, are, text, read) =
+    let same : body_of next ≡ records = ap (λ (l : Records). drop 1 l) read in (
+      record {
+        text = subst (λ (r : Records). IsTextOf next r) (sym same) text;
+        read = subst (λ (r : Records). IsReadAs next.text r) (sym same) read;
+      },
+      are ∙ ap (λ (r : Records). r ∷ later) (sym same),
+    )
+
+-- ---- of a whole setup
+
+abbrev given_as : Setup → List Request → List Plan → List Noted → List Row → Given
+given_as s requests plans refused rows = record {
+  setup = record (setup_view s) { requests = requests; plans = plans };
+  refused = refused;
+  rows = rows;
+}
+
+pub same_given : (whole : Whole) (setup made : Setup) (rows : List Row) → made ≡ setup
+    → whole.requests ≡ setup.judged.accepted → whole.plans ≡ setup.plans
+    → whole.refused ≡ setup.judged.refused → whole.rows.now ≡ rows
+    → given_of whole (setup_view made) ≡ given_by setup rows
+same_given whole setup made rows same requests plans refused rows_are =
+    ap (λ (s : Setup). given_of whole (setup_view s)) same
+    ∙ (ap (λ (l : List Request). given_as setup l whole.plans whole.noted.items whole.rows.now)
+    requests
+    ∙ (ap (λ (l : List Plan). given_as setup setup.judged.accepted l whole.noted.items
+    whole.rows.now) plans
+    ∙ (ap (λ (l : List Noted). given_as setup setup.judged.accepted setup.plans l whole.rows.now)
+    (whole.noted_are ∙ ap (map noted) refused)
+    ∙ ap (λ (l : List Row). given_as setup setup.judged.accepted setup.plans
+    (map noted setup.judged.refused) l) rows_are)))
+
+loose_in : (given : Given) (all : List Records) (records : Records)
+    → parts_of records ≡ Some all → (why : PartFault) → IsLooseAmong given all why
+    → IsLooseIn given records why
+loose_in given all records are (part.Loose number) loose =
+    (loose.0, loose.1, are ∙ ap (λ (l : List Records). Some l) loose.2, loose.3)
+loose_in given all records are part.NoMemory loose = tt
+
+pub err_in : {T : Type 0} (r : Result T PartFault) (given : Given) (all : List Records)
+    (records : Records) → parts_of records ≡ Some all → IfErr r (IsLooseAmong given all)
+    → IfErr r (IsLooseIn given records)
+err_in (Ok back) given all records are loose = tt
+err_in (Err why) given all records are loose = loose_in given all records are why loose
+
+-- runs one after another aren't refused
+found_for : (given : Given) (all : List Records) (earlier : List Records) (last : Records)
+    → all ≡ earlier ++ last ∷ [] → AreRunInParts given earlier last → (why : PartFault)
+    → IsLooseAmong given all why → why ≡ part.NoMemory
+found_for given all earlier last same runs part.NoMemory loose = refl
+found_for given all earlier last same runs (part.Loose number) loose =
+    let both = last_same earlier loose.0 last loose.1 (sym same ∙ loose.2) in
+    absurd (loose_apart given loose.0 loose.1 number
+    (subst (λ (e : List Records). AreRunInParts given e loose.1) both.0
+    (subst (λ (r : Records). AreRunInParts given earlier r) both.1 runs)) loose.3)
+
+some_same : {A : Type 0} (a b : A) → Some a ≡ Some b → a ≡ b
+some_same a b e = cc
+
+pub err_found : {T : Type 0} (r : Result T PartFault) (given : Given) (all : List Records)
+    (records : Records) → parts_of records ≡ Some all → (earlier : List Records)
+    (last : Records) → parts_of records ≡ Some (earlier ++ last ∷ [])
+    → AreRunInParts given earlier last → IfErr r (IsLooseAmong given all)
+    → IfErr r (λ why. why ≡ part.NoMemory)
+err_found (Ok back) given all records are earlier last same runs loose = tt
+err_found (Err why) given all records are earlier last same runs loose =
+    found_for given all earlier last (some_same all (earlier ++ last ∷ []) (sym are ∙ same)) runs
+    why loose

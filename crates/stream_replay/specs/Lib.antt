@@ -1,0 +1,4 @@
+pub mod InParts
+pub mod Loose
+pub mod Faults
+pub mod inner
