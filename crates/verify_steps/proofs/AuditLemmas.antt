@@ -1,6 +1,7 @@
 -- Bytes have one verdict: the run whose audit they are, or one fault.
-use Rattle.std.proofs.Common.{◌≡◌, ℕ, List, ap, map}
-use Rattle.std.specs.Prelude.{◌≢◌, All}
+use Rattle.std.proofs.Common.{◌≡◌, ◌∙◌, ◌++◌, ◌∷◌, ℕ, List, [], Option, Some, ap, map, refl}
+use Rattle.std.proofs.Common.{subst, sym}
+use Rattle.std.specs.Prelude.{◌≢◌, All, IfSome}
 use Rattle.std.proofs.lemmas.List.Elements.{All-map}
 use Rattle.audit_fault.specs.Noting.{IsNoted}
 use Rattle.audit_fault.specs.declared.fault.AuditFault.{AuditFault}
@@ -10,7 +11,12 @@ use Rattle.report.specs.Lines.{noted}
 use Rattle.report.specs.declared.fault.Fault.{Fault}
 use Rattle.report.specs.declared.fault.Fault.TheVariants as fault
 use Rattle.versions.specs.declared.in_order.Refused.{Refused}
-use Rattle.verify_steps.specs.Audits.{HaveOneVerdict, IsAudited, IsFaultOn, RefusesAudit, Subject}
+use Rattle.stream_replay.specs.InParts.{AreRunInParts, Records}
+use Rattle.stream_replay.specs.Loose.{IsLoose}
+use Rattle.stream_replay.proofs.ListLemmas.{last_same}
+use Rattle.stream_replay.proofs.LooseLemmas.{loose_apart, loose_sole}
+use Rattle.verify_steps.specs.Audits.{HasLoosePart, HasRunParts, HaveOneVerdict, IsAudited}
+use Rattle.verify_steps.specs.Audits.{IsFaultOn, IsToldBy, RefusesAudit, Subject, given_of}
 
 -- the fault is one that these bytes have
 abbrev pub IsFaultIn : (List ℕ → Subject) → List ℕ → AuditFault → Type 0
@@ -19,7 +25,7 @@ IsFaultIn subject text code = IsFaultOn (subject text) code
 -- no bytes that such a run fits have a fault
 abbrev pub HaveNoFault : (List ℕ → Subject) → Type 0
 HaveNoFault subject =
-    (ran : Ran) (text : List ℕ) (code : AuditFault) → IsAudited subject ran text →
+    (ran : Ran) (text : List ℕ) (code : AuditFault) → IsToldBy (subject text) ran →
     code ≢ audit.NoMemory → IsFaultIn subject text code → ⊥
 
 -- no bytes have two faults
@@ -28,6 +34,34 @@ HaveOneFault subject =
     (text : List ℕ) (f g : AuditFault) → f ≢ audit.NoMemory → g ≢ audit.NoMemory →
     IsFaultIn subject text f → IsFaultIn subject text g → f ≡ g
 
+-- ---- parts
+
+-- the parts that there are, are runs one after another
+parts_in : (subject : Subject) (earlier : List Records) (last : Records)
+    → subject.parts ≡ Some (earlier ++ last ∷ []) → HasRunParts subject
+    → AreRunInParts (given_of subject) earlier last
+parts_in subject earlier last are runs =
+    let seen : IfSome (Some (earlier ++ last ∷ [])) (λ parts. (front : List Records)
+    (end : Records) → parts ≡ front ++ end ∷ [] → AreRunInParts (given_of subject) front end) =
+    subst (λ (o : Option (List Records)). IfSome o (λ parts. (front : List Records)
+    (end : Records) → parts ≡ front ++ end ∷ [] → AreRunInParts (given_of subject) front end))
+    are runs in
+    seen earlier last refl
+
+some_same : {A : Type 0} (a b : A) → Some a ≡ Some b → a ≡ b
+some_same a b e = cc
+
+one_part : (subject : Subject) (k j : ℕ) → HasLoosePart subject k → HasLoosePart subject j → k ≡ j
+one_part subject k j x y =
+    let all : x.earlier ++ x.last ∷ [] ≡ y.earlier ++ y.last ∷ [] =
+    some_same (x.earlier ++ x.last ∷ []) (y.earlier ++ y.last ∷ []) (sym x.parts_are ∙ y.parts_are) in
+    let same = last_same x.earlier y.earlier x.last y.last all in
+    loose_sole (given_of subject) x.earlier x.last k j x.loose
+    (subst (λ (e : List Records). IsLoose (given_of subject) e x.last j) (sym same.0)
+    (subst (λ (r : Records). IsLoose (given_of subject) y.earlier r j) (sym same.1) y.loose))
+
+-- ---- verdicts
+
 pub one_verdict : (subject : List ℕ → Subject) → HaveNoFault subject → HaveOneFault subject →
     HaveOneVerdict subject
 one_verdict subject none one = record { apart = apart; sole = sole }
@@ -35,14 +69,25 @@ one_verdict subject none one = record { apart = apart; sole = sole }
     apart : (ran : Ran) (why : Fault) (bytes : List ℕ) → IsAudited subject ran bytes →
         RefusesAudit subject why bytes → ⊥
     apart ran (fault.Audit code) bytes audited refused =
-        none ran bytes code audited refused.0 refused.1
+        none ran bytes code audited.told refused.0 refused.1
+    apart ran (fault.Part part) bytes audited refused =
+        loose_apart (given_of (subject bytes)) refused.earlier refused.last part
+        (parts_in (subject bytes) refused.earlier refused.last refused.parts_are audited.in_parts)
+        refused.loose
     apart ran _ bytes audited refused = absurd refused
 
     sole : (f g : Fault) (bytes : List ℕ) → RefusesAudit subject f bytes →
         RefusesAudit subject g bytes → f ≡ g
     sole (fault.Audit f) (fault.Audit g) bytes x y =
         ap (λ (code : AuditFault). fault.Audit code) (one bytes f g x.0 y.0 x.1 y.1)
+    sole (fault.Audit f) (fault.Part k) bytes x y =
+        absurd (none y.ran bytes f y.told x.0 x.1)
+    sole (fault.Part k) (fault.Audit g) bytes x y =
+        absurd (none x.ran bytes g x.told y.0 y.1)
+    sole (fault.Part k) (fault.Part j) bytes x y =
+        ap (λ (part : ℕ). fault.Part part) (one_part (subject bytes) k j x y)
     sole (fault.Audit f) _ bytes x y = absurd y
+    sole (fault.Part k) _ bytes x y = absurd y
     sole _ g bytes x y = absurd x
 
 -- refused requests are noted as an audit may note them

@@ -3,3 +3,5 @@ pub mod AlertLemmas
 pub mod WaitingLemmas
 pub mod LiveLemmas
 pub mod StreamLemmas
+pub mod AgainLemmas
+pub mod PartLemmas

@@ -1,6 +1,6 @@
 -- What is read of an audit and of alerts beside it, and why it isn't.
 use Rattle.std.specs.Prelude.{◌≡◌, ◌≢◌, ◌+◌, ◌++◌, ◌∷◌, ◌==◌, ⊤, ℕ, All, List, Option, None, Some}
-use Rattle.std.specs.Prelude.{codes, count_by, length, map, take}
+use Rattle.std.specs.Prelude.{IfSome, [], codes, count_by, length, map, take}
 use Rattle.jobs.specs.Job.{job_view}
 use Rattle.audit_fault.specs.declared.fault.AuditFault.{AuditFault}
 use Rattle.audit_fault.specs.declared.fault.AuditFault.TheVariants as audit
@@ -27,15 +27,19 @@ use Rattle.report.specs.declared.fault.Fault.TheVariants as fault
 use Rattle.report.specs.declared.fault.FileIs.TheVariants as file
 use Rattle.sink_journal.specs.Audit.{audit_header, audit_records}
 use Rattle.sink_journal.specs.declared.audit.Noted.{Noted}
+use Rattle.audit_parts.specs.Cut.{parts_of}
 use Rattle.stream_audit.specs.Together.{together}
 use Rattle.stream_audit.specs.Told.{IsEarlier, IsLast, PartTold, part_records, parts_records}
 use Rattle.stream_audit.specs.Told.{told_in_all}
+use Rattle.stream_replay.specs.InParts.{AreRunInParts, Given, Records}
+use Rattle.stream_replay.specs.Loose.{IsLoose}
 use Rattle.tuple_trace.specs.declared.row.Row.{Row}
 
 -- ---- what an audit is of
 
 -- What an audit is of: where the run begins, what it goes by, the order of its nodes, what judging
--- refused as an audit notes it, the rows, and the records that are to be the audit.
+-- refused as an audit notes it, the rows, and the records that are to be the audit. The audit of a
+-- stream also has parts.
 pub record Subject : Type 0 where
   pub begin : Begin
   pub setup : SetupView
@@ -43,6 +47,12 @@ pub record Subject : Type 0 where
   pub refused : List Noted
   pub rows : List Row
   pub records : List (List (List ℕ))
+  pub parts : Option (List Records)
+
+-- what all parts are of
+abbrev pub given_of : Subject → Given
+given_of subject =
+    record { setup = subject.setup; refused = subject.refused; rows = subject.rows }
 
 -- a run of this setup and these rows, from this beginning on
 abbrev pub subject_from : Begin → Setup → List Row → List (List (List ℕ)) → Subject
@@ -53,6 +63,7 @@ subject_from begin setup rows records = record {
   refused = map noted setup.judged.refused;
   rows = rows;
   records = records;
+  parts = None;
 }
 
 -- a run of this setup and these rows, from the beginning of all on
@@ -72,10 +83,15 @@ shown_subject setup rows records =
 abbrev pub live_subject : Setup → List Row → List ℕ → Subject
 live_subject setup rows bytes = shown_subject setup rows (records_of bytes)
 
--- a run of `stream`, whose parts are put together
+-- a run whose parts are put together to these records
+abbrev pub joined_subject : Setup → List Row → List ℕ → Subject
+joined_subject setup rows bytes =
+    shown_subject setup rows (together (job_view setup.job) (records_of bytes))
+
+-- a run of `stream`: that of its parts, each of which is a run by itself
 abbrev pub stream_subject : Setup → List Row → List ℕ → Subject
 stream_subject setup rows bytes =
-    shown_subject setup rows (together (job_view setup.job) (records_of bytes))
+    record (joined_subject setup rows bytes) { parts = parts_of (records_of bytes) }
 
 -- a later part, which begins here
 abbrev pub later_subject : Begin → Setup → List Row → List ℕ → Subject
@@ -84,16 +100,36 @@ later_subject begin setup rows bytes = subject_from begin setup rows (records_of
 -- ---- whose audit bytes are
 
 -- the record is a run of what this audit is of, and its audit has these records
-pub record IsAuditedBy (subject : Subject) (ran : Ran) : Type 0 where
+pub record IsToldBy (subject : Subject) (ran : Ran) : Type 0 where
   pub run : IsRunSince subject.begin subject.setup subject.rows ran
   pub fits : subject.records ≡ audit_header
       ∷ audit_records ran.setup.job subject.refused ran.feeds ran.journals ran.states
+
+-- the parts, if there are any, are runs one after another
+abbrev pub HasRunParts : Subject → Type 0
+HasRunParts subject = IfSome subject.parts (λ parts. (earlier : List Records) (last : Records)
+    → parts ≡ earlier ++ last ∷ [] → AreRunInParts (given_of subject) earlier last)
+
+-- so it is, and each part of the audit of a stream is a run from where the one before has ended
+pub record IsAuditedBy (subject : Subject) (ran : Ran) : Type 0 where
+  pub told : IsToldBy subject ran
+  pub in_parts : HasRunParts subject
 
 -- the records are the audit of no such run, for this fault
 abbrev pub IsFaultOn : Subject → AuditFault → Type 0
 IsFaultOn subject code =
     IsFaultOf subject.begin subject.setup subject.order subject.refused subject.rows
     subject.records code
+
+-- the audit is that of a run, and this part of it, counted from 1, is the first that is no run from
+-- where the one before has ended
+pub record HasLoosePart (subject : Subject) (part : ℕ) : Type 0 where
+  pub ran : Ran
+  pub told : IsToldBy subject ran
+  pub earlier : List Records
+  pub last : Records
+  pub parts_are : subject.parts ≡ Some (earlier ++ last ∷ [])
+  pub loose : IsLoose (given_of subject) earlier last part
 
 -- the record is a run of what these bytes are the audit of
 abbrev pub IsAudited : (List ℕ → Subject) → Ran → List ℕ → Type 0
@@ -103,6 +139,7 @@ IsAudited subject ran bytes = IsAuditedBy (subject bytes) ran
 abbrev pub RefusesAudit : (List ℕ → Subject) → Fault → List ℕ → Type 0
 RefusesAudit subject (fault.Audit code) bytes =
     (code ≢ audit.NoMemory) × IsFaultOn (subject bytes) code
+RefusesAudit subject (fault.Part part) bytes = HasLoosePart (subject bytes) part
 RefusesAudit subject _ bytes = ⊥
 
 -- the record is the run whose audit the file holds
@@ -157,7 +194,8 @@ told_of refused ran = record {
 }
 
 -- Whatever parts are together a live run, their audits, one after another, show what its requests
--- waited for.
+-- waited for. If each part is also a run from where the one before has ended, this is the audit of
+-- the run.
 abbrev pub AreStreamsShown : Setup → List Row → Type 0
 AreStreamsShown setup rows =
     (earlier : List PartTold) (last : PartTold) (ran : Ran) (bytes : List ℕ) →
@@ -165,7 +203,8 @@ AreStreamsShown setup rows =
     records_of bytes ≡ audit_header ∷ (parts_records (job_view setup.job) earlier
     ++ part_records (job_view setup.job) last) →
     told_in_all earlier last ≡ told_of (map noted setup.judged.refused) ran →
-    IsRunLive (setup_view setup) rows ran → IsAudited (stream_subject setup rows) ran bytes
+    IsRunLive (setup_view setup) rows ran → HasRunParts (stream_subject setup rows bytes) →
+    IsAudited (stream_subject setup rows) ran bytes
 
 -- ---- the alerts beside it
 

@@ -13,11 +13,12 @@ ghost use Rattle.call_steps.specs.Parts.{IsRunFromStart};
 ghost use Rattle.call_steps.specs.Running.{IsRunOf, IsStreamRunOf};
 ghost use Rattle.call_steps.specs.SetupFor.{AreSame, IsSetupFor, IsStreamSetupFor};
 ghost use Rattle.verify_steps.specs.Audits.{AreShown, AreStreamsShown, HaveOneVerdict};
-ghost use Rattle.verify_steps.specs.Audits.{IsAuditedBy, IsAuditedRun, IsFaultOn, IsNoAudit};
+ghost use Rattle.verify_steps.specs.Audits.{IsAuditedRun, IsFaultOn, IsNoAudit, IsToldBy};
 ghost use Rattle.verify_steps.specs.Audits.{later_subject, live_subject, shown_subject};
 ghost use Rattle.stream_audit.specs.Together.{together};
 ghost use Rattle.verify_steps.specs.Audits.{Subject, stream_subject, subject_of};
 
+use crate::in_parts::in_parts;
 use crate::laws::{
     later_texts_have_one_verdict, live_runs_are_shown, live_texts_have_one_verdict,
     stream_texts_have_one_verdict, streams_are_shown, texts_have_one_verdict,
@@ -123,7 +124,8 @@ pub fn audited_live_run<S: Shelf>(
 }
 
 /// The run of `stream` whose audit a file holds, from the beginning of the stream to its end. Its
-/// parts are put together to one run, whose requests wait for the rows that it shows.
+/// parts are put together to one run, whose requests wait for the rows that it shows. Then each part
+/// is looked at by itself: it is a run from where the part before it has ended.
 ///
 /// # Errors
 ///
@@ -156,7 +158,8 @@ pub fn audited_stream<S: Shelf>(
     stream_texts_have_one_verdict(&setup, given.rows);
     let bytes = read_file(alloc, FileIs::Audit, given.audit, shelf)?;
     let text = together_in(alloc, &setup.job, bytes.as_slice())?;
-    Ok(shown_run(alloc, setup, given, text.as_slice())?)
+    let done = shown_run(alloc, setup, given, text.as_slice())?;
+    Ok(in_parts(alloc, done, given.rows, bytes.as_slice())?)
 }
 
 // The audit of a stream that a text holds, as that of one run.
@@ -176,11 +179,13 @@ fn together_in(alloc: Global, job: &Job, text: &[u8]) -> Result<Bytes, AuditFaul
 // The run whose audit a text is, if each request waits for the rows that the text shows.
 fn shown_run(alloc: Global, setup: Setup, given: Given<'_>, text: &[u8]) -> Result<Done, AuditFault>
     requires sources { AreFromSources (job_view setup.job) given.rows.now }
-    ensures audited { IfOk result (λ done. IsAuditedBy (shown_subject setup given.entry.rows.now
+    ensures audited { IfOk result (λ done. IsToldBy (shown_subject setup given.entry.rows.now
         (records_of text.now)) (record_view done.ran)) }
     ensures only { (ran : Ran) →
-        IsAuditedBy (shown_subject setup given.entry.rows.now (records_of text.now)) ran →
+        IsToldBy (shown_subject setup given.entry.rows.now (records_of text.now)) ran →
         IfOk result (λ done. record_view done.ran ≡ ran) }
+    ensures refused { IfOk result (λ done.
+        done.ran.setup.judged.refused ≡ setup.judged.refused) }
     ensures run { IfOk result (λ done. (ordered : Bool) (job : JobView) →
         IsSetupFor AreSame ordered job given.entry.requests.now setup →
         IsRunOf (AreReleased (length given.entry.rows.now) done.ran.feeds) ordered job

@@ -1,5 +1,6 @@
 // Laws of what an audit is of. Each function proves its clause, and does nothing.
-ghost use Rattle.std.specs.Prelude.{ℕ, List};
+ghost use Rattle.std.specs.Prelude.{ℕ, List, Option};
+ghost use Rattle.stream_replay.specs.InParts.{Records};
 ghost use Rattle.verify_steps.specs.Audits.{AreShown, AreStreamsShown, HaveOneVerdict};
 ghost use Rattle.verify_steps.specs.Audits.{later_subject, live_subject, shown_subject};
 ghost use Rattle.verify_steps.specs.Audits.{stream_subject, subject_of};
@@ -31,11 +32,13 @@ pub(crate) fn later_texts_have_one_verdict(setup: &Setup, start: &Start, rows: &
     refused_are_noted(setup.judged.refused.as_slice());
 }
 
-/// The same of runs whose requests wait for the rows that records show, which are read of a text in
-/// any way.
+/// The same of runs whose requests wait for the rows that records show. These and the parts of the
+/// audit are read of a text in any way.
 fn shown_texts_have_one_verdict(setup: &Setup, rows: &Rows)
-    ensures { (read : List ℕ → List (List (List ℕ))) →
-        HaveOneVerdict (λ bytes. shown_subject setup.now rows.now (read bytes)) }
+    ensures { (read : List ℕ → Records) (parts : List ℕ → Option (List Records)) →
+        HaveOneVerdict (λ bytes. record (shown_subject setup.now rows.now (read bytes)) {
+          parts = parts bytes;
+        }) }
 {
     let _numbered = rows.as_slice();
     let _request_count = setup.request_count();

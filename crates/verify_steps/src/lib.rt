@@ -10,6 +10,7 @@
 
 mod alerts;
 mod audits;
+mod in_parts;
 mod laws;
 mod waits;
 

@@ -3,7 +3,7 @@ use Rattle.std.proofs.lemmas.Result.{err_from_is_err_and}
 use Rattle.audit_laws.specs.Fits.{records_of}
 use Rattle.flow_model.specs.Record.{record_view}
 use Rattle.payments.specs.World.{ShelfState}
-use Rattle.verify_steps.specs.Audits.{IsAuditedBy, IsFaultOn, live_subject, shown_subject}
+use Rattle.verify_steps.specs.Audits.{IsFaultOn, IsToldBy, live_subject, shown_subject}
 use Rattle.verify_steps.proofs.LiveLemmas.{audited_for, refused_for}
 use Rattle.verify_steps.proofs.audits.audited_live_run.Goals as goal
 
@@ -32,9 +32,13 @@ returns-clause-audited g c =
     let done = c.in_ok-shown_run.field-0 in
     audited_for (live_subject s rows) (g.S.Shelf.state c.args.shelf.now).files
     c.args.given.audit.now bytes done c.in_ok-bytes.ensures.bytes
-    (subst (λ (b : List ℕ). IsAuditedBy (shown_subject s rows (records_of b))
-    (record_view done.ran)) c.as_slice.ensures c.in_ok-shown_run.ensures.audited)
+    (record {
+      told =
+          subst (λ (b : List ℕ). IsToldBy (shown_subject s rows (records_of b))
+          (record_view done.ran)) c.as_slice.ensures c.in_ok-shown_run.ensures.audited;
+      in_parts = tt;
+    })
     (λ ran so.
     c.in_ok-shown_run.ensures.only ran
-    (subst (λ (b : List ℕ). IsAuditedBy (shown_subject s rows (records_of b)) ran)
-    (sym c.as_slice.ensures) so))
+    (subst (λ (b : List ℕ). IsToldBy (shown_subject s rows (records_of b)) ran)
+    (sym c.as_slice.ensures) so.told))

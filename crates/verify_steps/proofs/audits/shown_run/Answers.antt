@@ -9,6 +9,7 @@ use Rattle.flow_model.specs.Setup.{setup_view}
 use Rattle.flow_model.specs.SetupView.{SetupView}
 use Rattle.flow_model.specs.Waiting.{waiting_for}
 use Rattle.flow_model.specs.declared.record.RunRecord.{RunRecord}
+use Rattle.flow_model.specs.declared.setup.Setup.{Setup}
 use Rattle.jobs.specs.Job.{job_view}
 use Rattle.jobs.specs.Nodes.{AreFromSources}
 use Rattle.jobs.specs.declared.job.Job.{Job}
@@ -23,7 +24,7 @@ use Rattle.call_steps.specs.Running.{IsRunOf, IsStreamRunOf}
 use Rattle.call_steps.specs.SetupFor.{IsSetupFor, IsStreamSetupFor}
 use Rattle.call_steps.proofs.PartLemmas.{workers_of}
 use Rattle.call_steps.proofs.RunLemmas.{is_run_under}
-use Rattle.verify_steps.specs.Audits.{IsAuditedBy, IsFaultOn, shown_subject}
+use Rattle.verify_steps.specs.Audits.{IsFaultOn, IsToldBy, shown_subject}
 use Rattle.verify_steps.proofs.LiveLemmas.{setup_waiting, stream_waiting}
 use Rattle.verify_steps.proofs.audits.shown_run.Goals as goal
 
@@ -74,13 +75,13 @@ returns-clause-audited c =
     c.with_waits-setup.ensures.view ∙ ap (λ w. waiting_for w (setup_view s)) waits_are in
     let run : IsRun (setup_view made) rows (record_view ran) =
     rw c.in_ok-start.ensures at c.in_ok-ran.ensures.run in
-    let audited : IsAuditedBy (shown_subject s rows told) (record_view ran) = record {
+    let audited : IsToldBy (shown_subject s rows told) (record_view ran) = record {
       run = subst (λ (v : SetupView). IsRun v rows (record_view ran)) view_is run;
       fits =
           subst (λ (r : List Refused). Fits (map noted r) c.args.text.now (record_view ran))
           c.with_waits-setup.ensures.refused c.in_ok-ran.ensures.fits;
     } in
-    subst (λ (r : RunRecord). IsAuditedBy (shown_subject s rows told) (record_view r))
+    subst (λ (r : RunRecord). IsToldBy (shown_subject s rows told) (record_view r))
     (sym c.in_ok-done_of.ensures.ran_is) audited
 
 pub returns-clause-only : goal.returns-clause-only
@@ -199,3 +200,9 @@ returns-clause-journals c =
     (workers_of _ c.with_waits-setup.result c.args.given.requests.now c.args.given.rows.now
     c.in_ok-ran.ran c.in_ok-done_of.field-0 c.in_ok-ran.ensures.run
     c.in_ok-done_of.ensures).journals
+
+pub returns-clause-refused : goal.returns-clause-refused
+returns-clause-refused c =
+    ap (λ (r : RunRecord). r.setup.judged.refused) c.in_ok-done_of.ensures.ran_is
+    ∙ (ap (λ (s : Setup). s.judged.refused) c.in_ok-ran.ensures.same
+    ∙ c.with_waits-setup.ensures.refused)

@@ -7,8 +7,11 @@ pub returns : goal.returns
 returns c ran bytes audited =
     let setup = c.args.setup.now in
     record {
-      run =
-          c.live_runs_show_their_waits.ensures.run (setup_view setup) c.args.rows.now
-          (map noted setup.judged.refused) bytes ran audited.live audited.fits;
-      fits = audited.fits;
+      told = record {
+        run =
+            c.live_runs_show_their_waits.ensures.run (setup_view setup) c.args.rows.now
+            (map noted setup.judged.refused) bytes ran audited.live audited.fits;
+        fits = audited.fits;
+      };
+      in_parts = tt;
     }

@@ -34,7 +34,7 @@ use Rattle.verify_steps.proofs.laws.shown_texts_have_one_verdict.Goals as goal
 -- from one in the rows that requests wait for, so their lemmas hold of it too. They speak of texts,
 -- and the records are those of the text that is written of the run.
 pub returns : goal.returns
-returns c read =
+returns c read parts =
     let s = c.args.setup.now in
     let rows = c.args.rows.now in
     let job = s.job in
@@ -55,7 +55,8 @@ returns c read =
     all_noted s.judged.refused
     (subst (λ (l : List Refused). All (λ (r : Refused). IsNoted (noted r)) l) c.as_slice.ensures
     c.refused_are_noted.ensures) in
-    let subject : List ℕ → Subject = λ text. shown_subject s rows (read text) in
+    let subject : List ℕ → Subject = λ text.
+    record (shown_subject s rows (read text)) { parts = parts text } in
     let none : HaveNoFault subject =
     λ ran text code audited some.
     let v = view text in

@@ -1,7 +1,11 @@
 use Rattle.audit_laws.specs.Fits.{records_of}
+use Rattle.audit_parts.specs.Cut.{parts_of}
 use Rattle.jobs.specs.Job.{job_view}
 use Rattle.stream_audit.specs.Together.{together}
 use Rattle.verify_steps.proofs.laws.stream_texts_have_one_verdict.Goals as goal
 
 pub returns : goal.returns
-returns c = c.shown_texts_have_one_verdict.ensures (λ bytes. together (job_view c.args.setup.now.job) (records_of bytes))
+returns c =
+    c.shown_texts_have_one_verdict.ensures
+    (λ bytes. together (job_view c.args.setup.now.job) (records_of bytes))
+    (λ bytes. parts_of (records_of bytes))

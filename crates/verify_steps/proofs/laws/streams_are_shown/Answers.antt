@@ -14,7 +14,7 @@ use Rattle.stream_audit.specs.Told.{PartTold, part_records}
 use Rattle.verify_steps.proofs.laws.streams_are_shown.Goals as goal
 
 pub returns : goal.returns
-returns c earlier last ran bytes are is_last told_is all_are live =
+returns c earlier last ran bytes are is_last told_is all_are live in_parts =
     let s = c.args.setup.now in
     let rows = c.args.rows.now in
     let job = job_view s.job in
@@ -31,11 +31,14 @@ returns c earlier last ran bytes are is_last told_is all_are live =
     let back : records_of written ≡ together job (records_of bytes) =
     c.written_audits_fit.ensures refused ran ∙ sym fits in
     record {
-      run =
-          subst (λ (records : List (List (List ℕ))).
-          IsRun (waiting_for (shown_waits (length rows) s.judged.accepted records) (setup_view s))
-          rows ran) back
-          (c.live_runs_show_their_waits.ensures.run (setup_view s) rows refused written ran live
-          (c.written_audits_fit.ensures refused ran));
-      fits = fits;
+      told = record {
+        run =
+            subst (λ (records : List (List (List ℕ))).
+            IsRun (waiting_for (shown_waits (length rows) s.judged.accepted records)
+            (setup_view s)) rows ran) back
+            (c.live_runs_show_their_waits.ensures.run (setup_view s) rows refused written ran live
+            (c.written_audits_fit.ensures refused ran));
+        fits = fits;
+      };
+      in_parts = in_parts;
     }
