@@ -30,6 +30,8 @@ unread-writes is Refuses files name old new (fault.Audit code) p =
     ap (λ (f : Faults). f.writes) p.1
 unread-writes is Refuses files name old new (fault.Alerts line) p =
     ap (λ (f : Faults). f.writes) p.1
+unread-writes is Refuses files name old new (fault.Part part) p =
+    ap (λ (f : Faults). f.writes) p.1
 unread-writes is Refuses files name old new (fault.Write which) p =
     ap (λ (f : Faults). f.writes) p.1
 

@@ -58,6 +58,7 @@ own_status (Some (fault.Long which)) refused own = (7, omega arith, refl)
 own_status (Some (fault.Save code)) refused own = (8, omega arith, refl)
 own_status (Some (fault.Audit code)) refused own = (9, omega arith, refl)
 own_status (Some (fault.Alerts line)) refused own = (9, omega arith, refl)
+own_status (Some (fault.Part part)) refused own = (9, omega arith, refl)
 
 -- ---- counts that stay
 
@@ -112,6 +113,7 @@ of_save setup rows _ bytes refused = absurd refused
 
 of_audit : (subject : List ℕ → Subject) → IsOfBytes (RefusesAudit subject)
 of_audit subject (fault.Audit code) bytes refused = tt
+of_audit subject (fault.Part part) bytes refused = tt
 of_audit subject _ bytes refused = absurd refused
 
 of_alerts : (text : List ℕ) → IsOfBytes (RefusesAlerts text)
