@@ -93,6 +93,7 @@ code_of (fault.Payments code) = payments_code code
 code_of (fault.Save code) = save_code code
 code_of (fault.Audit code) = audit_code code
 code_of (fault.Alerts line) = codes "V7"
+code_of (fault.Part part) = codes "V8"
 code_of (fault.Read file) = read_code file
 code_of (fault.Write file) = write_code file
 code_of fault.NoMemory = codes "7"

@@ -6,7 +6,7 @@ use Rattle.advice.specs.declared.table.HelpIn.{HelpIn}
 use Rattle.advice.specs.declared.table.TheConstants.{USAGE, J1, J2, J3, J4, J5, J6, J7, J8, J9}
 use Rattle.advice.specs.declared.table.TheConstants.{J10, F1, F2, F3, P1, P2, P3, P4, P5, P6, P7}
 use Rattle.advice.specs.declared.table.TheConstants.{S1, S2, S3, S3_STREAM, S4, S5, S6}
-use Rattle.advice.specs.declared.table.TheConstants.{V1, V2, V3, V4, V5, V6, V7}
+use Rattle.advice.specs.declared.table.TheConstants.{V1, V2, V3, V4, V5, V6, V7, V8}
 use Rattle.advice.specs.declared.table.TheConstants.{Q1, Q2, Q3, Q4, Q5, Q6, Q7, Q8, Q9, Q10}
 use Rattle.advice.specs.declared.table.TheConstants.{READ, READ_ASKS, WRITE, OUT, MEMORY, REFUSED}
 use Rattle.advice.specs.declared.table.TheConstants.{LONG, LONG_PAYMENTS, LONG_SAVE, LONG_AUDIT}
@@ -30,5 +30,5 @@ unfoldable pub help_with : List ℕ → Option (HelpIn (List ℕ))
 help_with = help_among (map (λ row. help_of_texts row.code.now row.cause.now row.cure.now) (
     USAGE ∷ J1 ∷ J2 ∷ J3 ∷ J4 ∷ J5 ∷ J6 ∷ J7 ∷ J8 ∷ J9 ∷ J10 ∷ F1 ∷ F2 ∷ F3 ∷ P1 ∷ P2 ∷ P3 ∷
     P4 ∷ P5 ∷ P6 ∷ P7 ∷ S1 ∷ S2 ∷ S3 ∷ S3_STREAM ∷ S4 ∷ S5 ∷ S6 ∷ V1 ∷ V2 ∷ V3 ∷ V4 ∷ V5 ∷ V6 ∷
-    V7 ∷ Q1 ∷ Q2 ∷ Q3 ∷ Q4 ∷ Q5 ∷ Q6 ∷ Q7 ∷ Q8 ∷ Q9 ∷ Q10 ∷ READ ∷ READ_ASKS ∷ WRITE ∷ OUT ∷
-    MEMORY ∷ REFUSED ∷ LONG ∷ LONG_PAYMENTS ∷ LONG_SAVE ∷ LONG_AUDIT ∷ LONG_ALERTS ∷ []))
+    V7 ∷ V8 ∷ Q1 ∷ Q2 ∷ Q3 ∷ Q4 ∷ Q5 ∷ Q6 ∷ Q7 ∷ Q8 ∷ Q9 ∷ Q10 ∷ READ ∷ READ_ASKS ∷ WRITE ∷
+    OUT ∷ MEMORY ∷ REFUSED ∷ LONG ∷ LONG_PAYMENTS ∷ LONG_SAVE ∷ LONG_AUDIT ∷ LONG_ALERTS ∷ []))

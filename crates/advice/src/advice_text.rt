@@ -110,7 +110,7 @@ fn head_of(alloc: Global, call: Call<'_>, fault: Fault, note: &str) -> Result<St
         Fault::Requests(_) => push_coded(call, FileIs::Requests, fault, &mut out)?,
         Fault::Payments(_) => push_coded(call, FileIs::Payments, fault, &mut out)?,
         Fault::Save(_) => push_coded(call, FileIs::Save, fault, &mut out)?,
-        Fault::Audit(_) => push_coded(call, FileIs::Audit, fault, &mut out)?,
+        Fault::Audit(_) | Fault::Part(_) => { push_coded(call, FileIs::Audit, fault, &mut out)? }
         Fault::Alerts(_) => push_coded(call, FileIs::Alerts, fault, &mut out)?,
         Fault::Read(file) | Fault::Write(file) | Fault::Long(file) => {
             push_file(call, file, &mut out)?
@@ -190,9 +190,8 @@ fn place_of<L: Look>(
             note: String::new(alloc),
             detail: usage_detail(alloc, call)?,
         }),
-        Fault::Alerts(_) | Fault::Read(_) | Fault::Write(_) | Fault::NoMemory => {
-            Ok(Place::new(alloc))
-        }
+        Fault::Alerts(_) | Fault::Part(_) | Fault::Read(_) | Fault::Write(_) | Fault::NoMemory =>
+            Ok(Place::new(alloc)),
     }
 }
 

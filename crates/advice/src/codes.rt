@@ -27,6 +27,7 @@ pub fn help_of(fault: Fault) -> Help
         Fault::Save(fault) => help_of_save(fault),
         Fault::Audit(fault) => help_of_audit(fault),
         Fault::Alerts(_) => V7,
+        Fault::Part(_) => V8,
         Fault::Read(FileIs::Asks) => READ_ASKS,
         Fault::Read(_) => READ,
         Fault::Write(FileIs::Out) => OUT,

@@ -225,6 +225,12 @@ pub const V7: Help = Help {
     cure: "Don't trust the alerts file: it is of another run, was cut, or was changed.",
 };
 
+pub const V8: Help = Help {
+    code: "V8",
+    cause: "This part of the stream is no run by itself: its rows hadn't all come to their ends.",
+    cure: "Don't trust it: records are missing, changed or moved from one part to another.",
+};
+
 pub const Q1: Help = Help {
     code: "Q1",
     cause: "The change names no node of the job.",
