@@ -5,7 +5,7 @@ use payments::PFault;
 use report::{Fault, FileIs, fault_line};
 use std::alloc::Global;
 
-static LINES: [(Fault, &str); 22] = [
+static LINES: [(Fault, &str); 23] = [
     (Fault::Job(JobFault::NotToml), "fault 2 J1\n"),
     (
         Fault::Job(JobFault::Shape(Part::Unknown)),
@@ -49,6 +49,7 @@ static LINES: [(Fault, &str); 22] = [
     (Fault::Long(FileIs::Payments), "fault 9 payments\n"),
     (Fault::Long(FileIs::Alerts), "fault 9 alerts\n"),
     (Fault::Alerts(3), "fault 11 V7 line 3\n"),
+    (Fault::Part(2), "fault 11 V8 part 2\n"),
     (Fault::NoMemory, "fault 7 memory\n"),
     (Fault::Write(FileIs::Out), "fault 6 out\n"),
     (

@@ -118,10 +118,20 @@ met,alerts,0,1,3,\nmet,alerts,0,1,4,\nended,alerts,0,1,,
 stopped,,,,,\nended,big,0,0,,\nended,alerts,0,1,,
 ";
 
+/// The sink got the tuple of the first part in the second one. Put together, both are a run.
+const MOVED_ON: &str = "entry,node,worker,lane,number,extra
+fed,,,,1,\nfed,,,,2,\nstopped,,,,,
+met,big,0,0,1,\nmet,big,0,0,2,\nended,big,0,0,,\nended,alerts,0,1,,
+issued,,,,1,\nfed,,,,3,\nfed,,,,4,\nstopped,,,,,
+turned,big,0,,1,\nmet,big,0,0,3,\nmet,big,0,0,4,\nended,big,0,0,,
+met,alerts,0,1,2,\nmet,alerts,0,1,3,\nmet,alerts,0,1,4,\nended,alerts,0,1,,
+stopped,,,,,\nended,big,0,0,,\nended,alerts,0,1,,
+";
+
 const STREAM: &str = "verify job.toml requests.toml payments.csv audit.csv --stream";
 
 /// Audits of parts over four payments, and how they are read.
-static OF_STREAM: [Reading; 5] = [
+static OF_STREAM: [Reading; 6] = [
     (
         IN_PARTS,
         STREAM,
@@ -137,6 +147,7 @@ static OF_STREAM: [Reading; 5] = [
     ),
     (PART_IS_MISSING, STREAM, 11, "fault 11 V3 record 3\n"),
     (HALF_A_CHANGE, STREAM, 11, "fault 11 V4 worker 0\n"),
+    (MOVED_ON, STREAM, 11, "fault 11 V8 part 1\n"),
 ];
 
 #[test]
