@@ -158,7 +158,7 @@ ends-whole later first terms begin stream files mid left took fed known kept (en
     last before come =
         run-last later first stream terms.source ended.setup ended.left ended.last
         (with_all before (parts_in took.0.ran.goes.written))
-        (took.0.ran.goes.have_run before come)
+        (took.0.ran.goes.have_run.as_one before come)
 
 -- a stream that was given up in a turn, or when its savepoint was written
 pub given-up-in : (terms : Terms) (begin : StreamState) (faults : Faults) (left : Left)

@@ -1,5 +1,6 @@
 -- What a stream has run, part by part.
-use Rattle.std.proofs.Common.{◌≡◌, ◌∙◌, ◌≤◌, ◌+◌, ◌++◌, ℕ, zero, suc, List, [], ◌∷◌, Option, None}
+use Rattle.std.proofs.Common.{◌≡◌, ◌∙◌, ◌≤◌, ◌+◌, ◌++◌, ◌&&◌, ℕ, zero, suc, Bool, true, false, List}
+use Rattle.std.proofs.Common.{[], ◌∷◌, Option, None, nat_le}
 use Rattle.std.proofs.Common.{IfSome, Some, drop, length, map, refl, sym, subst, ap, arith}
 use Rattle.std.specs.List.{range_with_len}
 use Rattle.std.proofs.Math.Seq.{drop-append_seam}
@@ -14,6 +15,7 @@ use Rattle.versions.specs.declared.request.Request.{Request}
 use Rattle.flow_model.specs.Begin.{Begin, at_first}
 use Rattle.flow_model.specs.Run.{Ran}
 use Rattle.flow_model.specs.Setup.{setup_view}
+use Rattle.flow_model.specs.SetupView.{SetupView}
 use Rattle.flow_model.specs.declared.setup.Setup.{Setup}
 use Rattle.savepoint.specs.Parts.{start_of}
 use Rattle.stream_law.specs.Stream.{RunPart, SoFar, with_part}
@@ -22,7 +24,12 @@ use Rattle.stream_step.specs.Parts.{HasRun, IsBetweenRows, IsFirstRun, IsPartAft
 use Rattle.stream_step.specs.Parts.{first_part}
 use Rattle.stream_step.specs.declared.stream.Stream.{Stream}
 use Rattle.stream_step.proofs.PartLemmas.{exact_first, goes_on_after}
-use Rattle.stream_run.specs.Parts.{HasCome, HaveRun, Part, with_all, with_one}
+use Rattle.stream_step.proofs.PendingLemmas.{are_fed, fed_due}
+use Rattle.stream_run.specs.Parts.{AreRunInTurn, Front, HasCome, HaveRun, IsRunAt, Part}
+use Rattle.stream_run.specs.Parts.{front_after, front_of, with_all, with_one}
+
+abbrev front_with : SetupView → Begin → Front
+front_with setup start = record { setup = setup; start = start }
 
 -- ---- parts one after another
 
@@ -31,23 +38,44 @@ pub with_all-append : (before : Option SoFar) (xs ys : List Part) → with_all b
 with_all-append before [] ys = refl
 with_all-append before (x ∷ xs) ys = with_all-append (Some (with_one before x)) xs ys
 
+turn-then : (xs ys : List Part) (a b c : Front) → AreRunInTurn a xs b → AreRunInTurn b ys c
+    → AreRunInTurn a (xs ++ ys) c
+turn-then [] ys a b c f g = subst (λ (x : Front). AreRunInTurn x ys c) f g
+turn-then (x ∷ xs) ys a b c f g = (f.0, turn-then xs ys (front_after a x) b c f.1 g)
+
 pub have_run-then : (a b c : Stream) (xs ys : List Part) → HaveRun a xs b → HaveRun b ys c
     → HaveRun a (xs ++ ys) c
-have_run-then a b c xs ys f g before come =
-    subst (λ s. HasCome c s) (sym (with_all-append before xs ys))
-    (g (with_all before xs) (f before come))
+have_run-then a b c xs ys f g = record {
+  in_turn = turn-then xs ys (front_of a) (front_of b) (front_of c) f.in_turn g.in_turn;
+  as_one = λ before come.
+      subst (λ s. HasCome c s) (sym (with_all-append before xs ys))
+      (g.as_one (with_all before xs) (f.as_one before come));
+}
 
 -- what a stream has run stays, while requests are added to it
-pub have_run-none : (a b : Stream) → b.setup ≡ a.setup → b.start ≡ a.start → b.exact ≡ a.exact
-    → HaveRun a [] b
-have_run-none a b s t e None come = t ∙ come ∙ ap (λ (x : Setup). at_first (setup_view x)) (sym s)
-have_run-none a b s t e (Some so_far) come = record {
+come_same : (a b : Stream) → b.setup ≡ a.setup → b.start ≡ a.start → b.exact ≡ a.exact
+    → (before : Option SoFar) → HasCome a before → HasCome b before
+come_same a b s t e None come = t ∙ come ∙ ap (λ (x : Setup). at_first (setup_view x)) (sym s)
+come_same a b s t e (Some so_far) come = record {
   run = come.run;
   numbered = come.numbered;
   sources = come.sources;
   setup_is = come.setup_is ∙ ap setup_view (sym s);
   start_is = t ∙ come.start_is;
   exact = subst (λ o. IfSome o (λ base. AreExactAfter base so_far)) (sym e) come.exact;
+}
+
+front_as : (setup made : SetupView) (start begin : Begin) → made ≡ setup → begin ≡ start
+    → front_with made begin ≡ front_with setup start
+front_as setup made start begin s t =
+    ap (λ x. front_with x begin) s ∙ ap (λ x. front_with setup x) t
+
+pub have_run-none : (a b : Stream) → b.setup ≡ a.setup → b.start ≡ a.start → b.exact ≡ a.exact
+    → HaveRun a [] b
+have_run-none a b s t e = record {
+  in_turn =
+      front_as (setup_view a.setup) (setup_view b.setup) a.start b.start (ap setup_view s) t;
+  as_one = come_same a b s t e;
 }
 
 -- ---- a part that was run
@@ -87,6 +115,17 @@ pub length-fed : (stream : Stream) (source : ℕ) (rows : List Row)
 length-fed stream source rows =
     length-append (blanks source stream.start.row) rows
     ∙ ap (λ k. k + length rows) (length-blanks source stream.start.row)
+
+-- the later of two lists of requests wait for no later row than this, if both do
+fed_second : (last : ℕ) (xs ys : List Request) → are_fed last (xs ++ ys) ≡ true
+    → are_fed last ys ≡ true
+fed_second last [] ys e = e
+fed_second last (x ∷ xs) ys e =
+    fed_second last xs ys (second (nat_le x.after last) (are_fed last (xs ++ ys)) e)
+  where
+    second : (a b : Bool) → (a && b) ≡ true → b ≡ true
+    second true b e = e
+    second false b e = absurd (cc)
 
 -- what holds of a value, if there is one
 pub if_some : (o : Option ℕ) (P : ℕ → Type 0) → ((n : ℕ) → o ≡ Some n → P n) → IfSome o P
@@ -153,12 +192,47 @@ module _ (later : Later) (first : First) (stream next : Stream) (requests : List
       (part_as both.0 next.setup (so_far.rows ++ rows) left both.1.setup_is rows_are
       both.1.left_is) run
 
+  abbrev part : Part
+  part = record { setup = next.setup; rows = rows; left = left }
+
+  -- the part by itself, and where the stream goes on after it
+  run_here : IsRunOn stream requests fed next.setup left
+      → GoesOnAt (stream.start.row + length rows) next left → IsRunAt (front_of stream) part
+  run_here on start_is =
+      let requests_are : next.setup.judged.accepted ≡ stream.setup.judged.accepted ++ requests =
+      ap (λ (s : SetupView). s.requests) on.followed.extended_is in
+      let row_is : next.start.row ≡ stream.start.row + length rows =
+      ap (λ (b : Begin). b.row) start_is in
+      record {
+        requests = requests;
+        others = blanks source stream.start.row;
+        followed = on.followed;
+        wait = on.wait;
+        due =
+            fed_due (stream.start.row + length rows) requests
+            (fed_second (stream.start.row + length rows) stream.setup.judged.accepted requests
+            (subst (λ (l : List Request). are_fed (stream.start.row + length rows) l ≡ true)
+            requests_are
+            (subst (λ k. are_fed k next.setup.judged.accepted ≡ true) row_is next.due)));
+        as_many = length-blanks source stream.start.row;
+        run = on.run;
+      }
+
+  front_is : GoesOnAt (stream.start.row + length rows) next left
+      → front_of next ≡ front_after (front_of stream) part
+  front_is start_is =
+      ap (λ (b : Begin). front_with (setup_view next.setup) b) start_is
+
   pub have_run-one : IsBetween → IsRunOn stream requests fed next.setup left
       → GoesOnAt (stream.start.row + length rows) next left → left.setup ≡ setup_view next.setup
       → HaveRun stream (record { setup = next.setup; rows = rows; left = left } ∷ []) next
-  have_run-one between on start_is setup_is None come = first_part_run between on start_is come
-  have_run-one between on start_is setup_is (Some so_far) come =
-      later_part_run between on start_is setup_is so_far come
+  have_run-one between on start_is setup_is =
+      record { in_turn = (run_here on start_is, front_is start_is); as_one = one_run }
+    where
+      one_run : (before : Option SoFar) → HasCome stream before
+          → HasCome next (Some (with_one before part))
+      one_run None come = first_part_run between on start_is come
+      one_run (Some so_far) come = later_part_run between on start_is setup_is so_far come
 
 -- ---- what is fed
 

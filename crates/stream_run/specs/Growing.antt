@@ -75,8 +75,8 @@ abbrev pub rows_in : List Part → List Row
 rows_in parts = flat_map (λ (part : Part). part.rows) parts
 
 -- From the first stream and these files, a stream has come to the second and those files: the rows
--- were run in parts, and each part was written once it had ended. Its job stays, and so do the nodes
--- that may be splits, and whether it is exact.
+-- were run in parts, each from where the one before it has ended, and each part was written once it
+-- had ended. Its job stays, and so do the nodes that may be splits, and whether it is exact.
 pub record Goes (names : Names) (rows : List Row) (old : Stream) (before : Option Files)
     (new : Stream) (after : Option Files) : Type 0 where
   pub written : List Written

@@ -1,12 +1,17 @@
 -- What a stream has run, part by part.
-use Rattle.std.specs.Prelude.{◌≡◌, ◌++◌, ℕ, List, [], ◌∷◌, Option, None, Some, map}
+use Rattle.std.specs.Prelude.{◌≡◌, ◌≤◌, ◌+◌, ◌++◌, ℕ, All, List, [], ◌∷◌, Option, None, Some}
+use Rattle.std.specs.Prelude.{length, map}
 use Rattle.jobs.specs.Job.{job_view}
 use Rattle.tuple_trace.specs.declared.row.Row.{Row}
 use Rattle.versions.specs.declared.request.Request.{Request}
-use Rattle.flow_model.specs.Begin.{at_first}
-use Rattle.flow_model.specs.Run.{Ran}
+use Rattle.flow_model.specs.Begin.{Begin, at_first}
+use Rattle.flow_model.specs.Planned.{IsFollowed}
+use Rattle.flow_model.specs.Requests.{afters}
+use Rattle.flow_model.specs.Run.{IsRunSince, Ran}
 use Rattle.flow_model.specs.Setup.{setup_view}
+use Rattle.flow_model.specs.SetupView.{SetupView}
 use Rattle.flow_model.specs.declared.setup.Setup.{Setup}
+use Rattle.savepoint.specs.Parts.{start_of}
 use Rattle.stream_law.specs.Stream.{SoFar, with_part}
 use Rattle.stream_step.specs.Parts.{HasRun, due_in, first_part, left_in}
 use Rattle.stream_step.specs.Pending.{AreAsked, lifted}
@@ -53,7 +58,47 @@ pub record Issues (old : Stream) (last : ℕ) (new : Stream) : Type 0 where
       ≡ old.setup.judged.accepted ++ map (lifted old.start.row) (due_in old last)
   pub left : new.pending ≡ left_in old last
 
--- whatever the first stream has come from, the second goes on from that and then these parts
-abbrev pub HaveRun : Stream → List Part → Stream → Type 0
-HaveRun begin parts stream =
-    (before : Option SoFar) → HasCome begin before → HasCome stream (with_all before parts)
+-- ---- each part by itself
+
+-- Where a stream goes on: its setup, with the requests that were issued so far, and the beginning
+-- of its next part.
+pub record Front : Type 0 where
+  pub setup : SetupView
+  pub start : Begin
+
+abbrev pub front_of : Stream → Front
+front_of stream = record { setup = setup_view stream.setup; start = stream.start }
+
+-- where it goes on after a part
+abbrev pub front_after : Front → Part → Front
+front_after front part = record {
+  setup = setup_view part.setup;
+  start = start_of (front.start.row + length part.rows) part.left;
+}
+
+-- A part was run from there, with these requests after those that were issued. Each waits for the
+-- last row that was fed, or for a row of the part. The run had other rows in place of those that
+-- were fed, as many.
+pub record IsRunAt (front : Front) (part : Part) : Type 0 where
+  pub requests : List Request
+  pub others : List Row
+  pub followed : IsFollowed front.setup requests (setup_view part.setup)
+  pub wait : All (λ after. front.start.row ≤ after) (afters requests)
+  pub due : All (λ after. after ≤ front.start.row + length part.rows) (afters requests)
+  pub as_many : length others ≡ front.start.row
+  pub run : IsRunSince front.start (setup_view part.setup) (others ++ part.rows) part.left
+
+-- from the first front to the last one, each part was run from where the one before it has ended
+abbrev pub AreRunInTurn : Front → List Part → Front → Type 0
+AreRunInTurn front [] last = last ≡ front
+AreRunInTurn front (part ∷ later) last =
+    IsRunAt front part × AreRunInTurn (front_after front part) later last
+
+-- ---- all parts
+
+-- From the first stream to the second, these parts were run, each from where the one before it has
+-- ended. Whatever the first has come from, the second goes on from that and then these parts.
+pub record HaveRun (begin : Stream) (parts : List Part) (stream : Stream) : Type 0 where
+  pub in_turn : AreRunInTurn (front_of begin) parts (front_of stream)
+  pub as_one : (before : Option SoFar) → HasCome begin before
+      → HasCome stream (with_all before parts)
