@@ -170,8 +170,8 @@ pub struct Outputs<'a> {
     pub save: Option<&'a Word>,
 }
 
-/// Stores the files of a run, whose texts the team makes, and then prints its lines. The first fault
-/// ends it.
+/// Stores the files of a run, whose texts the team makes, and then prints its lines. The first
+/// fault ends it.
 pub fn leave_run<R: Threads + Sync, S: Shelf, O: Sink>(
     team: &Team<'_, R>,
     done: Done,

@@ -5,5 +5,7 @@ use Rattle.text_threads.proofs.alerts.push_node.Given as goal
 
 abbrev pub invariant-loop-journal : goal.invariant-loop-journal
 invariant-loop-journal l =
-    l.pieces ++ flat_map (sink_alerts l.node.name (layout l.columns l.listed)) (drop l.journal-index l.journals)
+    l.pieces
+    ++ flat_map (sink_alerts l.node.name (layout l.columns l.listed))
+    (drop l.journal-index l.journals)
     ≡ l.fn.pieces ++ flat_map (sink_alerts l.node.name (layout l.columns l.listed)) l.journals

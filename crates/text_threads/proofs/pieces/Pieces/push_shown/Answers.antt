@@ -11,6 +11,9 @@ loop-part-preserved c =
     let kinds = layout c.args.columns.now c.args.listed.now in
     record {
       size = steps.0 ∙ c.loop-part.invariant.size;
-      pieces = shown-step name kinds c.loop-part.self c.push.new.self (c.args.self.now ++ sink_alerts name kinds c.args.steps.now)
-          (chunks_rest c.loop-part.part-iterator) c.in-Some.part.now (chunks_rest c.next.new.self) c.in_ok-push.ensures steps.1.0 c.loop-part.invariant.pieces;
+      pieces =
+          shown-step name kinds c.loop-part.self c.push.new.self
+          (c.args.self.now ++ sink_alerts name kinds c.args.steps.now)
+          (chunks_rest c.loop-part.part-iterator) c.in-Some.part.now (chunks_rest c.next.new.self)
+          c.in_ok-push.ensures steps.1.0 c.loop-part.invariant.pieces;
     }

@@ -11,7 +11,9 @@ returns g c =
     let size = c.max-share.result in
     both-ok c.joined.result c.joined.ensures.made c.joined.ensures.whole (λ all text is.
     is
-    ∙ shares-text size xs rs (Ok []) (omega arith) (c.as_slice.ensures.len ∙ c.in_ok-texts.ensures.len) all
-    (λ n below. let k = (c.in_ok-texts.ensures.each n (Ok []) (rw c.as_slice.ensures.value at below)).1 in
+    ∙ shares-text size xs rs (Ok []) (omega arith)
+    (c.as_slice.ensures.len ∙ c.in_ok-texts.ensures.len) all
+    (λ n below.
+    let k = (c.in_ok-texts.ensures.each n (Ok []) (rw c.as_slice.ensures.value at below)).1 in
     rw (c.as_slice.ensures.value, ← k.argument_is.value) k.call)
     ∙ ap (λ r. records_text r) c.as_slice-pieces.ensures)
