@@ -23,7 +23,7 @@ use Rattle.call_steps.specs.Outcomes.{EndsAfterRun}
 use Rattle.report.specs.Lines.{alert_count, noted, refused_lines, row_count, summary_line}
 use Rattle.payments.specs.World.{World}
 use Rattle.call_steps.specs.Effects.{FileText}
-use Rattle.call_steps.specs.SetupFor.{IsSetupFor, IsStreamSetupFor}
+use Rattle.call_steps.specs.SetupFor.{IsSetupFor}
 use Rattle.call_steps.specs.declared.answer.Answer.{Answer}
 use Rattle.report.specs.declared.fault.FileIs.TheVariants as file
 use Rattle.report.specs.declared.lines.Summary.{Summary}
@@ -67,12 +67,6 @@ abbrev pub IsRunOf : (List Request → List Request → Type 0) → Bool → Job
     List Row → Done → Type 0
 IsRunOf Keeps ordered job requests rows done =
     IsRunUnder (IsSetupFor Keeps ordered job requests) requests rows done
-
--- The same of a stream, whose setup is that of a stream.
-abbrev pub IsStreamRunOf : (List Request → List Request → Type 0) → Bool → JobView → List Request →
-    List Row → Done → Type 0
-IsStreamRunOf Keeps ordered job requests rows done =
-    IsRunUnder (IsStreamSetupFor Keeps ordered job requests) requests rows done
 
 -- ---- what is written of it
 

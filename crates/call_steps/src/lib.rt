@@ -36,4 +36,4 @@ pub use reading::{job_in, read_file, requests_in, rows_in, start_in};
 pub use running::{
     Done, Outputs, done_of, leave_run, made_lines, run_in_order, run_on_threads, summary_of,
 };
-pub use setup::{setup_of, stream_setup_of};
+pub use setup::setup_of;

@@ -5,7 +5,7 @@ ghost use Rattle.job_file.specs.RequestSizes.{AreFew};
 ghost use Rattle.versions.specs.Judged.{AreAccepted};
 ghost use Rattle.flow_model.specs.Planned.{IsExact};
 ghost use Rattle.flow_model.specs.Setup.{setup_view};
-ghost use Rattle.call_steps.specs.SetupFor.{AreSame, IsSetupFor, IsStreamSetupFor};
+ghost use Rattle.call_steps.specs.SetupFor.{AreSame, IsSetupFor};
 
 use flow_model::{Setup, plans_are_least};
 use jobs::Job;
@@ -28,26 +28,6 @@ pub fn setup_of(
     accepted_requests_stay_accepted();
     let judged = judge_all(alloc, &job, requests)?;
     let setup = setup_in_mode(alloc, job, judged, ordered)?;
-    plans_are_least(&setup);
-    plans_number_all_nodes(&setup);
-    Ok(setup)
-}
-
-/// Judges the requests that are made of a job, as [`setup_of`] does, and makes a setup of them for
-/// a stream. Its plans are also made for the splits that later requests may make. The one error is
-/// out of memory.
-pub fn stream_setup_of(
-    alloc: Global,
-    job: Job,
-    requests: &Requests,
-    ordered: bool,
-) -> Result<Setup, NoMemory>
-    requires { AreFew requests.now }
-    ensures { IfOk result (IsStreamSetupFor AreSame ordered (job_view job) requests.now) }
-{
-    accepted_requests_stay_accepted();
-    let judged = judge_all(alloc, &job, requests)?;
-    let setup = Setup::make_for_stream(alloc, job, judged, ordered)?;
     plans_are_least(&setup);
     plans_number_all_nodes(&setup);
     Ok(setup)

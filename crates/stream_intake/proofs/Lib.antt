@@ -1,3 +1,3 @@
 mod IntakeLemmas
-mod MaskLemmas
+pub mod MaskLemmas
 mod GoneLemmas

@@ -12,11 +12,13 @@
 mod intake;
 mod known;
 mod laws;
+mod mask;
 mod resumed;
 mod taken;
 
 pub use intake::{Intake, begin};
 pub use known::Known;
 pub use laws::saved_streams_go_on;
+pub use mask::JobMask;
 pub use resumed::resume;
 pub use taken::{Taken, take};

@@ -10,16 +10,15 @@ ghost use Rattle.stream_step.specs.Pending.{exact_from};
 ghost use Rattle.stream_step.specs.Resumed.{IsResumed};
 ghost use Rattle.stream_intake.specs.Intake.{IsKnownTo, IsMaskOf, judged_in, refused_after};
 
-use crate::intake::{Intake, none};
+use crate::intake::Intake;
 use crate::known::{Known, parted};
+use crate::mask::JobMask;
 use crate::taken::{Taken, learn};
-use flow_model::Setup;
 use operators::Job;
 use std::alloc::Global;
 use stream_law::{accepted_requests_split_within, later_requests_are_judged_later};
 use stream_save::{StreamSave, StreamSaveFault};
 use stream_step::{Stream, StreamMode};
-use tuple_trace::NoMemory;
 use versions::{
     MAX_CHANGES, MAX_STREAM_REQUESTS, Requests, accepted_requests_stay_accepted, judge_within,
 };
@@ -111,22 +110,7 @@ fn restored(
 {
     accepted_requests_stay_accepted();
     accepted_requests_split_within();
-    let JobMask { job, splits } = with_mask(alloc, job)?;
+    let JobMask { job, splits } = JobMask::of(alloc, job)?;
     let judged = judge_within(alloc, &job, Some(splits), &known.requests)?;
     Stream::resume(alloc, job, judged, mode, save)
-}
-
-/// A job with the mask of the nodes that may be splits in a stream of it.
-#[derive(Drop)]
-struct JobMask {
-    job: Job,
-    splits: u64,
-}
-
-fn with_mask(alloc: Global, job: Job) -> Result<JobMask, NoMemory>
-    ensures job { IfOk result (λ made. made.job ≡ job) }
-    ensures splits { IfOk result (λ made. IsMaskOf job.nodes made.splits) }
-{
-    let Setup { job, splits, .. } = Setup::make_for_stream(alloc, job, none(alloc), false)?;
-    Ok(JobMask { job, splits })
 }

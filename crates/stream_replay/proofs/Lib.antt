@@ -4,3 +4,5 @@ pub mod LooseLemmas
 pub mod PassLemmas
 pub mod LoopLemmas
 pub mod PartLemmas
+pub mod CountLemmas
+pub mod RunsLemmas

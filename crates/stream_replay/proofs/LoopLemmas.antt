@@ -2,7 +2,8 @@
 use Rattle.std.proofs.Common.{◌≡◌, ◌∙◌, ◌+◌, ◌++◌, ℕ, List, [], ◌∷◌, ap, arith, length, refl, subst}
 use Rattle.std.proofs.Common.{Some, drop, map, sym}
 use Rattle.std.specs.Prelude.{Err, IfErr, IfOk, Ok, OnOk, Result}
-use Rattle.std.proofs.lemmas.List.{append_assoc, length-append}
+use Rattle.std.proofs.lemmas.List.{append_assoc, length-append, same_from_push}
+use Rattle.std.proofs.lemmas.Option.{same_Some}
 use Rattle.cover_planner.specs.declared.cover.Plan.{Plan}
 use Rattle.jobs.specs.declared.job.Job.{Job}
 use Rattle.tuple_trace.specs.declared.row.Row.{Row}
@@ -15,15 +16,14 @@ use Rattle.audit_parts.specs.Cut.{parts_of}
 use Rattle.audit_parts.specs.Texts.{IsReadAs, IsTextOf}
 use Rattle.audit_parts.specs.declared.part.AuditPart.{AuditPart}
 use Rattle.stream_replay.specs.InParts.{AreRunInParts, Given, Records, given_by}
-use Rattle.stream_replay.specs.Loose.{IsLooseAmong, IsLooseIn}
+use Rattle.stream_replay.specs.Loose.{IsLooseIn}
 use Rattle.stream_replay.specs.declared.fault.PartFault.{PartFault}
 use Rattle.stream_replay.specs.declared.fault.PartFault.TheVariants as part
 use Rattle.stream_replay.specs.declared.progress.Progress.{Progress}
 use Rattle.stream_replay.specs.declared.whole.Whole.{Whole}
-use Rattle.stream_replay.specs.inner.Progress.{HasPassed, IsCounted, IsLooseFor, body_of}
-use Rattle.stream_replay.specs.inner.Progress.{given_of}
-use Rattle.stream_replay.proofs.ListLemmas.{last_same}
-use Rattle.stream_replay.proofs.LooseLemmas.{loose_apart}
+use Rattle.stream_replay.specs.inner.Progress.{HasPassed, IsCounted, IsLooseAmong, IsLooseFor}
+use Rattle.stream_replay.specs.inner.Progress.{body_of, given_of}
+use Rattle.stream_replay.proofs.LooseLemmas.{has_apart}
 use Rattle.stream_replay.proofs.PassLemmas.{loose_among}
 
 -- so many parts less one were looked at; of all parts, this one and those after it are left
@@ -73,14 +73,20 @@ pub all_at_end : (all done left : List Records) (here : Records) → all ≡ don
     → left ≡ [] → all ≡ done ++ here ∷ []
 all_at_end all done left here are none = are ∙ ap (λ l. done ++ here ∷ l) none
 
+-- so all parts are runs in whatever way they are written
+all_runs : (given : Given) (all done : List Records) (here : Records) → all ≡ done ++ here ∷ []
+    → AreRunInParts given done here → (earlier : List Records) (last : Records)
+    → all ≡ earlier ++ last ∷ [] → AreRunInParts given earlier last
+all_runs given all done here are runs earlier last same =
+    let both = same_from_push done earlier here last (sym are ∙ same) in
+    subst (λ (e : List Records). AreRunInParts given e last) both.0
+    (subst (λ (r : Records). AreRunInParts given done r) both.1 runs)
+
 pub ok_all : {T E : Type 0} (r : Result T E) (given : Given) (all done : List Records)
     (here : Records) → all ≡ done ++ here ∷ [] → OnOk r (AreRunInParts given done here)
     → IfOk r (λ back. (earlier : List Records) (last : Records) → all ≡ earlier ++ last ∷ []
     → AreRunInParts given earlier last)
-ok_all (Ok back) given all done here are runs = λ earlier last same.
-    let both = last_same done earlier here last (sym are ∙ same) in
-    subst (λ (e : List Records). AreRunInParts given e last) both.0
-    (subst (λ (r : Records). AreRunInParts given done r) both.1 runs)
+ok_all (Ok back) given all done here are runs = all_runs given all done here are runs
 ok_all (Err why) given all done here are runs = tt
 
 pub err_among : {T : Type 0} (r : Result T PartFault) (given : Given) (all earlier : List Records)
@@ -130,8 +136,7 @@ same_given whole setup made rows same requests plans refused rows_are =
 loose_in : (given : Given) (all : List Records) (records : Records)
     → parts_of records ≡ Some all → (why : PartFault) → IsLooseAmong given all why
     → IsLooseIn given records why
-loose_in given all records are (part.Loose number) loose =
-    (loose.0, loose.1, are ∙ ap (λ (l : List Records). Some l) loose.2, loose.3)
+loose_in given all records are (part.Loose number) loose = (all, are, loose)
 loose_in given all records are part.NoMemory loose = tt
 
 pub err_in : {T : Type 0} (r : Result T PartFault) (given : Given) (all : List Records)
@@ -146,13 +151,7 @@ found_for : (given : Given) (all : List Records) (earlier : List Records) (last 
     → IsLooseAmong given all why → why ≡ part.NoMemory
 found_for given all earlier last same runs part.NoMemory loose = refl
 found_for given all earlier last same runs (part.Loose number) loose =
-    let both = last_same earlier loose.0 last loose.1 (sym same ∙ loose.2) in
-    absurd (loose_apart given loose.0 loose.1 number
-    (subst (λ (e : List Records). AreRunInParts given e loose.1) both.0
-    (subst (λ (r : Records). AreRunInParts given earlier r) both.1 runs)) loose.3)
-
-some_same : {A : Type 0} (a b : A) → Some a ≡ Some b → a ≡ b
-some_same a b e = cc
+    absurd (has_apart given all number (all_runs given all earlier last same runs) loose)
 
 pub err_found : {T : Type 0} (r : Result T PartFault) (given : Given) (all : List Records)
     (records : Records) → parts_of records ≡ Some all → (earlier : List Records)
@@ -161,5 +160,5 @@ pub err_found : {T : Type 0} (r : Result T PartFault) (given : Given) (all : Lis
     → IfErr r (λ why. why ≡ part.NoMemory)
 err_found (Ok back) given all records are earlier last same runs loose = tt
 err_found (Err why) given all records are earlier last same runs loose =
-    found_for given all earlier last (some_same all (earlier ++ last ∷ []) (sym are ∙ same)) runs
+    found_for given all earlier last (same_Some all (earlier ++ last ∷ []) (sym are ∙ same)) runs
     why loose

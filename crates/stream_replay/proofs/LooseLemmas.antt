@@ -1,9 +1,10 @@
 -- The first part that is no run from where the one before it has ended.
-use Rattle.std.proofs.Common.{◌≡◌, ◌<◌, ◌≤◌, ◌-◌, ℕ, List, arith, inl, inr, subst, take}
+use Rattle.std.proofs.Common.{◌≡◌, ◌∙◌, ◌<◌, ◌≤◌, ◌-◌, ◌++◌, ◌∷◌, ℕ, List, [], arith, inl, inr}
+use Rattle.std.proofs.Common.{subst, sym, take}
 use Rattle.std.proofs.lemmas.Bool.{cases_order}
-use Rattle.std.proofs.lemmas.List.{take-take}
+use Rattle.std.proofs.lemmas.List.{same_from_push, take-take}
 use Rattle.stream_replay.specs.InParts.{ArePartRuns, AreRunInParts, Given, Records, first_start}
-use Rattle.stream_replay.specs.Loose.{AreRunUpTo, IsLoose}
+use Rattle.stream_replay.specs.Loose.{AreRunUpTo, HasLoose, IsLoose}
 use Rattle.stream_replay.proofs.ChainLemmas.{runs_take}
 
 -- if all are runs, so are the first ones
@@ -45,3 +46,20 @@ loose_sole given earlier last first second a b =
       | inr (inl lt) ↦ absurd (loose_least given earlier last first second a b lt)
       | inr (inr lt) ↦ absurd (loose_least given earlier last second first b a lt)
     ]
+
+-- parts have one such part at most
+pub has_sole : (given : Given) (parts : List Records) (first second : ℕ)
+    → HasLoose given parts first → HasLoose given parts second → first ≡ second
+has_sole given parts first second a b =
+    let both = same_from_push b.earlier a.earlier b.last a.last (sym b.parts_are ∙ a.parts_are) in
+    loose_sole given a.earlier a.last first second a.loose
+    (subst (λ (e : List Records). IsLoose given e a.last second) both.0
+    (subst (λ (r : Records). IsLoose given b.earlier r second) both.1 b.loose))
+
+-- and none if they are runs one after another
+pub has_apart : (given : Given) (parts : List Records) (part : ℕ)
+    → ((earlier : List Records) (last : Records) → parts ≡ earlier ++ last ∷ []
+    → AreRunInParts given earlier last) → HasLoose given parts part → ⊥
+has_apart given parts part runs loose =
+    loose_apart given loose.earlier loose.last part (runs loose.earlier loose.last loose.parts_are)
+    loose.loose

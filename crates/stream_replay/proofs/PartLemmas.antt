@@ -13,7 +13,7 @@ use Rattle.savepoint.specs.Parts.{first_of}
 use Rattle.audit_laws.specs.Fits.{Fits, records_of}
 use Rattle.audit_laws.specs.Part.{uncounted}
 use Rattle.stream_replay.specs.InParts.{Given, IsLastRun, IsPartRun, PartStart, Records}
-use Rattle.stream_replay.specs.InParts.{refused_in, row_in, turned_in}
+use Rattle.stream_replay.specs.InParts.{refused_told, row_in, turned_in}
 
 -- what the text's records are after the header
 told_is : (records others : Records) → audit_header ∷ records ≡ audit_header ∷ others
@@ -26,7 +26,7 @@ module _ (given : Given) (start : PartStart) (records : Records) (view : SetupVi
     (fed : List Row) (refused : List Noted) (text : List ℕ)
     (view_is : view ≡ first_of given.setup (turned_in given start records))
     (fed_is : fed ≡ take (row_in given start records) given.rows)
-    (refused_is : refused ≡ refused_in given start records)
+    (refused_is : refused ≡ refused_told given start records)
     (read : records_of text ≡ audit_header ∷ records) where
   pub part_of : (left : Ran) → IsRunSince start.begin view fed left
       → Fits refused text (uncounted left) → IsPartRun given start records left

@@ -2,6 +2,7 @@
 use Rattle.std.proofs.Common.{◌≡◌, ◌∙◌, ◌+◌, ◌-◌, ◌++◌, ℕ, List, [], ◌∷◌, ap, arith}
 use Rattle.std.proofs.Common.{length, subst, sym, take}
 use Rattle.std.proofs.lemmas.List.{append-nil, length-append}
+use Rattle.std.proofs.Math.Seq.{take-append-add, take-append_seam}
 use Rattle.audit_fault.specs.declared.fault.AuditFault.{AuditFault}
 use Rattle.audit_fault.specs.declared.fault.AuditFault.TheVariants as audit
 use Rattle.flow_model.specs.Run.{Ran}
@@ -9,15 +10,14 @@ use Rattle.flow_model.specs.Setup.{setup_view}
 use Rattle.stream_replay.specs.InParts.{ArePartRuns, AreRunInParts, Given, IsLastRun, IsPartRun}
 use Rattle.stream_replay.specs.InParts.{PartStart, Records, first_start, start_after}
 use Rattle.stream_replay.specs.InParts.{start_behind}
-use Rattle.stream_replay.specs.Loose.{AreRunUpTo, IsLoose, IsLooseAmong}
+use Rattle.stream_replay.specs.Loose.{AreRunUpTo, IsLoose}
 use Rattle.stream_replay.specs.declared.fault.PartFault.{PartFault}
 use Rattle.stream_replay.specs.declared.fault.PartFault.TheVariants as part
 use Rattle.stream_replay.specs.declared.progress.Progress.{Progress}
 use Rattle.stream_replay.specs.declared.whole.Whole.{Whole}
-use Rattle.stream_replay.specs.inner.Progress.{HasPassed, IsLooseFor, IsProgress, fault_of}
-use Rattle.stream_replay.specs.inner.Progress.{given_of, start_in}
+use Rattle.stream_replay.specs.inner.Progress.{HasPassed, IsLooseAmong, IsLooseFor, IsProgress}
+use Rattle.stream_replay.specs.inner.Progress.{fault_of, given_of, start_in}
 use Rattle.stream_replay.proofs.ChainLemmas.{behind_append, runs_append, runs_split}
-use Rattle.stream_replay.proofs.ListLemmas.{take-front, take_one}
 
 -- ---- a part more
 
@@ -78,7 +78,7 @@ module _ (whole : Whole) (given : Given) (parts : List Records) (progress : Prog
       → AreRunUpTo given (parts ++ records ∷ later) last (length parts + 1) → ⊥
   none_up_to records later last none are =
       let front : take (length parts + 1) (parts ++ records ∷ later) ≡ parts ++ records ∷ [] =
-      take_one parts records later in
+      take-append-add parts (records ∷ later) 1 in
       let of = runs_split given (first_start given) parts records are.lefts
       (subst (λ (l : List Records). ArePartRuns given (first_start given) l are.lefts) front
       are.runs) in
@@ -93,7 +93,7 @@ module _ (whole : Whole) (given : Given) (parts : List Records) (progress : Prog
     lefts = was.lefts;
     runs =
         subst (λ (l : List Records). ArePartRuns given (first_start given) l was.lefts)
-        (sym (ap (λ k. take k (parts ++ later)) same ∙ take-front parts later)) was.runs;
+        (sym (ap (λ k. take k (parts ++ later)) same ∙ take-append_seam parts later)) was.runs;
     ends = λ few. absurd (omega (arith, length-append parts later));
   }
 
@@ -192,5 +192,6 @@ loose_end whole given parts progress was last number same (audit.State w) found 
 -- what holds of parts and the last one, holds among all
 pub loose_among : (given : Given) (all earlier : List Records) (last : Records) (why : PartFault)
     → all ≡ earlier ++ last ∷ [] → IsLooseFor given earlier last why → IsLooseAmong given all why
-loose_among given all earlier last (part.Loose number) same loose = (earlier, last, same, loose)
+loose_among given all earlier last (part.Loose number) same loose =
+    record { earlier = earlier; last = last; parts_are = same; loose = loose }
 loose_among given all earlier last part.NoMemory same loose = tt

@@ -65,8 +65,8 @@ abbrev pub told_in : Given → PartStart → Records → ℕ
 told_in given start records = min (start.told + count_by is_refused records) (length given.refused)
 
 -- the refused requests that it tells
-abbrev pub refused_in : Given → PartStart → Records → List Noted
-refused_in given start records =
+abbrev pub refused_told : Given → PartStart → Records → List Noted
+refused_told given start records =
     slice_range given.refused start.told (told_in given start records)
 
 -- where the next part begins if this one left this
@@ -90,7 +90,7 @@ pub record IsPartRun (given : Given) (start : PartStart) (records : Records) (le
       IsRunSince start.begin (first_of given.setup (turned_in given start records))
       (take (row_in given start records) given.rows) left
   pub told :
-      records ≡ audit_records left.setup.job (refused_in given start records) left.feeds
+      records ≡ audit_records left.setup.job (refused_told given start records) left.feeds
       left.journals (uncounted left).states
 
 -- What the last part left: a run of all other rows and requests.

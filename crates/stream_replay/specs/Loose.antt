@@ -20,16 +20,16 @@ pub record IsLoose (given : Given) (earlier : List Records) (last : Records) (pa
   pub before : AreRunUpTo given earlier last (part - 1)
   pub here : AreRunUpTo given earlier last part → ⊥
 
--- why these parts aren't runs one after another; out of memory says nothing
-abbrev pub IsLooseAmong : Given → List Records → PartFault → Type 0
-IsLooseAmong given parts (fault.Loose part) =
-    (earlier : List Records) × (last : Records) × (parts ≡ earlier ++ last ∷ [])
-    × IsLoose given earlier last part
-IsLooseAmong given parts fault.NoMemory = ⊤
+-- of these parts, this one is the first that is no run from where the one before it has ended
+pub record HasLoose (given : Given) (parts : List Records) (part : ℕ) : Type 0 where
+  pub earlier : List Records
+  pub last : Records
+  pub parts_are : parts ≡ earlier ++ last ∷ []
+  pub loose : IsLoose given earlier last part
 
--- why the parts of an audit with these records aren't
+-- why the parts of an audit with these records aren't runs one after another; out of memory says
+-- nothing
 abbrev pub IsLooseIn : Given → Records → PartFault → Type 0
 IsLooseIn given records (fault.Loose part) =
-    (earlier : List Records) × (last : Records)
-    × (parts_of records ≡ Some (earlier ++ last ∷ [])) × IsLoose given earlier last part
+    (parts : List Records) × (parts_of records ≡ Some parts) × HasLoose given parts part
 IsLooseIn given records fault.NoMemory = ⊤

@@ -6,10 +6,10 @@ ghost use Rattle.flow_model.specs.Setup.{setup_view};
 ghost use Rattle.audit_laws.specs.Fits.{records_of};
 ghost use Rattle.audit_parts.specs.Cut.{parts_of};
 ghost use Rattle.stream_replay.specs.InParts.{AreRunInParts, Given, Records, given_by};
-ghost use Rattle.stream_replay.specs.Loose.{IsLooseAmong, IsLooseIn};
+ghost use Rattle.stream_replay.specs.Loose.{IsLooseIn};
 ghost use Rattle.stream_replay.specs.declared.fault.PartFault.TheVariants.{NoMemory as OutOfMemory};
-ghost use Rattle.stream_replay.specs.inner.Progress.{HasPassed, IsCounted, IsLooseFor, IsProgress};
-ghost use Rattle.stream_replay.specs.inner.Progress.{body_of, fault_of};
+ghost use Rattle.stream_replay.specs.inner.Progress.{HasPassed, IsCounted, IsLooseAmong};
+ghost use Rattle.stream_replay.specs.inner.Progress.{IsLooseFor, IsProgress, body_of, fault_of};
 ghost use Rattle.stream_replay.specs.inner.Progress.{given_of};
 ghost use Rattle.audit_parts.specs.Reading.{left_of};
 
@@ -21,6 +21,9 @@ use audit_parts::{AuditPart, AuditParts};
 use flow_model::Setup;
 use std::alloc::Global;
 use tuple_trace::Rows;
+
+// More parts than any text has.
+const MOST_PARTS: u64 = u64::MAX;
 
 /// Whether the parts of a stream, whose audit a text is, are runs one after another, and together
 /// of all these rows. The setup is returned, with a copy of its requests.
@@ -87,13 +90,14 @@ fn pass_all(
     let mut progress = progress;
     let mut parts = parts;
     let mut part = first;
-    'parts: for number in 1..u64::MAX {
+    'parts: for number in 1..MOST_PARTS {
         let Some(next) = parts.next_part()? else {
             return end_at(alloc, whole, progress, &part, number);
         };
         progress = go_on(alloc, whole, progress, &part, number)?;
         part = next;
     }
+    // Not reached: a text of so many parts has no place in memory.
     Err(PartFault::NoMemory)
 }
 

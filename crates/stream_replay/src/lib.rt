@@ -15,4 +15,4 @@ mod whole;
 
 pub use check::check_parts;
 pub use fault::PartFault;
-pub use laws::parts_have_one_verdict;
+pub use laws::{parts_have_one_verdict, runs_are_told_in_parts};

@@ -70,7 +70,7 @@ pub job_by : (of : AuditOf) (ordered : Bool) (job : JobView) (requests : List Re
     (setup : Setup) → IsSetupBy of ordered job requests setup → job_view setup.job ≡ job
 job_by audit.Run ordered job requests setup is = is.job_is
 job_by audit.Live ordered job requests setup is = is.job_is
-job_by audit.Stream ordered job requests setup is = is.job_is
+job_by audit.Stream ordered job requests setup is = is.made.job_is
 job_by (audit.Resume save) ordered job requests setup is = is.job_is
 
 -- ---- the beginning

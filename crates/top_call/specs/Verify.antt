@@ -20,8 +20,8 @@ use Rattle.call_steps.specs.Live.{AreReleased}
 use Rattle.call_steps.specs.Outcomes.{Stops}
 use Rattle.call_steps.specs.Parts.{IsRunFromStart}
 use Rattle.call_steps.specs.Reading.{FollowsFile, IsStartOf, RefusesSave, TellsStart}
-use Rattle.call_steps.specs.Running.{IsRunOf, IsStreamRunOf, alerts_of}
-use Rattle.call_steps.specs.SetupFor.{AreSame, IsSetupFor, IsStreamSetupFor}
+use Rattle.call_steps.specs.Running.{IsRunOf, alerts_of}
+use Rattle.call_steps.specs.SetupFor.{AreSame, IsSetupFor}
 use Rattle.call_steps.specs.declared.answer.Answer.{Answer}
 use Rattle.call_steps.specs.declared.running.Done.{Done}
 use Rattle.verify_steps.specs.Audits.{AreShown, AreStreamsShown, FollowsAlerts, HaveOneVerdict}
@@ -29,6 +29,7 @@ use Rattle.verify_steps.specs.Audits.{HoldsAlerts, HoldsNoAlerts, IsAuditedRun, 
 use Rattle.verify_steps.specs.Audits.{RefusesAudit, Subject, TellsAlerts, TellsAudit}
 use Rattle.verify_steps.specs.Audits.{later_subject, live_subject, stream_subject, subject_of}
 use Rattle.verify_steps.specs.Audits.{verified_lines}
+use Rattle.verify_steps.specs.StreamSetup.{IsStreamRunOf, IsStreamSetupFor}
 use Rattle.top_call.specs.Follows.{IsDoneOrExcused}
 use Rattle.top_call.specs.Inputs.{AreInputsOf, AreNoInputs}
 use Rattle.top_call.specs.Prints.{PrintsRun}

@@ -11,7 +11,7 @@ ghost use Rattle.top_call.specs.Verify.{EndsVerify, IsNotRestored, IsNotVerified
 ghost use Rattle.top_call.specs.Verify.{IsSetupBy, IsVerifiedRun};
 
 use crate::inputs::{RunInputs, inputs_in};
-use call_steps::{Answer, Done, print, setup_of, start_in, stream_setup_of};
+use call_steps::{Answer, Done, print, setup_of, start_in};
 use command_line::{AuditOf, VerifyFiles};
 use flow_model::Setup;
 use jobs::Job;
@@ -21,7 +21,7 @@ use std::alloc::Global;
 use tuple_trace::NoMemory;
 use verify_steps::{
     Given, audited_later_run, audited_live_run, audited_run, audited_stream, check_alerts,
-    verified_lines,
+    stream_setup_of, verified_lines,
 };
 use versions::Requests;
 

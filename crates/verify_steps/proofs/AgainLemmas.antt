@@ -1,5 +1,5 @@
 -- What was run, with a setup that was made again.
-use Rattle.std.proofs.Common.{◌≡◌, ◌∙◌, Bool, List, ap, length, subst, sym}
+use Rattle.std.proofs.Common.{◌≡◌, ◌∙◌, ℕ, Bool, List, Some, ap, length, subst, sym}
 use Rattle.std.specs.Prelude.{All, IsTrue}
 use Rattle.flow_model.specs.Consistent.{IsConsistent}
 use Rattle.flow_model.specs.Least.{ArePlansLeast}
@@ -14,12 +14,14 @@ use Rattle.plan_law.specs.Determined.{NumbersAllNodes}
 use Rattle.serial_order.specs.Serials.{serials}
 use Rattle.sink_journal.specs.declared.journal.Feed.{Feed}
 use Rattle.tuple_trace.specs.declared.row.Row.{Row}
-use Rattle.versions.specs.Judged.{judged}
+use Rattle.versions.specs.Judged.{judged_within}
 use Rattle.versions.specs.declared.request.Request.{Request}
 use Rattle.call_steps.specs.Live.{AreReleased}
-use Rattle.call_steps.specs.Running.{HaveOneOrder, IsStreamRunOf}
-use Rattle.call_steps.specs.SetupFor.{IsStreamSetupFor}
+use Rattle.call_steps.specs.Running.{HaveOneOrder}
+use Rattle.call_steps.specs.SetupFor.{IsSetupWith}
 use Rattle.call_steps.specs.declared.running.Done.{Done}
+use Rattle.stream_intake.specs.Intake.{IsMaskOf}
+use Rattle.verify_steps.specs.StreamSetup.{IsStreamRunOf, IsStreamSetupFor}
 use Rattle.verify_steps.specs.inner.Again.{IsAgain}
 
 module _ (done again : Done) (same : IsAgain done again) where
@@ -39,17 +41,30 @@ module _ (done again : Done) (same : IsAgain done again) where
   pub setup_again : (Keeps : List Request → List Request → Type 0) (ordered : Bool) (job : JobView)
       (requests : List Request) → IsStreamSetupFor Keeps ordered job requests done.ran.setup
       → IsStreamSetupFor Keeps ordered job requests again.ran.setup
-  setup_again Keeps ordered job requests is = record {
-    job_is = ap (λ (v : SetupView). v.job) same.view ∙ is.job_is;
-    accepted =
-        subst (λ (v : SetupView). Keeps (judged job requests).accepted v.requests)
-        (sym same.view) is.accepted;
-    refused = same.judged ∙ is.refused;
-    exact = subst IsExactForStream (sym same.view) is.exact;
-    least = subst ArePlansLeast (sym same.view) is.least;
-    numbers = subst (λ (v : SetupView). All NumbersAllNodes v.plans) (sym same.view) is.numbers;
-    mode = ap (λ (v : SetupView). v.ordered) same.view ∙ is.mode;
-  }
+  setup_again Keeps ordered job requests is =
+      let splits : again.ran.setup.splits ≡ done.ran.setup.splits =
+      ap (λ (v : SetupView). v.splits) same.view in
+      let judged = judged_within (Some done.ran.setup.splits) job requests in
+      let made = is.made in
+      record {
+        made =
+            subst (λ (mask : ℕ). IsSetupWith IsExactForStream Keeps ordered job
+            (judged_within (Some mask) job requests) again.ran.setup) (sym splits)
+            (record {
+              job_is = ap (λ (v : SetupView). v.job) same.view ∙ made.job_is;
+              accepted =
+                  subst (λ (v : SetupView). Keeps judged.accepted v.requests)
+                  (sym same.view) made.accepted;
+              refused = same.judged ∙ made.refused;
+              exact = subst IsExactForStream (sym same.view) made.exact;
+              least = subst ArePlansLeast (sym same.view) made.least;
+              numbers =
+                  subst (λ (v : SetupView). All NumbersAllNodes v.plans) (sym same.view)
+                  made.numbers;
+              mode = ap (λ (v : SetupView). v.ordered) same.view ∙ made.mode;
+            });
+        splits = subst (λ (mask : ℕ). IsMaskOf job.nodes mask) (sym splits) is.splits;
+      }
 
   -- so what was run is that of the same requests and rows
   pub run_again : (rows : List Row) (ordered : Bool) (job : JobView) (requests : List Request)

@@ -1,8 +1,8 @@
 -- Bytes have one verdict: the run whose audit they are, or one fault.
-use Rattle.std.proofs.Common.{◌≡◌, ◌∙◌, ◌++◌, ◌∷◌, ℕ, List, [], Option, Some, ap, map, refl}
-use Rattle.std.proofs.Common.{subst, sym}
+use Rattle.std.proofs.Common.{◌≡◌, ◌∙◌, ◌++◌, ◌∷◌, ℕ, List, [], Option, Some, ap, map, subst, sym}
 use Rattle.std.specs.Prelude.{◌≢◌, All, IfSome}
 use Rattle.std.proofs.lemmas.List.Elements.{All-map}
+use Rattle.std.proofs.lemmas.Option.{same_Some}
 use Rattle.audit_fault.specs.Noting.{IsNoted}
 use Rattle.audit_fault.specs.declared.fault.AuditFault.{AuditFault}
 use Rattle.audit_fault.specs.declared.fault.AuditFault.TheVariants as audit
@@ -12,11 +12,10 @@ use Rattle.report.specs.declared.fault.Fault.{Fault}
 use Rattle.report.specs.declared.fault.Fault.TheVariants as fault
 use Rattle.versions.specs.declared.in_order.Refused.{Refused}
 use Rattle.stream_replay.specs.InParts.{AreRunInParts, Records}
-use Rattle.stream_replay.specs.Loose.{IsLoose}
-use Rattle.stream_replay.proofs.ListLemmas.{last_same}
-use Rattle.stream_replay.proofs.LooseLemmas.{loose_apart, loose_sole}
+use Rattle.stream_replay.specs.Loose.{HasLoose}
+use Rattle.stream_replay.proofs.LooseLemmas.{has_apart, has_sole}
 use Rattle.verify_steps.specs.Audits.{HasLoosePart, HasRunParts, HaveOneVerdict, IsAudited}
-use Rattle.verify_steps.specs.Audits.{IsFaultOn, IsToldBy, RefusesAudit, Subject, given_of}
+use Rattle.verify_steps.specs.Audits.{IsFaultOn, IsToldBy, RefusesAudit, Subject, given_in}
 
 -- the fault is one that these bytes have
 abbrev pub IsFaultIn : (List ℕ → Subject) → List ℕ → AuditFault → Type 0
@@ -37,28 +36,19 @@ HaveOneFault subject =
 -- ---- parts
 
 -- the parts that there are, are runs one after another
-parts_in : (subject : Subject) (earlier : List Records) (last : Records)
-    → subject.parts ≡ Some (earlier ++ last ∷ []) → HasRunParts subject
-    → AreRunInParts (given_of subject) earlier last
-parts_in subject earlier last are runs =
-    let seen : IfSome (Some (earlier ++ last ∷ [])) (λ parts. (front : List Records)
-    (end : Records) → parts ≡ front ++ end ∷ [] → AreRunInParts (given_of subject) front end) =
-    subst (λ (o : Option (List Records)). IfSome o (λ parts. (front : List Records)
-    (end : Records) → parts ≡ front ++ end ∷ [] → AreRunInParts (given_of subject) front end))
-    are runs in
-    seen earlier last refl
-
-some_same : {A : Type 0} (a b : A) → Some a ≡ Some b → a ≡ b
-some_same a b e = cc
+parts_in : (subject : Subject) (parts : List Records) → subject.parts ≡ Some parts
+    → HasRunParts subject → (earlier : List Records) (last : Records)
+    → parts ≡ earlier ++ last ∷ [] → AreRunInParts (given_in subject) earlier last
+parts_in subject parts are runs =
+    subst (λ (o : Option (List Records)). IfSome o (λ all. (earlier : List Records)
+    (last : Records) → all ≡ earlier ++ last ∷ [] → AreRunInParts (given_in subject) earlier last))
+    are runs
 
 one_part : (subject : Subject) (k j : ℕ) → HasLoosePart subject k → HasLoosePart subject j → k ≡ j
 one_part subject k j x y =
-    let all : x.earlier ++ x.last ∷ [] ≡ y.earlier ++ y.last ∷ [] =
-    some_same (x.earlier ++ x.last ∷ []) (y.earlier ++ y.last ∷ []) (sym x.parts_are ∙ y.parts_are) in
-    let same = last_same x.earlier y.earlier x.last y.last all in
-    loose_sole (given_of subject) x.earlier x.last k j x.loose
-    (subst (λ (e : List Records). IsLoose (given_of subject) e x.last j) (sym same.0)
-    (subst (λ (r : Records). IsLoose (given_of subject) y.earlier r j) (sym same.1) y.loose))
+    let same : y.parts ≡ x.parts = same_Some y.parts x.parts (sym y.parts_are ∙ x.parts_are) in
+    has_sole (given_in subject) x.parts k j x.loose
+    (subst (λ (all : List Records). HasLoose (given_in subject) all j) same y.loose)
 
 -- ---- verdicts
 
@@ -71,9 +61,8 @@ one_verdict subject none one = record { apart = apart; sole = sole }
     apart ran (fault.Audit code) bytes audited refused =
         none ran bytes code audited.told refused.0 refused.1
     apart ran (fault.Part part) bytes audited refused =
-        loose_apart (given_of (subject bytes)) refused.earlier refused.last part
-        (parts_in (subject bytes) refused.earlier refused.last refused.parts_are audited.in_parts)
-        refused.loose
+        has_apart (given_in (subject bytes)) refused.parts part
+        (parts_in (subject bytes) refused.parts refused.parts_are audited.in_parts) refused.loose
     apart ran _ bytes audited refused = absurd refused
 
     sole : (f g : Fault) (bytes : List ℕ) → RefusesAudit subject f bytes →

@@ -5,3 +5,4 @@ pub mod LiveLemmas
 pub mod StreamLemmas
 pub mod AgainLemmas
 pub mod PartLemmas
+pub mod TurnLemmas

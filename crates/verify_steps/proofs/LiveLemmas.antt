@@ -1,5 +1,5 @@
 -- Setups and faults of runs of `live`, as their audits show them.
-use Rattle.std.proofs.Common.{◌≡◌, ◌∙◌, ℕ, Bool, List, Option, All, ap, subst, sym}
+use Rattle.std.proofs.Common.{◌≡◌, ◌∙◌, ℕ, Bool, List, Option, Some, All, ap, subst, sym}
 use Rattle.audit_fault.specs.declared.fault.AuditFault.{AuditFault}
 use Rattle.audit_fault.specs.declared.fault.AuditFault.TheVariants as audit
 use Rattle.jobs.specs.JobView.{JobView}
@@ -8,6 +8,8 @@ use Rattle.payments.specs.Files.{Files}
 use Rattle.report.specs.Faults.{audit_fault}
 use Rattle.report.specs.declared.fault.FileIs.TheVariants as file
 use Rattle.sink_journal.specs.declared.journal.Feed.{Feed}
+use Rattle.versions.specs.Judged.{judged, judged_within}
+use Rattle.versions.specs.declared.in_order.Judged.{Judged}
 use Rattle.versions.specs.declared.request.Request.{Request}
 use Rattle.coordinator.specs.Feeding.{issue_rows}
 use Rattle.flow_engine.specs.Recorded.{NoneIsEarly}
@@ -22,25 +24,27 @@ use Rattle.flow_model.specs.declared.setup.Setup.{Setup}
 use Rattle.plan_law.specs.Determined.{NumbersAllNodes}
 use Rattle.call_steps.specs.Live.{AreReleased}
 use Rattle.call_steps.specs.Reading.{IsRead}
-use Rattle.call_steps.specs.SetupFor.{AreSame, IsSetupFor, IsSetupWith, IsStreamSetupFor}
+use Rattle.call_steps.specs.SetupFor.{AreSame, IsSetupFor, IsSetupWith}
 use Rattle.call_steps.specs.declared.running.Done.{Done}
 use Rattle.call_steps.proofs.FileLemmas.{same_bytes}
+use Rattle.stream_intake.specs.Intake.{IsMaskOf}
 use Rattle.verify_steps.specs.Audits.{IsAuditedBy, IsAuditedRun, IsNoAudit, Subject}
+use Rattle.verify_steps.specs.StreamSetup.{IsStreamSetupFor}
 use Rattle.verify_steps.proofs.AuditLemmas.{IsFaultIn}
 use Rattle.verify_steps.proofs.WaitingLemmas.{exact_waiting, least_waiting, stream_exact_waiting}
 
 -- the setup with the waits of a feed is that of the job and the released requests, if such plans
 -- don't go by what requests wait for
 waiting_with : (Exact : SetupView → Type 0) → ((v : SetupView) (waits : List ℕ) → Exact v
-    → Exact (waiting_for waits v)) → (ordered : Bool) (job : JobView) (requests : List Request)
+    → Exact (waiting_for waits v)) → (ordered : Bool) (job : JobView) (verdicts : Judged)
     (rows : ℕ) (setup made : Setup) (feeds : List Feed)
-    → IsSetupWith Exact AreSame ordered job requests setup →
+    → IsSetupWith Exact AreSame ordered job verdicts setup →
     setup_view made ≡ waiting_for (issue_rows 0 feeds) (setup_view setup) →
     made.judged.refused ≡ setup.judged.refused →
     NoneIsEarly rows setup.judged.accepted
     (with_afters (issue_rows 0 feeds) setup.judged.accepted) →
-    IsSetupWith Exact (AreReleased rows feeds) ordered job requests made
-waiting_with Exact stays ordered job requests rows setup made feeds is same refused late =
+    IsSetupWith Exact (AreReleased rows feeds) ordered job verdicts made
+waiting_with Exact stays ordered job verdicts rows setup made feeds is same refused late =
     let waits = issue_rows 0 feeds in
     let kept : made.judged.accepted ≡ with_afters waits setup.judged.accepted =
     ap (λ (v : SetupView). v.requests) same in
@@ -67,7 +71,8 @@ pub setup_waiting : (ordered : Bool) (job : JobView) (requests : List Request) (
     NoneIsEarly rows setup.judged.accepted
     (with_afters (issue_rows 0 feeds) setup.judged.accepted) →
     IsSetupFor (AreReleased rows feeds) ordered job requests made
-setup_waiting = waiting_with IsExact exact_waiting
+setup_waiting ordered job requests =
+    waiting_with IsExact exact_waiting ordered job (judged job requests)
 
 -- the setup of a stream
 pub stream_waiting : (ordered : Bool) (job : JobView) (requests : List Request) (rows : ℕ)
@@ -77,7 +82,17 @@ pub stream_waiting : (ordered : Bool) (job : JobView) (requests : List Request) 
     NoneIsEarly rows setup.judged.accepted
     (with_afters (issue_rows 0 feeds) setup.judged.accepted) →
     IsStreamSetupFor (AreReleased rows feeds) ordered job requests made
-stream_waiting = waiting_with IsExactForStream stream_exact_waiting
+stream_waiting ordered job requests rows setup made feeds is same refused late =
+    let splits : made.splits ≡ setup.splits = ap (λ (v : SetupView). v.splits) same in
+    record {
+      made =
+          subst (λ (mask : ℕ). IsSetupWith IsExactForStream (AreReleased rows feeds) ordered job
+          (judged_within (Some mask) job requests) made) (sym splits)
+          (waiting_with IsExactForStream stream_exact_waiting ordered job
+          (judged_within (Some setup.splits) job requests) rows setup made feeds is.made same
+          refused late);
+      splits = subst (λ (mask : ℕ). IsMaskOf job.nodes mask) (sym splits) is.splits;
+    }
 
 -- bytes that were read are refused for the fault that they have
 pub refused_for : (subject : List ℕ → Subject) (files : Option Files) (name bytes : List ℕ)

@@ -2,6 +2,8 @@
 use Rattle.std.proofs.Common.{◌≡◌, ◌∙◌, ◌++◌, ◌∷◌, ℕ, List, [], None, Option, Some, ap, map, subst}
 use Rattle.std.proofs.Common.{sym}
 use Rattle.std.specs.Prelude.{IfSome}
+use Rattle.std.proofs.lemmas.List.{same_from_push}
+use Rattle.std.proofs.lemmas.Option.{same_Some}
 use Rattle.audit_parts.specs.Cut.{parts_of}
 use Rattle.flow_model.specs.Run.{Ran}
 use Rattle.flow_model.specs.Setup.{setup_view}
@@ -16,11 +18,11 @@ use Rattle.versions.specs.declared.in_order.Refused.{Refused}
 use Rattle.call_steps.specs.Reading.{IsRead}
 use Rattle.stream_replay.specs.Faults.{part_fault}
 use Rattle.stream_replay.specs.InParts.{AreRunInParts, Given, Records, given_by}
-use Rattle.stream_replay.specs.Loose.{IsLoose, IsLooseIn}
+use Rattle.stream_replay.specs.Loose.{HasLoose, IsLooseIn}
 use Rattle.stream_replay.specs.declared.fault.PartFault.{PartFault}
 use Rattle.stream_replay.specs.declared.fault.PartFault.TheVariants as part
 use Rattle.verify_steps.specs.Audits.{HasLoosePart, HasRunParts, IsNoAudit, IsToldBy, Subject}
-use Rattle.verify_steps.specs.Audits.{given_of, joined_subject, stream_subject}
+use Rattle.verify_steps.specs.Audits.{given_in, joined_subject, stream_subject}
 
 if_some : (parts : Option (List Records)) (Are : List Records → Records → Type 0)
     → ((earlier : List Records) (last : Records) → parts ≡ Some (earlier ++ last ∷ [])
@@ -33,11 +35,13 @@ if_some (Some all) Are each = λ earlier last same. each earlier last (ap Some s
 
 -- what is told of the parts that are put together is told of the stream
 pub told_stream : (setup : Setup) (rows : List Row) (bytes : List ℕ) (ran : Ran)
-    → IsToldBy (joined_subject setup rows bytes) ran → IsToldBy (stream_subject setup rows bytes) ran
+    → IsToldBy (joined_subject setup rows bytes) ran
+    → IsToldBy (stream_subject setup rows bytes) ran
 told_stream setup rows bytes ran told = record { run = told.run; fits = told.fits }
 
 pub told_joined : (setup : Setup) (rows : List Row) (bytes : List ℕ) (ran : Ran)
-    → IsToldBy (stream_subject setup rows bytes) ran → IsToldBy (joined_subject setup rows bytes) ran
+    → IsToldBy (stream_subject setup rows bytes) ran
+    → IsToldBy (joined_subject setup rows bytes) ran
 told_joined setup rows bytes ran told = record { run = told.run; fits = told.fits }
 
 abbrev given_as : SetupView → List Refused → List Row → Given
@@ -47,7 +51,7 @@ given_as view refused rows = record { setup = view; refused = map noted refused;
 pub given_same : (made setup : Setup) (rows : List Row) (bytes : List ℕ)
     → setup_view made ≡ (stream_subject setup rows bytes).setup
     → made.judged.refused ≡ setup.judged.refused
-    → given_by made rows ≡ given_of (stream_subject setup rows bytes)
+    → given_by made rows ≡ given_in (stream_subject setup rows bytes)
 given_same made setup rows bytes view refused =
     ap (λ (v : SetupView). given_as v made.judged.refused rows) view
     ∙ ap (λ (r : List Refused). given_as (stream_subject setup rows bytes).setup r rows) refused
@@ -55,13 +59,13 @@ given_same made setup rows bytes view refused =
 -- ---- parts
 
 -- the subject is of these parts
-module _ (subject : Subject) (given : Given) (records : Records) (given_is : given ≡ given_of subject)
-    (parts_are : subject.parts ≡ parts_of records) where
+module _ (subject : Subject) (given : Given) (records : Records)
+    (given_is : given ≡ given_in subject) (parts_are : subject.parts ≡ parts_of records) where
   pub parts_for : ((earlier : List Records) (last : Records)
       → parts_of records ≡ Some (earlier ++ last ∷ []) → AreRunInParts given earlier last)
       → HasRunParts subject
   parts_for each =
-      if_some subject.parts (AreRunInParts (given_of subject))
+      if_some subject.parts (AreRunInParts (given_in subject))
       (λ earlier last same.
       subst (λ (g : Given). AreRunInParts g earlier last) given_is
       (each earlier last (sym parts_are ∙ same)))
@@ -71,16 +75,28 @@ module _ (subject : Subject) (given : Given) (records : Records) (given_is : giv
   loose_for ran number told loose = record {
     ran = ran;
     told = told;
-    earlier = loose.0;
-    last = loose.1;
-    parts_are = parts_are ∙ loose.2;
-    loose = subst (λ (g : Given). IsLoose g loose.0 loose.1 number) given_is loose.3;
+    parts = loose.0;
+    parts_are = parts_are ∙ loose.1;
+    loose = subst (λ (g : Given). HasLoose g loose.0 number) given_is loose.2;
   }
+
+-- the parts of the subject are these, which are runs one after another
+pub run_parts : (subject : Subject) (given : Given) (front : List Records) (end : Records)
+    → subject.parts ≡ Some (front ++ end ∷ []) → given ≡ given_in subject
+    → AreRunInParts given front end → HasRunParts subject
+run_parts subject given front end parts_are given_is runs =
+    if_some subject.parts (AreRunInParts (given_in subject))
+    (λ earlier last same.
+    let both = same_from_push front earlier end last
+    (same_Some (front ++ end ∷ []) (earlier ++ last ∷ []) (sym parts_are ∙ same)) in
+    subst (λ (g : Given). AreRunInParts g earlier last) given_is
+    (subst (λ (e : List Records). AreRunInParts given e last) both.0
+    (subst (λ (r : Records). AreRunInParts given front r) both.1 runs)))
 
 -- bytes that were read are refused for the part that is no run
 pub loose_refused : (subject : List ℕ → Subject) (given : Given) (records : Records)
     (files : Option Files) (name bytes : List ℕ) (old new : Faults) (ran : Ran) (why : PartFault)
-    → given ≡ given_of (subject bytes) → (subject bytes).parts ≡ parts_of records
+    → given ≡ given_in (subject bytes) → (subject bytes).parts ≡ parts_of records
     → IsRead file.Audit files name bytes → IsToldBy (subject bytes) ran
     → IsLooseIn given records why → new ≡ old
     → IsNoAudit files name subject old new (part_fault why)

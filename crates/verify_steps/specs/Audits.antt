@@ -1,5 +1,5 @@
 -- What is read of an audit and of alerts beside it, and why it isn't.
-use Rattle.std.specs.Prelude.{◌≡◌, ◌≢◌, ◌+◌, ◌++◌, ◌∷◌, ◌==◌, ⊤, ℕ, All, List, Option, None, Some}
+use Rattle.std.specs.Prelude.{◌≡◌, ◌≢◌, ◌+◌, ◌++◌, ◌∷◌, ◌==◌, ⊤, ℕ, List, Option, None, Some}
 use Rattle.std.specs.Prelude.{IfSome, [], codes, count_by, length, map, take}
 use Rattle.jobs.specs.Job.{job_view}
 use Rattle.audit_fault.specs.declared.fault.AuditFault.{AuditFault}
@@ -29,11 +29,11 @@ use Rattle.sink_journal.specs.Audit.{audit_header, audit_records}
 use Rattle.sink_journal.specs.declared.audit.Noted.{Noted}
 use Rattle.audit_parts.specs.Cut.{parts_of}
 use Rattle.stream_audit.specs.Together.{together}
-use Rattle.stream_audit.specs.Told.{IsEarlier, IsLast, PartTold, part_records, parts_records}
-use Rattle.stream_audit.specs.Told.{told_in_all}
 use Rattle.stream_replay.specs.InParts.{AreRunInParts, Given, Records}
-use Rattle.stream_replay.specs.Loose.{IsLoose}
+use Rattle.stream_replay.specs.Loose.{HasLoose}
+use Rattle.stream_replay.specs.Runs.{PartEnd}
 use Rattle.tuple_trace.specs.declared.row.Row.{Row}
+use Rattle.verify_steps.specs.Streams.{IsStreamOf, given_live, told_records}
 
 -- ---- what an audit is of
 
@@ -49,9 +49,9 @@ pub record Subject : Type 0 where
   pub records : List (List (List ℕ))
   pub parts : Option (List Records)
 
--- what all parts are of
-abbrev pub given_of : Subject → Given
-given_of subject =
+-- what all its parts are of
+abbrev pub given_in : Subject → Given
+given_in subject =
     record { setup = subject.setup; refused = subject.refused; rows = subject.rows }
 
 -- a run of this setup and these rows, from this beginning on
@@ -108,7 +108,7 @@ pub record IsToldBy (subject : Subject) (ran : Ran) : Type 0 where
 -- the parts, if there are any, are runs one after another
 abbrev pub HasRunParts : Subject → Type 0
 HasRunParts subject = IfSome subject.parts (λ parts. (earlier : List Records) (last : Records)
-    → parts ≡ earlier ++ last ∷ [] → AreRunInParts (given_of subject) earlier last)
+    → parts ≡ earlier ++ last ∷ [] → AreRunInParts (given_in subject) earlier last)
 
 -- so it is, and each part of the audit of a stream is a run from where the one before has ended
 pub record IsAuditedBy (subject : Subject) (ran : Ran) : Type 0 where
@@ -126,10 +126,9 @@ IsFaultOn subject code =
 pub record HasLoosePart (subject : Subject) (part : ℕ) : Type 0 where
   pub ran : Ran
   pub told : IsToldBy subject ran
-  pub earlier : List Records
-  pub last : Records
-  pub parts_are : subject.parts ≡ Some (earlier ++ last ∷ [])
-  pub loose : IsLoose (given_of subject) earlier last part
+  pub parts : List Records
+  pub parts_are : subject.parts ≡ Some parts
+  pub loose : HasLoose (given_in subject) parts part
 
 -- the record is a run of what these bytes are the audit of
 abbrev pub IsAudited : (List ℕ → Subject) → Ran → List ℕ → Type 0
@@ -184,26 +183,15 @@ AreShown setup rows =
     (ran : Ran) (bytes : List ℕ) → IsLiveAudited setup rows ran bytes →
     IsAudited (live_subject setup rows) ran bytes
 
--- what an audit tells of a run
-abbrev pub told_of : List Noted → Ran → PartTold
-told_of refused ran = record {
-  refused = refused;
-  feeds = ran.feeds;
-  journals = ran.journals;
-  states = ran.states;
-}
-
--- Whatever parts are together a live run, their audits, one after another, show what its requests
--- waited for. If each part is also a run from where the one before has ended, this is the audit of
--- the run.
+-- Whatever parts were run in turn, and are together a live run: their audits, one after another,
+-- show what its requests waited for, and are the audit of the stream.
 abbrev pub AreStreamsShown : Setup → List Row → Type 0
 AreStreamsShown setup rows =
-    (earlier : List PartTold) (last : PartTold) (ran : Ran) (bytes : List ℕ) →
-    All (IsEarlier (job_view setup.job)) earlier → IsLast (job_view setup.job) last →
-    records_of bytes ≡ audit_header ∷ (parts_records (job_view setup.job) earlier
-    ++ part_records (job_view setup.job) last) →
-    told_in_all earlier last ≡ told_of (map noted setup.judged.refused) ran →
-    IsRunLive (setup_view setup) rows ran → HasRunParts (stream_subject setup rows bytes) →
+    (ends : List PartEnd) (left ran : Ran) (bytes : List ℕ) →
+    IsRunLive (setup_view setup) rows ran →
+    IsStreamOf (given_live setup rows ran) ends left ran →
+    records_of bytes ≡ audit_header ∷ told_records (job_view setup.job)
+    (given_live setup rows ran) ends left →
     IsAudited (stream_subject setup rows) ran bytes
 
 -- ---- the alerts beside it

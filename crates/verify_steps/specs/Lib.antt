@@ -1,2 +1,4 @@
+pub mod Streams
 pub mod Audits
+pub mod StreamSetup
 pub mod inner

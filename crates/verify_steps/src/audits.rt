@@ -10,13 +10,14 @@ ghost use Rattle.flow_model.specs.Setup.{setup_view};
 ghost use Rattle.flow_model.specs.Workers.{workers_in};
 ghost use Rattle.call_steps.specs.Live.{AreReleased};
 ghost use Rattle.call_steps.specs.Parts.{IsRunFromStart};
-ghost use Rattle.call_steps.specs.Running.{IsRunOf, IsStreamRunOf};
-ghost use Rattle.call_steps.specs.SetupFor.{AreSame, IsSetupFor, IsStreamSetupFor};
+ghost use Rattle.call_steps.specs.Running.{IsRunOf};
+ghost use Rattle.call_steps.specs.SetupFor.{AreSame, IsSetupFor};
 ghost use Rattle.verify_steps.specs.Audits.{AreShown, AreStreamsShown, HaveOneVerdict};
 ghost use Rattle.verify_steps.specs.Audits.{IsAuditedRun, IsFaultOn, IsNoAudit, IsToldBy};
 ghost use Rattle.verify_steps.specs.Audits.{later_subject, live_subject, shown_subject};
 ghost use Rattle.stream_audit.specs.Together.{together};
 ghost use Rattle.verify_steps.specs.Audits.{Subject, stream_subject, subject_of};
+ghost use Rattle.verify_steps.specs.StreamSetup.{IsStreamRunOf, IsStreamSetupFor};
 
 use crate::in_parts::in_parts;
 use crate::laws::{
@@ -124,8 +125,8 @@ pub fn audited_live_run<S: Shelf>(
 }
 
 /// The run of `stream` whose audit a file holds, from the beginning of the stream to its end. Its
-/// parts are put together to one run, whose requests wait for the rows that it shows. Then each part
-/// is looked at by itself: it is a run from where the part before it has ended.
+/// parts are put together to one run, whose requests wait for the rows that it shows. Then each
+/// part is looked at by itself: it is a run from where the part before it has ended.
 ///
 /// # Errors
 ///

@@ -6,11 +6,13 @@ ghost use Rattle.verify_steps.specs.Audits.{later_subject, live_subject, shown_s
 ghost use Rattle.verify_steps.specs.Audits.{stream_subject, subject_of};
 
 use audit_laws::{texts_have_one_fault, texts_of_runs_have_no_fault, written_audits_fit};
+use audit_parts::written_parts_are_found;
 use audit_replay::counts_are_in_range;
 use flow_model::{Setup, Start};
 use live_audit::{live_runs_show_their_waits, shown_waits_fit};
 use report::refused_are_noted;
 use stream_audit::parts_are_put_together;
+use stream_replay::runs_are_told_in_parts;
 use tuple_trace::Rows;
 
 /// No text is the audit of a run and refused, and none is refused for two faults.
@@ -69,11 +71,13 @@ pub(crate) fn live_runs_are_shown(setup: &Setup, rows: &Rows)
     live_runs_show_their_waits();
 }
 
-/// The same of parts of a stream that are together a live run.
-pub(crate) fn streams_are_shown(setup: &Setup, rows: &Rows)
+/// The same of parts of a stream that were run in turn, and are together a live run.
+pub fn streams_are_shown(setup: &Setup, rows: &Rows)
     ensures { AreStreamsShown setup.now rows.now }
 {
     parts_are_put_together(&setup.job);
+    written_parts_are_found();
+    runs_are_told_in_parts();
     live_runs_show_their_waits();
     written_audits_fit();
 }

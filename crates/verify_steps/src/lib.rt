@@ -12,7 +12,10 @@ mod alerts;
 mod audits;
 mod in_parts;
 mod laws;
+mod stream_setup;
 mod waits;
 
 pub use alerts::{check_alerts, verified_lines};
 pub use audits::{Given, audited_later_run, audited_live_run, audited_run, audited_stream};
+pub use laws::streams_are_shown;
+pub use stream_setup::stream_setup_of;

@@ -14,7 +14,7 @@ use Rattle.audit_parts.specs.declared.part.AuditPart.{AuditPart}
 use Rattle.flow_model.specs.Run.{Ran}
 use Rattle.stream_replay.specs.InParts.{ArePartRuns, Given, PartStart, Records, first_start}
 use Rattle.stream_replay.specs.InParts.{start_behind}
-use Rattle.stream_replay.specs.Loose.{IsLoose}
+use Rattle.stream_replay.specs.Loose.{HasLoose, IsLoose}
 use Rattle.stream_replay.specs.declared.fault.PartFault.{PartFault}
 use Rattle.stream_replay.specs.declared.fault.PartFault.TheVariants as part
 use Rattle.stream_replay.specs.declared.progress.Progress.{Progress}
@@ -81,3 +81,8 @@ fault_of number _ = part.Loose number
 abbrev pub IsLooseFor : Given → List Records → Records → PartFault → Type 0
 IsLooseFor given earlier last (part.Loose number) = IsLoose given earlier last number
 IsLooseFor given earlier last part.NoMemory = ⊤
+
+-- the same among all parts
+abbrev pub IsLooseAmong : Given → List Records → PartFault → Type 0
+IsLooseAmong given parts (part.Loose number) = HasLoose given parts number
+IsLooseAmong given parts part.NoMemory = ⊤

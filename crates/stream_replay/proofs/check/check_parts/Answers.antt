@@ -5,8 +5,7 @@ use Rattle.audit_parts.specs.Cut.{parts_of}
 use Rattle.audit_parts.specs.Reading.{left_of}
 use Rattle.flow_model.specs.Setup.{setup_view}
 use Rattle.stream_replay.specs.InParts.{Given, Records, given_by}
-use Rattle.stream_replay.specs.Loose.{IsLooseAmong}
-use Rattle.stream_replay.specs.inner.Progress.{body_of, given_of}
+use Rattle.stream_replay.specs.inner.Progress.{IsLooseAmong, body_of, given_of}
 use Rattle.stream_replay.proofs.LoopLemmas.{counted_next, err_found, err_in, same_given}
 use Rattle.stream_replay.proofs.check.check_parts.Goals as goal
 

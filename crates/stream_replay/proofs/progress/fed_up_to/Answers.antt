@@ -1,5 +1,5 @@
-use Rattle.std.proofs.Common.{◌≡◌, ◌∙◌, ◌+◌, ◌<◌, ◌++◌, List, [], ◌∷◌, Some, ap, arith, length, slice_get, subst}
-use Rattle.std.proofs.Common.{sym, take}
+use Rattle.std.proofs.Common.{◌≡◌, ◌∙◌, ◌+◌, ◌<◌, ◌++◌, List, [], ◌∷◌, Some, ap, arith, length}
+use Rattle.std.proofs.Common.{slice_get, subst, sym, take}
 use Rattle.std.proofs.lemmas.List.{length-take-le}
 use Rattle.std.proofs.lemmas.Option.{slice_get-get_or}
 use Rattle.tuple_trace.specs.Rows.{IsRow}

@@ -11,7 +11,7 @@ use Rattle.jobs.specs.Nodes.{AreFromSources}
 use Rattle.payments.specs.World.{ShelfState}
 use Rattle.stream_audit.specs.Together.{together}
 use Rattle.stream_replay.specs.InParts.{given_by}
-use Rattle.verify_steps.specs.Audits.{IsFaultOn, IsToldBy, given_of, shown_subject}
+use Rattle.verify_steps.specs.Audits.{IsFaultOn, IsToldBy, given_in, shown_subject}
 use Rattle.verify_steps.specs.Audits.{stream_subject}
 use Rattle.verify_steps.proofs.AgainLemmas.{journals_again, record_again, run_again}
 use Rattle.verify_steps.proofs.LiveLemmas.{audited_for, refused_for}
@@ -74,7 +74,7 @@ returns-in_err-in_parts-clause-cause g c =
     told_stream s rows bytes (record_view done.ran)
     (subst (λ (rs : List (List (List ℕ))). IsToldBy (shown_subject s rows rs)
     (record_view done.ran)) same c.in_ok-done.ensures.audited) in
-    let given_is : given_by done.ran.setup rows ≡ given_of (stream_subject s rows bytes) =
+    let given_is : given_by done.ran.setup rows ≡ given_in (stream_subject s rows bytes) =
     given_same done.ran.setup s rows bytes told.run.setup_is c.in_ok-done.ensures.refused in
     let from =
     err_from_is_err_and c.from_residual-in_err-in_parts.result
@@ -103,7 +103,7 @@ returns-clause-audited g c =
     told_stream s rows bytes (record_view done.ran)
     (subst (λ (rs : List (List (List ℕ))). IsToldBy (shown_subject s rows rs)
     (record_view done.ran)) same c.in_ok-done.ensures.audited) in
-    let given_is : given_by done.ran.setup rows ≡ given_of (stream_subject s rows bytes) =
+    let given_is : given_by done.ran.setup rows ≡ given_in (stream_subject s rows bytes) =
     given_same done.ran.setup s rows bytes told.run.setup_is c.in_ok-done.ensures.refused in
     audited_for (stream_subject s rows) (g.S.Shelf.state c.args.shelf.now).files
     c.args.given.audit.now bytes last c.in_ok-bytes.ensures.bytes

@@ -20,11 +20,12 @@ use Rattle.coordinator.specs.Feeding.{issue_rows}
 use Rattle.versions.specs.declared.in_order.Refused.{Refused}
 use Rattle.versions.specs.declared.request.Request.{Request}
 use Rattle.call_steps.specs.Live.{AreReleased}
-use Rattle.call_steps.specs.Running.{IsRunOf, IsStreamRunOf}
-use Rattle.call_steps.specs.SetupFor.{IsSetupFor, IsStreamSetupFor}
+use Rattle.call_steps.specs.Running.{IsRunOf}
+use Rattle.call_steps.specs.SetupFor.{IsSetupFor}
 use Rattle.call_steps.proofs.PartLemmas.{workers_of}
 use Rattle.call_steps.proofs.RunLemmas.{is_run_under}
 use Rattle.verify_steps.specs.Audits.{IsFaultOn, IsToldBy, shown_subject}
+use Rattle.verify_steps.specs.StreamSetup.{IsStreamRunOf, IsStreamSetupFor}
 use Rattle.verify_steps.proofs.LiveLemmas.{setup_waiting, stream_waiting}
 use Rattle.verify_steps.proofs.audits.shown_run.Goals as goal
 

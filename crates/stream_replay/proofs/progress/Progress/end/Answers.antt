@@ -1,6 +1,5 @@
-use Rattle.std.proofs.Common.{◌≡◌, ◌∙◌, ◌-◌, ◌∷◌, ℕ, List, ap, arith, drop, length, map, rules, sym}
-use Rattle.std.proofs.Common.{length-drop, take}
-use Rattle.std.proofs.lemmas.List.{drop-map, take_all}
+use Rattle.std.proofs.Common.{◌≡◌, ◌∙◌, ◌-◌, ◌∷◌, ℕ, List, ap, drop, length, map, rules, sym, take}
+use Rattle.std.proofs.lemmas.List.{drop-map, take_rest}
 use Rattle.sink_journal.specs.Audit.{audit_header}
 use Rattle.versions.specs.declared.in_order.Refused.{Refused}
 use Rattle.audit_fault.specs.declared.fault.AuditFault.TheVariants as audit
@@ -15,17 +14,12 @@ use Rattle.stream_replay.specs.inner.Progress.{body_of, given_of, start_in, with
 use Rattle.stream_replay.proofs.PartLemmas.{all_first, fits_of_last, last_of_run, run_of_last}
 use Rattle.stream_replay.proofs.progress.Progress.end.Goals as goal
 
--- so many items less the first are all others
-drop-rest : {A : Type 0} (told : ℕ) (all : List A)
-    → take (length all - told) (drop told all) ≡ drop told all
-drop-rest told all = take_all (length all - told) (drop told all) (omega (arith, length-drop told all))
-
 -- the refused requests that are told later, as an audit notes them
 later_noted : (whole : Whole) (told : ℕ) (all later seen : List Refused) → all ≡ whole.refused
     → later ≡ take (length all - told) (drop told all) → seen ≡ later
     → map noted seen ≡ drop told whole.noted.items
 later_noted whole told all later seen all_are later_are same =
-    ap (map noted) (same ∙ (later_are ∙ (drop-rest told all ∙ ap (drop told) all_are)))
+    ap (map noted) (same ∙ (later_are ∙ (take_rest all told ∙ ap (drop told) all_are)))
     ∙ (sym (drop-map noted told whole.refused) ∙ ap (drop told) (sym whole.noted_are))
 
 pub returns-clause-view : goal.returns-clause-view

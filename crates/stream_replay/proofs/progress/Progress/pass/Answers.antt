@@ -12,7 +12,7 @@ use Rattle.audit_laws.specs.Fits.{records_of}
 use Rattle.flow_model.specs.Record.{record_view}
 use Rattle.flow_model.specs.Setup.{setup_view}
 use Rattle.savepoint.specs.Parts.{first_of}
-use Rattle.stream_replay.specs.InParts.{refused_in, row_in, told_in, turned_in}
+use Rattle.stream_replay.specs.InParts.{refused_told, row_in, told_in, turned_in}
 use Rattle.stream_replay.specs.inner.Progress.{body_of, given_of, start_in, with_all}
 use Rattle.stream_replay.proofs.PartLemmas.{part_of, starts}
 use Rattle.stream_replay.proofs.progress.Progress.pass.Goals as goal
@@ -49,12 +49,13 @@ returns-clause-part c =
     let extent = c.extent-extent.result in
     let ran = record_view c.in_ok-ran.ran in
     let refused : List Noted = slice_range c.deref.result.now self.told extent.told in
-    let view_is : setup_view c.in_ok-setup.setup ≡ first_of given.setup (turned_in given start body) =
+    let view_is :
+    setup_view c.in_ok-setup.setup ≡ first_of given.setup (turned_in given start body) =
     c.in_ok-setup.ensures.view
     ∙ ap (first_of (with_all whole (setup_view self.setup))) c.extent-extent.ensures.turned in
     let fed_is : c.in_ok-fed.fed ≡ take (row_in given start body) given.rows =
     c.in_ok-fed.ensures ∙ ap (λ k. take k whole.rows.now) c.extent-extent.ensures.row in
-    let refused_is : refused ≡ refused_in given start body =
+    let refused_is : refused ≡ refused_told given start body =
     ap (λ (l : List Noted). slice_range l self.told extent.told) c.deref.ensures.value
     ∙ ap (λ k. slice_range whole.noted.items self.told k) c.extent-extent.ensures.told in
     let read : records_of c.as_slice.result.now ≡ audit_header ∷ body =
