@@ -1,0 +1,5 @@
+mod MovedLemmas
+mod CapLemmas
+mod WholeLemmas
+mod OneRunLemmas
+mod EndedLemmas
