@@ -1,9 +1,9 @@
 -- Requests that wait for more rows than there are.
 use Rattle.std.proofs.Common.{◌≡◌, ◌∙◌, ◌≤◌, ◌+◌, ◌-◌, ◌++◌, ◌==◌, ℕ, zero, suc, Bool, List, []}
 use Rattle.std.proofs.Common.{◌∷◌, All}
-use Rattle.std.proofs.Common.{ap, arith, cond, drop, length, map, min, nat_le, refl}
+use Rattle.std.proofs.Common.{ap, arith, cond, drop, length, min, nat_le, refl}
 use Rattle.std.proofs.Common.{take}
-use Rattle.std.proofs.lemmas.List.{drop-map}
+use Rattle.std.proofs.lemmas.List.{drop-map, take-take}
 use Rattle.std.proofs.lemmas.List.Elements.{All-head, All-tail}
 use Rattle.sink_journal.specs.declared.journal.Feed.{Feed}
 use Rattle.sink_journal.specs.declared.journal.Feed.TheVariants as feed
@@ -14,10 +14,7 @@ use Rattle.flow_model.specs.Requests.{afters}
 use Rattle.flow_model.specs.SetupView.{SetupView}
 use Rattle.flow_model.specs.Waiting.{with_afters}
 use Rattle.savepoint.specs.Parts.{first_of}
-
--- so many rows at most
-abbrev pub capped : ℕ → List ℕ → List ℕ
-capped rows waits = map (λ (after : ℕ). min after rows) waits
+use Rattle.live_audit.proofs.FeedLemmas.{of_those as capped}
 
 min_twice : (a n : ℕ) → min (min a n) n ≡ min a n
 min_twice a n = omega arith
@@ -82,13 +79,6 @@ waits_again (w ∷ ws) (v ∷ vs) (q ∷ qs) a b =
     ap (λ (l : List Request). record q { after = w } ∷ l)
     (waits_again ws vs qs (omega (arith, a)) (omega (arith, b)))
 
-pub afters_are : (ws : List ℕ) (qs : List Request) → length ws ≡ length qs
-    → afters (with_afters ws qs) ≡ ws
-afters_are [] [] e = refl
-afters_are [] (q ∷ qs) e = absurd (omega (arith, e))
-afters_are (w ∷ ws) [] e = absurd (omega (arith, e))
-afters_are (w ∷ ws) (q ∷ qs) e = ap (λ (l : List ℕ). w ∷ l) (afters_are ws qs (omega (arith, e)))
-
 pub take_waits : (k : ℕ) (ws : List ℕ) (qs : List Request)
     → take k (with_afters ws qs) ≡ with_afters (take k ws) (take k qs)
 take_waits zero ws qs = refl
@@ -105,14 +95,6 @@ first_first setup few many le =
     ap (λ (l : List Request). record setup {
       requests = l;
       plans = take few (take many setup.plans);
-    }) (take_take few many setup.requests le)
+    }) (take-take few many setup.requests le)
     ∙ ap (λ l. record setup { requests = take few setup.requests; plans = l })
-    (take_take few many setup.plans le)
-  where
-    take_take : {A : Type 0} (few many : ℕ) (xs : List A) → few ≤ many
-        → take few (take many xs) ≡ take few xs
-    take_take zero many xs le = refl
-    take_take (suc few) zero xs le = absurd (omega (arith, le))
-    take_take (suc few) (suc many) [] le = refl
-    take_take (suc few) (suc many) (x ∷ xs) le =
-        ap (λ l. x ∷ l) (take_take few many xs (omega (arith, le)))
+    (take-take few many setup.plans le)

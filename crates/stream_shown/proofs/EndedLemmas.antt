@@ -46,8 +46,9 @@ use Rattle.stream_run.specs.Parts.{with_one}
 use Rattle.stream_shown.specs.Whole.{IsAskedOf, IsWholeStream, WholeStream, ended_records}
 use Rattle.stream_shown.specs.Whole.{ended_parts}
 use Rattle.stream_shown.specs.Whole.{ended_refused, run_of, setup_of, whole_records}
-use Rattle.stream_shown.proofs.CapLemmas.{afters_are, cap_from, capped, waits_again}
-use Rattle.live_audit.proofs.FeedLemmas.{issues_in_order}
+use Rattle.stream_shown.proofs.CapLemmas.{cap_from, waits_again}
+use Rattle.flow_engine.proofs.Moving.{afters_are}
+use Rattle.live_audit.proofs.FeedLemmas.{issues_in_order, of_those as capped}
 use Rattle.stream_shown.proofs.MovedLemmas.{run_moved}
 use Rattle.stream_shown.proofs.OneRunLemmas.{all_refused, one_run, slice_is}
 use Rattle.stream_shown.proofs.WholeLemmas.{Begins, IsBehind, IsHere, begins_extended, begins_turn}

@@ -1,10 +1,10 @@
 -- The parts of a whole stream, seen by the setup of one run of it.
-use Rattle.std.proofs.Common.{◌≡◌, ◌∙◌, ◌≤◌, ◌+◌, ◌++◌, ℕ, suc, List, [], ◌∷◌, All, ap}
+use Rattle.std.proofs.Common.{◌≡◌, ◌∙◌, ◌≤◌, ◌+◌, ◌++◌, ℕ, List, [], ◌∷◌, All, ap}
 use Rattle.std.proofs.Common.{append-nil}
-use Rattle.std.proofs.Common.{append_assoc, arith, drop, length, refl, subst, sym}
+use Rattle.std.proofs.Common.{append_assoc, arith, drop, length, subst, sym}
 use Rattle.std.proofs.Common.{take}
 use Rattle.std.proofs.Math.Seq.{drop-append_seam, take-append_seam}
-use Rattle.std.proofs.lemmas.List.{length-append, take-map}
+use Rattle.std.proofs.lemmas.List.{length-append, map-append, take-map}
 use Rattle.std.proofs.lemmas.List.Elements.{All-append, All-cons, All-head, All-nil, All-tail}
 use Rattle.cover_planner.specs.declared.cover.Plan.{Plan}
 use Rattle.keyed_state.specs.Counts.{Counts}
@@ -20,6 +20,7 @@ use Rattle.flow_model.specs.SetupView.{SetupView}
 use Rattle.flow_model.specs.Waiting.{waiting_for, with_afters}
 use Rattle.flow_model.specs.declared.setup.Setup.{Setup}
 use Rattle.flow_model.proofs.PlannedLemmas.{has_covers}
+use Rattle.flow_model.proofs.WaitingLemmas.{length_waiting}
 use Rattle.savepoint.specs.Parts.{first_of}
 use Rattle.stream_law.proofs.BeforeLemmas.{run_of_others}
 use Rattle.stream_law.proofs.ExtendedLemmas.{first_extended}
@@ -28,7 +29,9 @@ use Rattle.stream_replay.specs.Runs.{PartEnd, RunInTurn, RunsTo, start_past, sta
 use Rattle.stream_run.specs.Growing.{Ended, rows_in}
 use Rattle.stream_run.specs.Parts.{AreRunInTurn, Front, IsRunAt, Part, front_after}
 use Rattle.stream_shown.specs.Whole.{ended_parts, ended_refused}
-use Rattle.stream_shown.proofs.CapLemmas.{capped, due_capped, first_first, own_waits, take_waits}
+use Rattle.stream_replay.proofs.PartLemmas.{all_first}
+use Rattle.live_audit.proofs.FeedLemmas.{of_those as capped}
+use Rattle.stream_shown.proofs.CapLemmas.{due_capped, first_first, own_waits, take_waits}
 
 -- ---- setups along the parts
 
@@ -68,23 +71,7 @@ pub begins_turn : (parts : List Part) (front last : Front) → HasPlans front.se
     → AreRunInTurn front parts last → Begins front.setup last.setup × HasPlans last.setup
 begins_turn [] front last each is =
     subst (λ (f : Front). Begins front.setup f.setup × HasPlans f.setup) (sym is)
-    (begins_self front.setup each, each)
-  where
-    begins_self : (setup : SetupView) → HasPlans setup → Begins setup setup
-    begins_self setup each = record {
-      first_is =
-          ap (λ (l : List Request). record setup {
-            requests = l;
-            plans = take (length setup.requests) setup.plans;
-          }) (take_self setup.requests)
-          ∙ ap (λ (l : List Plan). record setup { plans = l })
-          (ap (λ k. take k setup.plans) (sym each) ∙ take_self setup.plans);
-      fewer = omega arith;
-    }
-      where
-        take_self : {A : Type 0} (xs : List A) → take (length xs) xs ≡ xs
-        take_self [] = refl
-        take_self (x ∷ xs) = ap (λ l. x ∷ l) (take_self xs)
+    (record { first_is = all_first front.setup each; fewer = omega arith }, each)
 begins_turn (part ∷ later) front last each is =
     let here = begins_extended front.setup (setup_view part.setup) is.0.requests
     is.0.followed.plans each is.0.followed.extended_is in
@@ -196,15 +183,12 @@ module _ (setup : SetupView) (rows : List Row) (refused : List Noted) where
         let are : own.requests ≡ front.setup.requests ++ at.requests =
         ap (λ (s : SetupView). s.requests) at.followed.extended_is in
         let both : afters own.requests ≡ afters front.setup.requests ++ afters at.requests =
-        ap afters are ∙ map_both front.setup.requests at.requests in
+        ap afters are
+        ∙ map-append (λ (q : Request). q.after) front.setup.requests at.requests in
         subst (All (λ after. after ≤ last_row)) (sym both)
         (All-append (λ after. after ≤ last_row) (afters front.setup.requests) (afters at.requests)
         (later_due front.start.row (length e.part.rows) (afters front.setup.requests) here.due)
         at.due)
-      where
-        map_both : (xs ys : List Request) → afters (xs ++ ys) ≡ afters xs ++ afters ys
-        map_both [] ys = refl
-        map_both (x ∷ xs) ys = ap (λ (l : List ℕ). x.after ∷ l) (map_both xs ys)
 
     first_is : first_of given.setup (length own.requests) ≡ own
     first_is = first_given own last_row begins within part_due
@@ -247,7 +231,7 @@ module _ (setup : SetupView) (rows : List Row) (refused : List Noted) where
         let many : length own.requests ≡ length (front.setup.requests ++ at.requests) =
         ap (λ (s : SetupView). length s.requests) at.followed.extended_is in
         let all : length given.setup.requests ≡ length setup.requests =
-        length_waits waits setup.requests in
+        length_waiting waits setup.requests in
         let noted : length refused ≡ length (told ++ (e.refused ++ post)) =
         ap (λ (l : List Noted). length l) refused_are in
         record {
@@ -279,12 +263,6 @@ module _ (setup : SetupView) (rows : List Row) (refused : List Noted) where
               (subst (λ (s : SetupView). IsRunSince front.start s (take last_row rows) e.part.left)
               (sym first_is) ran);
         }
-      where
-        length_waits : (ws : List ℕ) (qs : List Request)
-            → length (with_afters ws qs) ≡ length qs
-        length_waits [] qs = refl
-        length_waits (w ∷ ws) [] = refl
-        length_waits (w ∷ ws) (q ∷ qs) = ap suc (length_waits ws qs)
 
     next : IsHere (front_after front e.part) (start_past (end_of start.told front.start.row e))
         (pre ++ e.part.rows) (told ++ e.refused)

@@ -12,7 +12,8 @@ use versions::accepted_requests_are_in_order;
 
 /// The bytes with the records of a stream that ran from its beginning to its end are the audit of a
 /// run of the stream's requests and rows, as `verify` looks at it: all parts as one run, and then
-/// each part by itself.
+/// each part by itself. The setup has to be that of the requests as they were asked, none of which
+/// was issued before its row.
 pub fn whole_streams_are_shown(setup: &Setup, rows: &Rows)
     ensures { (whole : WholeStream) (bytes : List ℕ) → IsWholeStream rows.now whole
         → IsAskedOf setup.now rows.now whole

@@ -1,4 +1,4 @@
-//! The law of the audits that streams write: `verify` takes each of them.
+//! The law that leads from what a stream has run to an audit that `verify` takes.
 //!
 //! Nothing runs here: the function proves what its clause says, and does nothing.
 //!
