@@ -1,8 +1,8 @@
 -- Files that are written piece by piece.
-use Rattle.std.proofs.Common.{◌+◌, ◌<◌, ◌≤◌, get_or, subst, ◌≡◌, ℕ, List, [], ◌++◌, Option, None, Some, Bool, true, false, cond, refl, sym, ◌∙◌, ap, take, drop, length, ◌-◌, arith, take-append-drop, append_assoc}
+use Rattle.std.proofs.Common.{◌+◌, ◌<◌, ◌≤◌, get_or, subst, ◌≡◌, ℕ, List, [], ◌++◌, Option, None, Some, Bool, true, false, cond, refl, sym, ◌∙◌, ap, take, drop, length, ◌-◌, arith, take-append-drop, append_assoc, true≢false}
 use Rattle.std.proofs.lemmas.Grind.{common_steps}
 use Rattle.std.proofs.lemmas.List.{drop_all}
-use Rattle.std.specs.Prelude.{unwrap_or, nat_eq, option_map}
+use Rattle.std.specs.Prelude.{unwrap_or, nat_eq, option_map, IfSome, IsSome}
 use Rattle.std.specs.Ordering.{nat_cmp, eq_by_cmp, is_eq}
 use Rattle.std.specs.Cmp.{tied_itself, unsigned_ties}
 use Rattle.std.specs.Cmp.Lexicographic.{slice_cmp, pointwise, nat_list_cmp_total, lists_ties}
@@ -10,7 +10,7 @@ use Rattle.std.specs.FinMap as map
 use Rattle.payments.specs.Memory.{stored_files}
 use Rattle.payments.specs.declared.memory.File.{File}
 use Rattle.payments.proofs.Rest.{drop-item}
-use Rattle.payments.specs.Files.{Draft, Files, draft_with, longer_draft, with_bytes, with_more}
+use Rattle.payments.specs.Files.{Draft, Files, draft_name, draft_with, longer_draft, with_bytes, with_more}
 
 twice : {X : Type 0} (b : Bool) (x y z : X) → cond b x (cond b y z) ≡ cond b x z
 twice true x y z = refl
@@ -56,6 +56,31 @@ pub draft_grown : (old : Option Files) (name done piece : List ℕ) → Some (lo
 draft_grown old name done piece =
     let made : Option Files → Option Draft = λ files. Some (record { name = name; files = files }) in
     ap made (with_more-with_bytes old (with_bytes old name done) name done piece refl)
+
+-- a draft with one more piece of a text behind what was begun and done
+pub draft_longer : (old new : Option Draft) (files : Option Files)
+    (name begun done piece : List ℕ) → old ≡ Some (draft_with files name (begun ++ done))
+    → IfSome old (λ draft. new ≡ Some (longer_draft draft piece))
+    → new ≡ Some (draft_with files name (begun ++ (done ++ piece)))
+draft_longer old new files name begun done piece is more =
+    let now = subst (λ (d : Option Draft). IfSome d (λ draft. new ≡ Some (longer_draft draft piece)))
+    is more in
+    now ∙ draft_grown files name (begun ++ done) piece
+    ∙ ap (λ t. Some (draft_with files name t)) (append_assoc begun done piece)
+
+-- a draft with one more piece is a draft
+pub draft_open : (old new : Option Draft) (piece : List ℕ) → IsSome old
+    → IfSome old (λ draft. new ≡ Some (longer_draft draft piece)) → IsSome new
+draft_open None new piece there more = absurd (true≢false (sym there))
+draft_open (Some draft) new piece there more =
+    subst (λ (d : Option Draft). IsSome d) (sym more) refl
+
+-- and has the same name
+pub draft_named : (old new : Option Draft) (piece : List ℕ) → IsSome old
+    → IfSome old (λ draft. new ≡ Some (longer_draft draft piece))
+    → draft_name new ≡ draft_name old
+draft_named None new piece there more = absurd (true≢false (sym there))
+draft_named (Some draft) new piece there more = ap (λ d. draft_name d) more
 
 -- a file in memory has grown, and so has the draft that it is
 pub memory_grown : (files : Files) (file new : File) (piece : List ℕ) → new ≡ record file { bytes = file.bytes ++ piece }

@@ -37,5 +37,5 @@ pub use read::{PFault, read_rows};
 pub use records::TextRecords;
 pub use row::row_from;
 pub use shelf::{Shelf, ShelfFault, Sink, SinkFault};
-pub use storing::{store, write_all};
+pub use storing::{store, store_parts, write_all};
 pub use sure::{SureShelf, SureSink};
