@@ -33,7 +33,7 @@ use serial_order::{Serial, push_serial_line, serial};
 use std::alloc::Global;
 use std::sync::Wait;
 use std::thread::Threads;
-use text_threads::{Audited, Team};
+use text_threads::{Audited, Team, Text};
 use tuple_trace::{Bytes, FeedRows, Gate, NoMemory, Rows, Word};
 use versions::{Refusals, Requests};
 
@@ -267,7 +267,7 @@ pub(crate) fn files_in<'a, R: Threads + Sync>(
     let save = FileText {
         file: FileIs::Save,
         name,
-        text: save_in(alloc, done)?,
+        text: Text::from_bytes(alloc, save_in(alloc, done)?)?,
     };
     files.push(save)?;
     Ok(files)
@@ -282,7 +282,7 @@ fn save_in(alloc: Global, done: &Done) -> Result<Bytes, NoMemory>
     save_text(alloc, &done.ran.setup.job, &start)
 }
 
-fn audit_in<R: Threads + Sync>(team: &Team<'_, R>, done: &Done) -> Result<Bytes, NoMemory>
+fn audit_in<R: Threads + Sync>(team: &Team<'_, R>, done: &Done) -> Result<Text, NoMemory>
     requires journals { length done.now.ran.journals ≡ worker_count done.now.ran.setup.job.nodes }
     requires states { length done.now.ran.states ≡ worker_count done.now.ran.setup.job.nodes }
     ensures { IfOk result (λ text. text ≡ audit_of done.now) }

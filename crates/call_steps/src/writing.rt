@@ -6,9 +6,10 @@ ghost use Rattle.payments.specs.World.{world};
 ghost use Rattle.call_steps.specs.Effects.{StoresNot};
 
 use crate::printing::print;
-use payments::{Shelf, ShelfFault, Sink, store};
+use payments::{Shelf, ShelfFault, Sink, store_parts};
 use report::{Fault, FileIs};
 use std::marker::Model;
+use text_threads::Text;
 use tuple_trace::{Bytes, Word};
 
 /// A text that is to stand in a file.
@@ -17,7 +18,7 @@ pub struct FileText<'a> {
     /// What a fault of the file says that it is.
     pub file: FileIs,
     pub name: &'a Word,
-    pub text: Bytes,
+    pub text: Text,
 }
 
 impl<'a> Model for FileText<'a> {
@@ -65,7 +66,7 @@ fn store_text<S: Shelf>(shelf: &mut S, text: &FileText<'_>) -> Result<(), Fault>
         (StoresNot text.now.is text.now.name
         (S.state shelf.old).faults (S.state shelf.new).faults) }
 {
-    match store(shelf, text.name, text.text.as_slice()) {
+    match store_parts(shelf, text.name, text.text.parts()) {
         Ok(()) => Ok(()),
         Err(ShelfFault::Failed) => Err(Fault::Write(text.file)),
         Err(ShelfFault::Long | ShelfFault::NoMemory) => Err(Fault::NoMemory),

@@ -6,21 +6,22 @@ ghost use Rattle.sink_journal.specs.Alerts.{alerts, all_alerts, header, node_ale
 use crate::piece::Piece;
 use crate::pieces::Pieces;
 use crate::team::Team;
+use crate::text::Text;
 use jobs::{Column, Func, Job, NodeDef};
 use sink_journal::{Journal, Journals, alerts_text};
 use std::alloc::Global;
 use std::thread::Threads;
-use tuple_trace::{Bytes, NoMemory};
+use tuple_trace::NoMemory;
 
 impl<R: Threads + Sync> Team<'_, R> {
     /// The text of what reached the sinks, as `alerts_text` of `sink_journal` returns it. The only
     /// error is out of memory.
-    pub fn alerts_text(&self, job: &Job, journals: &Journals) -> Result<Bytes, NoMemory>
+    pub fn alerts_text(&self, job: &Job, journals: &Journals) -> Result<Text, NoMemory>
         requires { length journals.now ≡ worker_count job.now.nodes }
         ensures { IfOk result (λ text. text ≡ alerts (job_view job.now) journals.now) }
     {
         if self.threads < 2 {
-            return alerts_text(self.alloc, job, journals);
+            return Text::from_bytes(self.alloc, alerts_text(self.alloc, job, journals)?);
         }
         let pieces = alerts_pieces(self.alloc, job, journals)?;
         self.text_of(&pieces)

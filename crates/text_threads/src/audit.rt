@@ -7,12 +7,13 @@ ghost use Rattle.sink_journal.specs.Audit.{nodes_records, workers_records};
 use crate::piece::Piece;
 use crate::pieces::Pieces;
 use crate::team::Team;
+use crate::text::Text;
 use jobs::Job;
 use keyed_state::Keyed;
 use sink_journal::{Feeds, Journal, Journals, Noted, States, audit_text};
 use std::alloc::Global;
 use std::thread::Threads;
-use tuple_trace::{Bytes, NoMemory};
+use tuple_trace::NoMemory;
 
 /// What an audit is of: the parameters of `audit_text` of `sink_journal`.
 #[derive(Clone, Copy)]
@@ -27,7 +28,7 @@ pub struct Audited<'a> {
 impl<R: Threads + Sync> Team<'_, R> {
     /// The text of a run's audit, as `audit_text` of `sink_journal` returns it. The only error is
     /// out of memory.
-    pub fn audit_text(&self, of: Audited<'_>) -> Result<Bytes, NoMemory>
+    pub fn audit_text(&self, of: Audited<'_>) -> Result<Text, NoMemory>
         requires journals { length of.journals.now ≡ worker_count of.job.now.nodes }
         requires states { length of.states.now ≡ worker_count of.job.now.nodes }
         ensures { IfOk result (λ text. text ≡
@@ -42,7 +43,8 @@ impl<R: Threads + Sync> Team<'_, R> {
             states,
         } = of;
         if self.threads < 2 {
-            return audit_text(self.alloc, job, refused, feeds, journals, states);
+            let text = audit_text(self.alloc, job, refused, feeds, journals, states)?;
+            return Text::from_bytes(self.alloc, text);
         }
         let pieces = audit_pieces(self.alloc, of)?;
         self.text_of(&pieces)

@@ -4,6 +4,7 @@ ghost use Rattle.sink_journal.specs.Audit.{entry_fields, feed_fields, refused_fi
 ghost use Rattle.sink_journal.specs.Records.{records_text};
 ghost use Rattle.text_threads.specs.inner.Pieces.{piece_records, pieces_records};
 
+use crate::text::Text;
 use jobs::{Column, Job};
 use keyed_state::Keyed;
 use sink_journal::{
@@ -43,13 +44,13 @@ pub(crate) enum Piece<'a> {
     },
 }
 
-/// The text of the records of these pieces.
-pub(crate) fn text_of(alloc: Global, pieces: &[Piece<'_>]) -> Result<Bytes, NoMemory>
+/// The text of the records of these pieces, a part for each.
+pub(crate) fn text_of(alloc: Global, pieces: &[Piece<'_>]) -> Result<Text, NoMemory>
     ensures { IfOk result (λ text. text ≡ records_text (pieces_records pieces.now)) }
 {
-    let mut text = Bytes::new(alloc);
+    let mut text = Text::new(alloc);
     for piece in pieces {
-        text.extend_from_slice(piece_text(alloc, *piece)?.as_slice())?;
+        text.push(piece_text(alloc, *piece)?)?;
     }
     Ok(text)
 }

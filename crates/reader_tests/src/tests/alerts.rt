@@ -2,7 +2,7 @@
 ghost use Rattle.std.specs.Prelude.{◌≡◌, length};
 ghost use Rattle.jobs.specs.Nodes.{worker_count};
 
-use super::fixtures::{check_text, job_in};
+use super::fixtures::{check_text, job_in, whole};
 use jobs::{Job, worker_count};
 use payments::read_rows;
 use sink_journal::{Entry, Journal, Journals, alerts_header_text, alerts_part_text};
@@ -134,7 +134,7 @@ fn check_alerts(
             threads,
         };
         let text = team.alerts_text(&job, &journals).expect(rt, "memory");
-        check_text(rt, text.as_slice(), want);
+        check_text(rt, whole(rt, &text).as_slice(), want);
     }
 }
 

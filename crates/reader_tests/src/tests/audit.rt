@@ -2,7 +2,7 @@
 ghost use Rattle.std.specs.Prelude.{◌≡◌, length};
 ghost use Rattle.jobs.specs.Nodes.{worker_count};
 
-use super::fixtures::{check_text, job_in, joined};
+use super::fixtures::{check_text, job_in, joined, whole};
 use jobs::{Job, worker_count};
 use keyed_state::Keyed;
 use payments::read_rows;
@@ -234,7 +234,7 @@ fn text_on(rt: &(impl AllocGlobal + Abort + Threads + Sync), job: &Job, threads:
         journals: &journals,
         states: &states,
     };
-    team.audit_text(of).expect(rt, "memory")
+    whole(rt, &team.audit_text(of).expect(rt, "memory"))
 }
 
 #[test]

@@ -11,7 +11,8 @@ use std::alloc::AllocError;
 use std::fmt::Debug;
 use std::process::Abort;
 use std::str;
-use tuple_trace::{Row, Rows, Tuple, Value};
+use text_threads::Text;
+use tuple_trace::{Bytes, Row, Rows, Tuple, Value};
 use versions::{MAX_STREAM_REQUESTS, Requests};
 
 /// Asserts that a value is the one that is wanted.
@@ -22,6 +23,17 @@ pub fn check<T: PartialEq + Debug + Drop>(rt: &impl Abort, found: T, want: T) {
 /// Asserts that bytes are those of a text.
 pub fn check_text(rt: &impl Abort, found: &[u8], want: &str) {
     assert!(rt; found == want.as_bytes(), "{want}");
+}
+
+/// All parts of a text, one behind another.
+pub fn whole(rt: &(impl AllocGlobal + Abort), text: &Text) -> Bytes {
+    let mut bytes = Bytes::new(rt.alloc());
+    for part in text.parts() {
+        bytes
+            .extend_from_slice(part.as_slice())
+            .expect(rt, "memory");
+    }
+    bytes
 }
 
 /// Adds a text that was formatted.

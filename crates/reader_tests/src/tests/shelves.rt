@@ -5,7 +5,7 @@ ghost use Rattle.payments.specs.Memory.{draft_of};
 use super::fixtures::{check, check_text};
 use payments::{
     Calls, HostFault, HostShelf, MemoryShelf, MemorySink, Shelf, ShelfFault, Sink, SinkFault,
-    StdOut, store, write_all,
+    StdOut, store, store_parts, write_all,
 };
 use std::fs;
 use std::process::Abort;
@@ -133,6 +133,30 @@ fn a_file_is_as_before_or_whole(rt: HostRuntime) {
     let alerts = word(&rt, "alerts.csv");
     for call in 0..6 {
         check_store(&rt, &alerts, call);
+    }
+}
+
+fn bytes(rt: &(impl AllocGlobal + Abort), text: &[u8]) -> Bytes {
+    Bytes::from_slice(rt.alloc(), text).expect(rt, "memory")
+}
+
+// The same text in three parts, of which the second is empty. Calls 1 and 2 append the others, and
+// call 3 keeps the draft.
+fn check_parts(rt: &(impl AllocGlobal + Abort), alerts: &Word, call: u64) {
+    let mut shelf = shelf_of(rt, 64, &[call]);
+    put(rt, &mut shelf, "alerts.csv", "old\n");
+    let (first, last) = HEADER.as_bytes().split_at(8);
+    let parts = [bytes(rt, first), bytes(rt, b""), bytes(rt, last)];
+    let (answer, text) = stored(if call < 4 { call } else { 5 });
+    check(rt, store_parts(&mut shelf, alerts, &parts), answer);
+    check_file(rt, shelf.get(alerts), text);
+}
+
+#[test]
+fn a_file_in_parts_is_as_before_or_whole(rt: HostRuntime) {
+    let alerts = word(&rt, "alerts.csv");
+    for call in 0..5 {
+        check_parts(&rt, &alerts, call);
     }
 }
 

@@ -57,49 +57,111 @@ ended,out,0,1,,
 /// A status, the line that is printed, and what stands under `alerts`, `audit` and `save`.
 type Row = (u8, &'static str, &'static str, &'static str, &'static str);
 
+// Where a call of `save` has stopped.
+const NO_JOB: Row = (5, "fault 5 job\n", OLD, OLD, OLD);
+
+const NO_REQUESTS: Row = (5, "fault 5 requests\n", OLD, OLD, OLD);
+
+const NO_PAYMENTS: Row = (5, "fault 5 payments\n", OLD, OLD, OLD);
+
+const NO_ALERTS: Row = (6, "fault 6 alerts\n", OLD, OLD, OLD);
+
+const NO_AUDIT: Row = (6, "fault 6 audit\n", FIRST_ALERTS, OLD, OLD);
+
+const NO_SAVE: Row = (6, "fault 6 save\n", FIRST_ALERTS, FIRST_AUDIT, OLD);
+
+const SUMMARY: &str = "rows 2 alerts 2 requests 0 refused 0\n";
+
+const ALL_SAVED: Row = (0, SUMMARY, FIRST_ALERTS, FIRST_AUDIT, SAVED);
+
 /// What `save` leaves if its call with this number fails: three reads, and then each file is begun,
 /// appended to and kept. The last row is without a fault.
 const SAVE_FAILS: [Row; 13] = [
-    (5, "fault 5 job\n", OLD, OLD, OLD),
-    (5, "fault 5 requests\n", OLD, OLD, OLD),
-    (5, "fault 5 payments\n", OLD, OLD, OLD),
-    (6, "fault 6 alerts\n", OLD, OLD, OLD),
-    (6, "fault 6 alerts\n", OLD, OLD, OLD),
-    (6, "fault 6 alerts\n", OLD, OLD, OLD),
-    (6, "fault 6 audit\n", FIRST_ALERTS, OLD, OLD),
-    (6, "fault 6 audit\n", FIRST_ALERTS, OLD, OLD),
-    (6, "fault 6 audit\n", FIRST_ALERTS, OLD, OLD),
-    (6, "fault 6 save\n", FIRST_ALERTS, FIRST_AUDIT, OLD),
-    (6, "fault 6 save\n", FIRST_ALERTS, FIRST_AUDIT, OLD),
-    (6, "fault 6 save\n", FIRST_ALERTS, FIRST_AUDIT, OLD),
-    (
-        0,
-        "rows 2 alerts 2 requests 0 refused 0\n",
-        FIRST_ALERTS,
-        FIRST_AUDIT,
-        SAVED,
-    ),
+    NO_JOB,
+    NO_REQUESTS,
+    NO_PAYMENTS,
+    NO_ALERTS,
+    NO_ALERTS,
+    NO_ALERTS,
+    NO_AUDIT,
+    NO_AUDIT,
+    NO_AUDIT,
+    NO_SAVE,
+    NO_SAVE,
+    NO_SAVE,
+    ALL_SAVED,
 ];
+
+/// The same where threads make the texts: the alerts have two parts, and the audit has five.
+const SAVE_FAILS_IN_PARTS: [Row; 18] = [
+    NO_JOB,
+    NO_REQUESTS,
+    NO_PAYMENTS,
+    NO_ALERTS,
+    NO_ALERTS,
+    NO_ALERTS,
+    NO_ALERTS,
+    NO_AUDIT,
+    NO_AUDIT,
+    NO_AUDIT,
+    NO_AUDIT,
+    NO_AUDIT,
+    NO_AUDIT,
+    NO_AUDIT,
+    NO_SAVE,
+    NO_SAVE,
+    NO_SAVE,
+    ALL_SAVED,
+];
+
+// Where a call of `resume` has stopped.
+const NO_LATER_JOB: Row = (5, "fault 5 job\n", OLD, OLD, SAVED);
+
+const NO_LATER_REQUESTS: Row = (5, "fault 5 requests\n", OLD, OLD, SAVED);
+
+const NO_LATER_PAYMENTS: Row = (5, "fault 5 payments\n", OLD, OLD, SAVED);
+
+const NO_START: Row = (5, "fault 5 save\n", OLD, OLD, SAVED);
+
+const NO_LATER_ALERTS: Row = (6, "fault 6 alerts\n", OLD, OLD, SAVED);
+
+const NO_LATER_AUDIT: Row = (6, "fault 6 audit\n", LATER_ALERTS, OLD, SAVED);
+
+const ALL_RESUMED: Row = (0, SUMMARY, LATER_ALERTS, LATER_AUDIT, SAVED);
 
 /// What `resume` leaves: the savepoint is read after the payments, and isn't written.
 const RESUME_FAILS: [Row; 11] = [
-    (5, "fault 5 job\n", OLD, OLD, SAVED),
-    (5, "fault 5 requests\n", OLD, OLD, SAVED),
-    (5, "fault 5 payments\n", OLD, OLD, SAVED),
-    (5, "fault 5 save\n", OLD, OLD, SAVED),
-    (6, "fault 6 alerts\n", OLD, OLD, SAVED),
-    (6, "fault 6 alerts\n", OLD, OLD, SAVED),
-    (6, "fault 6 alerts\n", OLD, OLD, SAVED),
-    (6, "fault 6 audit\n", LATER_ALERTS, OLD, SAVED),
-    (6, "fault 6 audit\n", LATER_ALERTS, OLD, SAVED),
-    (6, "fault 6 audit\n", LATER_ALERTS, OLD, SAVED),
-    (
-        0,
-        "rows 2 alerts 2 requests 0 refused 0\n",
-        LATER_ALERTS,
-        LATER_AUDIT,
-        SAVED,
-    ),
+    NO_LATER_JOB,
+    NO_LATER_REQUESTS,
+    NO_LATER_PAYMENTS,
+    NO_START,
+    NO_LATER_ALERTS,
+    NO_LATER_ALERTS,
+    NO_LATER_ALERTS,
+    NO_LATER_AUDIT,
+    NO_LATER_AUDIT,
+    NO_LATER_AUDIT,
+    ALL_RESUMED,
+];
+
+/// The same where threads make the texts.
+const RESUME_FAILS_IN_PARTS: [Row; 16] = [
+    NO_LATER_JOB,
+    NO_LATER_REQUESTS,
+    NO_LATER_PAYMENTS,
+    NO_START,
+    NO_LATER_ALERTS,
+    NO_LATER_ALERTS,
+    NO_LATER_ALERTS,
+    NO_LATER_ALERTS,
+    NO_LATER_AUDIT,
+    NO_LATER_AUDIT,
+    NO_LATER_AUDIT,
+    NO_LATER_AUDIT,
+    NO_LATER_AUDIT,
+    NO_LATER_AUDIT,
+    NO_LATER_AUDIT,
+    ALL_RESUMED,
 ];
 
 /// A command, what stands under `save` before it, and what it leaves.
@@ -114,7 +176,7 @@ const COMMANDS: [Command; 4] = [
     (
         "save job requests payments alerts audit save 2 --threads 4",
         OLD,
-        &SAVE_FAILS,
+        &SAVE_FAILS_IN_PARTS,
     ),
     (
         "resume job requests payments save alerts audit",
@@ -124,7 +186,7 @@ const COMMANDS: [Command; 4] = [
     (
         "resume job requests payments save alerts audit --threads 4",
         SAVED,
-        &RESUME_FAILS,
+        &RESUME_FAILS_IN_PARTS,
     ),
 ];
 
