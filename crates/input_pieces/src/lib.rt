@@ -13,6 +13,7 @@
 //! ```
 #![tactic(auto)]
 
+mod cut;
 mod fault;
 mod host;
 mod laws;
@@ -25,6 +26,7 @@ mod sure;
 mod tank;
 mod tap;
 
+pub use cut::last_cut;
 pub use fault::PieceFault;
 pub use host::HostTap;
 pub use laws::{
