@@ -44,42 +44,38 @@ if_value : {A : Type 0} (b : Bool) (here : Result A PFault) (e f : PFault) (v : 
 if_value true here e f v is = is
 if_value false here e f v is = absurd (cc is)
 
-value_first : (row place : ℕ) (k : ColumnKind) (cell : List ℕ) (v : Value)
-    → value_of row place k cell ≡ Ok v → value_of 0 place k cell ≡ Ok v
-value_first row place kind.Text cell v is =
+value_at : (row to place : ℕ) (k : ColumnKind) (cell : List ℕ) (v : Value)
+    → value_of row place k cell ≡ Ok v → value_of to place k cell ≡ Ok v
+value_at row to place kind.Text cell v is =
     if_value (nat_le (length cell) TEXT_MAX) (Ok (value.Text cell)) (fault.TextLong row place)
-    (fault.TextLong 0 place) v is
-value_first row place kind.Number cell v is =
-    some_value (number_of cell) (fault.Value row place) (fault.Value 0 place) v is
-value_first row place kind.Cents cell v is =
-    some_value (amount_of cell) (fault.Value row place) (fault.Value 0 place) v is
+    (fault.TextLong to place) v is
+value_at row to place kind.Number cell v is =
+    some_value (number_of cell) (fault.Value row place) (fault.Value to place) v is
+value_at row to place kind.Cents cell v is =
+    some_value (amount_of cell) (fault.Value row place) (fault.Value to place) v is
 
-field_first : (own : Bool) (row place : ℕ) (k : ColumnKind) (cell : List ℕ) (v : Value)
+field_at : (own : Bool) (row to place : ℕ) (k : ColumnKind) (cell : List ℕ) (v : Value)
     → (if own then Ok (first_value k) else value_of row place k cell) ≡ Ok v
-    → (if own then Ok (first_value k) else value_of 0 place k cell) ≡ Ok v
-field_first true row place k cell v is = is
-field_first false row place k cell v is = value_first row place k cell v is
+    → (if own then Ok (first_value k) else value_of to place k cell) ≡ Ok v
+field_at true row to place k cell v is = is
+field_at false row to place k cell v is = value_at row to place k cell v is
 
-fields_first : (row place : ℕ) (columns : List Column) (cells : List (List ℕ)) (fields : List Value)
-    → fields_from row place columns cells ≡ Ok fields → fields_from 0 place columns cells
-    ≡ Ok fields
+fields_at : (row to place : ℕ) (columns : List Column) (cells : List (List ℕ))
+    (fields : List Value) → fields_from row place columns cells ≡ Ok fields
+    → fields_from to place columns cells ≡ Ok fields
 unfolding fields_from
-fields_first row place [] cells fields is = is
-fields_first row place (column ∷ columns) cells fields is =
+fields_at row to place [] cells fields is = is
+fields_at row to place (column ∷ columns) cells fields is =
     let (field, rest, made, behind, whole) =
     before-ok (field_of row place column cells)
     (fields_from row (place + 1) columns (cells_behind column cells)) fields is in
-    let here : field_of 0 place column cells ≡ Ok field =
-    field_first column.own row place column.kind (first_cell cells) field made in
-    let on = fields_first row (place + 1) columns (cells_behind column cells) rest behind in
+    let here : field_of to place column cells ≡ Ok field =
+    field_at column.own row to place column.kind (first_cell cells) field made in
+    let on = fields_at row to (place + 1) columns (cells_behind column cells) rest behind in
     ap (λ (r : Result Value PFault). before r
-    (fields_from 0 (place + 1) columns (cells_behind column cells))) here
+    (fields_from to (place + 1) columns (cells_behind column cells))) here
     ∙ ap (λ (r : Result (List Value) PFault). before (Ok field) r) on
     ∙ ap Ok (sym whole)
-
--- the row with the number 0
-abbrev unnumbered : Row → Row
-unnumbered row = record row { tuple = record row.tuple { row = 0 } }
 
 -- the row with these fields, as it is read
 abbrev row_of_fields : ℕ → ℕ → List Value → Row
@@ -89,42 +85,53 @@ row_of_fields row source fields =
       tuple = record { row = row; birth = []; issued = 0; fields = fields; trace = [] };
     }
 
-abbrev read_first : Row → Result Row PFault
-read_first row = Ok (unnumbered row)
+-- the row as it is read with this number
+abbrev pub numbered : ℕ → Row → Row
+numbered to row = row_of_fields to row.source row.tuple.fields
 
-row_by-first : (job : JobView) (row : ℕ) (cells : List (List ℕ)) (source : Option ℕ) (made : Row)
-    → row_by job row cells source ≡ Ok made → row_by job 0 cells source ≡ Ok (unnumbered made)
-row_by-first job row cells None made is = absurd (cc is)
-row_by-first job row cells (Some source) made is =
+abbrev read_at : ℕ → Row → Result Row PFault
+read_at to row = Ok (numbered to row)
+
+row_by-numbered : (job : JobView) (row to : ℕ) (cells : List (List ℕ)) (source : Option ℕ)
+    (made : Row) → row_by job row cells source ≡ Ok made
+    → row_by job to cells source ≡ Ok (numbered to made)
+row_by-numbered job row to cells None made is = absurd (cc is)
+row_by-numbered job row to cells (Some source) made is =
     go (fields_from row 0 job.columns (drop 1 cells)) refl is
   where
     go : (fields : Result (List Value) PFault) → fields_from row 0 job.columns (drop 1 cells)
         ≡ fields → row_with row source fields ≡ Ok made
-        → row_with 0 source (fields_from 0 0 job.columns (drop 1 cells)) ≡ Ok (unnumbered made)
+        → row_with to source (fields_from to 0 job.columns (drop 1 cells))
+        ≡ Ok (numbered to made)
     go (Err fault) e ok = absurd (cc ok)
     go (Ok fields) e ok =
         let same : row_of_fields row source fields ≡ made = cc ok in
-        ap (row_with 0 source) (fields_first row 0 job.columns (drop 1 cells) fields e)
-        ∙ ap read_first same
+        ap (row_with to source) (fields_at row to 0 job.columns (drop 1 cells) fields e)
+        ∙ ap (read_at to) same
 
-if_first : (b : Bool) (here there : Result Row PFault) (e f : PFault) (made other : Row)
+if_numbered : (b : Bool) (here there : Result Row PFault) (e f : PFault) (made other : Row)
     → (here ≡ Ok made → there ≡ Ok other) → (if b then here else Err e) ≡ Ok made
     → (if b then there else Err f) ≡ Ok other
-if_first true here there e f made other on is = on is
-if_first false here there e f made other on is = absurd (cc is)
+if_numbered true here there e f made other on is = on is
+if_numbered false here there e f made other on is = absurd (cc is)
+
+-- a record that is a row with one number is the same row with another
+pub stream_row-numbered : (job : JobView) (row to : ℕ) (cells : List (List ℕ)) (made : Row)
+    → stream_row job row cells ≡ Ok made → stream_row job to cells ≡ Ok (numbered to made)
+stream_row-numbered job row to cells made is =
+    if_numbered (nat_eq (length cells) (length (header_of job))) (row_from job row cells)
+    (row_from job to cells) (fault.Length row) (fault.Length to) made (numbered to made)
+    (row_by-numbered job row to cells (source_named job (first_cell cells)) made) is
 
 -- a record that is a row of a stream is a row of a file
 in_file : (job : JobView) (row : ℕ) (cells : List (List ℕ)) (made : Row) → stream_row job row cells
-    ≡ Ok made → rows_from job 0 (cells ∷ []) ≡ Ok (unnumbered made ∷ [])
+    ≡ Ok made → rows_from job 0 (cells ∷ []) ≡ Ok (numbered 0 made ∷ [])
 unfolding rows_from
 in_file job row cells made is =
     let none : 0 * weight job ≡ 0 = omega arith in
     let light : nat_le (0 * weight job) work_max ≡ true = ap (λ n. nat_le n work_max) none in
-    let here =
-    if_first (nat_eq (length cells) (length (header_of job))) (row_from job row cells)
-    (row_from job 0 cells) (fault.Length row) (fault.Length 0) made (unnumbered made)
-    (row_by-first job row cells (source_named job (first_cell cells)) made) is in
-    let read : row_of job 0 cells ≡ Ok (unnumbered made) =
+    let here = stream_row-numbered job row 0 cells made is in
+    let read : row_of job 0 cells ≡ Ok (numbered 0 made) =
     ap (λ b. if b then (if nat_eq (length cells) (length (header_of job)) then row_from job 0
     cells else Err (fault.Length 0)) else Err (fault.TooMuch 0)) light ∙ here in
     ap (λ (r : Result Row PFault). before r (Ok [])) read
@@ -134,15 +141,15 @@ in_file job row cells made is =
 IsSourceOf-stream_row : (job : JobView) (row : ℕ) (cells : List (List ℕ)) (made : Row)
     → stream_row job row cells ≡ Ok made → IsSourceOf job made.source
 IsSourceOf-stream_row job row cells made is =
-    All-head (λ (r : Row). IsSourceOf job r.source) (unnumbered made) []
-    (AreFromSources-rows_from job 0 (cells ∷ []) (unnumbered made ∷ [])
+    All-head (λ (r : Row). IsSourceOf job r.source) (numbered 0 made) []
+    (AreFromSources-rows_from job 0 (cells ∷ []) (numbered 0 made ∷ [])
     (in_file job row cells made is))
 
 HasShortTexts-stream_row : (job : JobView) (row : ℕ) (cells : List (List ℕ)) (made : Row)
     → stream_row job row cells ≡ Ok made → HasShortTexts made.tuple
 HasShortTexts-stream_row job row cells made is =
-    All-head (λ (r : Row). HasShortTexts r.tuple) (unnumbered made) []
-    (HaveShortTexts-rows_from job 0 (cells ∷ []) (unnumbered made ∷ [])
+    All-head (λ (r : Row). HasShortTexts r.tuple) (numbered 0 made) []
+    (HaveShortTexts-rows_from job 0 (cells ∷ []) (numbered 0 made ∷ [])
     (in_file job row cells made is))
 
 IsRow-row_with : (row source : ℕ) (fields : Result (List Value) PFault) (made : Row)

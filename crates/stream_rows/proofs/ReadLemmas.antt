@@ -258,3 +258,14 @@ HasRead-behind job old new read text piece begun is has =
 pub has_items-length : (xs : List ℕ) → not (length xs == 0) ≡ has_items xs
 has_items-length [] = refl
 has_items-length (x ∷ xs) = ap not (eqb-suc-zero (length xs))
+
+-- the rows of a piece that is read behind a line feed
+pub sound_rows-behind : {E : Type 0} (job : JobView) (row : ℕ) (read : Result SoundRows E)
+    (all : List (List (List ℕ))) (text piece : List ℕ)
+    → all ≡ records default_config (strip_bom text) → text ≡ 10 ∷ piece
+    → IfOk read (λ s. s ≡ sound_rows job row all)
+    → IfOk read (λ s. s ≡ sound_rows job row (records default_config piece))
+sound_rows-behind job row read all text piece of is has =
+    let same : all ≡ records default_config piece =
+    of ∙ ap (λ t. records default_config (strip_bom t)) is ∙ records-behind piece in
+    subst (λ (all : List (List (List ℕ))). IfOk read (λ s. s ≡ sound_rows job row all)) same has

@@ -9,12 +9,14 @@
 //! ```
 #![tactic(auto)]
 
+mod behind;
 mod laws;
 mod limits;
 mod reader;
 mod row;
 mod sound;
 
+pub use behind::rows_behind;
 pub use laws::{cut_texts_join, files_are_streams, rows_of_pieces_go_on};
 pub use limits::{MAX_ROWS, most_rows};
 pub use reader::RowReader;

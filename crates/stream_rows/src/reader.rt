@@ -1,6 +1,5 @@
-ghost use Rattle.std.specs.Prelude.{◌≡◌, ◌∷◌, ◌++◌, ◌+◌, ◌<◌, [], All, IfOk, OnErr, OnOk, None};
+ghost use Rattle.std.specs.Prelude.{◌≡◌, ◌++◌, ◌+◌, ◌<◌, [], All, IfOk, OnErr, OnOk, None};
 ghost use Rattle.std.specs.Prelude.{false, length, true};
-ghost use Rattle.csv.specs.Machine.{line_feed};
 ghost use Rattle.csv.specs.Reading.{default_config, records as records_of, strip_bom};
 ghost use Rattle.jobs.specs.Job.{job_view};
 ghost use Rattle.jobs.specs.Limits.{HasShortTexts};
@@ -11,13 +10,14 @@ ghost use Rattle.stream_rows.specs.Rows.{sound_rows as rows_of_records};
 ghost use Rattle.stream_rows.specs.declared.limits.TheConstants.{MAX_ROWS};
 
 use crate::SoundRows;
+use crate::behind::behind_line_feed;
 use crate::limits::MAX_ROWS;
 use crate::sound::sound_rows;
 use csv::ByteRecord;
 use jobs::Job;
 use payments::{PFault, TextRecords, is_header};
 use std::alloc::Global;
-use tuple_trace::{Bytes, Items, NoMemory};
+use tuple_trace::{Items, NoMemory};
 
 /// Reads the rows of a stream piece by piece.
 ///
@@ -188,14 +188,4 @@ impl RowReader {
         self.fed += sound.rows.len() as u64;
         Ok(sound)
     }
-}
-
-// The text behind a line feed. It has the same records, and no byte order mark at its start.
-fn behind_line_feed(alloc: Global, text: &[u8]) -> Result<Bytes, NoMemory>
-    ensures { IfOk result (λ behind. behind ≡ line_feed ∷ text.now) }
-{
-    let mut behind = Vec::with_capacity(alloc, text.len() + 1)?;
-    behind.push(b'\n')?;
-    behind.extend_from_slice(text)?;
-    Ok(Bytes::from_vec(behind))
 }
