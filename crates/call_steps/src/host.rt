@@ -29,7 +29,7 @@ impl<'a, R, G> Host<'a, R, G> {
         )
     }
 
-    /// The threads of this host that make a text, at most so many at once.
+    /// The threads of this host that read rows and make texts, at most so many at once.
     pub fn team(&self, threads: u32) -> Team<'a, R> {
         Team {
             rt: self.rt,

@@ -7,8 +7,8 @@
 //! ```text
 //! let job = job_in(alloc, &name, &mut shelf)?;
 //! let requests = requests_in(alloc, &job, &other, &mut shelf)?;
-//! let rows = rows_in(alloc, &job, &third, &mut shelf)?;
 //! let host = Host { rt: &rt, alloc, gate: &OpenGate };
+//! let rows = rows_in(&host.team(4), &job, &third, &mut shelf)?;
 //! let done = run_on_threads(&host, size, job, &requests, &rows, false)?;
 //! ```
 #![tactic(auto)]

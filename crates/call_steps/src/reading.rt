@@ -14,10 +14,13 @@ ghost use Rattle.call_steps.specs.Reading.{IsUnread};
 use flow_model::{Setup, Start};
 use job_file::{read_job, read_requests};
 use jobs::Job;
-use payments::{Shelf, ShelfFault, read_rows};
+use payments::{Shelf, ShelfFault};
 use report::{Fault, FileIs};
+use row_threads::read_rows;
 use save_file::read_save;
 use std::alloc::Global;
+use std::thread::Threads;
+use text_threads::Team;
 use tuple_trace::{Bytes, Rows, Word};
 use versions::Requests;
 
@@ -56,9 +59,9 @@ pub fn requests_in<S: Shelf>(
     Ok(read_requests(alloc, job, bytes.as_slice())?)
 }
 
-/// The rows of a payments file of a job.
-pub fn rows_in<S: Shelf>(
-    alloc: Global,
+/// The rows of a payments file of a job, which the team reads.
+pub fn rows_in<R: Threads + Sync, S: Shelf>(
+    team: &Team<'_, R>,
     job: &Job,
     name: &Word,
     shelf: &mut S,
@@ -73,8 +76,8 @@ pub fn rows_in<S: Shelf>(
     ensures cause { IfErr result (AreNoRows (S.state shelf.old).files name.now (job_view job.now)
         (S.state shelf.old).faults (S.state shelf.new).faults) }
 {
-    let bytes = read_file(alloc, FileIs::Payments, name, shelf)?;
-    Ok(read_rows(alloc, job, bytes.as_slice())?)
+    let bytes = read_file(team.alloc, FileIs::Payments, name, shelf)?;
+    Ok(read_rows(team, job, bytes.as_slice())?)
 }
 
 /// Where a run goes on by a savepoint's file, with this setup and this number of rows.

@@ -19,6 +19,7 @@ mod reading;
 mod request_cases;
 mod requesting;
 mod row_pieces;
+mod row_shares;
 mod rows;
 mod shelves;
 mod sure;

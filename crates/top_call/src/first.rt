@@ -12,8 +12,8 @@ use call_steps::{
 use command_line::First;
 use payments::{Shelf, Sink};
 use report::Fault;
-use std::alloc::Global;
 use std::thread::Threads;
+use text_threads::Team;
 
 /// Reads the payments and runs them, stores the alerts and prints the summary. The first fault ends
 /// it.
@@ -34,14 +34,18 @@ pub fn first_command<R: Threads + Sync, G, S: Shelf, O: Sink>(
         save: None,
     };
     let team = host.team(1);
-    match run_first(host.alloc, first, shelf) {
+    match run_first(&team, first, shelf) {
         Ok(done) => leave_run(&team, done, names, shelf, out),
         Err(fault) => Answer::stopped(host.alloc, fault),
     }
 }
 
 // Reads the payments and runs them, with the one request.
-fn run_first<S: Shelf>(alloc: Global, first: &First, shelf: &mut S) -> Result<Done, Fault>
+fn run_first<R: Threads + Sync, S: Shelf>(
+    team: &Team<'_, R>,
+    first: &First,
+    shelf: &mut S,
+) -> Result<Done, Fault>
     ensures run { IfOk result (IsFirstRun (first_asked first.now) (S.state shelf.old).files) }
     ensures journals { IfOk result (λ done. length done.ran.journals
         ≡ worker_count done.ran.setup.job.nodes) }
@@ -54,8 +58,9 @@ fn run_first<S: Shelf>(alloc: Global, first: &First, shelf: &mut S) -> Result<Do
         (first_job_of first.now.least)
         (S.state shelf.old).faults (S.state shelf.new).faults) }
 {
+    let alloc = team.alloc;
     let job = first_job(alloc, first.least)?;
     let requests = first_requests(alloc, first)?;
-    let rows = rows_in(alloc, &job, &first.payments, shelf)?;
+    let rows = rows_in(team, &job, &first.payments, shelf)?;
     Ok(run_in_order(alloc, job, &requests, &rows)?)
 }

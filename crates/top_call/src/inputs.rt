@@ -14,7 +14,8 @@ use command_line::PlanFiles;
 use jobs::Job;
 use payments::Shelf;
 use report::Fault;
-use std::alloc::Global;
+use std::thread::Threads;
+use text_threads::Team;
 use tuple_trace::{Rows, Word};
 use versions::Requests;
 
@@ -26,9 +27,10 @@ pub(crate) struct RunInputs {
     pub rows: Rows,
 }
 
-/// Reads a job, its requests and then its payments. The first fault ends it.
-pub(crate) fn inputs_in<S: Shelf>(
-    alloc: Global,
+/// Reads a job, its requests and then its payments, these on the threads of the team. The first
+/// fault ends it.
+pub(crate) fn inputs_in<R: Threads + Sync, S: Shelf>(
+    team: &Team<'_, R>,
     plan: &PlanFiles,
     payments: &Word,
     shelf: &mut S,
@@ -47,9 +49,10 @@ pub(crate) fn inputs_in<S: Shelf>(
     ensures cause { IfErr result (AreNoInputs (S.state shelf.old).files (plan_asked plan.now)
         payments.now (S.state shelf.old).faults (S.state shelf.new).faults) }
 {
+    let alloc = team.alloc;
     let job = job_in(alloc, &plan.job, shelf)?;
     let requests = requests_in(alloc, &job, &plan.requests, shelf)?;
-    let rows = rows_in(alloc, &job, payments, shelf)?;
+    let rows = rows_in(team, &job, payments, shelf)?;
     Ok(RunInputs {
         job,
         requests,

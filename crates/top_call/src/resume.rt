@@ -80,7 +80,8 @@ where
 {
     let alloc = host.alloc;
     let run = &files.run;
-    let inputs = inputs_in(alloc, &run.plan, &run.payments, shelf)?;
+    let team = host.team(run.size.threads);
+    let inputs = inputs_in(&team, &run.plan, &run.payments, shelf)?;
     let RunInputs {
         job,
         requests,

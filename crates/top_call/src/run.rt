@@ -66,7 +66,8 @@ where
         (run_asked files.now).plan files.now.payments
         (S.state shelf.old).faults (S.state shelf.new).faults) }
 {
-    let inputs = inputs_in(host.alloc, &files.plan, &files.payments, shelf)?;
+    let team = host.team(files.size.threads);
+    let inputs = inputs_in(&team, &files.plan, &files.payments, shelf)?;
     let RunInputs {
         job,
         requests,

@@ -67,7 +67,8 @@ where
         (S.state shelf.old).faults (S.state shelf.new).faults) }
 {
     let run = &files.run;
-    let inputs = inputs_in(host.alloc, &run.plan, &run.payments, shelf)?;
+    let team = host.team(run.size.threads);
+    let inputs = inputs_in(&team, &run.plan, &run.payments, shelf)?;
     let RunInputs {
         job,
         requests,

@@ -157,7 +157,7 @@ where
         Command::Save(files) => save_command(host, &files, shelf, out),
         Command::Resume(files) => resume_command(host, &files, shelf, out),
         Command::Live(files) => live_command(host, &files, shelf, out, asks),
-        Command::Verify(files) => verify_command(alloc, &files, shelf, out),
+        Command::Verify(files) => verify_command(host, &files, shelf, out),
         Command::Help(topic) => text_command(alloc, help_text(topic), shelf, out),
         Command::Version => text_command(alloc, version_text(), shelf, out),
     }

@@ -11,13 +11,15 @@ ghost use Rattle.top_call.specs.Verify.{EndsVerify, IsNotRestored, IsNotVerified
 ghost use Rattle.top_call.specs.Verify.{IsSetupBy, IsVerifiedRun};
 
 use crate::inputs::{RunInputs, inputs_in};
-use call_steps::{Answer, Done, print, setup_of, start_in};
+use call_steps::{Answer, Done, Host, print, setup_of, start_in};
 use command_line::{AuditOf, VerifyFiles};
 use flow_model::Setup;
 use jobs::Job;
 use payments::{Shelf, Sink};
 use report::Fault;
 use std::alloc::Global;
+use std::thread::Threads;
+use text_threads::Team;
 use tuple_trace::NoMemory;
 use verify_steps::{
     Given, audited_later_run, audited_live_run, audited_run, audited_stream, check_alerts,
@@ -31,8 +33,8 @@ use versions::Requests;
 /// Rebuilds the run whose audit it is. If alerts are named it reads them, and they have to be just
 /// those of this run. Prints that it is verified and the summary. The first fault ends it. No file
 /// is changed.
-pub fn verify_command<S: Shelf, O: Sink>(
-    alloc: Global,
+pub fn verify_command<R: Threads + Sync, G, S: Shelf, O: Sink>(
+    host: &Host<'_, R, G>,
     files: &VerifyFiles,
     shelf: &mut S,
     out: &mut O,
@@ -42,7 +44,9 @@ pub fn verify_command<S: Shelf, O: Sink>(
         (world (S.state shelf.new) (O.state out.new))
         result }
 {
-    match verified_run(alloc, files, shelf) {
+    let alloc = host.alloc;
+    let team = host.team(1);
+    match verified_run(&team, files, shelf) {
         Ok(done) => {
             let fault = print_verified(alloc, &done, out).err();
             Answer::of_run(done, fault)
@@ -52,7 +56,11 @@ pub fn verify_command<S: Shelf, O: Sink>(
 }
 
 // Reads the files, and rebuilds the run whose audit and alerts they hold.
-fn verified_run<S: Shelf>(alloc: Global, files: &VerifyFiles, shelf: &mut S) -> Result<Done, Fault>
+fn verified_run<R: Threads + Sync, S: Shelf>(
+    team: &Team<'_, R>,
+    files: &VerifyFiles,
+    shelf: &mut S,
+) -> Result<Done, Fault>
     ensures run { IfOk result (IsVerifiedRun (verify_asked files.now) (S.state shelf.old).files) }
     ensures journals { IfOk result (λ done. length done.ran.journals
         ≡ worker_count done.ran.setup.job.nodes) }
@@ -62,13 +70,17 @@ fn verified_run<S: Shelf>(alloc: Global, files: &VerifyFiles, shelf: &mut S) -> 
     ensures cause { IfErr result (IsNotVerified (verify_asked files.now) (S.state shelf.old).files
         (S.state shelf.old).faults (S.state shelf.new).faults) }
 {
-    let done = rebuild(alloc, files, shelf)?;
-    check_alerts(alloc, &done, &files.alerts, shelf)?;
+    let done = rebuild(team, files, shelf)?;
+    check_alerts(team.alloc, &done, &files.alerts, shelf)?;
     Ok(done)
 }
 
 // Reads the files, and rebuilds the run whose audit they hold.
-fn rebuild<S: Shelf>(alloc: Global, files: &VerifyFiles, shelf: &mut S) -> Result<Done, Fault>
+fn rebuild<R: Threads + Sync, S: Shelf>(
+    team: &Team<'_, R>,
+    files: &VerifyFiles,
+    shelf: &mut S,
+) -> Result<Done, Fault>
     ensures run { IfOk result (IsRestoredRun (verify_asked files.now) (S.state shelf.old).files) }
     ensures journals { IfOk result (λ done. length done.ran.journals
         ≡ worker_count done.ran.setup.job.nodes) }
@@ -78,8 +90,9 @@ fn rebuild<S: Shelf>(alloc: Global, files: &VerifyFiles, shelf: &mut S) -> Resul
     ensures cause { IfErr result (IsNotRestored (verify_asked files.now) (S.state shelf.old).files
         (S.state shelf.old).faults (S.state shelf.new).faults) }
 {
+    let alloc = team.alloc;
     let plan = &files.plan;
-    let inputs = inputs_in(alloc, plan, &files.payments, shelf)?;
+    let inputs = inputs_in(team, plan, &files.payments, shelf)?;
     let RunInputs {
         job,
         requests,
