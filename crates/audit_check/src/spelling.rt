@@ -9,7 +9,7 @@ ghost use Rattle.audit_check.specs.Parts.{parts_at_dots, texts_of};
 
 use itoa::Buffer;
 use std::alloc::{AllocError, Global};
-use tuple_trace::{Births, NoMemory, digits_up_to};
+use tuple_trace::{Births, Items, NoMemory, digits_up_to};
 
 /// The number that a cell spells, if it is at most `limit`.
 pub(crate) fn number_up_to(text: &[u8], limit: u64) -> Option<u64>
@@ -105,7 +105,7 @@ pub(crate) fn births(alloc: Global, text: &[u8]) -> Result<Option<Births>, NoMem
     }
     let parts = parts_of(alloc, text)?;
     match numbers_in(alloc, parts.as_slice())? {
-        Some(births) => Ok(Some(births)),
+        Some(births) => Ok(Some(Births::from_slice(alloc, births.as_slice())?)),
         None => Ok(None),
     }
 }
@@ -116,13 +116,13 @@ fn parts_of(alloc: Global, text: &[u8]) -> Result<Vec<&[u8]>, AllocError>
     text.split(|byte| *byte == b'.').collect(alloc)
 }
 
-fn numbers_in(alloc: Global, parts: &[&[u8]]) -> Result<Option<Births>, NoMemory>
+fn numbers_in(alloc: Global, parts: &[&[u8]]) -> Result<Option<Items<u32>>, NoMemory>
     ensures some { IfOk result (λ found. IfSome found (λ births.
         (texts_of parts.now ≡ map decimal births) × All (λ birth. birth < 2 ^ 32) births)) }
     ensures none { IfOk result (λ found. IfNone found ((births : List ℕ) →
         All (λ birth. birth < 2 ^ 32) births → texts_of parts.now ≢ map decimal births)) }
 {
-    let mut births = Births::new(alloc);
+    let mut births = Items::new(alloc);
     for part in parts {
         let Some(birth) = narrow(part) else {
             return Ok(None);

@@ -5,6 +5,7 @@ pub mod Pieces
 pub mod Sent
 pub mod Filter
 pub mod Map
+pub mod Changing
 pub mod Enrich
 pub mod Count
 pub mod Split

@@ -3,13 +3,13 @@ ghost use Rattle.std.specs.Prelude.{◌≡◌};
 ghost use Rattle.operators.specs.Arithmetic.{after_step, after_steps, computed as computed_of};
 ghost use Rattle.operators.specs.Arithmetic.{number_of as number_of_operand, result_of};
 
-use crate::fields::{number_at, write_number};
+use crate::fields::{field_at, number_at};
 use jobs::{Column, Op, Operand, Step};
 use keyed_state::clamp;
-use tuple_trace::{Fields, Value};
+use tuple_trace::{Items, Value};
 
 /// Does all steps in order. Each reads what the earlier ones wrote. Takes no memory.
-pub fn run_steps(columns: &[Column], steps: &[Step], fields: &mut Fields)
+pub fn run_steps(columns: &[Column], steps: &[Step], fields: &mut Items<Value>)
     ensures { fields.new ≡ after_steps columns.now fields.old steps.now }
 {
     for step in steps {
@@ -17,11 +17,13 @@ pub fn run_steps(columns: &[Column], steps: &[Step], fields: &mut Fields)
     }
 }
 
-fn run_step(columns: &[Column], step: &Step, fields: &mut Fields)
+fn run_step(columns: &[Column], step: &Step, fields: &mut Items<Value>)
     ensures { fields.new ≡ after_step columns.now fields.old step.now }
 {
     let result = result_of(columns, step, fields.as_slice());
-    write_number(columns, fields, step.column, result);
+    if field_at(columns, fields.as_slice(), step.column).is_some() {
+        fields.set(step.column as usize, Value::Num(result));
+    }
 }
 
 fn result_of(columns: &[Column], step: &Step, fields: &[Value]) -> i64

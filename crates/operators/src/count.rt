@@ -35,12 +35,7 @@ pub fn count(
     let key = text_at(columns, tuple.fields.as_slice(), count.key);
     let add = number_of(columns, tuple.fields.as_slice(), count.add);
     let mut made = tuple.visiting(visit)?;
-    write_number(
-        columns,
-        &mut made.fields,
-        count.into,
-        state.raised(key, add),
-    );
+    write_number(columns, &mut made, count.into, state.raised(key, add))?;
     let before = out.len();
     out.push(Output {
         port: 0,

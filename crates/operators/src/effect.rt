@@ -47,7 +47,7 @@ pub fn apply(
     match func {
         Func::Source | Func::Sink(_) => Ok(()),
         Func::Filter(conds) => filter(job, ports, visit, conds.as_slice(), tuple, out),
-        Func::Map(steps) => map(columns, visit, steps.as_slice(), tuple, out),
+        Func::Map(steps) => map(alloc, columns, visit, steps.as_slice(), tuple, out),
         Func::Enrich(lookup) => {
             let tables = job.tables.as_slice();
             enrich(alloc, columns, tables, visit, lookup, tuple, out)

@@ -7,7 +7,7 @@ use crate::fields::{copied, text_at, written_at};
 use crate::output::{Output, Outs, remade};
 use jobs::{Column, Lookup, Table};
 use std::alloc::Global;
-use tuple_trace::{Births, Fields, NoMemory, Tuple, Value, Visit};
+use tuple_trace::{Fields, NoMemory, Tuple, Value, Visit};
 
 /// Sends the tuple to port 0. The column `into` is written: it becomes what the table holds for the
 /// text in `key`, and `other` if the table holds nothing for it.
@@ -28,8 +28,7 @@ pub fn enrich(
     ensures err { OnErr result (out.new ≡ out.old) }
 {
     let fields = enriched_fields(alloc, columns, tables, lookup, &tuple.fields)?;
-    let birth = Births::from_slice(alloc, tuple.birth.as_slice())?;
-    let tuple = remade(tuple, visit, birth, fields)?;
+    let tuple = remade(tuple, visit, tuple.birth.clone()?, fields)?;
     out.push(Output { port: 0, tuple })
 }
 

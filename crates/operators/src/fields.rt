@@ -3,10 +3,11 @@ ghost use Rattle.std.specs.Prelude.{◌≡◌, ◌<◌, ◌++◌, IfOk, OnOk, le
 ghost use Rattle.std.specs.Option.{option_copied};
 ghost use Rattle.tuple_trace.specs.declared.value.Value.TheVariants.{Num};
 ghost use Rattle.operators.specs.Fields.{field_at, number_at, text_at, written_at};
+ghost use Rattle.operators.specs.Sent.{with_fields};
 
 use jobs::{Column, holds, kind_at};
 use std::alloc::Global;
-use tuple_trace::{Fields, NoMemory, Value, number_in, text_in};
+use tuple_trace::{Fields, Items, NoMemory, Tuple, Value, number_in, text_in};
 
 /// The field of a column, where the tuple has it with the kind that the job gives the column.
 pub fn field_at<'a>(columns: &[Column], fields: &'a [Value], column: u32) -> Option<&'a Value>
@@ -35,13 +36,20 @@ pub fn text_at<'a>(columns: &[Column], fields: &'a [Value], column: u32) -> &'a 
 }
 
 /// Writes a number into a column. Nothing is written where the tuple doesn't have the column in its
-/// kind. Takes no memory.
-pub fn write_number(columns: &[Column], fields: &mut Fields, column: u32, number: i64)
-    ensures { fields.new ≡ written_at columns.now fields.old column (Num number) }
+/// kind. Takes memory only if the tuple shares its fields.
+pub fn write_number(
+    columns: &[Column],
+    tuple: &mut Tuple,
+    column: u32,
+    number: i64,
+) -> Result<(), NoMemory>
+    ensures { let fields = written_at columns.now tuple.old.fields column (Num number) in
+        OnOk result (tuple.new ≡ with_fields fields tuple.old) }
 {
-    if field_at(columns, fields.as_slice(), column).is_some() {
-        fields.set(column as usize, Value::Num(number));
+    if field_at(columns, tuple.fields.as_slice(), column).is_some() {
+        tuple.write(column as usize, Value::Num(number))?;
     }
+    Ok(())
 }
 
 /// The fields with a value in a column, or as they are where the tuple doesn't have the column in
@@ -70,7 +78,7 @@ fn replaced(alloc: Global, fields: &[Value], place: usize, value: Value) -> Resu
     append(&mut made, &fields[..place])?;
     made.push(value)?;
     append(&mut made, &fields[place + 1..])?;
-    Ok(Fields::from_vec(made))
+    Ok(Fields::own(Items::from_vec(made)))
 }
 
 fn append(made: &mut Vec<Value>, more: &[Value]) -> Result<(), NoMemory>

@@ -3,8 +3,9 @@ ghost use Rattle.std.specs.Prelude.{◌≡◌, ◌++◌, OnOk, OnErr};
 ghost use Rattle.operators.specs.Map.{mapped};
 
 use crate::arithmetic::run_steps;
-use crate::output::{Output, Outs};
+use crate::output::{Changing, Output, Outs};
 use jobs::{Column, Step};
+use std::alloc::Global;
 use tuple_trace::{NoMemory, Tuple, Visit};
 
 /// Sends the tuple to port 0 after its steps. Each step writes the column that it names, and reads
@@ -13,6 +14,7 @@ use tuple_trace::{NoMemory, Tuple, Visit};
 /// A column that the tuple doesn't have in its kind is read as 0. A step that names one to be
 /// written leaves the tuple as it is.
 pub fn map(
+    alloc: Global,
     columns: &[Column],
     visit: Visit,
     steps: &[Step],
@@ -22,7 +24,8 @@ pub fn map(
     ensures ok { OnOk result (out.new ≡ out.old ++ mapped columns.now visit steps.now tuple.now) }
     ensures err { OnErr result (out.new ≡ out.old) }
 {
-    let mut tuple = tuple.visiting(visit)?;
-    run_steps(columns, steps, &mut tuple.fields);
+    let mut made = Changing::copy_of(alloc, tuple, visit)?;
+    run_steps(columns, steps, &mut made.fields);
+    let tuple = made.into_tuple();
     out.push(Output { port: 0, tuple })
 }

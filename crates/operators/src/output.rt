@@ -1,8 +1,9 @@
-ghost use Rattle.std.specs.Prelude.{◌≡◌, ◌++◌, ◌∷◌, [], IfOk};
+ghost use Rattle.std.specs.Prelude.{◌≡◌, IfOk};
 ghost use Rattle.operators.specs.Sent.{visited};
+ghost use Rattle.operators.specs.Changing.{changed};
 
 use std::alloc::Global;
-use tuple_trace::{Births, Fields, Items, NoMemory, Tuple, Visit};
+use tuple_trace::{Births, Fields, Items, NoMemory, Tuple, Value, Visit, Visits};
 
 /// A tuple that a node puts out, and the port by which it leaves.
 #[derive(Debug, Drop)]
@@ -33,12 +34,40 @@ pub(crate) fn remade(
     })
 }
 
-/// The births with one more behind them.
-pub(crate) fn born(alloc: Global, birth: &[u32], index: u32) -> Result<Births, NoMemory>
-    ensures { IfOk result (λ born. born ≡ birth.now ++ index ∷ []) }
-{
-    let mut births = Vec::with_capacity(alloc, birth.len() + 1)?;
-    births.extend_from_slice(birth)?;
-    births.push(index)?;
-    Ok(Births::from_vec(births))
+/// A tuple on its way out of a node, whose fields are its own and may be changed.
+#[derive(Drop)]
+pub(crate) struct Changing {
+    row: u64,
+    birth: Births,
+    issued: u64,
+    pub(crate) fields: Items<Value>,
+    trace: Visits,
+}
+
+impl Changing {
+    /// A copy of the tuple with one more visit.
+    pub(crate) fn copy_of(alloc: Global, tuple: &Tuple, visit: Visit) -> Result<Changing, NoMemory>
+        ensures { IfOk result (λ made. changed made ≡ visited visit tuple.now) }
+    {
+        Ok(Changing {
+            row: tuple.row,
+            birth: tuple.birth.clone()?,
+            issued: tuple.issued,
+            fields: Items::from_vec(Vec::from_clones(alloc, tuple.fields.as_slice())?),
+            trace: tuple.trace.with(visit)?,
+        })
+    }
+
+    /// The tuple as it leaves. Takes no memory.
+    pub(crate) fn into_tuple(self) -> Tuple
+        ensures { result ≡ changed self }
+    {
+        Tuple {
+            row: self.row,
+            birth: self.birth,
+            issued: self.issued,
+            fields: Fields::own(self.fields),
+            trace: self.trace,
+        }
+    }
 }

@@ -2,7 +2,7 @@
 ghost use Rattle.std.specs.Prelude.{ℕ, ◌≡◌, ◌++◌, IfOk, OnOk, OnErr, length, map, take};
 ghost use Rattle.operators.specs.Sent.{born as born_of, sent, visited};
 
-use crate::output::{Output, Outs, born, remade};
+use crate::output::{Output, Outs, remade};
 use std::alloc::Global;
 use tuple_trace::{NoMemory, Tuple, Visit};
 
@@ -49,6 +49,6 @@ fn send_copies(
 fn copy_of(alloc: Global, visit: Visit, port: u32, tuple: &Tuple) -> Result<Tuple, NoMemory>
     ensures { IfOk result (λ made. made ≡ visited visit (born_of port tuple.now)) }
 {
-    let birth = born(alloc, tuple.birth.as_slice(), port)?;
+    let birth = tuple.birth.with(alloc, port)?;
     remade(tuple, visit, birth, tuple.fields.clone()?)
 }

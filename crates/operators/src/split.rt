@@ -6,7 +6,7 @@ ghost use Rattle.operators.specs.Sent.{born as born_of, visited, with_fields};
 ghost use Rattle.operators.specs.Split.{split_up};
 
 use crate::fields::{text_at, written_at};
-use crate::output::{Output, Outs, born, remade};
+use crate::output::{Output, Outs, remade};
 use crate::pieces::cut;
 use jobs::{Column, SplitBy};
 use std::alloc::Global;
@@ -76,6 +76,6 @@ fn piece_of(
 {
     let value = Value::Text(Txt::from_slice(alloc, piece)?);
     let fields = written_at(alloc, columns, &tuple.fields, on, value)?;
-    let birth = born(alloc, tuple.birth.as_slice(), number)?;
+    let birth = tuple.birth.with(alloc, number)?;
     remade(tuple, visit, birth, fields)
 }

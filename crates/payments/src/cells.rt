@@ -11,7 +11,7 @@ use crate::spelling::{amount, number};
 use csv::ByteRecord;
 use jobs::{Column, ColumnKind, TEXT_MAX};
 use std::alloc::Global;
-use tuple_trace::{Fields, NoMemory, Txt, Value};
+use tuple_trace::{Fields, Items, NoMemory, Txt, Value};
 
 /// What the header has in front of the names of the columns.
 const SOURCE: &[u8] = b"source";
@@ -64,14 +64,14 @@ pub(crate) fn fields_of(
         let field = field_of(alloc, row, place, column, cells, &mut next)?;
         fields.push(field)?;
     }
-    Ok(fields)
+    Ok(Fields::shared(fields)?)
 }
 
 /// No fields, with memory for as many as there are columns.
-pub(crate) fn no_fields(alloc: Global, columns: &[Column]) -> Result<Fields, NoMemory>
+pub(crate) fn no_fields(alloc: Global, columns: &[Column]) -> Result<Items<Value>, NoMemory>
     ensures { IfOk result (λ fields. fields ≡ []) }
 {
-    Ok(Fields::from_vec(Vec::with_capacity(alloc, columns.len())?))
+    Ok(Items::from_vec(Vec::with_capacity(alloc, columns.len())?))
 }
 
 fn field_of(

@@ -121,7 +121,7 @@ fn fields_of(alloc: Global, columns: &[Column], draws: &mut Draws) -> Result<Fie
         let field = field_of(alloc, column, draws)?;
         fields.push(field)?;
     }
-    Ok(fields)
+    Ok(Fields::shared(fields)?)
 }
 
 fn field_of(alloc: Global, column: &Column, draws: &mut Draws) -> Result<Value, NoMemory>

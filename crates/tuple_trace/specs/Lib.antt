@@ -3,6 +3,7 @@ pub mod Digits
 pub mod FeedRows
 pub mod Reserved
 pub mod Rows
+pub mod Shared
 pub mod Short
 pub mod Spread
 pub mod Values

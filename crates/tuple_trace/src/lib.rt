@@ -11,8 +11,10 @@
 //! ```
 #![tactic(auto)]
 
+mod births;
 mod digits;
 mod feed_rows;
+mod fields;
 mod gate;
 mod items;
 mod limits;
@@ -23,8 +25,10 @@ mod text;
 mod tuple;
 mod value;
 
+pub use births::Births;
 pub use digits::digits_up_to;
 pub use feed_rows::FeedRows;
+pub use fields::Fields;
 pub use gate::{Gate, OpenGate};
 pub use items::{Items, NoMemory};
 pub use limits::{MAX_CAPACITY, MAX_NODE_WORKERS, MAX_THREADS, USUAL_CAPACITY};
@@ -32,5 +36,5 @@ pub use place::spread;
 pub use reserved::Reserved;
 pub use row::{Row, Rows};
 pub use text::{Bytes, Txt, Word};
-pub use tuple::{Births, Fields, Item, Tuple, Visit, Visits};
+pub use tuple::{Item, Tuple, Visit, Visits};
 pub use value::{Value, number_in, text_in};

@@ -1,7 +1,7 @@
-ghost use Rattle.std.specs.Prelude.{◌≡◌, ◌++◌, ◌∷◌, [], IfOk, OnOk, OnErr, length, option_copied};
-ghost use Rattle.std.specs.Prelude.{slice_get};
+ghost use Rattle.std.specs.Prelude.{◌≡◌, ◌<◌, ◌++◌, ◌∷◌, [], IfOk, OnOk, OnErr, length};
+ghost use Rattle.std.specs.Prelude.{option_copied, slice_get, slice_set};
 
-use crate::{Items, NoMemory, Value};
+use crate::{Births, Fields, NoMemory, Value};
 use std::alloc::Global;
 use std::marker::Model;
 
@@ -80,12 +80,6 @@ impl Visits {
     }
 }
 
-/// The births of a tuple: at each split or copy on its way, which of the outputs it was.
-pub type Births = Items<u32>;
-
-/// The columns of a tuple, in the job's order.
-pub type Fields = Items<Value>;
-
 /// What flows. Its identity is (row, birth): no two tuples that meet one node share it.
 #[derive(Clone, Debug, Drop)]
 pub struct Tuple {
@@ -111,9 +105,13 @@ impl Tuple {
         ensures { IfOk result (λ child. child
             ≡ record self.now { birth = self.now.birth ++ index ∷ [] }) }
     {
-        let mut child = self.copy()?;
-        child.birth.push(index)?;
-        Ok(child)
+        Ok(Tuple {
+            row: self.row,
+            birth: self.birth.with(*self.trace.visits.allocator(), index)?,
+            issued: self.issued,
+            fields: self.fields.clone()?,
+            trace: self.trace.clone()?,
+        })
     }
 
     /// An equal tuple, fed once `issued` requests were issued.
@@ -137,6 +135,17 @@ impl Tuple {
             fields: self.fields.clone()?,
             trace: self.trace.with(visit)?,
         })
+    }
+
+    /// Puts a value in the place of a field. After [`NoMemory`] the tuple is as before.
+    pub fn write(&mut self, place: usize, value: Value) -> Result<(), NoMemory>
+        requires { place < length self.old.fields }
+        ensures ok { OnOk result (self.new
+            ≡ record self.old { fields = slice_set self.old.fields place value }) }
+        ensures err { OnErr result (self.new ≡ self.old) }
+    {
+        let alloc = *self.trace.visits.allocator();
+        self.fields.set(alloc, place, value)
     }
 
     /// The tuple with one more visit in its trace. A refusal gives the tuple up.

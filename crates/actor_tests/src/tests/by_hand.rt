@@ -16,7 +16,7 @@ use flow_worker::{Opened, Parts, Turn, Worker};
 use lane_core::{Lanes, QueueLanes};
 use sink_journal::{Entry, Journal};
 use std::alloc::Global;
-use tuple_trace::{Births, Fields, Gate, NoMemory, Tuple, Value, Visits};
+use tuple_trace::{Births, Fields, Gate, Items, NoMemory, Tuple, Value, Visits};
 
 const JOB: &str = r#"
 columns = ["amount:cents"]
@@ -142,13 +142,13 @@ struct Driven<L: Lanes> {
 fn tuple(alloc: Global, row: u64, cents: i64) -> Result<Tuple, NoMemory>
     ensures { IfOk result (λ tuple. tuple.trace ≡ []) }
 {
-    let mut fields = Fields::new(alloc);
+    let mut fields = Items::new(alloc);
     fields.push(Value::Num(cents))?;
     Ok(Tuple {
         row,
         birth: Births::new(alloc),
         issued: 0,
-        fields,
+        fields: Fields::own(fields),
         trace: Visits::new(alloc),
     })
 }

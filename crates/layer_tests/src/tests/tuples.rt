@@ -45,14 +45,14 @@ const VISIT: Visit = Visit {
 };
 
 fn ann(alloc: Global) -> Result<Tuple, NoMemory> {
-    let mut fields = Fields::new(alloc);
+    let mut fields = Items::new(alloc);
     fields.push(Value::Text(Txt::from_slice(alloc, b"ann")?))?;
     fields.push(Value::Num(-5))?;
     Ok(Tuple {
         row: 7,
         birth: Births::from_slice(alloc, &[4])?,
         issued: 1,
-        fields,
+        fields: Fields::shared(fields)?,
         trace: Visits::new(alloc),
     })
 }
@@ -102,6 +102,55 @@ fn tuples_grow_in_their_copies(rt: HostRuntime) {
     assert!(rt; matches!(copy_is_well(rt.alloc()), Ok(true)));
     assert!(rt; matches!(under_is_well(rt.alloc()), Ok(true)));
     assert!(rt; matches!(visiting_is_well(rt.alloc()), Ok(true)));
+}
+
+// Five births lie in the value, and six in memory of their own.
+fn births_are_well(alloc: Global) -> Result<bool, NoMemory> {
+    let five = Births::from_slice(alloc, &[0, 1, 2, 3])?.with(alloc, 4)?;
+    let seven = Births::from_slice(alloc, &[0, 1, 2, 3, 4, 5])?.with(alloc, 6)?;
+    let six = five.with(alloc, 5)?;
+    Ok(
+        five.as_slice() == [0, 1, 2, 3, 4].as_slice()
+            && six.as_slice() == [0, 1, 2, 3, 4, 5].as_slice()
+            && (six.len(), seven.len()) == (6, 7)
+            && seven.as_slice().last() == Some(&6),
+    )
+}
+
+#[test]
+fn births_grow(rt: HostRuntime) {
+    assert!(rt; matches!(births_are_well(rt.alloc()), Ok(true)));
+}
+
+// The second number of a tuple, where its first fields are a text and that number.
+fn second_of(tuple: &Tuple) -> Option<i64> {
+    match tuple.fields.as_slice() {
+        [Value::Text(_), Value::Num(number)] => Some(*number),
+        _ => None,
+    }
+}
+
+// Writes a number into the second field, if there is one.
+fn write_second(tuple: &mut Tuple, number: i64) -> Result<(), NoMemory> {
+    if tuple.fields.len() > 1 {
+        tuple.write(1, Value::Num(number))?;
+    }
+    Ok(())
+}
+
+// Whether two writes to a copy are seen there, and not in the tuple.
+fn write_is_well(alloc: Global) -> Result<bool, NoMemory> {
+    let ann = ann(alloc)?;
+    let mut copy = ann.copy()?;
+    write_second(&mut copy, 8)?;
+    let once = second_of(&copy);
+    write_second(&mut copy, 9)?;
+    Ok(once == Some(8) && second_of(&copy) == Some(9) && second_of(&ann) == Some(-5))
+}
+
+#[test]
+fn a_write_leaves_the_other_copies(rt: HostRuntime) {
+    assert!(rt; matches!(write_is_well(rt.alloc()), Ok(true)));
 }
 
 fn kept_rows(alloc: Global) -> Result<usize, NoMemory> {

@@ -175,7 +175,7 @@ pub fn lines_of_outputs(rt: &(impl AllocGlobal + Abort), outputs: &[Output]) -> 
 }
 
 fn add_origin(rt: &(impl AllocGlobal + Abort), lines: &mut String, tuple: &Tuple) {
-    for birth in &tuple.birth {
+    for birth in tuple.birth.as_slice() {
         push(rt, lines, format!(in rt.alloc(); "+{birth}"));
     }
     push(

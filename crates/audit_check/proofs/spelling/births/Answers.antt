@@ -6,6 +6,7 @@ use Rattle.audit_check.proofs.spelling.births.Goals as goal
 pub returns-in-Some-clause-some : goal.returns-in-Some-clause-some
 returns-in-Some-clause-some c =
     let k = rw c.in-Some.is at c.in_ok-births.ensures.some in
+    rw (c.in_ok-from_slice-in-Some.ensures, c.as_slice-in-Some.ensures)
     (parts_births c.args.text.now c.in-Some.births (sym c.in_ok-parts.ensures ∙ (ap texts_of (sym c.as_slice.ensures.value) ∙ k.0)), k.1)
 
 pub returns-clause-none : goal.returns-clause-none

@@ -7,6 +7,6 @@ returns c =
     let fields = c.args.fields.now in
     let place = c.args.place in
     let inside : place < length fields = omega arith in
-    c.from_vec.ensures ∙ c.in_ok-append-2.ensures
+    c.own.ensures ∙ c.from_vec.ensures ∙ c.in_ok-append-2.ensures
     ∙ rw (c.in_ok-push.ensures.items, c.in_ok-append.ensures, c.in_ok-made.ensures.items, take_rest fields (place + 1))
     (append_assoc (take place fields) (c.args.value ∷ []) (drop (place + 1) fields) ∙ rw (set_split fields place c.args.value inside, add-one) refl)

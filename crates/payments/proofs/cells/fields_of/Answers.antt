@@ -17,4 +17,6 @@ loop-place-preserved c =
     c.loop-place-test.true c.index-columns-place.is c.in_ok-field.ensures.ok c.in_ok-field.ensures.rest ∙ c.loop-place.invariant)
 
 pub returns-clause-ok : goal.returns-clause-ok
-returns-clause-ok c = sym c.loop-place.invariant ∙ fields_from-end c.args.row c.loop-place.place c.args.columns.now _ c.loop-place.fields c.loop-place-test.false
+returns-clause-ok c =
+    rw c.in_ok-shared.ensures (sym c.loop-place.invariant
+    ∙ fields_from-end c.args.row c.loop-place.place c.args.columns.now _ c.loop-place.fields c.loop-place-test.false)

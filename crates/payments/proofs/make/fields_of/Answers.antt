@@ -12,7 +12,9 @@ loop-column-preserved c =
     rw c.in_ok-push.ensures.ok (record { left = field ∙ inv.left; number = number ∙ inv.number })
 
 pub returns-clause-ok : goal.returns-clause-ok
-returns-clause-ok c = sym (fields_made-end c.args.columns.now c.loop-column.column-index c.loop-column.draws.number c.loop-column.fields c.loop-column-test.false) ∙ c.loop-column.invariant.left
+returns-clause-ok c =
+    rw c.in_ok-shared.ensures (sym (fields_made-end c.args.columns.now c.loop-column.column-index c.loop-column.draws.number c.loop-column.fields c.loop-column-test.false)
+    ∙ c.loop-column.invariant.left)
 
 pub returns-clause-draws : goal.returns-clause-draws
 returns-clause-draws c = sym (number_after_fields-end c.args.columns.now c.loop-column.column-index c.loop-column.draws.number c.loop-column-test.false) ∙ c.loop-column.invariant.number
