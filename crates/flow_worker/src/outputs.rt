@@ -1,5 +1,5 @@
 // The lanes of a function's outputs.
-ghost use Rattle.std.specs.Prelude.{◌≡◌, [], length, map};
+ghost use Rattle.std.specs.Prelude.{◌≡◌, [], length, map, reverse};
 ghost use Rattle.jobs.specs.Job.{job_view};
 ghost use Rattle.flow_model.specs.SetupView.{Worker as WorkerOfJob};
 ghost use Rattle.flow_model.specs.Replay.{put_out};
@@ -12,7 +12,7 @@ ghost use Rattle.flow_worker.specs.Worker.{IsSenderAt, numbers_out};
 use crate::lanes_out::LanesOut;
 use flow_model::OutEdge;
 use lane_core::Lanes;
-use operators::{Job, Outs, lane_of};
+use operators::{Job, Output, Outs, lane_of};
 use std::alloc::Global;
 use std::mem;
 use tuple_trace::{Item, Tuple};
@@ -38,6 +38,17 @@ fn place_of(job: &Job, node: u32, edges: &[OutEdge], port: u32, tuple: &Tuple) -
     None
 }
 
+// The outputs, the last first. One output alone, as most functions make it, isn't touched.
+fn last_first(outputs: Vec<Output>) -> Vec<Output>
+    ensures { reverse result.items ≡ outputs.items }
+{
+    let mut outputs = outputs;
+    if outputs.len() > 1 {
+        outputs.reverse();
+    }
+    outputs
+}
+
 /// Adds each output to the waiting items of its lane, in order. The list of outputs is left empty,
 /// with its memory. Takes no memory.
 pub fn enqueue_outputs<L: Lanes>(
@@ -58,8 +69,7 @@ pub fn enqueue_outputs<L: Lanes>(
         → EachPair (Appended (λ (out : LaneOutIs). items_at (job_view job.now)
         (map (put_out (job_view job.now) who) made.old) out.number)) outs.old outs.new }
 {
-    let mut left = mem::replace(made, Outs::new(alloc)).into_vec();
-    left.reverse();
+    let mut left = last_first(mem::replace(made, Outs::new(alloc)).into_vec());
     while let Some(output) = left.pop() {
         if let Some(place) = place_of(job, node, edges, output.port, &output.tuple) {
             outs.push_at(place, Item::Carry(output.tuple));

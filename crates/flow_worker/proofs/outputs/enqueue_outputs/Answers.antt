@@ -1,6 +1,6 @@
 use Rattle.std.proofs.Common.{◌≡◌, ◌∙◌, ℕ, ◌+◌, List, [], ◌∷◌, ◌++◌, Option, None, length, reverse, sym, ap, subst, arith}
 use Rattle.std.specs.Prelude.{MatchOption}
-use Rattle.std.proofs.lemmas.List.{nil_from_length, reverse-append, reverse-reverse}
+use Rattle.std.proofs.lemmas.List.{nil_from_length, reverse-append}
 use Rattle.jobs.specs.Job.{job_view}
 use Rattle.operators.specs.declared.output.Output.{Output}
 use Rattle.flow_worker.specs.Endpoints.{LaneOutIs}
@@ -19,7 +19,7 @@ next_first old new output e = ap reverse e ∙ reverse-append new (output ∷ []
 
 pub loop-output-init : goal.loop-output-init
 loop-output-init g c =
-    let same : reverse c.reverse.new.self.items ≡ c.args.made.now = ap reverse c.reverse.ensures.items ∙ (reverse-reverse c.into_vec-left.result.items ∙ (c.into_vec-left.ensures ∙ c.replace.ensures.value)) in
+    let same : reverse c.last_first-left.result.items ≡ c.args.made.now = c.last_first-left.ensures ∙ (c.into_vec.ensures ∙ c.replace.ensures.value) in
     record {
       comes = λ who is. subst (λ (xs : List Output). EachPair (Comes (job_view c.args.job.now) who c.args.made.now xs) c.args.outs.now c.args.outs.now) (sym same) (comes_first (job_view c.args.job.now) who c.args.made.now c.args.outs.now c.requires.room);
     }
