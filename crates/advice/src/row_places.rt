@@ -2,14 +2,11 @@
 use crate::shown::push_bytes;
 use csv::{ByteRecord, Reader, ReaderBuilder};
 use jobs::{ColumnKind, Job, is_source, weight};
-use payments::PFault;
+use payments::{PFault, WORK_MAX};
 use savepoint::SaveFault;
 use std::alloc::{AllocError, Global};
 use std::fmt::Write;
 use toml_places::{Place, line_at};
-
-/// How many tuples a run may bring to its nodes.
-const WORK_MAX: u64 = 1 << 20;
 
 /// What the bytes of a payments file, and their job if it is known, tell of the place of a fault.
 pub(crate) fn row_place(

@@ -35,7 +35,7 @@ pub use make::make_rows;
 pub use memory::{Calls, MemoryShelf, MemorySink};
 pub use read::{PFault, read_rows};
 pub use records::TextRecords;
-pub use row::row_from;
+pub use row::{WORK_MAX, row_from};
 pub use shelf::{Shelf, ShelfFault, Sink, SinkFault};
 pub use storing::{store, store_parts, write_all};
 pub use sure::{SureShelf, SureSink};

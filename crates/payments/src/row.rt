@@ -15,7 +15,7 @@ use tuple_trace::{Births, Row, Tuple, Visits};
 
 /// How many tuples a run may bring to its nodes: the number of a row times the weight of its job is
 /// at most this.
-pub(crate) const WORK_MAX: u64 = 1 << 20;
+pub const WORK_MAX: u64 = 1 << 20;
 
 /// What every row of a file is measured by: the weight of the job, and how many cells the header
 /// has.

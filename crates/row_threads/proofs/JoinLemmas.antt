@@ -21,13 +21,13 @@ use Rattle.payments.specs.declared.read.PFault.TheVariants as fault
 use Rattle.stream_rows.proofs.NumberLemmas.{stream_row-numbered}
 use Rattle.stream_rows.proofs.ReadLemmas.{IsCut-append, rows_go_on}
 use Rattle.stream_rows.proofs.SoundLemmas.{these}
-use Rattle.stream_rows.specs.Rows.{and_then, followed_by, only_fault, rows_under_header}
+use Rattle.stream_rows.specs.Rows.{and_then, followed_by, numbered, only_fault, rows_under_header}
 use Rattle.stream_rows.specs.Rows.{sound_rows, stream_row, stream_rows}
 use Rattle.stream_rows.specs.declared.sound.SoundRows.{SoundRows}
 use Rattle.tuple_trace.specs.declared.items.NoMemory.{NoMemory}
 use Rattle.tuple_trace.specs.declared.row.Row.{Row}
 use Rattle.row_threads.proofs.FileLemmas.{file_rows}
-use Rattle.row_threads.specs.inner.Joined.{first_of, is_sound, numbered, numbered_from, rows_in}
+use Rattle.row_threads.specs.inner.Joined.{first_of, is_sound, numbered_from, rows_in}
 use Rattle.row_threads.specs.inner.Shares.{AreReads, AreShares, share_rows}
 
 -- ---- rows with other numbers

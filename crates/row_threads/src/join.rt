@@ -1,7 +1,7 @@
 ghost use Rattle.std.specs.Prelude.{◌≡◌, ◌++◌, ◌+◌, ◌<◌, IfSome, OnOk, IsTrue, length, true};
 ghost use Rattle.std.specs.List.{flat_map, list_all};
-ghost use Rattle.row_threads.specs.inner.Joined.{first_of, is_sound, numbered, numbered_from};
-ghost use Rattle.row_threads.specs.inner.Joined.{rows_in};
+ghost use Rattle.stream_rows.specs.Rows.{numbered};
+ghost use Rattle.row_threads.specs.inner.Joined.{first_of, is_sound, numbered_from, rows_in};
 
 use std::alloc::Global;
 use stream_rows::SoundRows;

@@ -10,16 +10,13 @@ ghost use Rattle.tuple_trace.specs.declared.row.Row.{Row as RowIs};
 use crate::join::{has_first, joined};
 use crate::shares::reads_of;
 use jobs::{Job, weight};
-use payments::PFault;
+use payments::{PFault, WORK_MAX};
 use std::thread::Threads;
 use text_threads::Team;
 use tuple_trace::Rows;
 
 /// How many bytes a share has at least. A shorter file is read by fewer threads.
 const LEAST_SHARE: usize = 64 * 1024;
-
-/// How many tuples a run may bring to its nodes.
-const WORK_MAX: u64 = 1 << 20;
 
 /// The rows of a payments file of this job, or its first fault, as `read_rows` of `payments`
 /// returns them. The file is read by the threads of the team.

@@ -28,7 +28,7 @@ use Rattle.payments.specs.Spelling.{amount_of, number_of}
 use Rattle.payments.proofs.LimitLemmas.{HaveShortTexts-rows_from}
 use Rattle.payments.proofs.RowLemmas.{AreFromSources-rows_from, before-ok, if-ok}
 use Rattle.std.specs.Cmp.Lexicographic.{pointwise}
-use Rattle.stream_rows.specs.Rows.{followed_by, only_fault, rows_under_header, sound_rows}
+use Rattle.stream_rows.specs.Rows.{followed_by, numbered, only_fault, rows_under_header, sound_rows}
 use Rattle.stream_rows.specs.Rows.{stream_row}
 use Rattle.stream_rows.proofs.SoundLemmas.{these}
 
@@ -84,10 +84,6 @@ row_of_fields row source fields =
       source = source;
       tuple = record { row = row; birth = []; issued = 0; fields = fields; trace = [] };
     }
-
--- the row as it is read with this number
-abbrev pub numbered : ℕ → Row → Row
-numbered to row = row_of_fields to row.source row.tuple.fields
 
 abbrev read_at : ℕ → Row → Result Row PFault
 read_at to row = Ok (numbered to row)

@@ -35,6 +35,19 @@ abbrev pub followed_by : Result Row PFault → SoundRows → SoundRows
 followed_by (Err fault) later = only_fault fault
 followed_by (Ok row) later = record { rows = row ∷ later.rows; fault = later.fault }
 
+-- the row as it is read with this number
+abbrev pub numbered : ℕ → Row → Row
+numbered number row = record {
+  source = row.source;
+  tuple = record {
+    row = number;
+    birth = [];
+    issued = 0;
+    fields = row.tuple.fields;
+    trace = [];
+  };
+}
+
 -- the rows of these records, of which the first has this number
 unfoldable pub sound_rows : JobView → ℕ → List (List (List ℕ)) → SoundRows
 sound_rows job row [] = no_rows

@@ -4,12 +4,10 @@ ghost use Rattle.jobs.specs.Job.{job_view};
 ghost use Rattle.stream_rows.specs.Rows.{most_rows_of};
 
 use jobs::{Job, weight};
+use payments::WORK_MAX;
 
 /// A stream has fewer rows than this, which is 2^63 - 1.
 pub const MAX_ROWS: u64 = (1 << 63) - 1;
-
-/// How many tuples a run may bring to its nodes.
-const WORK_MAX: u64 = 1 << 20;
 
 /// How many rows one part of a stream may have: 1,048,576 divided by the weight of the job, at
 /// least 1,024. Takes no memory.

@@ -1,21 +1,9 @@
 -- The rows of shares, put together.
 use Rattle.std.specs.Prelude.{◌+◌, ℕ, Bool, false, is_none, List, [], ◌∷◌, Result, Ok, Err}
+use Rattle.stream_rows.specs.Rows.{numbered}
 use Rattle.stream_rows.specs.declared.sound.SoundRows.{SoundRows}
 use Rattle.tuple_trace.specs.declared.items.NoMemory.{NoMemory}
 use Rattle.tuple_trace.specs.declared.row.Row.{Row}
-
--- the row as it is read with this number
-abbrev pub numbered : ℕ → Row → Row
-numbered number row = record {
-  source = row.source;
-  tuple = record {
-    row = number;
-    birth = [];
-    issued = 0;
-    fields = row.tuple.fields;
-    trace = [];
-  };
-}
 
 -- the rows as they are read if the first has this number
 abbrev pub numbered_from : ℕ → List Row → List Row
