@@ -15,41 +15,8 @@ use plain_runs::{Case, Inputs};
 use sink_journal::{Feed, Feeds};
 use std::alloc::Global;
 use std::sync::Wait;
+use test_texts::{AFTER_2, AMOUNT_CHAIN, FOUR_AMOUNTS, TWICE_AFTER_3};
 use tuple_trace::{FeedRows, NoMemory, OpenGate};
-
-const CHAIN: &str = r#"columns = ["amount:cents"]
-node = [
-  { name = "card", kind = "source" },
-  { name = "big", kind = "filter", when = [["amount", ">=", 10000]] },
-  { name = "alerts", kind = "sink", columns = ["amount"] },
-]
-edge = [
-  { from = "card", to = "big" },
-  { from = "big", to = "alerts" },
-]
-"#;
-
-const FOUR_PAYMENTS: &str = "source,amount
-card,99.99
-card,100.00
-card,50.00
-card,120.00
-";
-
-/// The filter's threshold falls twice after row 3.
-const TWICE_AFTER_3: &str = r#"[[request]]
-after = 3
-change = [{ node = "big", from = 0, kind = "filter", when = [["amount", ">=", 5000]] }]
-[[request]]
-after = 3
-change = [{ node = "big", from = 1, kind = "filter", when = [["amount", ">=", 5000]] }]
-"#;
-
-/// The filter's threshold falls after row 2.
-const ONCE_AFTER_2: &str = r#"[[request]]
-after = 2
-change = [{ node = "big", from = 0, kind = "filter", when = [["amount", ">=", 5000]] }]
-"#;
 
 type Boxes = (Vec<Poster>, Vec<Owner>);
 
@@ -133,9 +100,9 @@ where
 /// The chain and its four payments, with these requests.
 pub fn inputs(requests: &str) -> Inputs<'_> {
     Inputs {
-        job: CHAIN,
+        job: AMOUNT_CHAIN,
         requests,
-        payments: FOUR_PAYMENTS,
+        payments: FOUR_AMOUNTS,
         ordered: false,
     }
 }
@@ -199,7 +166,7 @@ fn has_live_feed<L: Lanes>(alloc: Global, form: &L, released: bool, feed: &[Feed
     if released {
         teller.tell();
     }
-    has_feed::<L, LiveFeeder<L>>(alloc, form, ONCE_AFTER_2, inbox, feed)
+    has_feed::<L, LiveFeeder<L>>(alloc, form, AFTER_2, inbox, feed)
 }
 
 #[test]

@@ -6,11 +6,11 @@ mod sizes;
 pub mod texts;
 
 use crate::tests::hostile::cut::Cuts;
-use crate::tests::hostile::texts::{CHAIN, FOUR_PAYMENTS};
 use payments::{Calls, MemoryShelf, MemorySink};
 use std::alloc::Global;
 use std::sync::Wait;
 use std::thread::Threads;
+use test_texts::{CHAIN, FOUR_PAYMENTS};
 use top_call::Outcome;
 use tuple_trace::{Bytes, NoMemory, OpenGate, Word};
 use whole_calls::{call, put, words_of};

@@ -5,21 +5,9 @@ mod telling;
 
 use payments::{Calls, MemoryShelf};
 use std::alloc::Global;
+use test_texts::AMOUNT_CHAIN;
 use tuple_trace::{NoMemory, Word};
 use whole_calls::{put_text, words_of};
-
-/// A source, a filter and a sink in a row.
-const CHAIN: &str = r#"columns = ["amount:cents"]
-node = [
-  { name = "card", kind = "source" },
-  { name = "big", kind = "filter", when = [["amount", ">=", 10000]] },
-  { name = "alerts", kind = "sink", columns = ["amount"] },
-]
-edge = [
-  { from = "card", to = "big" },
-  { from = "big", to = "alerts" },
-]
-"#;
 
 /// One request after row 2, with the threshold that the job has.
 pub const AFTER_2: &str = r#"[[request]]
@@ -60,7 +48,7 @@ pub fn shelf_of<'a>(
     payments: &'a str,
 ) -> Result<MemoryShelf, NoMemory> {
     let files = [
-        ("job.toml", CHAIN),
+        ("job.toml", AMOUNT_CHAIN),
         ("requests.toml", requests),
         ("payments.csv", payments),
     ];

@@ -1,10 +1,10 @@
 //! Calls of `run` over files and an output that never refuse.
 use crate::tests::hostile::RUN;
-use crate::tests::hostile::texts::{AUDIT, CHAIN, FOUR_PAYMENTS, TWO_ALERTS};
 use payments::{SureShelf, SureSink};
 use std::alloc::Global;
 use std::sync::Wait;
 use std::thread::Threads;
+use test_texts::{AUDIT_OF_FOUR, CHAIN, FOUR_PAYMENTS, TWO_ALERTS};
 use tuple_trace::{Bytes, NoMemory};
 use whole_calls::{call_sure, word, words_of};
 
@@ -31,7 +31,7 @@ where
     let mut out = SureSink::new(alloc);
     let outcome = call_sure(rt, alloc, &words_of(alloc, &RUN)?, &mut shelf, &mut out)?;
     let audit = match alerts {
-        Some(_) => Some(AUDIT),
+        Some(_) => Some(AUDIT_OF_FOUR),
         None => None,
     };
     Ok(

@@ -1,10 +1,11 @@
 use crate::tests::gates::UntilIssued;
 use crate::tests::seen::DONE;
-use crate::tests::texts::{CHAIN, FOURTEEN_OF_75, TWELVE_OF_75};
+use crate::tests::texts::FOURTEEN_OF_75;
 use crate::tests::{Input, run};
 use std::alloc::Global;
 use std::sync::Wait;
 use std::thread::Threads;
+use test_texts::{AMOUNT_CHAIN, TWELVE_OF_75};
 use tuple_trace::OpenGate;
 
 /// Lets payments from 50.00 on pass, after row 9.
@@ -26,7 +27,7 @@ where
 {
     let gate = UntilIssued::new();
     let input = Input {
-        job: CHAIN,
+        job: AMOUNT_CHAIN,
         requests: AFTER_9,
         payments: TWELVE_OF_75,
         threads: "2",
@@ -49,7 +50,7 @@ where
     R: Threads + Wait + Copy + Send + Sync + 'static,
 {
     let input = Input {
-        job: CHAIN,
+        job: AMOUNT_CHAIN,
         requests: AFTER_12,
         payments: FOURTEEN_OF_75,
         threads: "2",

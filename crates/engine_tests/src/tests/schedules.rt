@@ -1,9 +1,9 @@
 use crate::tests::seen::{Alerts, Audit, Wanted};
-use crate::tests::texts::{PAYMENTS, PAYMENTS_ALERTS, PAYMENTS_REQUESTS, TEN_PAYMENTS};
 use crate::tests::{Input, run};
 use std::alloc::Global;
 use std::sync::Wait;
 use std::thread::Threads;
+use test_texts::{PAYMENTS_ALERTS, PAYMENTS_JOB, PAYMENTS_REQUESTS, TEN_PAYMENTS, TWO_SOURCES};
 use tuple_trace::OpenGate;
 
 const THREADS: [&str; 4] = ["1", "2", "4", "16"];
@@ -62,7 +62,7 @@ where
     R: Threads + Wait + Copy + Send + Sync + 'static,
 {
     let input = Input {
-        job: PAYMENTS,
+        job: PAYMENTS_JOB,
         requests: PAYMENTS_REQUESTS,
         payments: TEN_PAYMENTS,
         threads,
@@ -85,24 +85,6 @@ fn payments_job(rt: HostRuntime) {
         }
     }
 }
-
-/// Rows of `p` go over `a` to `b`, rows of `q` go to `b` at once.
-const BESIDE: &str = r#"
-columns = ["amount:cents"]
-node = [
-  { name = "p", kind = "source" },
-  { name = "q", kind = "source" },
-  { name = "a", kind = "map", steps = [] },
-  { name = "b", kind = "map", steps = [] },
-  { name = "out", kind = "sink", columns = ["amount"] },
-]
-edge = [
-  { from = "p", to = "a" },
-  { from = "a", to = "b" },
-  { from = "q", to = "b" },
-  { from = "b", to = "out" },
-]
-"#;
 
 /// Changes both maps, after row 2.
 const BOTH_MAPS: &str = r#"
@@ -133,7 +115,7 @@ where
     R: Threads + Wait + Copy + Send + Sync + 'static,
 {
     let input = Input {
-        job: BESIDE,
+        job: TWO_SOURCES,
         requests: BOTH_MAPS,
         payments: "source,amount\np,1\nq,2\np,3\nq,4\n",
         threads,

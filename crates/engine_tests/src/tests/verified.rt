@@ -1,12 +1,12 @@
 //! What `verify` says of audits that `run` wrote, and of audits with a damage.
 use crate::tests::random::Case;
-use crate::tests::texts::{PAYMENTS, PAYMENTS_REQUESTS, TEN_PAYMENTS};
 use crate::tests::{AUDIT, Input, bytes_of, shelf_of};
 use payments::MemoryShelf;
 use std::alloc::Global;
 use std::str;
 use std::sync::Wait;
 use std::thread::Threads;
+use test_texts::{PAYMENTS_JOB, PAYMENTS_REQUESTS, TEN_PAYMENTS};
 use tuple_trace::NoMemory;
 use whole_calls::{Said, file, put_text, say, words_of};
 
@@ -66,7 +66,7 @@ where
 }
 
 const ON_FOUR: Input<'static> = Input {
-    job: PAYMENTS,
+    job: PAYMENTS_JOB,
     requests: PAYMENTS_REQUESTS,
     payments: TEN_PAYMENTS,
     threads: "4",

@@ -1,5 +1,4 @@
 use crate::tests::run::RUN;
-use crate::tests::texts::{CHAIN, FOUR_PAYMENTS};
 use crate::tests::{CALL, Case, Ran, Wanted, check_all, check_over};
 use flow_replay::{FuncTable, Landing, alone};
 use jobs::{ColumnKind, Job};
@@ -9,6 +8,7 @@ use std::process::Abort;
 use std::str;
 use std::sync::Wait;
 use std::thread::Threads;
+use test_texts::{CHAIN, FOUR_PAYMENTS};
 use tuple_trace::{Bytes, NoMemory, Row, Value};
 
 /// Two sources, a split into as many pieces as there may be, `counted` with eight workers, and a

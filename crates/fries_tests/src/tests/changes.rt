@@ -7,13 +7,6 @@ after = 0
 change = [{ node = "big", from = 0, kind = "filter", when = [["amount", ">=", 5000]] }]
 "#;
 
-/// The same after row 2.
-pub const AFTER_2: &str = r#"
-[[request]]
-after = 2
-change = [{ node = "big", from = 0, kind = "filter", when = [["amount", ">=", 5000]] }]
-"#;
-
 /// The same after the last row.
 pub const AFTER_4: &str = r#"
 [[request]]

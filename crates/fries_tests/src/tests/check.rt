@@ -1,8 +1,8 @@
-use crate::tests::texts::{CHAIN, PAYMENTS};
 use crate::tests::{CALL, Case, check_all, check_over};
 use std::process::Abort;
 use std::sync::Wait;
 use std::thread::Threads;
+use test_texts::{CHAIN, PAYMENTS_JOB};
 
 const CYCLE: &str = r#"columns = ["amount:cents"]
 
@@ -47,7 +47,7 @@ static SIZES: [Case<'static>; 2] = [
         ..CHECK
     },
     Case {
-        files: &[("job.toml", PAYMENTS)],
+        files: &[("job.toml", PAYMENTS_JOB)],
         out: "nodes 9 edges 8 workers 8 weight 14\n",
         ..CHECK
     },

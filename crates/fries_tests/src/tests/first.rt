@@ -1,5 +1,6 @@
-use crate::tests::texts::{FOUR_ALERTS, FOUR_PAYMENTS, HEADER, THREE_ALERTS, TWO_ALERTS};
+use crate::tests::texts::{FOUR_ALERTS, HEADER};
 use crate::tests::{CALL, Case, Ran, Wanted, check_all};
+use test_texts::{FOUR_PAYMENTS, THREE_ALERTS, TWO_ALERTS};
 
 const LINE: &str = "first pay.csv alerts.csv 10000 2 5000";
 

@@ -61,21 +61,3 @@ edge = [
   { from = "y", to = "less" },
 ]
 "#;
-
-/// Two sources, of which one comes to the second of two maps.
-pub const TWO_SOURCES: &str = r#"
-columns = ["amount:cents"]
-node = [
-  { name = "p", kind = "source" },
-  { name = "q", kind = "source" },
-  { name = "a", kind = "map", steps = [] },
-  { name = "b", kind = "map", steps = [] },
-  { name = "out", kind = "sink", columns = ["amount"] },
-]
-edge = [
-  { from = "p", to = "a" },
-  { from = "a", to = "b" },
-  { from = "q", to = "b" },
-  { from = "b", to = "out" },
-]
-"#;

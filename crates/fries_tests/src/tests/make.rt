@@ -1,5 +1,5 @@
-use crate::tests::texts::{CHAIN, PAYMENTS};
 use crate::tests::{CALL, Case, Ran, check_all, check_lines, check_prints};
+use test_texts::{CHAIN, PAYMENTS_JOB};
 
 /// A job of three maps without steps in a row. Its weight is 4.
 const THREE_MAPS: &str = r#"columns = ["account:text", "amount:cents"]
@@ -41,7 +41,7 @@ to = "ledger"
 const FILES: [(&str, &str); 3] = [
     ("maps", THREE_MAPS),
     ("chain", CHAIN),
-    ("payments", PAYMENTS),
+    ("payments", PAYMENTS_JOB),
 ];
 
 /// A run that writes no file.

@@ -1,6 +1,7 @@
-use crate::tests::graphs::{SPLIT_ABOVE, THREE_MAPS, TWO_PARTS, TWO_SOURCES};
-use crate::tests::texts::{CHAIN, COPIES, PAYMENTS, PAYMENTS_REQUESTS};
+use crate::tests::graphs::{SPLIT_ABOVE, THREE_MAPS, TWO_PARTS};
+use crate::tests::texts::COPIES;
 use crate::tests::{CALL, Case, check_all};
+use test_texts::{CHAIN, PAYMENTS_JOB, PAYMENTS_REQUESTS, TWO_SOURCES};
 
 const PLAN: Case<'static> = Case {
     line: "plan job.toml requests.toml",
@@ -101,7 +102,10 @@ fn beside_the_head(rt: HostRuntime) {
 }
 
 const PAYMENTS_PLAN: Case<'static> = Case {
-    files: &[("job.toml", PAYMENTS), ("requests.toml", PAYMENTS_REQUESTS)],
+    files: &[
+        ("job.toml", PAYMENTS_JOB),
+        ("requests.toml", PAYMENTS_REQUESTS),
+    ],
     status: 8,
     out: "request 1 asked big,hot members big,hot heads big parts 1 edges big-hot
 request 2 asked often members often heads often parts 1 edges -
@@ -168,7 +172,7 @@ change = [{ node = "big", from = 0, kind = "filter", when = [] }]
 "#;
 
 static EVERY_REASON: [Case<'static>; 1] = [Case {
-    files: &[("job.toml", PAYMENTS), ("requests.toml", REFUSED)],
+    files: &[("job.toml", PAYMENTS_JOB), ("requests.toml", REFUSED)],
     status: 8,
     out: "request 1 asked often members often heads often parts 1 edges -
 refused 2 Q1 change 1

@@ -1,14 +1,15 @@
 use crate::tests::changes::{
-    AFTER_2, AFTER_2_AND_3, AFTER_4, AT_FIRST, AT_THE_FRONT, TIMES_A_MILLION, UNCHANGED,
+    AFTER_2_AND_3, AFTER_4, AT_FIRST, AT_THE_FRONT, TIMES_A_MILLION, UNCHANGED,
 };
-use crate::tests::texts::{
-    CHAIN, FOUR_ALERTS, FOUR_PAYMENTS, HEADER, PAYMENTS, PAYMENTS_ALERTS, PAYMENTS_REQUESTS,
-    TEN_PAYMENTS, THREE_ALERTS, TWO_ALERTS,
-};
+use crate::tests::texts::{FOUR_ALERTS, HEADER};
 use crate::tests::{CALL, Case, Ran, Wanted, check_all};
 use std::process::Abort;
 use std::sync::Wait;
 use std::thread::Threads;
+use test_texts::{
+    AUDIT_OF_NONE, CHAIN, FOUR_PAYMENTS, PAYMENTS_ALERTS, PAYMENTS_JOB, PAYMENTS_REQUESTS,
+    REVIEW_ALERTS, SPACED_AFTER_2, TEN_PAYMENTS, THREE_ALERTS, TWO_ALERTS,
+};
 
 const LINE: &str = "run job.toml requests.toml payments.csv alerts.csv audit.csv";
 
@@ -21,12 +22,6 @@ pub const RUN: Case<'static> = Case {
 };
 
 pub const NO_PAYMENTS: &str = "source,account,merchant,amount,tags\n";
-
-const AUDIT_OF_NONE: &str = "entry,node,worker,lane,number,extra
-stopped,,,,,
-ended,big,0,0,,
-ended,alerts,0,1,,
-";
 
 const NOT_PAID: [(&str, &str); 3] = [
     ("job.toml", CHAIN),
@@ -82,7 +77,7 @@ alerts,4,d,m,99.99,
 static LATER_ROWS: [Case<'static>; 1] = [Case {
     files: &[
         ("job.toml", CHAIN),
-        ("requests.toml", AFTER_2),
+        ("requests.toml", SPACED_AFTER_2),
         ("payments.csv", TWO_AND_TWO),
     ],
     alerts: Wanted::Text(ALERTS_OF_TWO_AND_TWO),
@@ -104,7 +99,7 @@ static NARROW: [Case<'static>; 2] = [
     Case {
         files: &[
             ("job.toml", CHAIN),
-            ("requests.toml", AFTER_2),
+            ("requests.toml", SPACED_AFTER_2),
             ("payments.csv", FOUR_PAYMENTS),
         ],
         line: RUN_NARROW,
@@ -147,9 +142,9 @@ fn stale_request(rt: HostRuntime) {
     check_all(&rt, &STALE);
 }
 
-static PAYMENTS_JOB: [Case<'static>; 1] = [Case {
+static PAYMENTS: [Case<'static>; 1] = [Case {
     files: &[
-        ("job.toml", PAYMENTS),
+        ("job.toml", PAYMENTS_JOB),
         ("requests.toml", PAYMENTS_REQUESTS),
         ("payments.csv", TEN_PAYMENTS),
     ],
@@ -161,7 +156,7 @@ static PAYMENTS_JOB: [Case<'static>; 1] = [Case {
 
 #[test]
 fn payments_job(rt: HostRuntime) {
-    check_all(&rt, &PAYMENTS_JOB);
+    check_all(&rt, &PAYMENTS);
 }
 
 /// Jobs with one map, and how the amount of a payment is shown.
@@ -216,19 +211,14 @@ fn quoted_merchant(rt: HostRuntime) {
     check_all(&rt, &QUOTED);
 }
 
-const ORDERED_ALERTS: &str = "sink,row,account,merchant,amount,risk,seen
-review,2,bob,casino,250.00,3,
-review,6,fay,casino,75.00,3,
-";
-
 static ORDERED: [Case<'static>; 1] = [Case {
     files: &[
-        ("job.toml", PAYMENTS),
+        ("job.toml", PAYMENTS_JOB),
         ("requests.toml", AT_THE_FRONT),
         ("payments.csv", TEN_PAYMENTS),
     ],
     line: "run job.toml requests.toml payments.csv alerts.csv audit.csv --ordered",
-    alerts: Wanted::Text(ORDERED_ALERTS),
+    alerts: Wanted::Text(REVIEW_ALERTS),
     out: "serial 0 10\nrows 10 alerts 2 requests 1 refused 0\n",
     ..RUN
 }];

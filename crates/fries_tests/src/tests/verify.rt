@@ -1,21 +1,10 @@
 use crate::tests::run::NO_PAYMENTS;
-use crate::tests::texts::{CHAIN, FOUR_PAYMENTS, TWO_ALERTS};
 use crate::tests::{CALL, Case, Ran, Wanted, check_all, check_lines, check_over};
 use std::alloc::Global;
 use std::process::Abort;
 use std::sync::Wait;
 use std::thread::Threads;
-
-const AUDIT_OF_NONE: &str = "entry,node,worker,lane,number,extra
-stopped,,,,,
-ended,big,0,0,,
-ended,alerts,0,1,,
-";
-
-const AUDIT_CUT: &str = "entry,node,worker,lane,number,extra
-stopped,,,,,
-ended,alerts,0,1,,
-";
+use test_texts::{AUDIT_CUT, AUDIT_OF_FOUR, AUDIT_OF_NONE, CHAIN, FOUR_PAYMENTS, TWO_ALERTS};
 
 const VERIFY: Case<'static> = Case {
     line: "verify job.toml requests.toml payments.csv audit.csv",
@@ -54,12 +43,6 @@ static EMPTY: [Case<'static>; 2] = [
 fn verify_empty(rt: HostRuntime) {
     check_all(&rt, &EMPTY);
 }
-
-const AUDIT_OF_FOUR: &str = "entry,node,worker,lane,number,extra
-fed,,,,1,\nfed,,,,2,\nfed,,,,3,\nfed,,,,4,\nstopped,,,,,
-met,big,0,0,1,\nmet,big,0,0,2,\nmet,big,0,0,3,\nmet,big,0,0,4,\nended,big,0,0,,
-met,alerts,0,1,2,\nmet,alerts,0,1,4,\nended,alerts,0,1,,
-";
 
 /// A part of the audit, what stands in its place, and the line of the fault.
 static DAMAGES: [(&str, &str, &str); 4] = [

@@ -1,9 +1,9 @@
 //! Audits of `live`, of `stream` and of `resume`, each read as what it is and as what it isn't.
-use crate::tests::texts::{CHAIN, FOUR_PAYMENTS, TWO_ALERTS};
 use crate::tests::{CALL, Case, Ran, Wanted, check_over};
 use std::process::Abort;
 use std::sync::Wait;
 use std::thread::Threads;
+use test_texts::{AUDIT_OF_FOUR, CHAIN, FOUR_PAYMENTS, TWO_ALERTS};
 
 /// A request that asks for one row.
 const AFTER_ONE: &str = r#"[[request]]
@@ -30,13 +30,6 @@ turned,big,0,,1,\nmet,big,0,0,1,\nmet,big,0,0,2,\nmet,big,0,0,3,\nmet,big,0,0,4,
 met,alerts,0,1,1,\nmet,alerts,0,1,2,\nmet,alerts,0,1,3,\nmet,alerts,0,1,4,\nended,alerts,0,1,,
 ";
 
-/// It was never issued.
-const NOT_ISSUED: &str = "entry,node,worker,lane,number,extra
-fed,,,,1,\nfed,,,,2,\nfed,,,,3,\nfed,,,,4,\nstopped,,,,,
-met,big,0,0,1,\nmet,big,0,0,2,\nmet,big,0,0,3,\nmet,big,0,0,4,\nended,big,0,0,,
-met,alerts,0,1,2,\nmet,alerts,0,1,4,\nended,alerts,0,1,,
-";
-
 const PLAIN: &str = "verify job.toml requests.toml payments.csv audit.csv";
 
 const LIVE: &str = "verify --live job.toml requests.toml payments.csv audit.csv alerts.csv";
@@ -46,7 +39,7 @@ const SAVED: &str = "verify job.toml requests.toml payments.csv audit.csv --save
 /// A file, the words, the status, and what is printed.
 type Reading = (&'static str, &'static str, u8, &'static str);
 
-/// Audits over four payments, and how they are read.
+/// Audits over four payments, and how they are read. In the last one the request was never issued.
 static OF_LIVE: [Reading; 4] = [
     (
         ISSUED_LATE,
@@ -56,7 +49,7 @@ static OF_LIVE: [Reading; 4] = [
     ),
     (ISSUED_LATE, PLAIN, 11, "fault 11 V3 record 2\n"),
     (ISSUED_EARLY, LIVE, 11, "fault 11 V3 record 1\n"),
-    (NOT_ISSUED, LIVE, 11, "fault 11 V3 record 5\n"),
+    (AUDIT_OF_FOUR, LIVE, 11, "fault 11 V3 record 5\n"),
 ];
 
 fn check_live<R>(rt: &R, reading: &Reading)

@@ -1,7 +1,8 @@
-use crate::tests::texts::{
-    CHAIN, FOUR_PAYMENTS, PAYMENTS, PAYMENTS_ALERTS, PAYMENTS_REQUESTS, TEN_PAYMENTS, TWO_ALERTS,
-};
 use crate::tests::{CALL, Case, Ran, Wanted, check_all, check_lines, check_prints};
+use test_texts::{
+    CHAIN, FOUR_PAYMENTS, PAYMENTS_ALERTS, PAYMENTS_JOB, PAYMENTS_REQUESTS, TEN_PAYMENTS,
+    TWO_ALERTS,
+};
 
 /// The chain, no request, and the four payments.
 const FILES: [(&str, &str); 3] = [("j", CHAIN), ("r", ""), ("p", FOUR_PAYMENTS)];
@@ -174,7 +175,7 @@ fn options_of_run(rt: HostRuntime) {
 
 static TWO_THREADS: [Case<'static>; 1] = [Case {
     files: &[
-        ("j", PAYMENTS),
+        ("j", PAYMENTS_JOB),
         ("r", PAYMENTS_REQUESTS),
         ("p", TEN_PAYMENTS),
     ],

@@ -8,6 +8,7 @@ use payments::read_rows;
 use sink_journal::{Entry, Journal, Journals, alerts_header_text, alerts_part_text};
 use std::process::Abort;
 use std::thread::Threads;
+use test_texts::{PAYMENTS_ALERTS, THREE_ALERTS};
 use text_threads::Team;
 use tuple_trace::{Bytes, Row};
 
@@ -175,12 +176,6 @@ card,c,m,50.00,
 card,d,m,120.00,
 ";
 
-const FOUR_ALERTS: &str = "sink,row,account,merchant,amount,tags
-alerts,2,b,m,100.00,
-alerts,3,c,m,50.00,
-alerts,4,d,m,120.00,
-";
-
 const HEADER: &str = "sink,row,account,merchant,amount,tags\n";
 
 static NONE_MET: &[&[usize]] = &[&[0, 1, 2, 3], &[]];
@@ -194,7 +189,7 @@ static THREE_MET: &[&[usize]] = &[&[0, 1, 2, 3], &[1, 2, 3]];
 
 #[test]
 fn four_payments(rt: HostRuntime) {
-    check_alerts(&rt, CHAIN, FOUR_PAYMENTS, THREE_MET, FOUR_ALERTS);
+    check_alerts(&rt, CHAIN, FOUR_PAYMENTS, THREE_MET, THREE_ALERTS);
 }
 
 static MET_IN_TWO_PARTS: &[&[&[usize]]] = &[&[&[0, 1], &[1]], &[&[2, 3], &[2, 3]]];
@@ -202,7 +197,7 @@ static MET_IN_TWO_PARTS: &[&[&[usize]]] = &[&[&[0, 1], &[1]], &[&[2, 3], &[2, 3]
 // One sink worker, so the records of two parts are those of the whole.
 #[test]
 fn four_payments_in_two_parts(rt: HostRuntime) {
-    check_parts(&rt, CHAIN, FOUR_PAYMENTS, MET_IN_TWO_PARTS, FOUR_ALERTS);
+    check_parts(&rt, CHAIN, FOUR_PAYMENTS, MET_IN_TWO_PARTS, THREE_ALERTS);
 }
 
 #[test]
@@ -243,13 +238,7 @@ static FOUR_MET: &[&[usize]] = &[&[], &[8], &[1, 5], &[], &[8, 9]];
 
 #[test]
 fn payments_job(rt: HostRuntime) {
-    let want = "sink,row,account,merchant,amount,risk,seen
-review,2,bob,casino,250.00,3,
-review,6,fay,casino,75.00,3,
-watch,9,ann,\"A, \"\"B\"\" Ltd\",,,2
-watch,10,gus,grocer,,,2
-";
-    check_alerts(&rt, TWO_SINKS, TEN_PAYMENTS, FOUR_MET, want);
+    check_alerts(&rt, TWO_SINKS, TEN_PAYMENTS, FOUR_MET, PAYMENTS_ALERTS);
 }
 
 static FIVE_MET_IN_TWO_PARTS: &[&[&[usize]]] = &[

@@ -1,9 +1,10 @@
 // Which requests are accepted, and why others aren't.
 use super::change_cases::{self, Case, EARLIER, LATER, TWO_SPLITS};
-use super::files::{CHAIN, KINDS, PAYMENTS, REQUESTS, ROOF};
+use super::files::{KINDS, REQUESTS, ROOF};
 use super::fixtures::{check, job_in, requests_in, stream_requests_in};
 use jobs::{Func, Job};
 use std::process::Abort;
+use test_texts::{CHAIN, PAYMENTS_JOB};
 use versions::{Book, Judged, QFault, Refused, Request, judge, judge_all, judge_within};
 
 /// How many requests are accepted, and the first two that aren't.
@@ -107,7 +108,7 @@ fn requests_of_the_payments(rt: HostRuntime) {
     };
     check(
         &rt,
-        fate(&rt, PAYMENTS, &[REQUESTS]),
+        fate(&rt, PAYMENTS_JOB, &[REQUESTS]),
         (2, Some(stale), None),
     );
 }
@@ -115,7 +116,7 @@ fn requests_of_the_payments(rt: HostRuntime) {
 #[test]
 fn refused_changes(rt: HostRuntime) {
     check_changes(&rt, CHAIN, change_cases::OF_THE_CHAIN);
-    check_changes(&rt, PAYMENTS, change_cases::OF_PAYMENTS);
+    check_changes(&rt, PAYMENTS_JOB, change_cases::OF_PAYMENTS);
     check_changes(&rt, KINDS, change_cases::OF_KINDS);
 }
 

@@ -1,5 +1,5 @@
 // Job files, and the first fault of each.
-use super::files::{CHAIN, PAYMENTS, ROOF};
+use super::files::ROOF;
 use super::fixtures::{check, job_in, read, read_bytes};
 use super::{edge_cases, func_cases, job_cases};
 use job_file::{JobFault, faulty_is_no_job, files_have_one_fault};
@@ -8,6 +8,7 @@ use jobs::{
     weights_settle, worker_count,
 };
 use std::process::Abort;
+use test_texts::{CHAIN, PAYMENTS_JOB};
 
 /// The columns and a table of a small job.
 const COLUMNS: &str =
@@ -104,7 +105,7 @@ type Sizes = (usize, u32, u64, u64);
 
 static EXAMPLES: &[(&str, Sizes)] = &[
     (CHAIN, (3, 2, 2, 2)),
-    (PAYMENTS, (9, 8, 8, 14)),
+    (PAYMENTS_JOB, (9, 8, 8, 14)),
     (ROOF, (4, 3, 3, 7)),
 ];
 

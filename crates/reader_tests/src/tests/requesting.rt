@@ -1,11 +1,12 @@
 // Request files, and the first fault of each.
-use super::files::{PAYMENTS, REQUESTS};
+use super::files::REQUESTS;
 use super::fixtures::{check, job_in, joined, repeated, requests_in};
 use super::request_cases;
 use job_file::{ReqFileFault, Which, read_requests};
 use jobs::Func;
 use keyed_state::Carry;
 use std::process::Abort;
+use test_texts::PAYMENTS_JOB;
 use versions::Request;
 
 /// How many requests a reader finds in a file.
@@ -27,7 +28,7 @@ const REQUEST: &str = "[[request]]\nafter = 4\n[[request.change]]\n";
 const CARRIED: &str = "node = \"tally\"\nfrom = 0\nkind = \"source\"\ncarry = ";
 
 fn asked(rt: &(impl AllocGlobal + Abort), pieces: &[&str]) -> Asked {
-    let job = job_in(rt, &[PAYMENTS]);
+    let job = job_in(rt, &[PAYMENTS_JOB]);
     let text = joined(rt, pieces);
     match read_requests(rt.alloc(), &job, text.as_bytes()) {
         Ok(requests) => Ok(requests.len()),
@@ -108,7 +109,7 @@ fn check_told(rt: &impl Abort, requests: &[Request]) {
 
 #[test]
 fn requests_of_the_example(rt: HostRuntime) {
-    let job = job_in(&rt, &[PAYMENTS]);
+    let job = job_in(&rt, &[PAYMENTS_JOB]);
     let requests = requests_in(&rt, &job, &[REQUESTS]);
     check_told(&rt, requests.as_slice());
 }

@@ -1,17 +1,17 @@
 //! The runs whose audits are checked.
-use crate::tests::chains::CHAIN;
 use crate::tests::payments_job;
 use plain_runs::Inputs;
+use test_texts::{AMOUNT_CHAIN, PAYMENTS_JOB, TEN_PAYMENTS};
 
 pub const NO_PAYMENTS: Inputs<'_> = Inputs {
-    job: CHAIN,
+    job: AMOUNT_CHAIN,
     requests: "",
     payments: "source,amount\n",
     ordered: false,
 };
 
 pub const FOUR_PAYMENTS: Inputs<'_> = Inputs {
-    job: CHAIN,
+    job: AMOUNT_CHAIN,
     requests: "",
     payments: "source,amount
 card,99.99
@@ -25,7 +25,7 @@ card,12.00
 /// Payments over a filter, a counter with two workers and two sinks. Of the three requests the last
 /// is refused.
 pub const PAYMENTS: Inputs<'_> = Inputs {
-    job: payments_job::JOB,
+    job: PAYMENTS_JOB,
     requests: r#"[[request]]
 after = 4
 [[request.change]]
@@ -53,6 +53,6 @@ from = 0
 kind = "filter"
 when = [["amount", ">=", 20000]]
 "#,
-    payments: payments_job::PAYMENTS,
+    payments: TEN_PAYMENTS,
     ordered: false,
 };

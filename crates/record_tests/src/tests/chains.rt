@@ -1,41 +1,6 @@
 //! Small jobs, with their requests and payments.
 
-/// A source, a filter and a sink in a row.
-pub const CHAIN: &str = r#"columns = ["amount:cents"]
-node = [
-  { name = "card", kind = "source" },
-  { name = "big", kind = "filter", when = [["amount", ">=", 10000]] },
-  { name = "alerts", kind = "sink", columns = ["amount"] },
-]
-edge = [
-  { from = "card", to = "big" },
-  { from = "big", to = "alerts" },
-]
-"#;
-
-pub const FOUR_PAYMENTS: &str = "source,amount
-card,99.99
-card,100.00
-card,50.00
-card,120.00
-";
-
-/// The filter's threshold falls after row 2.
-pub const AFTER_2: &str = r#"[[request]]
-after = 2
-change = [{ node = "big", from = 0, kind = "filter", when = [["amount", ">=", 5000]] }]
-"#;
-
-/// It falls twice after row 3.
-pub const TWICE_AFTER_3: &str = r#"[[request]]
-after = 3
-change = [{ node = "big", from = 0, kind = "filter", when = [["amount", ">=", 5000]] }]
-[[request]]
-after = 3
-change = [{ node = "big", from = 1, kind = "filter", when = [["amount", ">=", 5000]] }]
-"#;
-
-/// It falls before the first row, and after row 99.
+/// The filter's threshold falls before the first row, and after row 99.
 pub const AT_BOTH_ENDS: &str = r#"[[request]]
 after = 0
 change = [{ node = "big", from = 0, kind = "filter", when = [["amount", ">=", 5000]] }]

@@ -4,14 +4,7 @@ use crate::tests::case::{Said, has_fault, said_from};
 use audit_fault::AuditFault;
 use save_file::read_save;
 use std::alloc::Global;
-
-/// What is saved of the payments after row 8.
-const SAVE: &str = "\
-fries,save,8,2
-tally,0,dee,1
-tally,1,ann,1
-tally,1,gus,1
-";
+use test_texts::SAVE_OF_8;
 
 /// The audit of rows 9 and 10, as that of all ten has their steps. Both requests turned before.
 const AUDIT: &str = "\
@@ -95,7 +88,7 @@ fn said_after(alloc: Global, save: &str, turned: u64, text: &str) -> Said {
 }
 
 fn is_verified_after(alloc: Global, turned: u64, text: &str) -> bool {
-    match said_after(alloc, SAVE, turned, text) {
+    match said_after(alloc, SAVE_OF_8, turned, text) {
         Said::Run(again) => again.as_slice() == text.as_bytes(),
         Said::Fault(_) | Said::Nothing => false,
     }
@@ -117,8 +110,8 @@ fn the_last_two_payments_are_verified(rt: HostRuntime) {
 fn a_request_for_an_earlier_row_is_issued_first(rt: HostRuntime) {
     assert!(rt; is_verified_after(rt.alloc(), 1, AUDIT_OF_A_LATE_REQUEST));
     let fed_first = AuditFault::Feed(2);
-    assert!(rt; is_refused_after(rt.alloc(), SAVE, 1, AUDIT, fed_first));
-    assert!(rt; is_refused_after(rt.alloc(), SAVE, 2, AUDIT_OF_A_LATE_REQUEST, fed_first));
+    assert!(rt; is_refused_after(rt.alloc(), SAVE_OF_8, 1, AUDIT, fed_first));
+    assert!(rt; is_refused_after(rt.alloc(), SAVE_OF_8, 2, AUDIT_OF_A_LATE_REQUEST, fed_first));
 }
 
 /// What is saved if nothing was counted.

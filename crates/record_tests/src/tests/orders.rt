@@ -1,14 +1,15 @@
-use crate::tests::payments_job::{AFTER_4, AFTER_4_AND_8, AT_FIRST, PAYMENTS, inputs};
+use crate::tests::payments_job::{AFTER_4, AFTER_4_AND_8, AT_FIRST, inputs};
 use flow_replay::{RunRecord, Setup};
 use jobs::Func;
 use plain_runs::rows_of;
 use serial_order::{push_serial_line, serial, table_at};
 use std::alloc::Global;
+use test_texts::TEN_PAYMENTS;
 use tuple_trace::{Bytes, NoMemory, Value};
 
 /// Whether the line of the run's order is this one.
 fn tells(alloc: Global, ran: &RunRecord, wanted: &str) -> Result<bool, NoMemory> {
-    let rows = rows_of(alloc, &ran.setup.job, PAYMENTS).ok_or(NoMemory)?;
+    let rows = rows_of(alloc, &ran.setup.job, TEN_PAYMENTS).ok_or(NoMemory)?;
     let order = serial(alloc, ran, &rows)?;
     let mut line = Bytes::new(alloc);
     push_serial_line(alloc, &order, ran.setup.request_count(), &mut line)?;

@@ -1,103 +1,16 @@
 //! The payments job of examples/payments, its payments and its first requests.
 use plain_runs::Inputs;
+use test_texts::{PAYMENTS_JOB, TEN_PAYMENTS};
 
 /// The job and its payments in ordered mode, with these requests.
 pub fn inputs(requests: &str) -> Inputs<'_> {
     Inputs {
-        job: JOB,
+        job: PAYMENTS_JOB,
         requests,
-        payments: PAYMENTS,
+        payments: TEN_PAYMENTS,
         ordered: true,
     }
 }
-
-pub const JOB: &str = r#"columns = ["account:text", "merchant:text", "amount:cents",
-           "risk:number:own", "seen:number:own"]
-
-[tables.risks]
-casino = 3
-fuel = 2
-
-[[node]]
-name = "card"
-kind = "source"
-[[node]]
-name = "wire"
-kind = "source"
-[[node]]
-name = "rate"
-kind = "enrich"
-key = "merchant"
-into = "risk"
-table = "risks"
-other = 1
-[[node]]
-name = "big"
-kind = "filter"
-when = [["amount", ">=", 10000]]
-[[node]]
-name = "hot"
-kind = "filter"
-when = [["risk", ">=", 2]]
-[[node]]
-name = "tally"
-kind = "count"
-workers = 2
-key = "account"
-add = 1
-into = "seen"
-[[node]]
-name = "review"
-kind = "sink"
-columns = ["account", "merchant", "amount", "risk"]
-[[node]]
-name = "often"
-kind = "filter"
-when = [["seen", ">=", 3]]
-[[node]]
-name = "watch"
-kind = "sink"
-columns = ["account", "merchant", "seen"]
-
-[[edge]]
-from = "card"
-to = "rate"
-[[edge]]
-from = "wire"
-to = "rate"
-[[edge]]
-from = "rate"
-to = "big"
-[[edge]]
-from = "big"
-to = "hot"
-[[edge]]
-from = "big"
-to = "tally"
-port = 1
-[[edge]]
-from = "hot"
-to = "review"
-[[edge]]
-from = "tally"
-to = "often"
-[[edge]]
-from = "often"
-to = "watch"
-"#;
-
-pub const PAYMENTS: &str = r#"source,account,merchant,amount
-card,ann,grocer,20.00
-card,bob,casino,250.00
-wire,cid,grocer,1200.00
-card,dee,fuel,45.50
-card,eve,fuel,60.00
-card,fay,casino,75.00
-card,bob,fuel,130.00
-card,gus,grocer,10.00
-card,ann,"A, ""B"" Ltd",12.00
-card,gus,grocer,5.00
-"#;
 
 /// After row 4 the first request lowers the threshold of `big` and raises that of `hot`.
 pub const AFTER_4: &str = r#"[[request]]

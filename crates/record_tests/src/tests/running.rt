@@ -2,20 +2,21 @@ ghost use Rattle.std.specs.Prelude.{◌<◌, length};
 ghost use Rattle.flow_model.specs.Setup.{setup_view};
 ghost use Rattle.flow_model.specs.Workers.{workers_in};
 
-use crate::tests::chains::{AFTER_2, AT_BOTH_ENDS, CHAIN, FOUR_PAYMENTS, TWICE_AFTER_3};
+use crate::tests::chains::AT_BOTH_ENDS;
 use flow_model::{Setup, Start};
 use flow_replay::{Replayed, RunRecord, replay};
 use plain_runs::Inputs;
 use sink_journal::{Entry, Feed, Journal};
 use std::alloc::Global;
+use test_texts::{AFTER_2, AMOUNT_CHAIN, FOUR_AMOUNTS, TWICE_AFTER_3};
 use tuple_trace::Item;
 
 /// The run of the four payments through the chain.
 fn ran(alloc: Global, requests: &str) -> Option<Box<RunRecord>> {
     let inputs = Inputs {
-        job: CHAIN,
+        job: AMOUNT_CHAIN,
         requests,
-        payments: FOUR_PAYMENTS,
+        payments: FOUR_AMOUNTS,
         ordered: false,
     };
     inputs.run(alloc)

@@ -5,15 +5,8 @@ use plain_runs::{rows_of, run_of};
 use save_file::{issued_up_to, read_save, save_text, start_of};
 use savepoint::{SaveFault, first_of};
 use std::alloc::Global;
+use test_texts::SAVE_OF_8;
 use tuple_trace::Bytes;
-
-/// What is saved of the payments after row 8.
-const SAVE: &str = "\
-fries,save,8,2
-tally,0,dee,1
-tally,1,ann,1
-tally,1,gus,1
-";
 
 /// The run of the first eight rows, with the requests up to there.
 fn first_run(alloc: Global) -> Option<Box<RunRecord>> {
@@ -52,7 +45,7 @@ fn saves_text(alloc: Global, ran: &RunRecord) -> Option<bool> {
         return None;
     };
     let text = text_of(alloc, &ran.setup, &start)?;
-    Some(text.as_slice() == SAVE.as_bytes())
+    Some(text.as_slice() == SAVE_OF_8.as_bytes())
 }
 
 #[test]
@@ -67,11 +60,11 @@ fn is_read_again(alloc: Global) -> Option<bool> {
 }
 
 fn reads_again(alloc: Global, setup: &Setup) -> Option<bool> {
-    let Ok(start) = read_save(alloc, setup, 10, SAVE.as_bytes()) else {
+    let Ok(start) = read_save(alloc, setup, 10, SAVE_OF_8.as_bytes()) else {
         return None;
     };
     let text = text_of(alloc, setup, &start)?;
-    Some(text.as_slice() == SAVE.as_bytes())
+    Some(text.as_slice() == SAVE_OF_8.as_bytes())
 }
 
 #[test]

@@ -1,14 +1,14 @@
 //! Which records of an audit are in shape, and which code comes first.
-use crate::tests::chains::CHAIN;
 use audit_check::{check_text, read_audit};
 use audit_fault::AuditFault;
 use flow_model::{Setup, Start};
 use plain_runs::{job_of, rows_of, setup_of};
 use sink_journal::Noted;
 use std::alloc::Global;
+use test_texts::{AMOUNT_CHAIN, AUDIT_OF_NONE};
 
 fn setup(alloc: Global) -> Option<Box<Setup>> {
-    setup_of(alloc, job_of(alloc, CHAIN)?, "", false)
+    setup_of(alloc, job_of(alloc, AMOUNT_CHAIN)?, "", false)
 }
 
 /// The first record of a text that is out of shape.
@@ -33,12 +33,6 @@ fn shape_by(alloc: Global, setup: &Setup, text: &str) -> Shape {
         Err(_) => Shape::Unknown,
     }
 }
-
-const AUDIT_OF_NONE: &str = "entry,node,worker,lane,number,extra
-stopped,,,,,
-ended,big,0,0,,
-ended,alerts,0,1,,
-";
 
 #[test]
 fn the_audit_of_no_payments(rt: HostRuntime) {

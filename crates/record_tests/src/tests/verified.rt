@@ -4,19 +4,13 @@ use crate::tests::case::{audit_of, has_fault, is_verified};
 use audit_fault::AuditFault;
 use plain_runs::Inputs;
 use std::alloc::Global;
-
-const AUDIT_OF_NONE: &str = "entry,node,worker,lane,number,extra
-stopped,,,,,
-ended,big,0,0,,
-ended,alerts,0,1,,
-";
+use test_texts::{AUDIT_CUT, AUDIT_OF_NONE};
 
 #[test]
 fn verify_empty(rt: HostRuntime) {
     let alloc = rt.alloc();
     assert!(rt; is_verified(alloc, NO_PAYMENTS, AUDIT_OF_NONE.as_bytes()));
-    let short = "entry,node,worker,lane,number,extra\nstopped,,,,,\nended,alerts,0,1,,\n";
-    assert!(rt; has_fault(alloc, NO_PAYMENTS, short.as_bytes(), AuditFault::Law(0)));
+    assert!(rt; has_fault(alloc, NO_PAYMENTS, AUDIT_CUT.as_bytes(), AuditFault::Law(0)));
 }
 
 const AUDIT_OF_FOUR: &str = "entry,node,worker,lane,number,extra

@@ -1,7 +1,7 @@
 //! The records of both parts, joined to one.
 
 use crate::tests::plain::{Texts, inputs_of, texts_of};
-use crate::tests::texts::{PAYMENTS_ALERTS, TEN};
+use crate::tests::texts::TEN;
 use crate::tests::{Around, record_of, shelf_of};
 use flow_model::{RunRecord, Setup};
 use payments::MemoryShelf;
@@ -9,6 +9,7 @@ use std::alloc::Global;
 use std::str;
 use std::sync::Wait;
 use std::thread::Threads;
+use test_texts::PAYMENTS_ALERTS;
 use tuple_trace::NoMemory;
 
 /// Both commands, on one thread and on four.

@@ -6,23 +6,10 @@ use std::alloc::Global;
 use std::str;
 use std::sync::Wait;
 use std::thread::Threads;
+use test_texts::{COUNTER, REVIEW_ALERTS, SAVE_OF_8};
 
 /// What stands in files that a call doesn't change.
 const OLD: &str = "old\n";
-
-const SAVED: &str = "\
-fries,save,8,2
-tally,0,dee,1
-tally,1,ann,1
-tally,1,gus,1
-";
-
-/// The review alerts of rows 2 and 6.
-const FIRST_ALERTS: &str = "\
-sink,row,account,merchant,amount,risk,seen
-review,2,bob,casino,250.00,3,
-review,6,fay,casino,75.00,3,
-";
 
 /// The watch alerts of rows 9 and 10: both accounts are seen for the second time.
 const LATER_ALERTS: &str = r#"sink,row,account,merchant,amount,risk,seen
@@ -54,7 +41,7 @@ fn save(rt: HostRuntime) {
     let left = Left {
         status: 8,
         out: "refused 3 Q4 change 1 current 1\nrows 8 alerts 2 requests 3 refused 1\n",
-        after: [Some(FIRST_ALERTS), None, Some(SAVED)],
+        after: [Some(REVIEW_ALERTS), None, Some(SAVE_OF_8)],
     };
     for line in SAVE {
         assert!(rt; leaves(&rt, rt.alloc(), before(OLD), line, left), "{line}");
@@ -66,11 +53,11 @@ fn resume(rt: HostRuntime) {
     let left = Left {
         status: 8,
         out: "refused 3 Q4 change 1 current 1\nrows 2 alerts 2 requests 3 refused 1\n",
-        after: [Some(LATER_ALERTS), None, Some(SAVED)],
+        after: [Some(LATER_ALERTS), None, Some(SAVE_OF_8)],
     };
     for line in RESUME {
         assert!(rt;
-            leaves(&rt, rt.alloc(), before(SAVED), line, left),
+            leaves(&rt, rt.alloc(), before(SAVE_OF_8), line, left),
             "{line}"
         );
     }
@@ -126,15 +113,15 @@ fn refused_savepoints(rt: HostRuntime) {
     }
 }
 
-/// The lengths of the cuts of `SAVED` that are read: after the first record, and after each count,
-/// with its line feed or without.
+/// The lengths of the cuts of `SAVE_OF_8` that are read: after the first record, and after each
+/// count, with its line feed or without.
 const READ: [usize; 7] = [14, 15, 28, 29, 42, 43, 56];
 
 fn is_read<R>(rt: &R, alloc: Global, length: usize) -> bool
 where
     R: Threads + Wait + Copy + Send + Sync + 'static,
 {
-    let Some(bytes) = SAVED.as_bytes().get(..length) else {
+    let Some(bytes) = SAVE_OF_8.as_bytes().get(..length) else {
         return false;
     };
     let Ok(save) = str::from_utf8(bytes) else {
@@ -149,7 +136,7 @@ where
 /// A savepoint that was cut is told unless the rest has the form of one.
 #[test]
 fn cut_savepoints(rt: HostRuntime) {
-    for length in 0..SAVED.len() {
+    for length in 0..SAVE_OF_8.len() {
         assert_eq!(rt;
             is_read(&rt, rt.alloc(), length),
             READ.contains(&length),
@@ -176,14 +163,7 @@ edge = [{ from = "card", to = "c" }, { from = "c", to = "out" }]
 
 /// A counter of three workers: `bob` goes to the second, and `ann` to the third.
 const THREE: Input<'static> = Input {
-    job: r#"columns = ["account:text", "seen:number:own"]
-node = [
-  { name = "card", kind = "source" },
-  { name = "c", kind = "count", workers = 3, key = "account", add = 1, into = "seen" },
-  { name = "out", kind = "sink", columns = ["account", "seen"] },
-]
-edge = [{ from = "card", to = "c" }, { from = "c", to = "out" }]
-"#,
+    job: COUNTER,
     requests: "",
     payments: FOUR,
 };

@@ -4,7 +4,7 @@ ghost use Rattle.jobs.specs.Job.{job_view};
 ghost use Rattle.jobs.specs.Nodes.{AreFromSources};
 
 use crate::tests::plain::{Texts, texts_of};
-use crate::tests::texts::{PAYMENTS_ALERTS, TEN};
+use crate::tests::texts::TEN;
 use flow_engine::{Engine, run_from};
 use flow_model::{RunRecord, Setup, Start};
 use jobs::Job;
@@ -17,6 +17,7 @@ use std::alloc::Global;
 use std::str;
 use std::sync::Wait;
 use std::thread::Threads;
+use test_texts::PAYMENTS_ALERTS;
 use tuple_trace::{Bytes, FeedRows, MAX_THREADS, NoMemory, OpenGate, Rows, USUAL_CAPACITY};
 
 const ROWS: u32 = 10;

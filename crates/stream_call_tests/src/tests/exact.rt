@@ -1,11 +1,12 @@
 //! A stream whose requests take effect just behind the rows that they ask for.
 
 use crate::tests::cuts::shelf_with;
-use crate::tests::texts::{AFTER_2, AFTER_3, LATE_ALERTS, PAYMENTS};
+use crate::tests::texts::{AFTER_3, LATE_ALERTS, PAYMENTS};
 use crate::tests::{holds, say, tap_of};
 use std::alloc::Global;
 use std::sync::Wait;
 use std::thread::Threads;
+use test_texts::SPACED_AFTER_2;
 
 /// The words of an exact stream on so many threads.
 static EXACT: [&str; 3] = [
@@ -32,7 +33,7 @@ where
 #[test]
 fn exact_borders(rt: HostRuntime) {
     for words in EXACT.iter() {
-        assert!(rt; parts_at_the_row(&rt, rt.alloc(), words, AFTER_2) == Some(true));
+        assert!(rt; parts_at_the_row(&rt, rt.alloc(), words, SPACED_AFTER_2) == Some(true));
         assert!(rt; parts_at_the_row(&rt, rt.alloc(), words, AFTER_3) == Some(true));
     }
 }

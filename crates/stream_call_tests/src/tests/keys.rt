@@ -3,17 +3,8 @@ use crate::tests::left::{Case, bytes_of, empty, first_loss, left_after};
 use payments::MemoryShelf;
 use std::alloc::Global;
 use std::str;
+use test_texts::COUNTER;
 use tuple_trace::NoMemory;
-
-/// A counter of three workers.
-const COUNTER: &str = r#"columns = ["account:text", "seen:number:own"]
-node = [
-  { name = "card", kind = "source" },
-  { name = "c", kind = "count", workers = 3, key = "account", add = 1, into = "seen" },
-  { name = "out", kind = "sink", columns = ["account", "seen"] },
-]
-edge = [{ from = "card", to = "c" }, { from = "c", to = "out" }]
-"#;
 
 /// How many keys there are. They come in turn.
 const KEYS: u64 = 40;

@@ -1,11 +1,12 @@
 //! A stream that stopped and goes on.
 use crate::tests::cuts::shelf_with;
-use crate::tests::texts::{AFTER_2, LATE_ALERTS, PAYMENTS};
+use crate::tests::texts::{LATE_ALERTS, PAYMENTS};
 use crate::tests::{RESUMING, SAVING, holds, say, tap_of, word};
 use payments::store;
 use std::alloc::Global;
 use std::sync::Wait;
 use std::thread::Threads;
+use test_texts::SPACED_AFTER_2;
 
 /// The first three of the four payments.
 const THREE: &str =
@@ -23,7 +24,7 @@ where
     store(
         &mut shelf,
         &word(alloc, "requests.toml").ok()?,
-        AFTER_2.as_bytes(),
+        SPACED_AFTER_2.as_bytes(),
     )
     .ok()?;
     let mut tap = tap_of(alloc, PAYMENTS, 1)?;

@@ -21,14 +21,7 @@ from = "big"
 to = "alerts"
 "#;
 
-/// Lets payments from 50.00 on pass after this row.
-pub const AFTER_2: &str = r#"
-[[request]]
-after = 2
-change = [{ node = "big", from = 0, kind = "filter", when = [["amount", ">=", 5000]] }]
-"#;
-
-/// The same after row 3.
+/// Lets payments from 50.00 on pass after row 3.
 pub const AFTER_3: &str = r#"
 [[request]]
 after = 3

@@ -1,7 +1,7 @@
 //! Each call of the outside fails alone.
 
-use crate::tests::hostile::texts::{AUDIT, TWO_ALERTS};
 use crate::tests::hostile::{Around, Left, Stored, Tried, first_wrong, four, leaves};
+use test_texts::{AUDIT_OF_FOUR, TWO_ALERTS};
 
 /// The calls of the shelf that read, in their order, and the line if one of them fails.
 const READS: [&str; 3] = ["fault 5 job\n", "fault 5 requests\n", "fault 5 payments\n"];
@@ -51,7 +51,7 @@ pub fn left_at(failing: usize, step: usize) -> Left<'static> {
         status,
         has_run: Some(true),
         alerts: whole_or_none(TWO_ALERTS, audit, failing),
-        audit: whole_or_none(AUDIT, end, failing),
+        audit: whole_or_none(AUDIT_OF_FOUR, end, failing),
         out: Some(out),
     }
 }
@@ -61,7 +61,7 @@ pub fn call_count(step: usize) -> usize {
     READS
         .len()
         .saturating_add(calls_of(TWO_ALERTS, step))
-        .saturating_add(calls_of(AUDIT, step))
+        .saturating_add(calls_of(AUDIT_OF_FOUR, step))
 }
 
 #[test]

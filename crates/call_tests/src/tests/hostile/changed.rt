@@ -1,7 +1,7 @@
 //! A job file of which one byte is another.
 
-use crate::tests::hostile::texts::CHAIN;
 use crate::tests::hostile::{Around, Text, Tried, first_wrong, four};
+use test_texts::CHAIN;
 
 /// The bytes that stand in the place of each, as numbers and as texts.
 const BYTES: [(u8, &[u8]); 3] = [(0, b"\0"), (255, b"\xff"), (b'"', b"\"")];

@@ -1,10 +1,8 @@
 //! Files that are cut after each of their bytes.
 
-use crate::tests::hostile::texts::{
-    CHAIN, FOUR_PAYMENTS, PAYMENTS, REQUESTS, TEN_PAYMENTS, WHOLE_JOB, WHOLE_PAYMENTS,
-    WHOLE_REQUESTS, Whole,
-};
+use crate::tests::hostile::texts::{WHOLE_JOB, WHOLE_PAYMENTS, WHOLE_REQUESTS, Whole};
 use crate::tests::hostile::{Around, Text, Tried, first_wrong, four};
+use test_texts::{CHAIN, FOUR_PAYMENTS, PAYMENTS_JOB, PAYMENTS_REQUESTS, TEN_PAYMENTS};
 
 #[derive(Clone, Copy)]
 pub enum File {
@@ -33,7 +31,7 @@ const JOB: Cuts = Cuts {
 
 const REQUEST_FILE: Cuts = Cuts {
     file: File::Requests,
-    text: REQUESTS,
+    text: PAYMENTS_REQUESTS,
     whole: WHOLE_REQUESTS,
     refused: 3,
 };
@@ -55,7 +53,7 @@ impl Cuts {
                 ..four()
             },
             File::Requests => Around {
-                job: Text::of(PAYMENTS.as_bytes()),
+                job: Text::of(PAYMENTS_JOB.as_bytes()),
                 requests: left,
                 payments: Text::of(TEN_PAYMENTS.as_bytes()),
                 ..four()

@@ -7,24 +7,10 @@ use std::sync::Wait;
 use std::sync::atomic::{AtomicBool, Ordering};
 use std::thread;
 use std::thread::Threads;
+use test_texts::TWELVE_OF_75;
 use top_call::{Host, Outcome};
 use tuple_trace::{Bytes, Gate, NoMemory};
 use whole_calls::call_asking;
-
-const TWELVE_PAYMENTS: &str = "source,amount
-card,75
-card,75
-card,75
-card,75
-card,75
-card,75
-card,75
-card,75
-card,75
-card,75
-card,75
-card,75
-";
 
 /// How often a gate or an input looks before it gives up.
 const LOOKS: u32 = 1_000_000;
@@ -155,7 +141,7 @@ where
     R: Threads + Wait + Copy + Send + Sync + 'static,
 {
     let words = live_words(alloc, threads, "1")?;
-    let mut shelf = shelf_of(alloc, AFTER_2_AND_12, TWELVE_PAYMENTS)?;
+    let mut shelf = shelf_of(alloc, AFTER_2_AND_12, TWELVE_OF_75)?;
     let mut out = MemorySink::new(alloc, Calls::new(alloc));
     let host = Host { rt, alloc, gate };
     let outcome = call_asking(&host, &words, &mut shelf, &mut out, asks)?;

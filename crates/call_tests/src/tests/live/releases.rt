@@ -1,4 +1,3 @@
-use crate::tests::hostile::texts::{CHAIN, FOUR_PAYMENTS, TWO_ALERTS};
 use crate::tests::live::{AFTER_2, live_words};
 use live_control::MemoryAsks;
 use payments::{Calls, MemoryShelf, MemorySink};
@@ -6,6 +5,7 @@ use std::alloc::Global;
 use std::str;
 use std::sync::Wait;
 use std::thread::Threads;
+use test_texts::{CHAIN, FOUR_PAYMENTS, TWO_ALERTS};
 use top_call::{Host, Outcome};
 use tuple_trace::{Bytes, NoMemory, OpenGate, Word};
 use whole_calls::{call_asking, file, put_text};
