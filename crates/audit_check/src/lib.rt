@@ -1,5 +1,5 @@
 //! The first passes of a checker of audits: the shape of a text, the refused requests, and the
-//! feed. `journal_law` and `audit_replay` have the later ones.
+//! feed. `audit_journal` and `audit_restore` have the later ones.
 //!
 //! ```text
 //! let start = Start::first(alloc, &setup)?;

@@ -26,12 +26,12 @@ use Rattle.flow_worker.specs.Turning.{IsDone}
 use Rattle.flow_worker.specs.Worker.{WorkerIs}
 use Rattle.coordinator.specs.Feeding.{AreRising, IsFeeder, IsFeeding, issue_rows, waits}
 use Rattle.coordinator.specs.Views.{FeederIs}
-use Rattle.runners.specs.Crew.{AreWorkers, fixed_in, number_in}
-use Rattle.runner.specs.Runner.{EndpointsIs, end_in, end_out}
-use Rattle.flow_ends.specs.Crews.{IsCrew}
-use Rattle.flow_ends.specs.Ended.{IsOver, record_of, worked_of}
-use Rattle.flow_ends.specs.Sides.{AreMatched, lane_ids, worker_side}
-use Rattle.runners.proofs.Crewing.{in_order}
+use Rattle.flow_runners.specs.Crew.{AreWorkers, fixed_in, number_in}
+use Rattle.flow_runner.specs.Runner.{EndpointsIs, end_in, end_out}
+use Rattle.flow_crew.specs.Crews.{IsCrew}
+use Rattle.flow_crew.specs.Ended.{IsOver, record_of, worked_of}
+use Rattle.flow_crew.specs.Sides.{AreMatched, lane_ids, worker_side}
+use Rattle.flow_runners.proofs.Crewing.{in_order}
 use Rattle.coordinator.proofs.Recording.{all_issued, all_waited}
 use Rattle.flow_engine.specs.Flown.{number_of}
 use Rattle.flow_engine.specs.Recorded.{IsRecorded, NoneIsEarly, recorded}

@@ -17,6 +17,6 @@ mod flown;
 mod recorded;
 mod run;
 
+pub use flow_runners::Engine;
 pub use flown::Flown;
 pub use run::{run_flow, run_from, run_with};
-pub use runners::Engine;

@@ -1,4 +1,4 @@
-//! The program `fries`: it hands its words to [`top_call::fries`], over the files and the standard
+//! The program `fries`: it hands its words to [`fries_call::fries`], over the files and the standard
 //! output of the host, and ends with the status that it returns. What the status means is told on
 //! the standard error, in sentences.
 #![tactic(auto)]
@@ -11,11 +11,12 @@ mod wrong_word;
 use crate::stream::stream_main;
 use crate::streams::{Lines, name_standard_output};
 use crate::wrong_word::place_of_wrong_word;
-use advice::{Call, HostLook, advice, skipped_rows};
-use command_line::{WordsFault, is_stream, stream_of};
+use fries_call::{Host, Outcome, fries};
+use fries_help::{Call, HostLook, advice, skipped_rows};
+use fries_lines::{Fault, FileIs};
+use fries_words::{WordsFault, is_stream, stream_of};
 use live_control::StdIn;
 use payments::{HostFault, HostShelf, StdOut};
-use report::{Fault, FileIs};
 use std::alloc::{AllocError, Global};
 use std::env::Args;
 use std::fs::File;
@@ -24,7 +25,6 @@ use std::mem::ManuallyDrop;
 use std::process::ExitCode;
 use std::rt::Files;
 use std::{env, io};
-use top_call::{Host, Outcome, fries};
 use tuple_trace::{Gate, Word};
 
 fn main(rt: HostRuntime) -> ExitCode {

@@ -1,21 +1,21 @@
 // The command `stream`, on the host.
-ghost use Rattle.command_line.specs.Asked.{IsSize};
+ghost use Rattle.fries_words.specs.Asked.{IsSize};
 
 use crate::streams::Lines;
 use crate::teller::Teller;
 use crate::{Telling, Words, tell_why};
-use advice::{Call, HostLook, advice, stream_advice};
-use command_line::StreamFiles;
+use fries_call::Host;
+use fries_help::{Call, HostLook, advice, stream_advice};
+use fries_lines::{Fault, FileIs};
+use fries_words::StreamFiles;
 use input_pieces::HostTap;
 use payments::{HostShelf, StdOut};
-use report::{Fault, FileIs};
 use std::alloc::Global;
 use std::io::IsTerminal;
 use std::process::ExitCode;
 use std::sync::Wait;
 use std::thread::Threads;
 use stream_call::{StreamFault, StreamOutcome, stream};
-use top_call::Host;
 
 /// Runs a stream of the payments on the standard input.
 pub(crate) fn stream_main<R>(

@@ -1,7 +1,7 @@
 // Who tells on the standard error how far a stream has come.
-use advice::{Call, HostLook, advice};
+use fries_help::{Call, HostLook, advice};
+use fries_lines::Fault;
 use payments::GrowingShelf;
-use report::Fault;
 use std::alloc::Global;
 use std::time::{Duration, Instant};
 use stream_run::{PartEnd, Watch};

@@ -15,12 +15,12 @@ use Rattle.flow_model.specs.Begin.{Begin}
 use Rattle.flow_model.specs.Run.{Ran}
 use Rattle.flow_model.specs.declared.setup.Setup.{Setup}
 use Rattle.stream_law.specs.Stream.{IsRunSoFar, SoFar, with_part}
-use Rattle.report.specs.declared.fault.Fault.{Fault}
+use Rattle.fries_lines.specs.declared.fault.Fault.{Fault}
 use Rattle.stream_rows.specs.Reader.{IsReadTo, fed_of}
 use Rattle.stream_step.specs.Parts.{first_part}
 use Rattle.stream_step.specs.Pending.{lifted}
 use Rattle.stream_step.specs.declared.stream.Stream.{Stream}
-use Rattle.border_law.specs.Border.{AreExactAfter}
+use Rattle.stream_border.specs.Border.{AreExactAfter}
 use Rattle.stream_intake.specs.Intake.{IsKnownTo}
 use Rattle.stream_intake.specs.declared.known.Known.{Known}
 use Rattle.stream_run.specs.Growing.{Goes, GoesAndStops, IsBooked, Names, parts_in}

@@ -8,7 +8,7 @@ use Rattle.versions.specs.declared.in_order.Refused.{Refused}
 use Rattle.stream_rows.specs.Reader.{fed_of}
 use Rattle.stream_turns.specs.Taken.{StreamState, at}
 use Rattle.stream_turns.specs.declared.inputs.StreamInputs.{StreamInputs}
-use Rattle.command_line.specs.declared.stream.StreamFiles.{StreamFiles}
+use Rattle.fries_words.specs.declared.stream.StreamFiles.{StreamFiles}
 use Rattle.stream_call.specs.Opened.{Opens}
 use Rattle.stream_call.specs.Ended.{Early, EndsWhole, HasStopped, IsLeftBy}
 use Rattle.stream_call.specs.Ended.{IsUnprinted}

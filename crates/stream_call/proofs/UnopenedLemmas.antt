@@ -6,14 +6,14 @@ use Rattle.jobs.specs.JobView.{JobView}
 use Rattle.payments.specs.Causes.{Faults}
 use Rattle.payments.specs.Files.{Files}
 use Rattle.versions.specs.declared.request.Request.{Request}
-use Rattle.report.specs.declared.fault.FileIs.TheVariants as file
-use Rattle.call_steps.specs.Reading.{HasRead, IsJobOf}
+use Rattle.fries_lines.specs.declared.fault.FileIs.TheVariants as file
+use Rattle.fries_steps.specs.Reading.{HasRead, IsJobOf}
 use Rattle.stream_save.specs.StreamReading.{stream_save_of}
 use Rattle.stream_save.specs.StreamText.{StreamSave}
 use Rattle.stream_save.specs.declared.fault.StreamSaveFault.{StreamSaveFault}
 use Rattle.stream_save.specs.declared.fault.StreamSaveFault.TheVariants as save
 use Rattle.stream_intake.specs.Intake.{IsMaskOf}
-use Rattle.command_line.specs.declared.stream.StreamFiles.{StreamFiles}
+use Rattle.fries_words.specs.declared.stream.StreamFiles.{StreamFiles}
 use Rattle.stream_call.specs.Faults.{save_fault_of}
 use Rattle.stream_call.specs.Opened.{AreStreamRequestsOf, IsStreamSaveOf, Resume, resume_of}
 use Rattle.stream_call.specs.Unopened.{AreUnmade, IsNoStreamSave, IsShort, IsUncut, NoFit, NoMemory}

@@ -9,15 +9,15 @@ use Rattle.payments.specs.World.{ShelfState, SinkState, World}
 use Rattle.versions.specs.declared.in_order.Refused.{Refused}
 use Rattle.flow_model.specs.Run.{Ran}
 use Rattle.flow_model.specs.declared.setup.Setup.{Setup}
-use Rattle.report.specs.Lines.{refused_lines, summary_line}
-use Rattle.report.specs.declared.fault.Fault.{Fault}
-use Rattle.call_steps.specs.Effects.{Prints}
+use Rattle.fries_lines.specs.Lines.{refused_lines, summary_line}
+use Rattle.fries_lines.specs.declared.fault.Fault.{Fault}
+use Rattle.fries_steps.specs.Effects.{Prints}
 use Rattle.stream_law.specs.Stream.{IsRunSoFar, SoFar}
 use Rattle.stream_rows.specs.Reader.{fed_of}
 use Rattle.stream_save.specs.declared.fault.StreamSaveFault.TheVariants as save
 use Rattle.stream_step.specs.declared.stream.Stream.{Stream}
 use Rattle.stream_run.specs.Files.{alerts_text, audit_text}
-use Rattle.border_law.specs.Border.{AreExactAfter}
+use Rattle.stream_border.specs.Border.{AreExactAfter}
 use Rattle.stream_intake.specs.Intake.{IsKnownTo}
 use Rattle.stream_run.specs.Growing.{Goes, GoesAndStops, IsBooked, Names, parts_in}
 use Rattle.stream_run.specs.Parts.{HasCome, Part, with_all, with_one}
@@ -30,7 +30,7 @@ use Rattle.stream_turns.specs.Turns.{IsGivenUp}
 use Rattle.stream_turns.specs.declared.inputs.StreamInputs.{StreamInputs}
 use Rattle.stream_turns.specs.declared.turns.End.{End}
 use Rattle.stream_turns.specs.declared.turns.End.TheVariants as end
-use Rattle.command_line.specs.declared.stream.StreamFiles.{StreamFiles}
+use Rattle.fries_words.specs.declared.stream.StreamFiles.{StreamFiles}
 use Rattle.stream_call.specs.Opened.{Opens, every_of, names_of}
 use Rattle.stream_call.specs.Unopened.{IsUnopened}
 use Rattle.stream_call.specs.declared.fault.StreamFault.{StreamFault}

@@ -1,7 +1,7 @@
 -- The status of a fault of a stream, and of a stream that ended.
 use Rattle.std.specs.Prelude.{ℕ, List, [], ◌∷◌, Option, None, Some}
-use Rattle.report.specs.Faults.{status_of as status_of_fault}
-use Rattle.report.specs.declared.fault.Fault.TheVariants as fault
+use Rattle.fries_lines.specs.Faults.{status_of as status_of_fault}
+use Rattle.fries_lines.specs.declared.fault.Fault.TheVariants as fault
 use Rattle.versions.specs.declared.in_order.Refused.{Refused}
 use Rattle.stream_save.specs.declared.fault.StreamSaveFault.{StreamSaveFault}
 use Rattle.stream_save.specs.declared.fault.StreamSaveFault.TheVariants as save

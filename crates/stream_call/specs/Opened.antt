@@ -14,9 +14,9 @@ use Rattle.sink_journal.specs.Records.{record_text}
 use Rattle.versions.specs.declared.limits.TheConstants.{MAX_STREAM_REQUESTS}
 use Rattle.versions.specs.declared.request.Request.{Request}
 use Rattle.flow_model.specs.Setup.{setup_view}
-use Rattle.report.specs.Lines.{noted}
-use Rattle.report.specs.declared.fault.FileIs.TheVariants as file
-use Rattle.call_steps.specs.Reading.{HasRead, IsJobOf}
+use Rattle.fries_lines.specs.Lines.{noted}
+use Rattle.fries_lines.specs.declared.fault.FileIs.TheVariants as file
+use Rattle.fries_steps.specs.Reading.{HasRead, IsJobOf}
 use Rattle.stream_rows.specs.Reader.{IsReadTo, fed_of}
 use Rattle.stream_save.specs.StreamReading.{stream_save_of}
 use Rattle.stream_save.specs.StreamText.{StreamSave}
@@ -26,8 +26,8 @@ use Rattle.stream_intake.specs.Intake.{IsMaskOf, judged_in, refused_after}
 use Rattle.stream_run.specs.Growing.{Names}
 use Rattle.stream_run.specs.Standing.{Begins}
 use Rattle.stream_turns.specs.Turns.{CanTakeTurn}
-use Rattle.command_line.specs.declared.stream.StreamFiles.{StreamFiles}
-use Rattle.command_line.specs.declared.stream.StreamSaving.{StreamSaving}
+use Rattle.fries_words.specs.declared.stream.StreamFiles.{StreamFiles}
+use Rattle.fries_words.specs.declared.stream.StreamSaving.{StreamSaving}
 use Rattle.stream_call.specs.declared.opened.Opened.{Opened}
 
 -- ---- what is asked

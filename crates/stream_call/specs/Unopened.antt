@@ -13,11 +13,11 @@ use Rattle.payments.specs.declared.read.PFault.TheVariants as payments
 use Rattle.versions.specs.Judged.{judged_within}
 use Rattle.versions.specs.declared.limits.TheConstants.{MAX_STREAM_REQUESTS}
 use Rattle.versions.specs.declared.request.Request.{Request}
-use Rattle.report.specs.declared.fault.Fault.{Fault}
-use Rattle.report.specs.declared.fault.Fault.TheVariants as fault
-use Rattle.report.specs.declared.fault.FileIs.{FileIs}
-use Rattle.report.specs.declared.fault.FileIs.TheVariants as file
-use Rattle.call_steps.specs.Reading.{HasRead, IsJobOf, IsNoJob, IsUnread}
+use Rattle.fries_lines.specs.declared.fault.Fault.{Fault}
+use Rattle.fries_lines.specs.declared.fault.Fault.TheVariants as fault
+use Rattle.fries_lines.specs.declared.fault.FileIs.{FileIs}
+use Rattle.fries_lines.specs.declared.fault.FileIs.TheVariants as file
+use Rattle.fries_steps.specs.Reading.{HasRead, IsJobOf, IsNoJob, IsUnread}
 use Rattle.stream_rows.specs.declared.limits.TheConstants.{MAX_ROWS}
 use Rattle.stream_save.specs.StreamReading.{stream_save_of}
 use Rattle.stream_save.specs.StreamText.{StreamSave}
@@ -25,7 +25,7 @@ use Rattle.stream_save.specs.declared.fault.StreamSaveFault.{StreamSaveFault}
 use Rattle.stream_save.specs.declared.fault.StreamSaveFault.TheVariants as save
 use Rattle.stream_intake.specs.Intake.{IsMaskOf}
 use Rattle.stream_run.specs.Unwritten.{IsOfFile, IsUnwritten}
-use Rattle.command_line.specs.declared.stream.StreamFiles.{StreamFiles}
+use Rattle.fries_words.specs.declared.stream.StreamFiles.{StreamFiles}
 use Rattle.stream_call.specs.Opened.{AreStreamRequestsOf, IsCutTo, IsStreamSaveOf, Resume, names_of}
 use Rattle.stream_call.specs.Opened.{resume_of}
 use Rattle.stream_call.specs.declared.fault.StreamFault.{StreamFault}

@@ -12,11 +12,11 @@ ghost use Rattle.stream_call.specs.Unopened.{HasOnlyAlerts, IsUnopened};
 
 use crate::fault::StreamFault;
 use crate::opened::{Asked, Opened, Origin, asked_in, make_opened, mode_of, source_of};
-use call_steps::job_in;
-use command_line::StreamFiles;
+use fries_lines::{Fault, FileIs};
+use fries_steps::job_in;
+use fries_words::StreamFiles;
 use jobs::Job;
 use payments::{GrowingShelf, store};
-use report::{Fault, FileIs};
 use sink_journal::{alerts_header_text, audit_header_text};
 use std::alloc::Global;
 use stream_intake::begin;

@@ -1,9 +1,9 @@
 ghost use Rattle.std.specs.Prelude.{◌≡◌};
 ghost use Rattle.stream_call.specs.Faults.{save_fault_of, status_of};
 ghost use Rattle.stream_call.specs.declared.fault.StreamFault.TheVariants as Whole;
-ghost use Rattle.report.specs.declared.fault.Fault.TheVariants.{NoMemory as OutOfMemory};
+ghost use Rattle.fries_lines.specs.declared.fault.Fault.TheVariants.{NoMemory as OutOfMemory};
 
-use report::Fault;
+use fries_lines::Fault;
 use std::fmt;
 use stream_save::StreamSaveFault;
 use tuple_trace::NoMemory;

@@ -1,13 +1,13 @@
 // What is printed of a stream.
 ghost use Rattle.std.specs.Prelude.{◌≡◌, IfOk};
 ghost use Rattle.std.specs.Result.{result_err};
-ghost use Rattle.call_steps.specs.Effects.{Prints};
+ghost use Rattle.fries_steps.specs.Effects.{Prints};
 ghost use Rattle.stream_call.specs.Ended.{end_lines};
 
 use crate::fault::StreamFault;
-use call_steps::{print, print_made};
+use fries_lines::{Fault, FileIs, Summary, push_refused, summary_line};
+use fries_steps::{print, print_made};
 use payments::Sink;
-use report::{Fault, FileIs, Summary, push_refused, summary_line};
 use std::alloc::Global;
 use stream_turns::StreamInputs;
 use tuple_trace::{Bytes, NoMemory};

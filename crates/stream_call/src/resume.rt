@@ -14,12 +14,12 @@ ghost use Rattle.stream_call.specs.Unopened.{IsUncut, IsUnopened, Misfits};
 
 use crate::fault::StreamFault;
 use crate::opened::{Asked, Opened, Origin, asked_in, make_opened, mode_of, source_of};
-use call_steps::{job_in, read_file};
-use command_line::StreamFiles;
 use flow_model::Setup;
+use fries_lines::FileIs;
+use fries_steps::{job_in, read_file};
+use fries_words::StreamFiles;
 use operators::Job;
 use payments::GrowingShelf;
-use report::FileIs;
 use std::alloc::Global;
 use stream_intake::resume;
 use stream_rows::MAX_ROWS;

@@ -10,9 +10,9 @@ ghost use Rattle.stream_parts.specs.End.{IsLastRun, StopsAtEnd};
 
 use flow_engine::{Engine, run_from};
 use flow_model::RunRecord;
+use fries_lines::Fault;
 use lane_core::Lanes;
 use payments::GrowingShelf;
-use report::Fault;
 use std::sync::Wait;
 use std::thread::Threads;
 use stream_run::{Books, PartTexts, StreamCall, append_part};

@@ -12,9 +12,9 @@ ghost use Rattle.stream_run.specs.Parts.{KeepsAsked};
 ghost use Rattle.stream_run.specs.Standing.{Stands};
 ghost use Rattle.stream_run.specs.Unwritten.{IsUnwritten};
 
+use fries_lines::Fault;
 use lane_core::Lanes;
 use payments::GrowingShelf;
-use report::Fault;
 use std::sync::Wait;
 use std::thread::Threads;
 use stream_rows::most_rows;

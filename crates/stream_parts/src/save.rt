@@ -3,8 +3,8 @@ ghost use Rattle.stream_run.specs.Growing.{Goes, IsBooked};
 ghost use Rattle.stream_run.specs.Standing.{Holds, Stands, saved_text};
 ghost use Rattle.stream_run.specs.Unwritten.{IsUnwritten};
 
+use fries_lines::Fault;
 use payments::GrowingShelf;
-use report::Fault;
 use stream_run::{Books, StreamCall, Watch, save_stream};
 use stream_step::Stream;
 

@@ -11,7 +11,7 @@ use Rattle.versions.specs.declared.request.Request.{Request}
 use Rattle.sink_journal.specs.declared.audit.Noted.{Noted}
 use Rattle.flow_model.specs.Setup.{setup_view}
 use Rattle.flow_model.specs.declared.setup.Setup.{Setup}
-use Rattle.report.specs.Lines.{noted}
+use Rattle.fries_lines.specs.Lines.{noted}
 use Rattle.audit_parts.specs.Cut.{parts_of}
 use Rattle.audit_parts.specs.Texts.{IsReadAs, IsTextOf}
 use Rattle.audit_parts.specs.declared.part.AuditPart.{AuditPart}

@@ -1,6 +1,6 @@
 -- The fault of the program for one of the parts of a stream.
-use Rattle.report.specs.declared.fault.Fault.{Fault}
-use Rattle.report.specs.declared.fault.Fault.TheVariants as fault
+use Rattle.fries_lines.specs.declared.fault.Fault.{Fault}
+use Rattle.fries_lines.specs.declared.fault.Fault.TheVariants as fault
 use Rattle.stream_replay.specs.declared.fault.PartFault.{PartFault}
 use Rattle.stream_replay.specs.declared.fault.PartFault.TheVariants as part
 

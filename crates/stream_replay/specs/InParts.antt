@@ -15,7 +15,7 @@ use Rattle.flow_model.specs.declared.setup.Setup.{Setup}
 use Rattle.savepoint.specs.Parts.{first_of}
 use Rattle.audit_laws.specs.Part.{uncounted}
 use Rattle.audit_parts.specs.Cut.{is_fed, is_issued, is_refused}
-use Rattle.report.specs.Lines.{noted}
+use Rattle.fries_lines.specs.Lines.{noted}
 
 -- the records of the audit of one part, without a header
 abbrev pub Records : Type 0

@@ -2,7 +2,7 @@ ghost use Rattle.std.specs.Prelude.{◌≡◌};
 ghost use Rattle.stream_replay.specs.Faults.{part_fault};
 ghost use Rattle.stream_replay.specs.declared.fault.PartFault.TheVariants.{NoMemory as OutOfMemory};
 
-use report::Fault;
+use fries_lines::Fault;
 use tuple_trace::NoMemory;
 
 /// Why the parts of a stream aren't runs one after another.

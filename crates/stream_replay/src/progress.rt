@@ -13,7 +13,7 @@ use crate::setups::with_first;
 use crate::whole::Whole;
 use audit_fault::AuditFault;
 use audit_parts::AuditPart;
-use audit_replay::{check_audit, check_part};
+use audit_restore::{check_audit, check_part};
 use flow_model::{RunRecord, Setup, Start};
 use std::alloc::Global;
 use tuple_trace::{NoMemory, Row, Rows};

@@ -1,9 +1,9 @@
 ghost use Rattle.std.specs.Prelude.{◌≡◌, All, IfOk, map};
 ghost use Rattle.audit_fault.specs.Noting.{IsNoted};
-ghost use Rattle.report.specs.Lines.{noted as noted_as};
+ghost use Rattle.fries_lines.specs.Lines.{noted as noted_as};
 
 use flow_model::{Plans, Setup};
-use report::{noted, refused_are_noted};
+use fries_lines::{noted, refused_are_noted};
 use sink_journal::Noted;
 use std::alloc::Global;
 use tuple_trace::{NoMemory, Rows};

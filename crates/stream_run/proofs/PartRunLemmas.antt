@@ -19,7 +19,7 @@ use Rattle.flow_model.specs.SetupView.{SetupView}
 use Rattle.flow_model.specs.declared.record.RunRecord.{RunRecord}
 use Rattle.flow_model.specs.declared.setup.Setup.{Setup}
 use Rattle.flow_worker.specs.Parts.{WorkedIs}
-use Rattle.flow_ends.specs.Ended.{record_of as ended}
+use Rattle.flow_crew.specs.Ended.{record_of as ended}
 use Rattle.flow_engine.specs.Flown.{record_of}
 use Rattle.stream_step.specs.Parts.{IsRunOn}
 use Rattle.stream_step.specs.Pending.{lifted}

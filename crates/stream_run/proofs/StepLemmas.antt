@@ -15,7 +15,7 @@ use Rattle.flow_model.specs.declared.record.RunRecord.{RunRecord}
 use Rattle.flow_model.specs.declared.setup.Setup.{Setup}
 use Rattle.savepoint.specs.Parts.{start_of}
 use Rattle.stream_run.specs.Files.{GrowInTurn, alerts_text, audit_text}
-use Rattle.report.specs.Lines.{alert_count}
+use Rattle.fries_lines.specs.Lines.{alert_count}
 use Rattle.stream_step.specs.Parts.{IsBetweenRows, IsRunOn, due_in}
 use Rattle.stream_step.specs.Pending.{AreAsked, lifted}
 use Rattle.stream_step.specs.declared.stream.Stream.{Stream}

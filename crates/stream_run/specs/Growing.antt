@@ -9,7 +9,7 @@ use Rattle.payments.specs.Files.{Files, with_bytes}
 use Rattle.payments.specs.Growing.{with_text}
 use Rattle.sink_journal.specs.declared.audit.Noted.{Noted}
 use Rattle.tuple_trace.specs.declared.row.Row.{Row}
-use Rattle.report.specs.Lines.{alert_count}
+use Rattle.fries_lines.specs.Lines.{alert_count}
 use Rattle.stream_run.specs.Files.{GrowInTurn, alerts_text, audit_text}
 use Rattle.stream_step.specs.declared.stream.Stream.{Stream}
 use Rattle.stream_run.specs.Parts.{HaveRun, Part}

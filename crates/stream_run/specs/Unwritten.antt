@@ -3,10 +3,10 @@ use Rattle.std.specs.Prelude.{◌≡◌, ◌⊎◌, ℕ, List, Some}
 use Rattle.payments.specs.Causes.{Faults, WriteFailed}
 use Rattle.payments.specs.declared.shelf.ShelfFault.{ShelfFault}
 use Rattle.payments.specs.declared.shelf.ShelfFault.TheVariants as shelf
-use Rattle.report.specs.declared.fault.Fault.{Fault}
-use Rattle.report.specs.declared.fault.Fault.TheVariants as fault
-use Rattle.report.specs.declared.fault.FileIs.{FileIs}
-use Rattle.report.specs.declared.fault.FileIs.TheVariants as file
+use Rattle.fries_lines.specs.declared.fault.Fault.{Fault}
+use Rattle.fries_lines.specs.declared.fault.Fault.TheVariants as fault
+use Rattle.fries_lines.specs.declared.fault.FileIs.{FileIs}
+use Rattle.fries_lines.specs.declared.fault.FileIs.TheVariants as file
 use Rattle.stream_run.specs.Growing.{Names}
 
 -- the fault of a file that a shelf didn't write

@@ -7,8 +7,8 @@ ghost use Rattle.stream_run.specs.Unwritten.{IsUnwritten, write_fault};
 
 use crate::names::StreamNames;
 use crate::texts::PartTexts;
+use fries_lines::{Fault, FileIs};
 use payments::{GrowingShelf, ShelfFault, extend_all, store};
-use report::{Fault, FileIs};
 
 /// Appends the texts of a part to both files: first its alerts, and then its audit.
 ///

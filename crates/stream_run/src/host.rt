@@ -1,5 +1,5 @@
 ghost use Rattle.std.specs.Prelude.{◌≤◌, min};
-ghost use Rattle.runner.specs.Size.{IsEngineSize};
+ghost use Rattle.flow_runner.specs.Size.{IsEngineSize};
 
 use flow_engine::Engine;
 use std::alloc::Global;

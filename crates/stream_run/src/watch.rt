@@ -1,8 +1,8 @@
 ghost use Rattle.stream_run.specs.Standing.{Stands, Holds, saved_text};
 
 use crate::names::StreamNames;
+use fries_lines::Fault;
 use payments::GrowingShelf;
-use report::Fault;
 use stream_step::Stream;
 
 /// Where a stream is at the end of a part.

@@ -5,8 +5,8 @@ use Rattle.flow_model.specs.Begin.{Begin}
 use Rattle.savepoint.specs.SaveReading.{Placed, Spelled, begin_with, placed_from, placed_of, spelled_from}
 use Rattle.savepoint.specs.declared.fault.SaveFault.{SaveFault}
 use Rattle.savepoint.specs.declared.fault.SaveFault.TheVariants as part
-use Rattle.save_file.specs.Steps.{read_from}
-use Rattle.save_file.proofs.ReadLemmas.{fault-spelled, read-spelled}
+use Rattle.savepoint_file.specs.Steps.{read_from}
+use Rattle.savepoint_file.proofs.ReadLemmas.{fault-spelled, read-spelled}
 use Rattle.stream_save.specs.StreamReading.{Head, fault_of, head_of, misplaced, save_after, save_at, save_by, save_in, save_unless, save_with, saved_at, waits_from}
 use Rattle.stream_save.specs.StreamText.{StreamSave}
 use Rattle.stream_save.specs.declared.fault.StreamSaveFault.{StreamSaveFault}

@@ -4,8 +4,8 @@ use Rattle.std.proofs.lemmas.Bool.{le-leb}
 use Rattle.std.proofs.lemmas.List.{append-nil, drop_more}
 use Rattle.savepoint.specs.SaveReading.{is_text, one_spelled}
 use Rattle.savepoint.specs.declared.fault.SaveFault.TheVariants as fault
-use Rattle.save_file.specs.Steps.{after}
-use Rattle.save_file.proofs.ReadLemmas.{after-more}
+use Rattle.savepoint_file.specs.Steps.{after}
+use Rattle.savepoint_file.proofs.ReadLemmas.{after-more}
 use Rattle.stream_save.specs.StreamReading.{AreWaits, misplaced, wait_of, waits_from}
 use Rattle.stream_save.specs.Steps.{wait_numbers}
 

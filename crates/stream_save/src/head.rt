@@ -5,7 +5,7 @@ ghost use Rattle.stream_save.specs.Steps.{head_numbers, is_head as is_head_of};
 ghost use Rattle.stream_save.specs.StreamReading.{head_of as head_of_record};
 
 use csv::ByteRecord;
-use save_file::{cell, head_number};
+use savepoint_file::{cell, head_number};
 use std::marker::Model;
 
 /// The numbers of a first record.

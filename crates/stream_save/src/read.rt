@@ -10,7 +10,7 @@ use crate::{StreamSave, StreamSaveFault};
 use csv::ByteRecord;
 use flow_model::{Setup, Start};
 use payments::TextRecords;
-use save_file::{Placed, read_counts, start_with};
+use savepoint_file::{Placed, read_counts, start_with};
 use std::alloc::Global;
 
 /// The savepoint of a stream that a text tells, or the text's first fault.

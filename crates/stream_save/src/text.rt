@@ -7,7 +7,7 @@ ghost use Rattle.stream_save.specs.StreamText.{wait_records};
 
 use crate::StreamSave;
 use jobs::Job;
-use save_file::{Cells, SaveSheet};
+use savepoint_file::{Cells, SaveSheet};
 use std::alloc::Global;
 use tuple_trace::{Bytes, NoMemory};
 
@@ -15,7 +15,7 @@ use tuple_trace::{Bytes, NoMemory};
 /// one for each count.
 ///
 /// A wait's record has the number of the request, from 1, and its row. The records of the counts
-/// are those of `save_text` of `save_file`.
+/// are those of `save_text` of `savepoint_file`.
 ///
 /// # Errors
 ///

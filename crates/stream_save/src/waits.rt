@@ -7,8 +7,8 @@ ghost use Rattle.stream_save.specs.StreamReading.{wait_of as wait_of_record, wai
 
 use csv::ByteRecord;
 use payments::TextRecords;
-use save_file::{cell, head_number};
 use savepoint::SaveFault;
+use savepoint_file::{cell, head_number};
 use std::alloc::Global;
 use tuple_trace::Items;
 

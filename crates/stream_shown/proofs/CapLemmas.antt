@@ -14,7 +14,7 @@ use Rattle.flow_model.specs.Requests.{afters}
 use Rattle.flow_model.specs.SetupView.{SetupView}
 use Rattle.flow_model.specs.Waiting.{with_afters}
 use Rattle.savepoint.specs.Parts.{first_of}
-use Rattle.live_audit.proofs.FeedLemmas.{of_those as capped}
+use Rattle.audit_live.proofs.FeedLemmas.{of_those as capped}
 
 min_twice : (a n : ℕ) → min (min a n) n ≡ min a n
 min_twice a n = omega arith

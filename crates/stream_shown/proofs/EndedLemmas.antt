@@ -30,15 +30,15 @@ use Rattle.flow_model.specs.declared.setup.Setup.{Setup}
 use Rattle.flow_model.specs.Waiting.{waiting_for, with_afters}
 use Rattle.flow_model.proofs.WaitingLemmas.{length_waiting}
 use Rattle.audit_laws.specs.Part.{uncounted}
-use Rattle.live_audit.specs.Live.{IsRunLive}
-use Rattle.report.specs.Lines.{noted}
+use Rattle.audit_live.specs.Live.{IsRunLive}
+use Rattle.fries_lines.specs.Lines.{noted}
 use Rattle.stream_law.specs.Stream.{SoFar}
 use Rattle.stream_law.proofs.BeforeLemmas.{run_of_others}
 use Rattle.stream_replay.specs.InParts.{Given, PartStart, Records, first_start}
 use Rattle.stream_replay.specs.Runs.{PartEnd, RunInTurn, start_past, start_past_all}
-use Rattle.stream_audit.specs.Told.{PartTold, parts_records, told_in_all}
-use Rattle.verify_steps.specs.Streams.{IsStreamOf, given_live, told_records, told_in_turn}
-use Rattle.verify_steps.specs.Streams.{told_last, told_of}
+use Rattle.audit_stream.specs.Told.{PartTold, parts_records, told_in_all}
+use Rattle.fries_verify.specs.Streams.{IsStreamOf, given_live, told_records, told_in_turn}
+use Rattle.fries_verify.specs.Streams.{told_last, told_of}
 use Rattle.stream_run.specs.Growing.{Ended, rows_in}
 use Rattle.stream_run.specs.Parts.{AreRunInTurn, Front, Part, front_after, front_of}
 use Rattle.stream_run.specs.Parts.{with_all}
@@ -48,7 +48,7 @@ use Rattle.stream_shown.specs.Whole.{ended_parts}
 use Rattle.stream_shown.specs.Whole.{ended_refused, run_of, setup_of, whole_records}
 use Rattle.stream_shown.proofs.CapLemmas.{cap_from, waits_again}
 use Rattle.flow_engine.proofs.Moving.{afters_are}
-use Rattle.live_audit.proofs.FeedLemmas.{issues_in_order, of_those as capped}
+use Rattle.audit_live.proofs.FeedLemmas.{issues_in_order, of_those as capped}
 use Rattle.stream_shown.proofs.MovedLemmas.{run_moved}
 use Rattle.stream_shown.proofs.OneRunLemmas.{all_refused, one_run, slice_is}
 use Rattle.stream_shown.proofs.WholeLemmas.{Begins, IsBehind, IsHere, begins_extended, begins_turn}

@@ -14,8 +14,8 @@ use Rattle.savepoint.specs.Parts.{joined_journal, unstopped}
 use Rattle.stream_law.specs.Stream.{SoFar}
 use Rattle.stream_replay.specs.InParts.{Given, PartStart}
 use Rattle.stream_replay.specs.Runs.{start_past}
-use Rattle.stream_audit.specs.Told.{PartTold, told_after, told_in_all, told_with}
-use Rattle.verify_steps.specs.Streams.{told_in_turn, told_to}
+use Rattle.audit_stream.specs.Told.{PartTold, told_after, told_in_all, told_with}
+use Rattle.fries_verify.specs.Streams.{told_in_turn, told_to}
 use Rattle.stream_run.specs.Growing.{Ended}
 use Rattle.stream_run.specs.Parts.{Part, with_all, with_one}
 use Rattle.stream_shown.specs.Whole.{ended_parts, ended_refused}

@@ -30,7 +30,7 @@ use Rattle.stream_run.specs.Growing.{Ended, rows_in}
 use Rattle.stream_run.specs.Parts.{AreRunInTurn, Front, IsRunAt, Part, front_after}
 use Rattle.stream_shown.specs.Whole.{ended_parts, ended_refused}
 use Rattle.stream_replay.proofs.PartLemmas.{all_first}
-use Rattle.live_audit.proofs.FeedLemmas.{of_those as capped}
+use Rattle.audit_live.proofs.FeedLemmas.{of_those as capped}
 use Rattle.stream_shown.proofs.CapLemmas.{due_capped, first_first, own_waits, take_waits}
 
 -- ---- setups along the parts

@@ -9,7 +9,7 @@ use Rattle.flow_model.specs.Setup.{setup_view}
 use Rattle.flow_model.specs.SetupView.{SetupView}
 use Rattle.flow_model.specs.Waiting.{waiting_for}
 use Rattle.flow_model.specs.declared.setup.Setup.{Setup}
-use Rattle.report.specs.Lines.{noted}
+use Rattle.fries_lines.specs.Lines.{noted}
 use Rattle.sink_journal.specs.Audit.{audit_records}
 use Rattle.sink_journal.specs.declared.audit.Noted.{Noted}
 use Rattle.stream_law.specs.Stream.{IsRunSoFar, SoFar}

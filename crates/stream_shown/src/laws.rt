@@ -3,11 +3,11 @@ ghost use Rattle.audit_laws.specs.Fits.{records_of};
 ghost use Rattle.flow_model.specs.Run.{Ran};
 ghost use Rattle.sink_journal.specs.Audit.{audit_header};
 ghost use Rattle.stream_shown.specs.Whole.{IsAskedOf, IsWholeStream, WholeStream, whole_records};
-ghost use Rattle.verify_steps.specs.Audits.{IsAudited, stream_subject};
+ghost use Rattle.fries_verify.specs.Audits.{IsAudited, stream_subject};
 
 use flow_model::Setup;
+use fries_verify::streams_are_shown;
 use tuple_trace::Rows;
-use verify_steps::streams_are_shown;
 use versions::accepted_requests_are_in_order;
 
 /// The bytes with the records of a stream that ran from its beginning to its end are the audit of a

@@ -13,7 +13,7 @@ use Rattle.sink_journal.specs.declared.audit.Noted.{Noted}
 use Rattle.versions.specs.Judged.{judged_within}
 use Rattle.versions.specs.declared.in_order.Refused.{Refused}
 use Rattle.versions.specs.declared.request.Request.{Request}
-use Rattle.report.specs.Lines.{noted}
+use Rattle.fries_lines.specs.Lines.{noted}
 use Rattle.stream_law.specs.Later.{IsJudgedPrefix}
 use Rattle.stream_intake.specs.Intake.{refused_after}
 use Rattle.stream_intake.specs.declared.known.Known.{Known}

@@ -2,10 +2,10 @@
 use Rattle.std.proofs.Common.{◌≡◌, ◌∙◌, ℕ, List, Option, ap, inr, refl}
 use Rattle.payments.specs.Causes.{Faults}
 use Rattle.payments.specs.Files.{Files}
-use Rattle.call_steps.specs.Reading.{IsUnread}
-use Rattle.report.specs.declared.fault.Fault.{Fault}
-use Rattle.report.specs.declared.fault.Fault.TheVariants as fault
-use Rattle.report.specs.declared.fault.FileIs.{FileIs}
+use Rattle.fries_steps.specs.Reading.{IsUnread}
+use Rattle.fries_lines.specs.declared.fault.Fault.{Fault}
+use Rattle.fries_lines.specs.declared.fault.Fault.TheVariants as fault
+use Rattle.fries_lines.specs.declared.fault.FileIs.{FileIs}
 use Rattle.stream_run.specs.Growing.{Names}
 use Rattle.stream_turns.specs.Turns.{IsGivenUp}
 

@@ -17,8 +17,8 @@ use Rattle.payments.specs.declared.read.PFault.TheVariants as payments
 use Rattle.tuple_trace.specs.declared.row.Row.{Row}
 use Rattle.flow_model.specs.Begin.{Begin}
 use Rattle.flow_model.specs.declared.setup.Setup.{Setup}
-use Rattle.report.specs.declared.fault.Fault.{Fault}
-use Rattle.report.specs.declared.fault.Fault.TheVariants as fault
+use Rattle.fries_lines.specs.declared.fault.Fault.{Fault}
+use Rattle.fries_lines.specs.declared.fault.Fault.TheVariants as fault
 use Rattle.stream_rows.specs.Reader.{IsReadTo, end_fault, fed_of, has_items}
 use Rattle.stream_rows.specs.Rows.{stream_rows}
 use Rattle.stream_rows.specs.declared.reader.RowReader.{RowReader}

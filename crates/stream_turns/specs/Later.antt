@@ -8,10 +8,10 @@ use Rattle.payments.specs.Causes.{Faults, ReadFailed}
 use Rattle.payments.specs.Files.{Files, told_bytes}
 use Rattle.versions.specs.declared.limits.TheConstants.{MAX_STREAM_REQUESTS}
 use Rattle.versions.specs.declared.request.Request.{Request}
-use Rattle.report.specs.Faults.{limit_of}
-use Rattle.report.specs.Lines.{noted}
-use Rattle.report.specs.declared.fault.FileIs.TheVariants as file
-use Rattle.call_steps.specs.Reading.{HasRead}
+use Rattle.fries_lines.specs.Faults.{limit_of}
+use Rattle.fries_lines.specs.Lines.{noted}
+use Rattle.fries_lines.specs.declared.fault.FileIs.TheVariants as file
+use Rattle.fries_steps.specs.Reading.{HasRead}
 use Rattle.stream_step.specs.declared.stream.Stream.{Stream}
 use Rattle.stream_intake.specs.Intake.{accepted_after, known_after, refused_after}
 use Rattle.stream_turns.specs.declared.inputs.StreamInputs.{StreamInputs}

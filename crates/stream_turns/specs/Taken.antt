@@ -13,8 +13,8 @@ use Rattle.payments.specs.declared.read.PFault.{PFault}
 use Rattle.payments.specs.declared.read.PFault.TheVariants as payments
 use Rattle.tuple_trace.specs.declared.row.Row.{Row}
 use Rattle.versions.specs.declared.request.Request.{Request}
-use Rattle.report.specs.Lines.{noted}
-use Rattle.report.specs.declared.fault.Fault.TheVariants as fault
+use Rattle.fries_lines.specs.Lines.{noted}
+use Rattle.fries_lines.specs.declared.fault.Fault.TheVariants as fault
 use Rattle.stream_rows.specs.Reader.{IsReadTo, has_items}
 use Rattle.stream_rows.specs.Rows.{stream_rows}
 use Rattle.stream_intake.specs.Intake.{refused_after}

@@ -12,9 +12,9 @@ use Rattle.jobs.specs.Job.{job_view}
 use Rattle.jobs.specs.Nodes.{IsSourceOf}
 use Rattle.payments.specs.Causes.{Faults}
 use Rattle.tuple_trace.specs.Counts.{Rose}
-use Rattle.report.specs.declared.fault.Fault.{Fault}
-use Rattle.report.specs.declared.fault.Fault.TheVariants as fault
-use Rattle.report.specs.declared.fault.FileIs.TheVariants as file
+use Rattle.fries_lines.specs.declared.fault.Fault.{Fault}
+use Rattle.fries_lines.specs.declared.fault.Fault.TheVariants as fault
+use Rattle.fries_lines.specs.declared.fault.FileIs.TheVariants as file
 use Rattle.stream_rows.specs.Reader.{fed_of}
 use Rattle.stream_rows.specs.declared.limits.TheConstants.{MAX_ROWS}
 use Rattle.stream_step.specs.declared.stream.Stream.{Stream}

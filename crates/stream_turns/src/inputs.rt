@@ -1,8 +1,8 @@
 ghost use Rattle.std.specs.Prelude.{◌≡◌, ◌++◌, IfOk, OnOk, length, map};
-ghost use Rattle.report.specs.Lines.{noted as noted_as};
+ghost use Rattle.fries_lines.specs.Lines.{noted as noted_as};
 
+use fries_lines::noted;
 use input_pieces::Pieces;
-use report::noted;
 use std::alloc::Global;
 use stream_intake::Known;
 use stream_rows::RowReader;

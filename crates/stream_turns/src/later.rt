@@ -6,10 +6,10 @@ ghost use Rattle.stream_intake.specs.Intake.{IsKnownTo};
 ghost use Rattle.stream_turns.specs.Later.{TakesBytes, TakesFile, TakesFound};
 
 use crate::inputs::StreamInputs;
-use call_steps::read_file;
+use fries_lines::{Fault, FileIs};
+use fries_steps::read_file;
 use job_file::{ReqFileFault, read_requests_up_to};
 use payments::GrowingShelf;
-use report::{Fault, FileIs};
 use std::alloc::Global;
 use stream_intake::{Taken, take};
 use stream_run::{StreamCall, Watch};

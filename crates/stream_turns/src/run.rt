@@ -7,10 +7,10 @@ ghost use Rattle.stream_turns.specs.Turns.{IsGivenUp, CanTakeTurn};
 
 use crate::inputs::StreamInputs;
 use crate::turns::{End, turn};
+use fries_lines::Fault;
 use input_pieces::Tap;
 use lane_core::Lanes;
 use payments::GrowingShelf;
-use report::Fault;
 use std::sync::Wait;
 use std::thread::Threads;
 use stream_law::later_requests_are_judged_later;

@@ -14,10 +14,10 @@ ghost use Rattle.stream_turns.specs.Turns.{IsGivenUp, IsPiece, CanTakeTurn};
 
 use crate::inputs::StreamInputs;
 use crate::later::take_later;
+use fries_lines::{Fault, FileIs};
 use input_pieces::{PieceFault, Pieces, Tap};
 use lane_core::Lanes;
 use payments::{GrowingShelf, PFault};
-use report::{Fault, FileIs};
 use std::sync::Wait;
 use std::thread::Threads;
 use stream_law::later_requests_are_judged_later;

@@ -11,7 +11,7 @@ use Rattle.flow_model.specs.SetupView.{SetupView}
 use Rattle.flow_model.specs.Workers.{workers_in}
 use Rattle.flow_worker.specs.Parts.{WorkedIs}
 use Rattle.coordinator.specs.Feeding.{AreRising, issue_rows}
-use Rattle.flow_ends.specs.Ended.{record_of}
+use Rattle.flow_crew.specs.Ended.{record_of}
 use Rattle.flow_engine.specs.Flown.{number_of}
 use Rattle.flow_engine.specs.Recorded.{recorded}
 

@@ -1,5 +1,5 @@
 use Rattle.std.proofs.Common.{map}
-use Rattle.runners.specs.Crew.{setup_in}
+use Rattle.flow_runners.specs.Crew.{setup_in}
 use Rattle.flow_engine.specs.Recorded.{recorded}
 use Rattle.flow_engine.proofs.Over.{HasTurned, are_over, has_run_so, job_recorded, to_workers}
 use Rattle.flow_engine.proofs.run.run_over.Goals as goal

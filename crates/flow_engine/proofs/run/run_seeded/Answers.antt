@@ -3,8 +3,8 @@ use Rattle.control_box.specs.Endpoints.{PosterIs, ShareBoxes}
 use Rattle.flow_model.specs.Begin.{Begin}
 use Rattle.flow_worker.specs.Worker.{WorkerIs}
 use Rattle.lane_core.specs.Lane.{EndpointIs}
-use Rattle.flow_ends.specs.Sides.{AreMatched, worker_side}
-use Rattle.runners.specs.Crew.{IsFeederOf}
+use Rattle.flow_crew.specs.Sides.{AreMatched, worker_side}
+use Rattle.flow_runners.specs.Crew.{IsFeederOf}
 use Rattle.flow_engine.proofs.run.run_seeded.Goals as goal
 
 pub run_over-requires-clause-matched : goal.run_over-requires-clause-matched

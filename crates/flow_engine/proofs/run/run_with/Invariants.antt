@@ -1,5 +1,5 @@
 use Rattle.flow_model.specs.Begin.{at_first}
-use Rattle.runners.specs.Crew.{setup_in}
+use Rattle.flow_runners.specs.Crew.{setup_in}
 use Rattle.flow_engine.proofs.run.run_with.Given as goal
 
 -- the beginning of all

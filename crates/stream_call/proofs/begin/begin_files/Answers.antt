@@ -12,7 +12,7 @@ use Rattle.sink_journal.specs.Records.{record_text}
 use Rattle.flow_model.specs.Begin.{Begin}
 use Rattle.versions.specs.declared.request.Request.{Request}
 use Rattle.stream_rows.specs.Reader.{IsReadTo}
-use Rattle.report.specs.Lines.{noted}
+use Rattle.fries_lines.specs.Lines.{noted}
 use Rattle.stream_step.specs.Pending.{exact_from}
 use Rattle.stream_step.specs.declared.stream.Stream.{Stream}
 use Rattle.stream_run.specs.declared.books.Tally.{Tally}

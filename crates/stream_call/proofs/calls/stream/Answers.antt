@@ -1,7 +1,7 @@
 use Rattle.std.proofs.Common.{◌∙◌, Option, refl, subst, sym}
 use Rattle.std.proofs.lemmas.Result.{IfErr-at_err, IfOk-at_ok}
 use Rattle.std.specs.Prelude.{IfNone}
-use Rattle.flow_ends.proofs.Settling.{if_none}
+use Rattle.flow_crew.proofs.Settling.{if_none}
 use Rattle.stream_call.specs.Ended.{EndsWhole, Unopened, leaves, terms_of}
 use Rattle.stream_call.specs.declared.fault.StreamFault.{StreamFault}
 use Rattle.stream_call.proofs.StoppedLemmas.{Begun, by-another, stopped-by}

@@ -13,7 +13,7 @@ use Rattle.flow_model.specs.SetupView.{SetupView}
 use Rattle.versions.specs.declared.request.Request.{Request}
 use Rattle.stream_rows.specs.Reader.{IsReadTo}
 use Rattle.stream_step.specs.Resumed.{IsResumed}
-use Rattle.report.specs.Lines.{noted}
+use Rattle.fries_lines.specs.Lines.{noted}
 use Rattle.stream_step.specs.Pending.{exact_from}
 use Rattle.stream_step.specs.declared.stream.Stream.{Stream}
 use Rattle.stream_run.specs.declared.books.Tally.{Tally}

@@ -1,7 +1,7 @@
 use Rattle.std.proofs.Common.{◌∙◌, Err, Ok, refl, sym}
 use Rattle.std.proofs.lemmas.Result.{err_from_is_err_and}
 use Rattle.flow_model.specs.Setup.{setup_view}
-use Rattle.save_file.proofs.ReadLemmas.{named-read}
+use Rattle.savepoint_file.proofs.ReadLemmas.{named-read}
 use Rattle.stream_save.specs.StreamReading.{saved_at}
 use Rattle.stream_save.proofs.ReadLemmas.{after-misspelled, after-read, part-told}
 use Rattle.stream_save.proofs.read.read_after.Goals as goal

@@ -1,5 +1,5 @@
 use Rattle.std.proofs.Common.{◌≡◌, ◌+◌, ◌-◌, drop}
-use Rattle.save_file.specs.Steps.{after}
+use Rattle.savepoint_file.specs.Steps.{after}
 use Rattle.stream_save.specs.StreamReading.{waits_from}
 use Rattle.stream_save.proofs.waits.read_waits.Given as goal
 

@@ -7,7 +7,7 @@ use Rattle.audit_laws.specs.Fits.{records_of}
 use Rattle.flow_model.specs.Record.{record_view}
 use Rattle.flow_model.specs.Setup.{setup_view}
 use Rattle.flow_model.proofs.PlannedLemmas.{has_covers}
-use Rattle.report.specs.Lines.{noted}
+use Rattle.fries_lines.specs.Lines.{noted}
 use Rattle.savepoint.specs.Parts.{first_of}
 use Rattle.stream_replay.specs.declared.whole.Whole.{Whole}
 use Rattle.stream_replay.specs.inner.Progress.{body_of, given_of, start_in, with_all}

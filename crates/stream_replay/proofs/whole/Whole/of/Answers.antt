@@ -2,7 +2,7 @@ use Rattle.std.proofs.Common.{◌∙◌, List, ap, map, subst, sym}
 use Rattle.std.specs.Prelude.{All}
 use Rattle.std.proofs.lemmas.List.Elements.{All-map}
 use Rattle.audit_fault.specs.Noting.{IsNoted}
-use Rattle.report.specs.Lines.{noted}
+use Rattle.fries_lines.specs.Lines.{noted}
 use Rattle.versions.specs.declared.in_order.Refused.{Refused}
 use Rattle.stream_replay.proofs.whole.Whole.of.Goals as goal
 

@@ -1,5 +1,0 @@
-use Rattle.std.proofs.Common.{rules}
-use Rattle.actor_tests.proofs.tests.whole.runs_case.Goals as goal
-
-pub whole-requires-after_bounds : goal.whole-requires-after_bounds
-whole-requires-after_bounds g c κs within = rw c.all-rows.ensures (search rules)

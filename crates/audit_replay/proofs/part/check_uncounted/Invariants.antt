@@ -1,5 +1,0 @@
-use Rattle.audit_replay.specs.Untold.{AreUntold}
-use Rattle.audit_replay.proofs.part.check_uncounted.Given as goal
-
-abbrev pub invariant-loop-worker : goal.invariant-loop-worker
-invariant-loop-worker l = AreUntold l.told l.worker

@@ -1,0 +1,42 @@
+// Whether the entries of lanes are the items that stand on them.
+ghost use Rattle.std.specs.Prelude.{◌≡◌, ◌<◌, IfErr, OnOk, length};
+ghost use Rattle.flow_model.specs.Lanes.{lanes};
+ghost use Rattle.flow_model.specs.Setup.{setup_view};
+ghost use Rattle.flow_model.specs.Workers.{workers_in};
+ghost use Rattle.audit_restore.specs.Restored.{AgreeBelow, IsLaneFault};
+
+use crate::by_lane::{ByLane, are_items};
+use crate::standing::Standing;
+use audit_fault::AuditFault;
+use audit_laws::AuditEntry;
+use flow_model::Setup;
+use std::alloc::Global;
+
+/// Whether the entries of each lane into a worker are the items that stand on it.
+///
+/// # Errors
+///
+/// The least lane of which they aren't, or out of memory.
+pub(crate) fn check_lanes(
+    alloc: Global,
+    setup: &Setup,
+    worker: u32,
+    standing: &Standing,
+    journal: &[AuditEntry],
+) -> Result<(), AuditFault>
+    requires worker { worker < length (workers_in (setup_view setup.now).job) }
+    requires long { length standing.now ≡ length (lanes (setup_view setup.now).job) }
+    ensures ok { OnOk result (AgreeBelow (setup_view setup.now) standing.now worker journal.now
+        (length (lanes (setup_view setup.now).job))) }
+    ensures fault { IfErr result (IsLaneFault (setup_view setup.now) standing.now worker
+        journal.now) }
+{
+    let entries = ByLane::of(alloc, standing.len(), journal)?;
+    for lane in setup.lanes_in(worker) {
+        let place = *lane as usize;
+        if !are_items(*lane, standing.on(place), entries.on(place)) {
+            return Err(AuditFault::Lane(*lane));
+        }
+    }
+    Ok(())
+}

@@ -1,0 +1,37 @@
+// What a record of an audit tells, by its first cell.
+ghost use Rattle.std.specs.Prelude.{◌≡◌};
+ghost use Rattle.csv.specs.Records.{fields_of};
+ghost use Rattle.audit_stream.specs.Sorting.{closes as closes_in};
+ghost use Rattle.audit_stream.specs.Together.{begins_with, is_step as is_step_in};
+ghost use Rattle.audit_stream.specs.Together.{is_stop as is_stop_in};
+
+use crate::writing::cell;
+use csv::ByteRecord;
+
+/// Whether the first cell is this word.
+pub(crate) fn begins_with(cells: &ByteRecord, word: &[u8]) -> bool
+    ensures { result ≡ begins_with word.now (fields_of cells.now) }
+{
+    cell(cells, 0) == word
+}
+
+/// Whether the feeder ended its lanes.
+pub(crate) fn is_stop(cells: &ByteRecord) -> bool
+    ensures { result ≡ is_stop_in (fields_of cells.now) }
+{
+    begins_with(cells, b"stopped")
+}
+
+/// Whether the feeder ended its lanes, or a worker took the end of a lane.
+pub(crate) fn closes(cells: &ByteRecord) -> bool
+    ensures { result ≡ closes_in (fields_of cells.now) }
+{
+    is_stop(cells) || begins_with(cells, b"ended")
+}
+
+/// Whether the record is of the feeder.
+pub(crate) fn is_step(cells: &ByteRecord) -> bool
+    ensures { result ≡ is_step_in (fields_of cells.now) }
+{
+    begins_with(cells, b"fed") || begins_with(cells, b"issued") || is_stop(cells)
+}

@@ -1,5 +1,0 @@
-use Rattle.call_law.proofs.TwoCallsLemmas.{one_run_of_calls}
-use Rattle.call_law.proofs.laws.saved_calls_are_one_run.Goals as goal
-
-pub returns : goal.returns
-returns c = one_run_of_calls

@@ -1,5 +1,0 @@
-use Rattle.call_steps.proofs.WholeLemmas.{files_whole}
-use Rattle.call_steps.proofs.laws.files_end_whole.Goals as goal
-
-pub returns : goal.returns
-returns c = files_whole

@@ -1,7 +1,0 @@
-use Rattle.std.proofs.Common.{◌≡◌, drop, map}
-use Rattle.command_line.specs.Form.{is_found}
-use Rattle.command_line.specs.Views.{pair_view}
-use Rattle.command_line.proofs.parts.Parts.has.Given as goal
-
-abbrev pub invariant-loop-pair : goal.invariant-loop-pair
-invariant-loop-pair l = is_found l.id (map pair_view (drop l.pair-index l.self.found.items)) ≡ is_found l.id (map pair_view l.self.found.items)

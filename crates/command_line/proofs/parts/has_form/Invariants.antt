@@ -1,7 +1,0 @@
-use Rattle.std.proofs.Common.{◌≡◌, drop}
-use Rattle.command_line.specs.Form.{found_after, found_in}
-use Rattle.command_line.specs.Views.{form_view, parts_view, texts}
-use Rattle.command_line.proofs.parts.has_form.Given as goal
-
-abbrev pub invariant-loop-word : goal.invariant-loop-word
-invariant-loop-word l = found_after (form_view l.form) (parts_view l.parts) (texts (drop l.word-index l.words)) ≡ found_in (form_view l.form) (texts l.words)

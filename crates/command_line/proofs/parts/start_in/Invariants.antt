@@ -1,8 +1,0 @@
-use Rattle.std.proofs.Common.{◌≡◌, drop}
-use Rattle.std.specs.Prelude.{find, map}
-use Rattle.command_line.specs.Form.{has_start}
-use Rattle.command_line.specs.Views.{option_view}
-use Rattle.command_line.proofs.parts.start_in.Given as goal
-
-abbrev pub invariant-loop-option : goal.invariant-loop-option
-invariant-loop-option l = find (has_start l.word) (map option_view (drop l.option-index l.options)) ≡ find (has_start l.word) (map option_view l.options)

@@ -1,5 +1,0 @@
-use Rattle.flow_ends.proofs.Matching.{matched_again}
-use Rattle.flow_ends.proofs.laws.endpoints_stay_matched.Goals as goal
-
-pub returns : goal.returns
-returns c = matched_again

@@ -1,8 +1,0 @@
-use Rattle.std.proofs.Common.{◌≡◌, ◌++◌, drop}
-use Rattle.live_audit.specs.Shown.{waits_from}
-use Rattle.live_audit.proofs.waits.waits_of.Given as goal
-
-abbrev pub invariant-loop-place : goal.invariant-loop-place
-invariant-loop-place l =
-    l.waits ++ waits_from l.rows l.least (drop l.place l.accepted) (drop l.place l.shown)
-    ≡ waits_from l.rows 0 l.accepted l.shown

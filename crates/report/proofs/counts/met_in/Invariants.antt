@@ -1,6 +1,0 @@
-use Rattle.std.proofs.Common.{◌≡◌, ◌+◌, drop, sum_by}
-use Rattle.report.specs.Lines.{met_count}
-use Rattle.report.proofs.counts.met_in.Given as goal
-
-abbrev pub invariant-loop-journal : goal.invariant-loop-journal
-invariant-loop-journal l = l.count + sum_by met_count (drop l.journal-index l.journals) ≡ sum_by met_count l.journals

@@ -1,5 +1,0 @@
-use Rattle.runner.proofs.Keeps.{merges}
-use Rattle.runner.proofs.moves.unite.Goals as goal
-
-pub absorb-requires-clause-rule : goal.absorb-requires-clause-rule
-absorb-requires-clause-rule g c = merges _ _ _ _ _ c.requires.part

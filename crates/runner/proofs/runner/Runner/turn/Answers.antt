@@ -1,7 +1,0 @@
-use Rattle.std.proofs.Common.{◌∙◌, ap}
-use Rattle.runner.specs.Runner.{RunnerIs, endpoints_of}
-use Rattle.runner.proofs.Turns.{same_ends}
-use Rattle.runner.proofs.runner.Runner.turn.Goals as goal
-
-pub returns-clause-endpoints : goal.returns-clause-endpoints
-returns-clause-endpoints g c = same_ends _ _ c.turn-turn.ensures.endpoints ∙ (ap endpoints_of c.deref_mut.ensures.value ∙ ap (λ (r : RunnerIs). r.endpoints) c.self.view_is)

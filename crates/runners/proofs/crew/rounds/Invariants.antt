@@ -1,6 +1,0 @@
-use Rattle.std.proofs.Common.{◌≡◌, map}
-use Rattle.runner.specs.Rule.{fixed_of}
-use Rattle.runners.proofs.crew.rounds.Given as goal
-
-abbrev pub invariant-loop : goal.invariant-loop
-invariant-loop g l = map fixed_of l.runners.items ≡ map fixed_of l.fn.runners.items

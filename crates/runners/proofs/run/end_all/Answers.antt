@@ -1,7 +1,0 @@
-use Rattle.runners.proofs.Uniting.{back}
-use Rattle.runners.proofs.run.end_all.Goals as goal
-
-pub returns-clause-back : goal.returns-clause-back
-returns-clause-back g c =
-    let drained = c.in_ok-drain.ensures in
-    back g.C.Charter.endpoints _ _ c.in_ok-rounds.ensures.fixed drained.once drained.agree c.in_ok-rounds.ensures.done

@@ -1,6 +1,0 @@
-use Rattle.std.proofs.Common.{◌≡◌, [], map}
-use Rattle.std.specs.List.{range_with_len}
-use Rattle.stream_audit.proofs.places.empty_lists.Given as goal
-
-abbrev pub invariant-loop-group : goal.invariant-loop-group
-invariant-loop-group l = l.lists.items ≡ map (λ group. []) (range_with_len 0 l._group)

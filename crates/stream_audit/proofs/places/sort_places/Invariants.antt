@@ -1,5 +1,0 @@
-use Rattle.stream_audit.proofs.PlaceLemmas.{ArePlacedTo}
-use Rattle.stream_audit.proofs.places.sort_places.Given as goal
-
-abbrev pub invariant-loop-number : goal.invariant-loop-number
-invariant-loop-number l = ArePlacedTo l.workers l.stop l.fn.records l.records l.number l.lists

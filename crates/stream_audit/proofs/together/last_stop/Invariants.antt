@@ -1,5 +1,0 @@
-use Rattle.stream_audit.proofs.ClosedLemmas.{AreReadTo}
-use Rattle.stream_audit.proofs.together.last_stop.Given as goal
-
-abbrev pub invariant-loop-number : goal.invariant-loop-number
-invariant-loop-number l = AreReadTo l.fn.records l.records l.number l.stop

@@ -1,7 +1,0 @@
-use Rattle.std.proofs.Common.{◌≡◌, ◌++◌, map}
-use Rattle.audit_laws.specs.Names.{named_at}
-use Rattle.stream_audit.specs.Sorting.{spelled}
-use Rattle.stream_audit.proofs.workers.push_node.Given as goal
-
-abbrev pub invariant-loop-place : goal.invariant-loop-place
-invariant-loop-place l = l.workers ≡ l.fn.workers ++ map spelled (named_at l.node.name 0 l.place)
